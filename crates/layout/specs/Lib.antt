@@ -1,0 +1,14 @@
+-- Which bytes a tree of values may have: document 000 within the rules of document 01. No reading program is in this crate.
+-- The modules stand in the order in which a reader meets the rules.
+pub mod Number
+pub mod Text
+pub mod Target
+pub mod Fixed
+pub mod Image
+pub mod Tree
+pub mod Slot
+pub mod Head
+pub mod Font
+pub mod Layout
+pub mod Resource
+pub mod Rows

@@ -1,0 +1,1 @@
+// The layout is specifications only: see specs/.
