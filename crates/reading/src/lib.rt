@@ -1,0 +1,1 @@
+// What reading answers is specifications only: see specs/.
