@@ -1,0 +1,138 @@
+-- The five steps, one after the other, read a seven-bit number. Assumes nothing.
+use mathlib.Core.Path.{_≡_, refl, sym, ap, _∙_}
+use mathlib.Core.Bool.{Bool, true, false}
+use mathlib.Core.List.{List, [], _∷_}
+use Prim.Native.Nat.{ℕ, zero, suc, _+_, _*_, _-_, _<_, _≤_, _^_}
+use native.Mathlib.Omega.{arith}
+use native.Mathlib.Nat.{mul-add, mul-suc, mul-assoc, mul-le-mul-left, pow-suc}
+use native.Mathlib.Numerals.{add-one}
+use lib.Dec.{ltb, leb}
+use lib.Pow.{pow-mono}
+use lib.ListN.{length, getD, drop, length-drop, drop-of-length-le}
+use lib.Seq.{drop-cons}
+use borrow.Author.Tests.{ltb-true, ltb-false, leb-true, leb-false, lt-ltb, le-ltb, le-leb, lt-leb}
+use Rattle.reading.specs.Answer.{Answer, refused, read, bind, check}
+use Rattle.reading.specs.Reads.{Small}
+use Rattle.reading.specs.Seven.{group as groupRead, groups, sevenAt}
+use Rattle.numbers.specs.declared.seven.Step.{Step}
+use Rattle.numbers.specs.declared.seven.Step.the-variants.{Ends, HandsOn, Refuses}
+use Rattle.numbers.specs.Steps.{pick, group, step, lastGroup, lastStep, Below}
+
+-- the groups read so far have the value `low`; those still to come count by the weight
+abbrev whole : (start low weight : ℕ) → Answer ℕ → Answer ℕ
+whole start low weight r = bind r (λ n e. check (ltb (low + weight * n) (2 ^ 32)) 8 start (read (low + weight * n) e))
+
+-- k groups and one more make a number below 128 to the k + 1
+below : (k low b : ℕ) → low < 128 ^ k → b < 128 → low + 128 ^ k * b < 128 ^ suc k
+below k low b h l = rw pow-suc (omega (arith, mul-le-mul-left (128 ^ k) l, mul-suc (128 ^ k) b))
+
+module _ (s : List ℕ) (start : ℕ) (bytes : (i : ℕ) → i < length s → getD s i 0 < 256) where
+  -- the groups from the byte with index k on, at most m of them
+  abbrev from : (m k : ℕ) → Answer ℕ
+  from m k = groups m start (start + k) (drop (start + k) s)
+
+  missing : (m k : ℕ) → length s ≤ start + k → from (suc m) k ≡ refused 1 start
+  unfolding groups
+  missing m k h = rw (drop-of-length-le s {i = start + k} h)
+
+  there : (m k : ℕ) → start + k < length s → from (suc m) k ≡ groupRead (ltb (getD s (start + k) 0) 128) (getD s (start + k) 0) (start + k) (from m (suc k))
+  unfolding groups
+  there m k h =
+      let e : suc (start + k) ≡ start + suc k = omega arith in
+      rw (drop-cons s (start + k) 0 h, e)
+
+  -- the fifth byte, where it is there
+  last-there : (low : ℕ) → low < 128 ^ 4 → (b : ℕ) → b < 256 → (t u : Bool) → leb b 0x0F ≡ t → ltb b 128 ≡ u
+      → pick t (read (low + 128 ^ 4 * b) (start + 5)) (refused 8 start) ≡ whole start low (128 ^ 4) (groupRead u b (start + 4) (from 0 5))
+  unfolding bind check groupRead groups
+  last-there low h b hb true true p q =
+      let l = leb-true b 15 p in
+      let e : suc (start + 4) ≡ start + 5 = omega arith in
+      rw (lt-ltb (low + 268435456 * b) (2 ^ 32) (omega arith), e)
+  last-there low h b hb true false p q = absurd (omega (arith, leb-true b 15 p, ltb-false b 128 q))
+  last-there low h b hb false true p q =
+      let l = leb-false b 15 p in
+      rw (le-ltb (low + 268435456 * b) (2 ^ 32) (omega arith))
+  last-there low h b hb false false p q = refl
+
+  last-is : (low : ℕ) → low < 128 ^ 4 → lastGroup s start low ≡ whole start low (128 ^ 4) (from 1 4)
+  unfolding lastGroup bind
+  last-is low h = go (leb (length s) (start + 4)) refl where
+    go : (t : Bool) → leb (length s) (start + 4) ≡ t → lastGroup s start low ≡ whole start low (128 ^ 4) (from 1 4)
+    go true q = rw (q, missing 0 4 (leb-true (length s) (start + 4) q))
+    go false q =
+        let h₄ : start + 4 < length s = leb-false (length s) (start + 4) q in
+        let b = getD s (start + 4) 0 in
+        rw (q, there 0 4 h₄) (last-there low h b (bytes (start + 4) h₄) (leb b 15) (ltb b 128) refl refl)
+
+  -- the bits of a group and those of the groups after it
+  weighed : (w low c n : ℕ) → low + w * c + w * 128 * n ≡ low + w * (c + 128 * n)
+  weighed w low c n = rw (mul-add, mul-assoc) (omega arith)
+
+  handed : (k low c : ℕ) (r : Answer ℕ) → whole start (low + 128 ^ k * c) (128 ^ suc k) r ≡ whole start low (128 ^ k) (bind r (λ n e. read (c + 128 * n) e))
+  unfolding bind
+  handed k low c (refused n p) = refl
+  handed k low c (read n e) =
+      let q : low + 128 ^ k * c + 128 ^ suc k * n ≡ low + 128 ^ k * (c + 128 * n) = rw (pow-suc) (weighed (128 ^ k) low c n) in
+      rw q
+
+  -- one of the first four groups, by what the steps after it do
+  group-is : (m k : ℕ) → 128 ^ suc k ≤ 2 ^ 28 → (after : Step → Answer ℕ)
+      → ((v n : ℕ) → after (Ends v n) ≡ read v n) → ((n p : ℕ) → after (Refuses n p) ≡ refused n p)
+      → ((low : ℕ) → low < 128 ^ suc k → after (HandsOn low) ≡ whole start low (128 ^ suc k) (from m (suc k)))
+      → (low : ℕ) → low < 128 ^ k → after (group k s start low) ≡ whole start low (128 ^ k) (from (suc m) k)
+  unfolding group bind check groupRead
+  group-is m k few after ends refuses hands low h = go (leb (length s) (start + k)) (ltb (getD s (start + k) 0) 128) refl refl where
+    go : (t u : Bool) → leb (length s) (start + k) ≡ t → ltb (getD s (start + k) 0) 128 ≡ u → after (group k s start low) ≡ whole start low (128 ^ k) (from (suc m) k)
+    go true u p q = rw (p, missing m k (leb-true (length s) (start + k) p), refuses 1 start)
+    go false true p q =
+        let b = getD s (start + k) 0 in
+        let l : low + 128 ^ k * b < 2 ^ 32 = omega (arith, below k low b h (ltb-true b 128 q)) in
+        let e : suc (start + k) ≡ start + k + 1 = omega arith in
+        rw (p, q, there m k (leb-false (length s) (start + k) p), q, ends, lt-ltb (low + 128 ^ k * b) (2 ^ 32) l, e)
+    go false false p q =
+        let b = getD s (start + k) 0 in
+        let hk = leb-false (length s) (start + k) p in
+        let l : b - 128 < 128 = omega (arith, bytes (start + k) hk) in
+        rw (p, q, there m k hk, q, hands (low + 128 ^ k * (b - 128)) (below k low (b - 128) h l)) (handed k low (b - 128) (from m (suc k)))
+
+  group-below : (k low : ℕ) → low < 128 ^ k → Below (suc k) (group k s start low)
+  unfolding group
+  group-below k low h = go (leb (length s) (start + k)) (ltb (getD s (start + k) 0) 128) refl refl where
+    go : (t u : Bool) → leb (length s) (start + k) ≡ t → ltb (getD s (start + k) 0) 128 ≡ u → Below (suc k) (group k s start low)
+    go true u p q = rw p tt
+    go false true p q = rw (p, q) tt
+    go false false p q =
+        let b = getD s (start + k) 0 in
+        let l : b - 128 < 128 = omega (arith, bytes (start + k) (leb-false (length s) (start + k) p)) in
+        rw (p, q) (below k low (b - 128) h l)
+
+  pub step-below : (k : ℕ) (so-far : Step) → Below k so-far → Below (suc k) (step k s start so-far)
+  step-below k (HandsOn low) h = group-below k low h
+  step-below k (Ends value next) h = tt
+  step-below k (Refuses number place) h = tt
+
+  -- the steps after those with index 0, 1 and 2
+  abbrev after₂ : Step → Answer ℕ
+  after₂ so-far = lastStep s start (step 3 s start so-far)
+
+  abbrev after₁ : Step → Answer ℕ
+  after₁ so-far = after₂ (step 2 s start so-far)
+
+  abbrev after₀ : Step → Answer ℕ
+  after₀ so-far = after₁ (step 1 s start so-far)
+
+  alone : (r : Answer ℕ) → whole start 0 1 r ≡ bind r (λ n e. check (ltb n (2 ^ 32)) 8 start (read n e))
+  unfolding bind
+  alone (refused n p) = refl
+  alone (read n e) = let q : 0 + 1 * n ≡ n = omega arith in rw q
+
+  pub five-steps : after₀ (step 0 s start (HandsOn 0)) ≡ sevenAt s start
+  unfolding sevenAt
+  five-steps =
+      let from₃ = group-is 1 3 (omega arith) (lastStep s start) (λ v n. refl) (λ n p. refl) last-is in
+      let from₂ = group-is 2 2 (omega arith) after₂ (λ v n. refl) (λ n p. refl) from₃ in
+      let from₁ = group-is 3 1 (omega arith) after₁ (λ v n. refl) (λ n p. refl) from₂ in
+      let from₀ = group-is 4 0 (omega arith) after₀ (λ v n. refl) (λ n p. refl) from₁ 0 (omega arith) in
+      let z : start + 0 ≡ start = omega arith in
+      from₀ ∙ alone (from 5 0) ∙ rw z

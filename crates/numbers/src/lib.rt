@@ -1,0 +1,2 @@
+// Numbers as bytes (01, "Seven-bit numbers", and "Numbers are little endian").
+pub mod seven;
