@@ -1,6 +1,6 @@
 -- The rows of trees as they stand in their bytes (01, "The row table"). Assumes nothing.
 use mathlib.Core.List.{List, [], _∷_, _++_}
-use mathlib.Core.Logic.{_⊎_, inl, inr}
+use mathlib.Core.Logic.{inl, inr}
 use Prim.Native.Nat.{ℕ, suc, _+_}
 use lib.ListN.{length}
 use Rattle.layout.specs.Target.{Target, kindOf}

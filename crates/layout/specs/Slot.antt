@@ -2,7 +2,6 @@
 use mathlib.Core.Bool.{Bool, true, false}
 use mathlib.Core.List.{List, [], _∷_}
 use Prim.Native.Nat.{ℕ, zero, suc}
-use lib.ListN.{replicate}
 use Rattle.layout.specs.Target.{Target, fixed, char, string, texture2D, page, nullable, list, isValue}
 
 -- bytes that no reader reads: an image level of a size

@@ -1,5 +1,5 @@
 -- Trees of values (01, "The row table"). Assumes nothing.
-use mathlib.Core.List.{List, []}
+use mathlib.Core.List.{List}
 use Prim.Native.Nat.{ℕ, zero, suc, _+_, max}
 
 -- Trees in order: none, or a first tree and the rest. 01: "A tree is a value with all below it: its kind, its type id or resource id (else 0), its own bytes and its children as trees, in order".

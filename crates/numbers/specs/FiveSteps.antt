@@ -1,18 +1,15 @@
 -- The five steps, one after the other, read a seven-bit number. Assumes nothing.
-use mathlib.Core.Path.{_≡_, refl, sym, ap, _∙_}
+use mathlib.Core.Path.{_≡_, refl, _∙_}
 use mathlib.Core.Bool.{Bool, true, false}
-use mathlib.Core.List.{List, [], _∷_}
-use Prim.Native.Nat.{ℕ, zero, suc, _+_, _*_, _-_, _<_, _≤_, _^_}
+use mathlib.Core.List.{List}
+use Prim.Native.Nat.{ℕ, suc, _+_, _*_, _-_, _<_, _≤_, _^_}
 use native.Mathlib.Omega.{arith}
 use native.Mathlib.Nat.{mul-add, mul-suc, mul-assoc, mul-le-mul-left, pow-suc}
-use native.Mathlib.Numerals.{add-one}
 use lib.Dec.{ltb, leb}
-use lib.Pow.{pow-mono}
-use lib.ListN.{length, getD, drop, length-drop, drop-of-length-le}
+use lib.ListN.{length, getD, drop, drop-of-length-le}
 use lib.Seq.{drop-cons}
-use borrow.Author.Tests.{ltb-true, ltb-false, leb-true, leb-false, lt-ltb, le-ltb, le-leb, lt-leb}
+use borrow.Author.Tests.{ltb-true, ltb-false, leb-true, leb-false, lt-ltb, le-ltb}
 use Rattle.reading.specs.Answer.{Answer, refused, read, bind, check}
-use Rattle.reading.specs.Reads.{Small}
 use Rattle.reading.specs.Seven.{group as groupRead, groups, sevenAt}
 use Rattle.numbers.specs.declared.seven.Step.{Step}
 use Rattle.numbers.specs.declared.seven.Step.the-variants.{Ends, HandsOn, Refuses}

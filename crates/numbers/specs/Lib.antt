@@ -1,2 +1,4 @@
 pub mod Steps
 pub mod FiveSteps
+pub mod Bytes
+pub mod Shortest

@@ -4,7 +4,6 @@ ghost use Prim.Native.Nat.{_+_, _*_, _^_, _≤_, _<_};
 ghost use Rattle.answers.specs.Told.{told};
 ghost use Rattle.reading.specs.Seven.{sevenAt};
 ghost use Rattle.numbers.specs.Steps.{group, step, lastStep, Below};
-
 use answers::Number;
 
 // What a step says: the number ends, with its value and the next place; the bits so far are handed on; or a refusal and its place.

@@ -3,10 +3,11 @@ use mathlib.Core.Path.{_≡_, refl, sym, ap, _∙_}
 use mathlib.Core.List.{List, [], _∷_, _++_, append-nil}
 use Prim.Native.Nat.{ℕ, zero, suc, _+_, _*_, _/_, _%_, _<_, _≤_, _^_}
 use native.Mathlib.Omega.{arith}
-use native.Mathlib.Nat.{pow-succ'}
-use lib.ListN.{length}
+use native.Mathlib.Nat.{pow-succ', mul-add, mul-assoc}
+use lib.ListN.{length, take, drop}
+use borrow.Author.Tests.{le-leb, lt-leb}
 use Rattle.layout.specs.Number.{little}
-use Rattle.reading.specs.Answer.{Answer, read, bind}
+use Rattle.reading.specs.Answer.{Answer, read, refused, bind, check}
 use Rattle.reading.specs.Reads.{Small, Reads, pure-reads, bind-reads, convert, some, some-reads}
 
 -- the number that bytes make, low first
@@ -53,3 +54,18 @@ little-reads file k place =
     let l : length bs ≡ k = ap length q ∙ f .4 .1 in
     (rw (v, ← l) (value-bound bs s), rw (v, ← l) (sym (little-value bs s))))
     (λ n bs w. (bs, bs, [], sym (append-nil bs), (refl, ap length (w .1) ∙ length-little k n), (sym (ap valueOf (w .1) ∙ value-little k n (w .0)), refl)))
+
+-- bytes after bytes: the later ones weigh 256 to the number of the earlier
+pub value-append : (bs cs : List ℕ) → valueOf (bs ++ cs) ≡ valueOf bs + 256 ^ length bs * valueOf cs
+unfolding valueOf
+value-append [] cs = omega arith
+value-append (b ∷ bs) cs = rw (value-append bs cs, pow-succ' 256 (length bs), mul-add, mul-assoc) (omega arith)
+
+-- where so many bytes are there, or not
+pub little-there : (file : List ℕ) (k place at : ℕ) → k ≤ length (drop at file) → littleAt file k place at ≡ read (valueOf (take k (drop at file))) (at + k)
+unfolding littleAt bind some check
+little-there file k place at h = rw (le-leb k (length (drop at file)) h)
+
+pub little-missing : (file : List ℕ) (k place at : ℕ) → length (drop at file) < k → littleAt file k place at ≡ refused 1 place
+unfolding littleAt bind some check
+little-missing file k place at h = rw (lt-leb k (length (drop at file)) h)

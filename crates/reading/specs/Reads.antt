@@ -1,14 +1,14 @@
 -- A reader over a file and a place, and the two laws that make it the reader of a layout. Assumes nothing.
 use mathlib.Core.Path.{_≡_, refl, sym, ap, _∙_}
-use mathlib.Core.Bool.{Bool, true, false}
-use mathlib.Core.List.{List, [], _∷_, _++_, append-assoc, append-nil}
+use mathlib.Core.Bool.{Bool, true}
+use mathlib.Core.List.{List, [], _∷_, _++_, append-assoc}
 use Prim.Native.Nat.{ℕ, zero, suc, _+_, _<_, _≤_}
 use native.Mathlib.Omega.{arith}
 use lib.Dec.{leb}
 use lib.ListN.{length, getD, take, drop, length-append, take-append-drop}
 use lib.Seq.{drop-drop, drop-append-seam, take-append-seam, length-take-le}
 use borrow.Author.Tests.{leb-true, le-leb}
-use Rattle.reading.specs.Answer.{Answer, refused, read, bind, check, Ok, not-read, is-read, ok-bind, ok-check, ok-weaken}
+use Rattle.reading.specs.Answer.{Answer, read, bind, check, Ok, is-read, ok-bind, ok-check, ok-weaken}
 
 -- a file of bytes
 unfoldable pub Small : List ℕ → Type 0
@@ -121,3 +121,14 @@ module _ (file : List ℕ) where
     complete = λ b bs rest at w q. rw (x .complete (w .0) bs rest at (w .1) q, w .2, w .3);
     sound = λ h at. ok-bind (x .sound h at) (λ a e v. ok-check (rule a) 15 place _ (λ t. is-read (v .0, (a, v .1, t, refl), v .2, v .3)));
   }
+
+-- a layout that has a reader: two forms of which one begins the other are equal, and so are their values
+pub reads-unique : {A : Type 0} {F : A → List ℕ → Type 0} (r : List ℕ → ℕ → Answer A) → ((file : List ℕ) → Reads file F (r file))
+    → {a b : A} {bs cs : List ℕ} (rest others : List ℕ) → F a bs → F b cs → bs ++ rest ≡ cs ++ others → (a ≡ b) × (bs ≡ cs)
+reads-unique r x {a} {b} {bs} {cs} rest others f g e =
+    let file = bs ++ rest in
+    let p : r file 0 ≡ read a (0 + length bs) = x file .complete a bs rest 0 f refl in
+    let q : r file 0 ≡ read b (0 + length cs) = x file .complete b cs others 0 g e in
+    let l : 0 + length bs ≡ 0 + length cs = cc in
+    let m : length bs ≡ length cs = omega arith in
+    (cc, sym (take-append-seam bs rest) ∙ ap (take (length bs)) e ∙ ap (λ (n : ℕ). take n (cs ++ others)) m ∙ take-append-seam cs others)

@@ -1,39 +1,28 @@
-use native.Mathlib.Omega.{arith}
 use borrow.Author.Needs.{needs}
 use Rattle.numbers.proofs.seven.fifth.Statement.{statement}
 use Rattle.numbers.proofs.seven.fifth.Tie as tie
-use Rattle.numbers.proofs.seven.fifth.Reads as reads
-use Rattle.numbers.proofs.seven.fifth.Lts as lts
-use Rattle.numbers.proofs.seven.last_group.Reads as last-group-reads
 
--- src/seven.rt:102:23
 enum-known-so-far : tie.Need-enum-known-so-far
 enum-known-so-far c = search needs
 
--- src/seven.rt:102:31
 last-group-requires : tie.Need-last-group-requires
 last-group-requires c κs =
     rw (c .before .so-far .given .1) at (c .before .before .before .before .pre)
 
--- src/seven.rt:103:20
 enum-known-so-far-2 : tie.Need-enum-known-so-far-2
 enum-known-so-far-2 c = search needs
 
--- src/seven.rt:104:23
 enum-known-so-far-3 : tie.Need-enum-known-so-far-3
 enum-known-so-far-3 c = search needs
 
--- src/seven.rt:97:1
 returns : tie.Need-returns
 returns c =
     rw (c .before .before .so-far .given .1) (c .last-group .ensures)
 
--- src/seven.rt:97:1
 returns-2 : tie.Need-returns-2
 returns-2 c =
     rw (c .before .so-far2 .given .1)
 
--- src/seven.rt:97:1
 returns-3 : tie.Need-returns-3
 returns-3 c =
     rw (c .before .so-far3 .given .1)

@@ -1,5 +1,5 @@
-use mathlib.Core.Path.{_≡_, sym, ap, _∙_}
-use Prim.Native.Nat.{ℕ, _+_, _*_, _-_, _≤_, _<_, _^_}
+use mathlib.Core.Path.{_≡_}
+use Prim.Native.Nat.{ℕ, _+_, _*_, _-_, _≤_}
 use native.Mathlib.Nat.{mul-le-mul}
 use native.Mathlib.Omega.{arith}
 use borrow.Author.Needs.{needs}
@@ -8,9 +8,6 @@ use lib.ListN.{length, getD}
 use Rattle.numbers.specs.Steps.{group}
 use Rattle.numbers.proofs.seven.group_at.Statement.{statement}
 use Rattle.numbers.proofs.seven.group_at.Tie as tie
-use Rattle.numbers.proofs.seven.group_at.Reads as reads
-use Rattle.numbers.proofs.seven.group_at.Lts as lts
-use Rattle.numbers.proofs.seven.wide.Reads as wide-reads
 
 -- a group's bits, weighed
 scaled : (w b : ℕ) → w ≤ 2097152 → b ≤ 255 → w * b ≤ 2097152 * 255
@@ -22,48 +19,38 @@ returns c =
     let a = c .before .before .args in
     simp (le-leb (length (a .s .now)) (a .start + a .k) (omega arith))
 
--- src/seven.rt:25:8
 sub-if2 : tie.Need-sub-if2
 sub-if2 c = search needs
 
--- src/seven.rt:26:9
 returns-2 : tie.Need-returns-2
 unfolding group
 returns-2 c =
     let a = c .before .before .before .args in
     simp (le-leb (length (a .s .now)) (a .start + a .k) (omega arith))
 
--- src/seven.rt:28:20
 add-wide : tie.Need-add-wide
 add-wide c = search needs
 
--- src/seven.rt:28:18
 shared-slice-read-wide : tie.Need-shared-slice-read-wide
 shared-slice-read-wide c = search needs
 
--- src/seven.rt:28:9
 wide-requires : tie.Need-wide-requires
 wide-requires c κs = search needs
 
--- src/seven.rt:30:33
 mul-t12 : tie.Need-mul-t12
 mul-t12 c =
     omega (arith, scaled (c .before .before .before .before .before .before .args .weight) (c .before .wide .result) (omega arith) (omega arith))
 
--- src/seven.rt:30:27
 add-t13 : tie.Need-add-t13
 add-t13 c =
     omega (arith, scaled (c .before .before .before .before .before .before .args .weight) (c .before .wide .result) (omega arith) (omega arith))
 
--- src/seven.rt:30:45
 add-t14 : tie.Need-add-t14
 add-t14 c = search needs
 
--- src/seven.rt:30:45
 add-t15 : tie.Need-add-t15
 add-t15 c = search needs
 
--- src/seven.rt:30:9
 returns-3 : tie.Need-returns-3
 unfolding group
 returns-3 c =
@@ -72,17 +59,14 @@ returns-3 c =
     let b : c .before .wide .result ≡ getD (a .s .now) (a .start + a .k) 0 = c .before .wide .ensures .0 in
     simp (lt-leb (length (a .s .now)) (a .start + a .k) (omega arith), ← b, lt-ltb _ _ (c .if3 .taken), ← at .pre .1)
 
--- src/seven.rt:32:25
 mul-t17 : tie.Need-mul-t17
 mul-t17 c =
     omega (arith, scaled (c .before .before .before .before .before .before .args .weight) (c .before .wide .result - 128) (omega arith) (omega arith))
 
--- src/seven.rt:32:19
 add-t18 : tie.Need-add-t18
 add-t18 c =
     omega (arith, scaled (c .before .before .before .before .before .before .args .weight) (c .before .wide .result - 128) (omega arith) (omega arith))
 
--- src/seven.rt:18:1
 returns-4 : tie.Need-returns-4
 unfolding group
 returns-4 c =

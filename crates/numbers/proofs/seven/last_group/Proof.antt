@@ -7,53 +7,40 @@ use lib.ListN.{length, getD}
 use Rattle.numbers.specs.Steps.{lastGroup}
 use Rattle.numbers.proofs.seven.last_group.Statement.{statement}
 use Rattle.numbers.proofs.seven.last_group.Tie as tie
-use Rattle.numbers.proofs.seven.last_group.Reads as reads
-use Rattle.numbers.proofs.seven.last_group.Lts as lts
-use Rattle.numbers.proofs.seven.wide.Reads as wide-reads
 
--- src/seven.rt:84:9
 returns : tie.Need-returns
 unfolding lastGroup
 returns c =
     let a = c .before .before .args in
     simp (le-leb (length (a .s .now)) (a .start + 4) (omega arith))
 
--- src/seven.rt:86:8
 sub-if2 : tie.Need-sub-if2
 sub-if2 c = search needs
 
--- src/seven.rt:87:9
 returns-2 : tie.Need-returns-2
 unfolding lastGroup
 returns-2 c =
     let a = c .before .before .before .args in
     simp (le-leb (length (a .s .now)) (a .start + 4) (omega arith))
 
--- src/seven.rt:89:20
 add-wide : tie.Need-add-wide
 add-wide c = search needs
 
--- src/seven.rt:89:18
 shared-slice-read-wide : tie.Need-shared-slice-read-wide
 shared-slice-read-wide c = search needs
 
--- src/seven.rt:89:9
 wide-requires : tie.Need-wide-requires
 wide-requires c κs = search needs
 
--- src/seven.rt:91:35
 mul-t10 : tie.Need-mul-t10
 mul-t10 c = search needs
 
--- src/seven.rt:91:29
 add-t11 : tie.Need-add-t11
 add-t11 c = search needs
 
--- src/seven.rt:91:50
 add-t12 : tie.Need-add-t12
 add-t12 c = search needs
 
--- src/seven.rt:91:9
 returns-3 : tie.Need-returns-3
 unfolding lastGroup
 returns-3 c =
@@ -61,7 +48,6 @@ returns-3 c =
     let b : c .before .wide .result ≡ getD (a .s .now) (a .start + 4) 0 = c .before .wide .ensures .0 in
     simp (lt-leb (length (a .s .now)) (a .start + 4) (omega arith), ← b, le-leb _ _ (c .if3 .taken))
 
--- src/seven.rt:79:1
 returns-4 : tie.Need-returns-4
 unfolding lastGroup
 returns-4 c =

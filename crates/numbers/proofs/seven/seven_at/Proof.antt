@@ -1,49 +1,35 @@
-use mathlib.Core.Path.{_≡_, _∙_, ap}
-use Prim.Native.Nat.{ℕ}
+use mathlib.Core.Path.{_∙_, ap}
 use native.Mathlib.Omega.{arith}
 use borrow.Author.Needs.{needs}
 use Rattle.numbers.specs.declared.seven.Step.the-variants.{HandsOn}
-use Rattle.numbers.specs.Steps.{step, lastStep, Below}
+use Rattle.numbers.specs.Steps.{step, lastStep}
 use Rattle.numbers.specs.FiveSteps.{five-steps, step-below}
 use Rattle.numbers.proofs.seven.seven_at.Statement.{statement}
 use Rattle.numbers.proofs.seven.seven_at.Tie as tie
-use Rattle.numbers.proofs.seven.seven_at.Reads as reads
-use Rattle.numbers.proofs.seven.seven_at.Lts as lts
-use Rattle.numbers.proofs.seven.fifth.Reads as fifth-reads
-use Rattle.numbers.proofs.seven.first.Reads as first-reads
-use Rattle.numbers.proofs.seven.fourth.Reads as fourth-reads
-use Rattle.numbers.proofs.seven.second.Reads as second-reads
-use Rattle.numbers.proofs.seven.third.Reads as third-reads
 
--- src/seven.rt:112:9
 first-requires : tie.Need-first-requires
 first-requires c κs = search needs
 
--- src/seven.rt:113:9
 second-requires : tie.Need-second-requires
 second-requires c κs =
     let a = c .before .before .args in
     rw (c .first .ensures) (step-below (a .s .now) (a .start) (λ i l. omega (arith, c .before .shared-slice-known .given i)) 0 (HandsOn 0) (omega arith))
 
--- src/seven.rt:114:9
 third-requires : tie.Need-third-requires
 third-requires c κs =
     let a = c .before .before .before .args in
     rw (c .second .ensures) (step-below (a .s .now) (a .start) (λ i l. omega (arith, c .before .before .shared-slice-known .given i)) 1 (c .before .first .result) (second-requires (c .before) κs))
 
--- src/seven.rt:115:9
 fourth-requires : tie.Need-fourth-requires
 fourth-requires c κs =
     let a = c .before .before .before .before .args in
     rw (c .third .ensures) (step-below (a .s .now) (a .start) (λ i l. omega (arith, c .before .before .before .shared-slice-known .given i)) 2 (c .before .second .result) (third-requires (c .before) κs))
 
--- src/seven.rt:116:5
 fifth-requires : tie.Need-fifth-requires
 fifth-requires c κs =
     let a = c .before .before .before .before .before .args in
     rw (c .fourth .ensures) (step-below (a .s .now) (a .start) (λ i l. omega (arith, c .before .before .before .before .shared-slice-known .given i)) 3 (c .before .third .result) (fourth-requires (c .before) κs))
 
--- src/seven.rt:109:1
 returns : tie.Need-returns
 returns c =
     let at = c .before .before .before .before .before in

@@ -2,39 +2,29 @@ use native.Mathlib.Omega.{arith}
 use borrow.Author.Needs.{needs}
 use Rattle.numbers.proofs.seven.third.Statement.{statement}
 use Rattle.numbers.proofs.seven.third.Tie as tie
-use Rattle.numbers.proofs.seven.third.Reads as reads
-use Rattle.numbers.proofs.seven.third.Lts as lts
-use Rattle.numbers.proofs.seven.group_at.Reads as group-at-reads
 
--- src/seven.rt:60:23
 enum-known-so-far : tie.Need-enum-known-so-far
 enum-known-so-far c = search needs
 
--- src/seven.rt:60:31
 group-at-requires : tie.Need-group-at-requires
 group-at-requires c κs =
     let low = rw (c .before .so-far .given .1) at (c .before .before .before .before .pre) in
     omega arith
 
--- src/seven.rt:61:20
 enum-known-so-far-2 : tie.Need-enum-known-so-far-2
 enum-known-so-far-2 c = search needs
 
--- src/seven.rt:62:23
 enum-known-so-far-3 : tie.Need-enum-known-so-far-3
 enum-known-so-far-3 c = search needs
 
--- src/seven.rt:55:1
 returns : tie.Need-returns
 returns c =
     rw (c .before .before .so-far .given .1) (c .group-at .ensures)
 
--- src/seven.rt:55:1
 returns-2 : tie.Need-returns-2
 returns-2 c =
     rw (c .before .so-far2 .given .1)
 
--- src/seven.rt:55:1
 returns-3 : tie.Need-returns-3
 returns-3 c =
     rw (c .before .so-far3 .given .1)
