@@ -11,6 +11,7 @@ use lib.ListN.{length, take, drop, set}
 use lib.Seq.{sets}
 use borrow.Author.Tests.{ltb-true, ltb-false, lt-ltb, le-ltb}
 use Rattle.layout.specs.Number.{Groups, last, more, Seven}
+use Rattle.reading.specs.Seven.{some-bytes}
 use Rattle.numbers.specs.Steps.{pick}
 use Rattle.numbers.specs.declared.shortest.Placed.{Placed}
 use Rattle.numbers.specs.declared.shortest.Placed.the-variants.{Next, NoRoom}
@@ -28,10 +29,6 @@ pub record Shortens (P : List ℕ → Type 0) (s b : List ℕ) : Type 0 where
   pub form : P s
   pub no-longer : length s ≤ length b
   pub same : length s ≡ length b → s ≡ b
-
-some-bytes : {k n : ℕ} {bs : List ℕ} → Groups k n bs → 1 ≤ length bs
-some-bytes (last h) = omega arith
-some-bytes (more h g) = omega arith
 
 groups-shortest : {k n : ℕ} {bs : List ℕ} → Groups k n bs → Shortens (Groups k n) (fewest k n) bs
 unfolding fewest

@@ -2,13 +2,13 @@
 use mathlib.Core.Path.{_≡_, refl, sym, ap, _∙_}
 use mathlib.Core.Bool.{Bool, true}
 use mathlib.Core.List.{List, [], _∷_, _++_, append-assoc}
-use Prim.Native.Nat.{ℕ, zero, suc, _+_, _<_, _≤_}
+use Prim.Native.Nat.{ℕ, zero, suc, _+_, _-_, _<_, _≤_}
 use native.Mathlib.Omega.{arith}
 use lib.Dec.{leb}
-use lib.ListN.{length, getD, take, drop, length-append, take-append-drop}
+use lib.ListN.{length, getD, take, drop, length-append, length-drop, take-append-drop}
 use lib.Seq.{drop-drop, drop-append-seam, take-append-seam, length-take-le}
 use borrow.Author.Tests.{leb-true, le-leb}
-use Rattle.reading.specs.Answer.{Answer, read, bind, check, Ok, is-read, ok-bind, ok-check, ok-weaken}
+use Rattle.reading.specs.Answer.{Answer, refused, read, bind, check, Ok, not-read, is-read, ok-bind, ok-check, ok-weaken}
 
 -- a file of bytes
 unfoldable pub Small : List ℕ → Type 0
@@ -132,3 +132,26 @@ reads-unique r x {a} {b} {bs} {cs} rest others f g e =
     let l : 0 + length bs ≡ 0 + length cs = cc in
     let m : length bs ≡ length cs = omega arith in
     (cc, sym (take-append-seam bs rest) ∙ ap (take (length bs)) e ∙ ap (λ (n : ℕ). take n (cs ++ others)) m ∙ take-append-seam cs others)
+
+-- what a reader has read is there: the next place is behind its bytes, and these are in the file
+pub record Next (file : List ℕ) {A : Type 0} (F : A → List ℕ → Type 0) (at : ℕ) (a : A) (e : ℕ) : Type 0 where
+  pub form : List ℕ
+  pub laid : F a form
+  pub behind : e ≡ at + length form
+  pub within : 1 ≤ length form → e ≤ length file
+
+pub next-of : {file : List ℕ} {A : Type 0} {F : A → List ℕ → Type 0} {r : ℕ → Answer A} → Reads file F r → Small file
+    → (at : ℕ) {a : A} {e : ℕ} → r at ≡ read a e → Next file F at a e
+next-of {file} {F = F} {r = r} x s at {a} {e} q = go (r at) (x .sound s at) q where
+  go : (o : Answer _) → Ok (Spans file F at) o → o ≡ read a e → Next file F at a e
+  go o not-read p = absurd (let z : _≡_ {A = ℕ} 0 1 = cc in omega arith)
+  go o (is-read {a = b} {e = f} v) p =
+      let eq : b ≡ a = cc in
+      let ef : f ≡ e = cc in
+      let l : length file - at ≡ length (v .0) + (length file - f) = omega (arith, length-drop at file, length-drop f file, simp length-append at (ap length (v .2))) in
+      record {
+        form = v .0;
+        laid = rw eq at (v .1);
+        behind = sym ef ∙ v .3;
+        within = λ some. omega arith;
+      }

@@ -2,7 +2,7 @@
 use mathlib.Core.Path.{_≡_, refl, sym, ap, _∙_}
 use mathlib.Core.Bool.{Bool, true, false}
 use mathlib.Core.List.{List, [], _∷_, _++_}
-use Prim.Native.Nat.{ℕ, zero, suc, _+_, _*_, _-_, _<_, _^_}
+use Prim.Native.Nat.{ℕ, zero, suc, _+_, _*_, _-_, _<_, _≤_, _^_}
 use native.Mathlib.Omega.{arith}
 use lib.Dec.{ltb}
 use lib.ListN.{length, drop}
@@ -10,7 +10,7 @@ use lib.Seq.{drop-drop, drop-append-seam}
 use borrow.Author.Tests.{ltb-true, ltb-false, lt-ltb, le-ltb}
 use Rattle.layout.specs.Number.{Groups, last, more, Seven}
 use Rattle.reading.specs.Answer.{Answer, refused, read, bind, check, Ok, not-read, is-read, ok-bind, ok-check}
-use Rattle.reading.specs.Reads.{Small, small-drop, Reads, reads-unique}
+use Rattle.reading.specs.Reads.{Small, small-drop, Reads, reads-unique, next-of}
 
 -- a group: the last one, or low bits of what the rest gives
 unfoldable pub group : Bool → (b at : ℕ) → Answer ℕ → Answer ℕ
@@ -69,6 +69,18 @@ seven-reads file = record {
   rest-is : (b r : List ℕ) (at : ℕ) → drop at file ≡ b ++ r → drop (at + length b) file ≡ r
   rest-is b r at e = sym (drop-drop (length b) at file) ∙ ap (drop (length b)) e ∙ drop-append-seam b r
 
+pub some-bytes : {k n : ℕ} {bs : List ℕ} → Groups k n bs → 1 ≤ length bs
+some-bytes (last h) = omega arith
+some-bytes (more h g) = omega arith
+
 -- two forms of which one begins the other are equal
 pub seven-unique : {n m : ℕ} {bs cs : List ℕ} (rest others : List ℕ) → Seven n bs → Seven m cs → bs ++ rest ≡ cs ++ others → (n ≡ m) × (bs ≡ cs)
 seven-unique rest others f g e = reads-unique sevenAt seven-reads rest others f g e
+
+-- a number that was read has its bytes in the file, and is below 2 to the 32
+pub seven-next : (file : List ℕ) → Small file → (at : ℕ) {v e : ℕ} → sevenAt file at ≡ read v e → (at < e) × (e ≤ length file) × (v < 2 ^ 32)
+seven-next file s at q =
+    let n = next-of (seven-reads file) s at q in
+    let some : 1 ≤ length (n .form) = some-bytes (n .laid .1) in
+    let b = n .behind in
+    (omega arith, n .within some, n .laid .0)
