@@ -2,13 +2,13 @@
 use mathlib.Core.Path.{_≡_}
 use mathlib.Core.List.{List}
 use Prim.Native.Nat.{ℕ, _<_}
-use Rattle.layout.specs.Text.{Utf8}
+use Rattle.layout.specs.Text.{Character}
 use Rattle.layout.specs.Tree.{Trees, none, tree, count, kindAt, childrenAt}
 
 -- the first of some characters is above the one with these bytes
 unfoldable pub Above : List ℕ → Trees → Type 0
 Above before none = Unit {0}
-Above before (tree k i own cs rest) = (b : ℕ) × (c : ℕ) × Utf8 b before × Utf8 c own × (b < c)
+Above before (tree k i own cs rest) = (b : ℕ) × (c : ℕ) × Character b before × Character c own × (b < c)
 
 -- each character is above the one before it
 unfoldable pub Rising : Trees → Type 0

@@ -5,15 +5,11 @@ use mathlib.Core.Logic.{_⊎_}
 use Prim.Native.Nat.{ℕ, _<_, _≤_, _^_, max}
 use lib.ListN.{length, replicate}
 use Rattle.layout.specs.Number.{Seven, little}
-use Rattle.layout.specs.Text.{Utf8, Utf8s}
+use Rattle.layout.specs.Text.{Character, Utf8s}
 use Rattle.layout.specs.Target.{Target, fixed, char, string, object, texture, texture2D, spriteFont, page, enum, nullable, array, list, dictionary}
 use Rattle.layout.specs.Fixed.{Fixed}
 use Rattle.layout.specs.Image.{levels, digits}
 use Rattle.layout.specs.Slot.{Slot, raw, slotOf, Plan, stop, each, pairs, leaves, fontSlots, pageSlots}
-
--- 01: "Char: one such character of 1 to 3 bytes"
-unfoldable pub Character : List ℕ → Type 0
-Character own = (c : ℕ) × (c < 0x10000) × Utf8 c own
 
 -- 01: "String: 7-bit byte count, then UTF-8"; the count is not among the own bytes
 unfoldable pub Textual : (own bs : List ℕ) → Type 0
@@ -37,7 +33,7 @@ Pictured own plan bs =
 -- the head `bs` of a raw value of a type, with its own bytes and what stands below it. 01: "Object and Texture readers are never invoked".
 unfoldable pub Head : Target → (own : List ℕ) → Plan → (bs : List ℕ) → Type 0
 Head (fixed k) own plan bs = (bs ≡ own) × Fixed k own × (plan ≡ stop)
-Head char own plan bs = (bs ≡ own) × Character own × (plan ≡ stop)
+Head char own plan bs = (bs ≡ own) × ((c : ℕ) × Character c own) × (plan ≡ stop)
 Head string own plan bs = Textual own bs × (plan ≡ stop)
 Head object own plan bs = ⊥
 Head (enum name) own plan bs = (bs ≡ own) × Fixed 15 own × (plan ≡ stop)

@@ -11,6 +11,7 @@ pub data Target : Type 0 where
   enum : List ℕ → Target
   nullable array list : Target → Target
   dictionary : Target → Target → Target
+  deriving Discrete as target-discrete
 
 -- 01: "Each kind has a number"
 unfoldable pub kindOf : Target → ℕ

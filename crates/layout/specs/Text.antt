@@ -20,6 +20,10 @@ pub data Utf8 : ℕ → List ℕ → Type 0 where
   four : {c : ℕ} → 0x10000 ≤ c → c < 0x110000
       → Utf8 c ((0xF0 + c / 262144) ∷ (0x80 + c / 4096 % 64) ∷ (0x80 + c / 64 % 64) ∷ (0x80 + c % 64) ∷ [])
 
+-- 01: "Char: one such character of 1 to 3 bytes"
+abbrev pub Character : ℕ → List ℕ → Type 0
+Character c bs = (c < 0x10000) × Utf8 c bs
+
 -- a text: characters one after the other
 pub data Utf8s : List ℕ → Type 0 where
   end : Utf8s []

@@ -3,3 +3,4 @@ pub mod Answer
 pub mod Reads
 pub mod Seven
 pub mod Little
+pub mod Rules
