@@ -8,13 +8,17 @@ use Rattle.layout.specs.Tree.{Trees, none, tree, count, size}
 use Rattle.layout.specs.Slot.{Slot, raw, object, reference, leaf, Plan, stop, put}
 use Rattle.layout.specs.Layout.{Raw, Value, Lays}
 
--- 01: "Six make a row: kind; first byte; length; number of children; parent's row number plus 1, or 0; detail".
--- `expected` is the kind that a reference wants of its resource, else 0: no word of the table.
+-- what a value wants of the resource that it names: a reference wants a kind
+pub data Wants : Type 0 where
+  nothing : Wants
+  resource : (kind : ℕ) → Wants
+
+-- 01: "Six make a row: kind; first byte; length; number of children; parent's row number plus 1, or 0; detail". What the value wants is no word of the table.
 pub data Row : Type 0 where
-  row : (kind first length children parent detail expected : ℕ) → Row
+  row : (kind first length children parent detail : ℕ) (wants : Wants) → Row
 
 unfoldable pub words : Row → List ℕ
-words (row kind first z children parent detail expected) = kind ∷ first ∷ z ∷ children ∷ parent ∷ detail ∷ []
+words (row kind first z children parent detail wants) = kind ∷ first ∷ z ∷ children ∷ parent ∷ detail ∷ []
 
 -- 01: "Rows stand in file order, a value before all below it": the rows one after the other
 unfoldable pub flat : List Row → List ℕ
@@ -29,18 +33,18 @@ Below below = (plan : Plan) (bs : List ℕ) → below plan bs → (at number par
 unfoldable pub rawRows : (below : Plan → List ℕ → Type 0) → Below below → (t : Target) (kind : ℕ) (own : List ℕ) (cs : Trees) (bs : List ℕ)
     → Raw below t kind own cs bs → (first z at number parent id : ℕ) → List Row
 rawRows below rows t kind own cs bs w first z at number parent id =
-    row kind first z (count cs) parent id 0 ∷ rows (w .plan) (w .children) (w .laid) (at + length (w .head)) (suc number) (suc number)
+    row kind first z (count cs) parent id nothing ∷ rows (w .plan) (w .children) (w .laid) (at + length (w .head)) (suc number) (suc number)
 
 -- 01: "First byte and length of an object include its type id. Detail is the type id of a non-null object, the resource id of a shared reference, else 0."
 unfoldable pub valueRows : (readers : List Target) (refers : Target → ℕ → Type 0) (below : Plan → List ℕ → Type 0) → Below below
     → (x : Slot) (kind id : ℕ) (own : List ℕ) (cs : Trees) (bs : List ℕ) → Value readers refers below x kind id own cs bs → (at number parent : ℕ) → List Row
 unfolding Value
 valueRows readers refers below rows (raw t) kind id own cs bs w at number parent = rawRows below rows t kind own cs bs (w .1) at (length bs) at number parent 0
-valueRows readers refers below rows (object t) kind id own cs bs (inl w) at number parent = row 0 at (length bs) 0 parent 0 0 ∷ []
+valueRows readers refers below rows (object t) kind id own cs bs (inl w) at number parent = row 0 at (length bs) 0 parent 0 nothing ∷ []
 valueRows readers refers below rows (object t) kind id own cs bs (inr w) at number parent =
     rawRows below rows (w .target) kind own cs (w .value) (w .laid) at (length bs) (at + length (w .number)) number parent id
-valueRows readers refers below rows (reference t) kind id own cs bs w at number parent = row kind at (length bs) 0 parent id (kindOf t) ∷ []
-valueRows readers refers below rows (leaf x) kind id own cs bs w at number parent = row kind at (length bs) 0 parent 0 0 ∷ []
+valueRows readers refers below rows (reference t) kind id own cs bs w at number parent = row kind at (length bs) 0 parent id (resource (kindOf t)) ∷ []
+valueRows readers refers below rows (leaf x) kind id own cs bs w at number parent = row kind at (length bs) 0 parent 0 nothing ∷ []
 
 -- the rows of trees that begin at a byte: a row for each value, in file order
 unfoldable pub rowsOf : (readers : List Target) (refers : Target → ℕ → Type 0) (plan : Plan) (ts : Trees) (bs : List ℕ)

@@ -4,3 +4,5 @@ pub mod Reads
 pub mod Seven
 pub mod Little
 pub mod Rules
+pub mod Font
+pub mod Resource
