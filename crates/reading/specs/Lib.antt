@@ -3,6 +3,9 @@ pub mod Answer
 pub mod Reads
 pub mod Seven
 pub mod Little
+pub mod Utf8
+pub mod Fixed
 pub mod Rules
 pub mod Font
 pub mod Resource
+pub mod Heads
