@@ -1,5 +1,5 @@
 -- The test of the font rule over a font's children, and that it says just what the layout's rule says. Assumes nothing.
-use mathlib.Core.Path.{_≡_, refl, sym, ap, _∙_}
+use mathlib.Core.Path.{_≡_, refl}
 use mathlib.Core.Bool.{Bool, true, false}
 use mathlib.Core.List.{List, [], _∷_}
 use mathlib.Core.Logic.{_⊎_, inl, inr}
@@ -11,12 +11,12 @@ use borrow.Author.Tests.{ltb-true, lt-ltb, eqb-true, eq-eqb}
 use Rattle.layout.specs.Text.{Character}
 use Rattle.layout.specs.Target.{Target, char, list, spriteFont, Serves, same as serves-same}
 use Rattle.layout.specs.Tree.{Trees, none, tree, count, kindAt, childrenAt}
-use Rattle.layout.specs.Slot.{Slot, raw, object, slotOf, rawOrObject, Plan, stop, put, each, fontSlots}
+use Rattle.layout.specs.Slot.{Slot, raw, object, slotOf, rawOrObject, each, fontSlots}
 use Rattle.layout.specs.Target.{isValue}
 use Rattle.layout.specs.Head.{Head, Counted}
 use Rattle.layout.specs.Font.{Above, Rising, FontRule}
 use Rattle.layout.specs.Layout.{Raw, Null, Object, Value, Lays}
-use Rattle.reading.specs.Rules.{either, both, same, same-true, same-refl}
+use Rattle.reading.specs.Rules.{both, same, same-true, same-refl}
 
 -- each of some trees is a character
 unfoldable pub Characters : Trees → Type 0
@@ -92,8 +92,17 @@ module _ (point : List ℕ → ℕ) where
     test-complete : (cs : Trees) → FontRule cs → fontTest cs ≡ true
     unfolding fontTest
     test-complete cs w =
-        rw (true-some (kindAt 0 cs) (w .texture), true-some (kindAt 1 cs) (w .glyphs), true-some (kindAt 2 cs) (w .cropping), true-some (kindAt 3 cs) (w .characters),
-        true-some (kindAt 6 cs) (w .kerning), eq-eqb _ _ (w .glyph-count), eq-eqb _ _ (w .cropping-count), eq-eqb _ _ (w .kerning-count), rising-complete (childrenAt 3 cs) (w .rising))
+        rw (
+          true-some (kindAt 0 cs) (w .texture),
+          true-some (kindAt 1 cs) (w .glyphs),
+          true-some (kindAt 2 cs) (w .cropping),
+          true-some (kindAt 3 cs) (w .characters),
+          true-some (kindAt 6 cs) (w .kerning),
+          eq-eqb _ _ (w .glyph-count),
+          eq-eqb _ _ (w .cropping-count),
+          eq-eqb _ _ (w .kerning-count),
+          rising-complete (childrenAt 3 cs) (w .rising),
+        )
 
     test-sound : (cs : Trees) → Characters (childrenAt 3 cs) → fontTest cs ≡ true → FontRule cs
     unfolding fontTest

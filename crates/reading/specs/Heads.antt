@@ -1,24 +1,24 @@
 -- Reading the head of a raw value of each type, and a leaf, with their two laws. Assumes nothing.
 use mathlib.Core.Path.{_≡_, refl, sym, ap, _∙_}
-use mathlib.Core.Bool.{Bool, true, false}
+use mathlib.Core.Bool.{Bool, true}
 use mathlib.Core.List.{List, [], _∷_, _++_, append-assoc, append-nil}
-use mathlib.Core.Logic.{_⊎_, inl, inr}
+use mathlib.Core.Logic.{inl, inr}
 use Prim.Native.Nat.{ℕ, zero, suc, _+_, _-_, _/_, _<_, _≤_, _^_, max}
 use native.Mathlib.Omega.{arith}
 use lib.Dec.{ltb, leb, eqb}
 use lib.ListN.{length, take, drop, getD, replicate}
 use lib.Seq.{take-append-seam}
 use borrow.Author.Tests.{leb-true, le-leb, ltb-true, lt-ltb, eqb-true, eq-eqb}
-use Rattle.layout.specs.Number.{Seven, little}
-use Rattle.layout.specs.Text.{Character, Utf8s}
+use Rattle.layout.specs.Number.{little}
+use Rattle.layout.specs.Text.{Character}
 use Rattle.layout.specs.Target.{Target, fixed, char, string, object, texture, texture2D, spriteFont, page, enum, nullable, array, list, dictionary}
 use Rattle.layout.specs.Fixed.{sizes, Boolean, Fixed}
 use Rattle.layout.specs.Image.{levels, digits}
 use Rattle.layout.specs.Slot.{Leaf, level, Slot, raw, slotOf, Plan, stop, each, pairs, leaves, fontSlots, pageSlots}
 use Rattle.layout.specs.Head.{Textual, Flagged, Counted, Pictured, Head}
 use Rattle.layout.specs.Layout.{Leafed}
-use Rattle.reading.specs.Answer.{Answer, refused, read, bind, check, Ok, not-read, is-read, ok-bind, ok-check, ok-weaken, within, within-true, true-within}
-use Rattle.reading.specs.Reads.{Small, Spans, Reads, pure-reads, bind-reads, check-reads, here-reads, convert, some, some-reads, field, field-reads}
+use Rattle.reading.specs.Answer.{Answer, refused, read, bind, check, not-read, is-read, ok-bind, ok-check, ok-weaken, within, within-true, true-within}
+use Rattle.reading.specs.Reads.{Reads, pure-reads, bind-reads, check-reads, here-reads, convert, some, some-reads, field, field-reads}
 use Rattle.reading.specs.Seven.{sevenAt, seven-reads}
 use Rattle.reading.specs.Little.{littleAt, little-reads}
 use Rattle.reading.specs.Utf8.{charAt, char-reads, utf8s, utf8s-sound, utf8s-complete}
@@ -202,12 +202,47 @@ module _ (file : List ℕ) where
       let xb : x < 256 ^ 4 = omega arith in
       let yb : y < 256 ^ 4 = omega arith in
       let nb : n < 256 ^ 4 = omega (arith, digits-bound 32 (max x y)) in
-      let b : bs ≡ little 4 f ++ (little 4 x ++ (little 4 y ++ (little 4 n ++ []))) = w .12 ∙ rw (w .11) (simp (append-assoc, append-nil)) in
-      (f, little 4 f, little 4 x ++ (little 4 y ++ (little 4 n ++ [])), b, (fb, refl), (le-leb f 18 (w .4),
-      (x, little 4 x, little 4 y ++ (little 4 n ++ []), refl, (xb, refl), (true-within 4096 x (w .5) (w .6),
-      (y, little 4 y, little 4 n ++ [], refl, (yb, refl), (true-within 4096 y (w .7) (w .8),
-      (n, little 4 n, [], refl, (nb, refl), (true-within (digits 32 (max x y)) n (w .9) (w .10),
-      (opening o (little 4 f ++ little 4 x ++ little 4 y) (each (leaves (levels f x y n))) (w .11) (w .13), refl))))))))))
+      let b : bs ≡ little 4 f ++ (little 4 x ++ (little 4 y ++ (little 4 n ++ []))) = w .12 ∙ rw (w .11) (simp (append-assoc, append-nil)) in (
+        f,
+        little 4 f,
+        little 4 x ++ (little 4 y ++ (little 4 n ++ [])),
+        b,
+        (fb, refl),
+        (
+          le-leb f 18 (w .4),
+          (
+            x,
+            little 4 x,
+            little 4 y ++ (little 4 n ++ []),
+            refl,
+            (xb, refl),
+            (
+              true-within 4096 x (w .5) (w .6),
+              (
+                y,
+                little 4 y,
+                little 4 n ++ [],
+                refl,
+                (yb, refl),
+                (
+                  true-within 4096 y (w .7) (w .8),
+                  (
+                    n,
+                    little 4 n,
+                    [],
+                    refl,
+                    (nb, refl),
+                    (
+                      true-within (digits 32 (max x y)) n (w .9) (w .10),
+                      (opening o (little 4 f ++ little 4 x ++ little 4 y) (each (leaves (levels f x y n))) (w .11) (w .13), refl),
+                    ),
+                  ),
+                ),
+              ),
+            ),
+          ),
+        ),
+      ))
 
   -- a type that is its children alone
   bare-reads : (plan : Plan) → Reads file (λ (o : Opening) bs. (bs ≡ []) × (o .0 ≡ []) × (o .1 ≡ plan)) (λ at. read ([], plan) at)

@@ -9,3 +9,7 @@ pub mod Rules
 pub mod Font
 pub mod Resource
 pub mod Heads
+pub mod Walk
+pub mod Complete
+pub mod Sound
+pub mod Unique

@@ -1,19 +1,17 @@
 -- The tests of resource ids, and that they say just what the layout's rules say. Assumes nothing.
-use mathlib.Core.Path.{_≡_, refl, sym, ap, _∙_}
+use mathlib.Core.Path.{_≡_, refl, ap}
 use mathlib.Core.Bool.{Bool, true, false}
 use mathlib.Core.List.{List, [], _∷_}
 use mathlib.Core.Logic.{_⊎_, inl, inr}
 use Prim.Native.Nat.{ℕ, zero, suc, _≤_}
-use native.Mathlib.Omega.{arith}
-use lib.Dec.{leb, eqb}
+use lib.Dec.{eqb}
 use lib.ListN.{length, getD}
-use borrow.Author.Tests.{leb-true, le-leb, eqb-true, eq-eqb}
+use borrow.Author.Tests.{eqb-true, eq-eqb}
 use Rattle.layout.specs.Target.{Target, kindOf}
 use Rattle.layout.specs.Tree.{Trees, none, tree, count, kindAt}
 use Rattle.layout.specs.Resource.{Resource}
 use Rattle.layout.specs.Rows.{Wants, nothing, resource}
-use Rattle.reading.specs.Rules.{either, both}
-use Rattle.reading.specs.Font.{both-true}
+use Rattle.reading.specs.Rules.{either}
 
 -- the kinds of trees, in order
 unfoldable pub kinds : Trees → List ℕ
