@@ -9,10 +9,10 @@ use native.Mathlib.Decide.{decLt}
 use lib.Dec.{ltb, leb, eqb}
 use lib.ListN.{length, getD, take, drop, length-append, take-append-drop}
 use lib.Seq.{drop-drop, drop-append-seam, drop-nil, length-take-le}
-use borrow.Author.Tests.{ltb-true, ltb-false, lt-ltb, le-ltb, leb-true, le-leb, eqb-true, eqb-false, eq-eqb, ne-eqb}
+use borrow.Author.Tests.{ltb-true, ltb-false, lt-ltb, le-ltb, leb-true, le-leb, eqb-true, eqb-false}
 use Rattle.layout.specs.Text.{Utf8, one, two, three, four, Utf8s, end, then}
 use Rattle.reading.specs.Answer.{Answer, refused, read, check, Ok, not-read, is-read, ok-check, ok-weaken, within, within-true, true-within}
-use Rattle.reading.specs.Reads.{Small, Spans, Reads}
+use Rattle.reading.specs.Reads.{Reads}
 
 abbrev pub pick : Bool → ℕ → ℕ → ℕ
 pick true a b = a

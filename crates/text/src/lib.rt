@@ -1,0 +1,237 @@
+// UTF-8 by RFC 3629: one character at a place, and whether a whole text is lawful.
+use answers::Number;
+ghost use mathlib.Core.Path.{_≡_};
+ghost use Prim.Native.Nat.{_+_, _-_, _*_, _^_, _≤_, _<_};
+ghost use lib.ListN.{length, getD, drop};
+ghost use Rattle.reading.specs.Utf8.{least, most, follow, charSize, charAt, utf8s};
+ghost use Rattle.answers.specs.Told.{told};
+ghost use Rattle.text.specs.Passed.{Passed, Ran};
+
+// The character of one to three bytes at `at`.
+pub fn char_at(s: &[u8], at: usize) -> Number
+    ensures { λ r. ⌜ told r ≡ charAt (now (s .entry)) at ⌝ }
+{
+    if s.len() <= at {
+        return Number::Refused(1, at);
+    }
+    let b = s[at];
+    if b < 0x80 {
+        return Number::Read(wide(b), at + 1);
+    }
+    if b < 0xC2 {
+        return Number::Refused(15, at);
+    }
+    if b < 0xE0 {
+        return char_two(s, at);
+    }
+    if b < 0xF0 {
+        return char_three(s, at);
+    }
+    Number::Refused(15, at)
+}
+
+// The character at `at` that a lead byte of two bytes starts.
+fn char_two(s: &[u8], at: usize) -> Number
+    requires { ⌜ (at < length (now s)) × ((0xC2 ≤ getD (now s) at 0) × (getD (now s) at 0 < 0xE0)) ⌝ }
+    ensures { λ r. ⌜ told r ≡ charAt (now (s .entry)) at ⌝ }
+{
+    if s.len() - at < 2 {
+        return Number::Refused(1, at);
+    }
+    let b = s[at];
+    let i = at + 1;
+    if second(s, i, b) {
+        let v = wide(b) - 0xC0;
+        return Number::Read(with_six(v, s[i]), at + 2);
+    }
+    Number::Refused(15, at)
+}
+
+// The character at `at` that a lead byte of three bytes starts.
+fn char_three(s: &[u8], at: usize) -> Number
+    requires { ⌜ (at < length (now s)) × ((0xE0 ≤ getD (now s) at 0) × (getD (now s) at 0 < 0xF0)) ⌝ }
+    ensures { λ r. ⌜ told r ≡ charAt (now (s .entry)) at ⌝ }
+{
+    if s.len() - at < 3 {
+        return Number::Refused(1, at);
+    }
+    let b = s[at];
+    let i = at + 1;
+    let j = at + 2;
+    if third(s, i, b) {
+        let v = with_six(wide(b) - 0xE0, s[i]);
+        return Number::Read(with_six(v, s[j]), at + 3);
+    }
+    Number::Refused(15, at)
+}
+
+// Whether `s` is UTF-8: blocks of ASCII, and where a block has another byte, its characters one by one.
+pub fn is_utf8(s: &[u8]) -> bool
+    ensures { λ r. ⌜ r ≡ utf8s (now (s .entry)) ⌝ }
+{
+    let n = s.len();
+    let mut i = 0;
+    while i < n {
+        let a = ascii_blocks(s, i);
+        let most = if n - a < 32 { n } else { a + 32 };
+        i = chars(s, a, most);
+        if i < most {
+            return false;
+        }
+    }
+    true
+}
+
+// Past the blocks of 32 ASCII bytes from `from` on.
+fn ascii_blocks(s: &[u8], from: usize) -> usize
+    requires { ⌜ from ≤ length (now s) ⌝ }
+    ensures { λ r. ⌜ Passed (now (s .entry)) from r ⌝ }
+{
+    let mut i = from;
+    while 32 <= s.len() - i {
+        let mut j = 0;
+        let mut b = 0u8;
+        while j < 32 {
+            b |= s[i + j];
+            j += 1;
+        }
+        if 128 <= b {
+            return i;
+        }
+        i += 32;
+    }
+    i
+}
+
+// One character after the other from `from` on, to `most` or past it, or to where there is none.
+fn chars(s: &[u8], from: usize, most: usize) -> usize
+    requires { ⌜ (from ≤ most) × (most ≤ length (now s)) ⌝ }
+    ensures { λ r. ⌜ Ran (now (s .entry)) from most r ⌝ }
+{
+    let mut i = from;
+    while i < most {
+        if s[i] < 0x80 {
+            i += 1;
+        } else {
+            let k = multi(s, i);
+            if k == 0 {
+                return i;
+            }
+            i += k;
+        }
+    }
+    i
+}
+
+// How many bytes the character of more than one byte at i takes, or 0 where there is none.
+fn multi(s: &[u8], i: usize) -> usize
+    requires { ⌜ (i < length (now s)) × (0x80 ≤ getD (now s) i 0) ⌝ }
+    ensures { λ r. ⌜ r ≡ charSize (drop i (now (s .entry))) ⌝ }
+{
+    let b = s[i];
+    let j = i + 1;
+    if b < 0xC2 {
+        return 0;
+    }
+    if b < 0xE0 {
+        if second(s, j, b) {
+            return 2;
+        }
+        return 0;
+    }
+    if b < 0xF0 {
+        if third(s, j, b) {
+            return 3;
+        }
+        return 0;
+    }
+    if b < 0xF5 {
+        if fourth(s, j, b) {
+            return 4;
+        }
+    }
+    0
+}
+
+// Whether the byte at i is a second byte after the lead byte b.
+fn second(s: &[u8], i: usize, b: u8) -> bool
+    ensures { λ r. ⌜ r ≡ follow 1 (least b) (most b) (drop i (now (s .entry))) ⌝ }
+{
+    in_range(s, i, low(b), high(b))
+}
+
+// Whether the bytes from i on are a second and a third byte after the lead byte b.
+fn third(s: &[u8], i: usize, b: u8) -> bool
+    ensures { λ r. ⌜ r ≡ follow 2 (least b) (most b) (drop i (now (s .entry))) ⌝ }
+{
+    if second(s, i, b) {
+        let j = i + 1;
+        return in_range(s, j, 0x80, 0xBF);
+    }
+    false
+}
+
+// Whether the bytes from i on are a second, a third and a fourth byte after the lead byte b.
+fn fourth(s: &[u8], i: usize, b: u8) -> bool
+    ensures { λ r. ⌜ r ≡ follow 3 (least b) (most b) (drop i (now (s .entry))) ⌝ }
+{
+    if third(s, i, b) {
+        let j = i + 2;
+        return in_range(s, j, 0x80, 0xBF);
+    }
+    false
+}
+
+// Whether there is a byte at i, from `low` to `high`.
+fn in_range(s: &[u8], i: usize, low: u8, high: u8) -> bool
+    ensures { λ r. ⌜ r ≡ follow 1 low high (drop i (now (s .entry))) ⌝ }
+{
+    if s.len() <= i {
+        return false;
+    }
+    let x = s[i];
+    if x < low {
+        return false;
+    }
+    x <= high
+}
+
+// The least second byte after the lead byte b.
+fn low(b: u8) -> u8
+    ensures { λ r. ⌜ r ≡ least b ⌝ }
+{
+    if b == 0xE0 {
+        return 0xA0;
+    }
+    if b == 0xF0 {
+        return 0x90;
+    }
+    0x80
+}
+
+// The greatest second byte after the lead byte b.
+fn high(b: u8) -> u8
+    ensures { λ r. ⌜ r ≡ most b ⌝ }
+{
+    if b == 0xED {
+        return 0x9F;
+    }
+    if b == 0xF4 {
+        return 0x8F;
+    }
+    0xBF
+}
+
+// The bits v, and then the six bits of the byte x.
+fn with_six(v: u64, x: u8) -> u64
+    requires { ⌜ (v < 2 ^ 12) × (0x80 ≤ x) ⌝ }
+    ensures { λ r. ⌜ r ≡ v * 64 + (x - 0x80) ⌝ }
+{
+    v * 64 + (wide(x) - 0x80)
+}
+
+fn wide(x: u8) -> u64
+    ensures { λ r. ⌜ r ≡ x ⌝ }
+{
+    x as u64
+}
