@@ -14,11 +14,12 @@ use Rattle.layout.specs.Text.{Utf8, one, two, three, four, Utf8s, end, then}
 use Rattle.reading.specs.Answer.{Answer, refused, read, check, Ok, not-read, is-read, ok-check, ok-weaken, within, within-true, true-within}
 use Rattle.reading.specs.Reads.{Reads}
 
+-- a where the test holds, else b
 abbrev pub pick : Bool → ℕ → ℕ → ℕ
 pick true a b = a
 pick false a b = b
 
--- how many bytes the character has that the lead byte b starts (00 to 7F: 1, C2 to DF: 2, E0 to EF: 3, F0 to F4: 4); 0 where b starts none
+-- how many bytes the character has that the lead byte b starts (00 to 7F hex: 1, C2 to DF: 2, E0 to EF: 3, F0 to F4: 4); 0 where b starts none
 unfoldable pub size : ℕ → ℕ
 size b = pick (ltb b 0x80) 1 (pick (ltb b 0xC2) 0 (pick (ltb b 0xE0) 2 (pick (ltb b 0xF0) 3 (pick (ltb b 0xF5) 4 0))))
 
@@ -34,7 +35,7 @@ most b = pick (eqb b 0xED) 0x9F (pick (eqb b 0xF4) 0x8F 0xBF)
 abbrev pub between : (low high x : ℕ) → Bool
 between low high x = leb low x && leb x high
 
--- the list begins with k bytes, the first from low to high and the others from 80 to BF (UTF8-tail)
+-- whether the list begins with k bytes, the first from low to high and the others from 80 to BF (UTF8-tail)
 unfoldable pub follow : (k low high : ℕ) → List ℕ → Bool
 follow zero low high l = true
 follow (suc k) low high [] = false
@@ -45,22 +46,22 @@ unfoldable pub charSize : List ℕ → ℕ
 charSize [] = 0
 charSize (b ∷ l) = pick (follow (pred (size b)) (least b) (most b) l) (size b) 0
 
--- nothing at 0, and the test of what follows k more bytes at suc k
+-- size 0 is no character; after one of size suc k, what f says of the list k bytes past the lead byte
 abbrev pub after : ℕ → (ℕ → Bool) → Bool
 after zero f = false
 after (suc k) f = f k
 
--- after the first k bytes, one character follows the other to the end
+-- whether past the first k bytes one character follows the other to the list's end
 unfoldable pub chars : ℕ → List ℕ → Bool
 chars k [] = true
 chars zero (b ∷ l) = after (charSize (b ∷ l)) (λ k. chars k l)
 chars (suc k) (b ∷ l) = chars k l
 
--- a text of characters one after the other (UTF8-octets)
+-- whether the list is a text: characters one after the other (UTF8-octets)
 unfoldable pub utf8s : List ℕ → Bool
 utf8s l = chars zero l
 
--- RFC 3629, section 3: the bits that mark the lead byte of a character of n bytes
+-- RFC 3629, section 3: the bits that mark the lead byte of a character of n bytes (110xxxxx, 1110xxxx, 11110xxx)
 abbrev pub mark : ℕ → ℕ
 mark zero = 0
 mark (suc zero) = 0
@@ -68,13 +69,13 @@ mark (suc (suc zero)) = 0xC0
 mark (suc (suc (suc zero))) = 0xE0
 mark (suc (suc (suc (suc n)))) = 0xF0
 
--- RFC 3629, section 3: the bits that came before, v, and then six bits of each of k bytes
+-- RFC 3629, section 3: the bits v and then the six low bits of each of k bytes, high first
 unfoldable pub bits : (v k : ℕ) → List ℕ → ℕ
 bits v zero l = v
 bits v (suc k) [] = v
 bits v (suc k) (x ∷ l) = bits (v * 64 + (x - 0x80)) k l
 
--- 01: "Char: one such character of 1 to 3 bytes". No byte is 1; a lead byte of no such character is 15, then missing bytes are 1, then wrong ones 15; all at its first byte.
+-- 01: "Char: one such character of 1 to 3 bytes". No byte: 1. A lead byte of no such character: 15. Then missing bytes: 1. Then wrong bytes: 15. All at its first byte.
 unfoldable pub charOf : ℕ → List ℕ → Answer ℕ
 charOf at [] = refused 1 at
 charOf at (b ∷ l) =
@@ -83,6 +84,7 @@ charOf at (b ∷ l) =
     (check (follow (pred (size b)) (least b) (most b) l) 15 at
     (read (bits (b - mark (size b)) (pred (size b)) l) (at + size b))))
 
+-- the character at a place of the file
 unfoldable pub charAt : List ℕ → ℕ → Answer ℕ
 charAt file at = charOf at (drop at file)
 

@@ -3,19 +3,19 @@ use mathlib.Core.Path.{_≡_, refl, sym, ap, _∙_}
 use mathlib.Core.Bool.{Bool, true, false, and-true}
 use mathlib.Core.List.{List, _∷_}
 use Prim.Native.Nat.{ℕ, zero, suc, _+_, _*_, _-_, _<_, _≤_}
+use native.Mathlib.Nat.{add-zero}
 use native.Mathlib.Numerals.{add-one}
 use native.Mathlib.Omega.{arith}
 use native.Mathlib.Decide.{decLt}
 use lib.ListN.{length, getD, drop, length-drop, drop-of-length-le}
 use lib.Seq.{drop-cons, drop-drop, getD-drop}
-use native.Mathlib.Nat.{add-zero}
 use lib.Bits.{bitOr, bitAnd, or-add-and, and-le-l, and-le-r}
 use borrow.Author.Tests.{le-leb, lt-leb}
 use Rattle.reading.specs.Answer.{refused, read, check, within, true-within}
 use Rattle.reading.specs.Utf8.{pick, size, size-one, size-low, size-four, size-high, least, most, between, follow, follow-fits, follow-first, follow-last, both, least-known, charSize, sized, char-fits, bits, mark, charOf, charAt, chars, utf8s, utf8s-stops, utf8s-steps}
 use Rattle.text.specs.Passed.{Passed, Ran}
 
--- both of two numbers are at most their OR
+-- two numbers are below what their OR is below
 pub or-below : (a b n : ℕ) → bitOr a b < n → (a < n) × (b < n)
 or-below a b n h =
     let s : bitOr a b + bitAnd a b ≡ a + b = or-add-and a b in
@@ -73,6 +73,7 @@ module _ (s : List ℕ) (i : ℕ) where
       let f : length (drop (i + 1) s) ≡ length s - (i + 1) = length-drop (i + 1) s in
       rw (at-byte h, e, true-within 3 (suc k) (omega arith) (omega arith), le-leb (suc k) (suc (length (drop (i + 1) s))) (omega arith), g)
 
+  -- the other bytes of a character are at least 80 hex
   pub second-least : (k b : ℕ) → follow (suc k) (least b) (most b) (drop i s) ≡ true → 0x80 ≤ getD s i 0
   second-least k b e =
       let z : getD (drop i s) 0 0 ≡ getD s i 0 = rw (getD-drop i s 0 0, add-zero i) in
@@ -90,6 +91,7 @@ module _ (s : List ℕ) (i : ℕ) where
   unfolding bits
   bits-at v k h = rw (at-byte h)
 
+-- ---- one character, by its lead byte
 module _ (s : List ℕ) (i : ℕ) (h : i < length s) where
   pub low-refused : 0x80 ≤ getD s i 0 → getD s i 0 < 0xC2 → charAt s i ≡ refused 15 i
   unfolding within
@@ -122,8 +124,8 @@ module _ (s : List ℕ) (i : ℕ) (h : i < length s) where
       char-read s i 2 true h e (omega arith) l f
       ∙ rw (bits-at s (i + 1) v 1 (omega arith), z, bits-at s (i + 2) (v * 64 + (getD s (i + 1) 0 - 0x80)) 0 (omega arith))
 
+-- ---- a text
 module _ (s : List ℕ) (i : ℕ) where
-  -- ---- a text
   pub char-step : (k : ℕ) → k ≡ charSize (drop i s) → (k ≡ 0 → ⊥) → utf8s (drop (i + k) s) ≡ utf8s (drop i s)
   char-step zero e n = absurd (n refl)
   char-step (suc k) e n = sym (utf8s-steps k (drop i s) (sym e) ∙ ap utf8s (drop-drop (suc k) i s))

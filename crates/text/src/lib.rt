@@ -129,10 +129,10 @@ fn multi(s: &[u8], i: usize) -> usize
     ensures { λ r. ⌜ r ≡ charSize (drop i (now (s .entry))) ⌝ }
 {
     let b = s[i];
-    let j = i + 1;
     if b < 0xC2 {
         return 0;
     }
+    let j = i + 1;
     if b < 0xE0 {
         if second(s, j, b) {
             return 2;

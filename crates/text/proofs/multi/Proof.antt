@@ -10,15 +10,15 @@ use Rattle.text.proofs.multi.Tie as tie
 shared-slice-read-b : tie.Need-shared-slice-read-b
 shared-slice-read-b c = search needs
 
-add-j : tie.Need-add-j
-add-j c = search needs
-
 returns : tie.Need-returns
 returns c =
     let a = c .before .before .before .args in
     let p = c .before .before .before .pre in
     let b = getD (a .s .now) (a .i) 0 in
     sym (no-char (a .s .now) (a .i) (p .0) (size-low b (p .1) (c .if1 .taken)))
+
+add-j : tie.Need-add-j
+add-j c = search needs
 
 second-requires : tie.Need-second-requires
 second-requires c κs = search needs
@@ -83,8 +83,8 @@ multi-spec =
     tie.close
     (tie.spec
     shared-slice-read-b
-    add-j
     returns
+    add-j
     second-requires
     returns-2
     returns-3
