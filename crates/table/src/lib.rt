@@ -1,0 +1,76 @@
+// The row table: six words to a row (01, "The row table"), and what a walk over values answers.
+use answers::Number;
+use ids::RowNumber;
+ghost use mathlib.Core.Path.{_≡_};
+ghost use Rattle.table.specs.Written.{putRow, rowOf};
+ghost use Rattle.table.specs.Contract.{Free, Ahead, Walked};
+ghost use Rattle.table.specs.Leaf.{leafOf};
+ghost use Rattle.answers.specs.Told.{told};
+
+// What is known of a value before its bytes are read: its row's number, its first byte, its parent's row number plus 1, and its type id or resource id.
+pub struct Head {
+    pub row: u32,
+    pub first: usize,
+    pub parent: u32,
+    pub detail: u32,
+}
+
+// A value, or values one after the other: the next byte and the rows used so far, or a refusal's number and place.
+pub enum Walk {
+    Done { next: usize, used: u32 },
+    Refused { number: u32, place: usize },
+}
+
+// Puts a row into the words, if they have it.
+pub fn put_row(
+    words: &mut [u32],
+    row: RowNumber,
+    kind: u32,
+    first: u32,
+    length: u32,
+    children: u32,
+    parent: u32,
+    detail: u32,
+)
+    ensures { λ _. ⌜ now (words .exit) ≡ putRow (now (words .entry)) (row .0) (rowOf kind first length children parent detail) ⌝ }
+{
+    let at = row.position();
+    if words.len() < 6 {
+        return;
+    }
+    if words.len() - 6 < at {
+        return;
+    }
+    words[at] = kind;
+    words[at + 1] = first;
+    words[at + 2] = length;
+    words[at + 3] = children;
+    words[at + 4] = parent;
+    words[at + 5] = detail;
+}
+
+// A value without children, once its bytes are read.
+pub fn leaf(words: &mut [u32], h: Head, kind: u32, read: Number) -> Walk
+    requires { ⌜ Free (now words) (h .row) × Ahead (h .first) (told read) ⌝ }
+    ensures { λ r. ⌜ Walked (now (words .entry)) (now (words .exit)) (h .row) (leafOf h kind (told read)) r ⌝ }
+{
+    match read {
+        Number::Refused(number, place) => Walk::Refused { number, place },
+        Number::Read(_, next) => {
+            let first = h.first as u32;
+            let length = (next - h.first) as u32;
+            let used = h.row + 1;
+            put_row(
+                words,
+                RowNumber(h.row),
+                kind,
+                first,
+                length,
+                0,
+                h.parent,
+                h.detail,
+            );
+            Walk::Done { next, used }
+        }
+    }
+}
