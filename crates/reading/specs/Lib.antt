@@ -13,3 +13,4 @@ pub mod Walk
 pub mod Complete
 pub mod Sound
 pub mod Unique
+pub mod Bounds

@@ -1,0 +1,93 @@
+-- Where what was read ends, and how many rows it took. Assumes nothing.
+use mathlib.Core.Path.{_≡_, refl, sym, ap, _∙_}
+use mathlib.Core.List.{List, [], _∷_, _++_}
+use mathlib.Core.Logic.{_⊎_, inl, inr}
+use Prim.Native.Nat.{ℕ, zero, suc, _+_, _-_, _≤_}
+use native.Mathlib.Omega.{arith}
+use lib.ListN.{length, drop, length-append, length-drop}
+use Rattle.layout.specs.Target.{Target}
+use Rattle.layout.specs.Tree.{Trees, none, tree, count, size}
+use Rattle.layout.specs.Slot.{Slot, raw, object, reference, leaf, Plan, stop, put}
+use Rattle.layout.specs.Layout.{Raw, Value, Lays}
+use Rattle.layout.specs.Resource.{Within}
+use Rattle.layout.specs.Rows.{Row, Below, rawRows, valueRows, rowsOf}
+use Rattle.reading.specs.Answer.{Answer, refused, read, Ok, not-read, is-read}
+use Rattle.reading.specs.Reads.{Small}
+use Rattle.reading.specs.Walk.{Taken, Outcome, sequence, walk}
+use Rattle.reading.specs.Sound.{Read, ReadValue, walk-sound, walks-sound}
+
+-- there is a row for each value
+module _ (readers : List Target) (refers : Target → ℕ → Type 0) where
+  raw-length : (below : Plan → List ℕ → Type 0) (rows : Below below) (cs : Trees) → ((plan : Plan) (b : List ℕ) (v : below plan b) (a n q : ℕ) → length (rows plan b v a n q) ≡ size cs)
+      → (t : Target) (kind : ℕ) (own bs : List ℕ) (w : Raw below t kind own cs bs) (first z at n q id : ℕ) → length (rawRows below rows t kind own cs bs w first z at n q id) ≡ suc (size cs)
+  unfolding rawRows
+  raw-length below rows cs h t kind own bs w first z at n q id = ap suc (h (w .plan) (w .children) (w .laid) (at + length (w .head)) (suc n) (suc n))
+
+  value-length : (below : Plan → List ℕ → Type 0) (rows : Below below) (cs : Trees) → ((plan : Plan) (b : List ℕ) (v : below plan b) (a n q : ℕ) → length (rows plan b v a n q) ≡ size cs)
+      → (x : Slot) (kind id : ℕ) (own bs : List ℕ) (w : Value readers refers below x kind id own cs bs) (at n q : ℕ) → length (valueRows readers refers below rows x kind id own cs bs w at n q) ≡ suc (size cs)
+  unfolding Value valueRows size
+  value-length below rows cs h (raw t) kind id own bs w at n q = raw-length below rows cs h t kind own bs (w .1) at (length bs) at n q 0
+  value-length below rows cs h (object t) kind id own bs (inl w) at n q = rw (w .childless)
+  value-length below rows cs h (object t) kind id own bs (inr w) at n q = raw-length below rows cs h (w .target) kind own (w .value) (w .laid) at (length bs) (at + length (w .number)) n q id
+  value-length below rows cs h (reference t) kind id own bs w at n q = rw (w .childless)
+  value-length below rows cs h (leaf x) kind id own bs w at n q = rw (w .1)
+
+  pub rows-length : (plan : Plan) (ts : Trees) (bs : List ℕ) (w : Lays readers refers plan ts bs) (at n q : ℕ) → length (rowsOf readers refers plan ts bs w at n q) ≡ size ts
+  unfolding Lays rowsOf size
+  rows-length stop none bs w at n q = refl
+  rows-length (put x go) none bs w at n q = absurd w
+  rows-length stop (tree k i own cs rest) bs w at n q = absurd w
+  rows-length (put x go) (tree k i own cs rest) bs w at n q =
+      let v = value-length (λ plan b. Lays readers refers plan cs b) (λ plan b v a n p. rowsOf readers refers plan cs b v a n p) cs (λ plan b v a n q. rows-length plan cs b v a n q) x k i own (w .0) (w .3) at n q in
+      let r = rows-length (go own) rest (w .1) (w .4) (at + length (w .0)) (n + suc (size cs)) q in
+      rw (length-append, v, r)
+
+-- what was read ends at or behind its start and inside the file, and took as many rows as it says, within the room
+pub record Bounds (file : List ℕ) (room at used : ℕ) (a : Taken) (e : ℕ) : Type 0 where
+  pub ahead : at ≤ e
+  pub inside : at ≤ length file → e ≤ length file
+  pub counted : a .0 ≡ used + length (a .1)
+  pub fits : used ≤ room → a .0 ≤ room
+
+ends : (file bytes : List ℕ) (at e : ℕ) → drop at file ≡ bytes ++ drop e file → e ≡ at + length bytes → at ≤ length file → e ≤ length file
+ends file bytes at e there end h = omega (arith, length-drop at file, length-drop e file, simp length-append at (ap length there))
+
+module _ (file : List ℕ) (readers : List Target) (shared room : ℕ) (small : Small file) where
+  value-bounds : {d : ℕ} {x : Slot} (at used parent : ℕ) (a : Taken) (e : ℕ) → ReadValue file readers shared room small d x at used parent a e → Bounds file room at used a e
+  value-bounds at used parent a e v =
+      let l = value-length readers (Within shared) (λ plan b. Lays readers (Within shared) plan (v .children) b) (λ plan b w a n p. rowsOf readers (Within shared) plan (v .children) b w a n p)
+      (v .children) (λ plan b w a n q. rows-length readers (Within shared) plan (v .children) b w a n q) _ (v .kind) (v .id) (v .own) (v .bytes) (v .laid) at used parent in
+      let m : length (a .1) ≡ suc (size (v .children)) = ap length (v .rows-are) ∙ l in
+      record {
+        ahead = omega (arith, v .end);
+        inside = ends file (v .bytes) at e (v .there) (v .end);
+        counted = omega (arith, v .used-is);
+        fits = λ h. v .room-left;
+      }
+
+  pub walk-bounds : (d : ℕ) (x : Slot) (at used parent : ℕ) (a : Taken) (e : ℕ) → walk file readers shared room d x at used parent ≡ read a e → Bounds file room at used a e
+  walk-bounds d x at used parent a e q = go (walk file readers shared room d x at used parent) (walk-sound file readers shared room small d x at used parent) q where
+    go : (o : Outcome) → Ok (ReadValue file readers shared room small d x at used parent) o → o ≡ read a e → Bounds file room at used a e
+    go o not-read p = absurd (let z : _≡_ {A = ℕ} 0 1 = cc in omega arith)
+    go o (is-read {a = b} {e = f} v) p =
+        let qb : b ≡ a = cc in
+        let qf : f ≡ e = cc in
+        rw (qb, qf) at (value-bounds at used parent b f v)
+
+  pub sequence-bounds : (d : ℕ) (plan : Plan) (at used parent : ℕ) (a : Taken) (e : ℕ)
+      → sequence (λ y b v. walk file readers shared room d y b v parent) plan at used ≡ read a e → Bounds file room at used a e
+  sequence-bounds d plan at used parent a e q =
+      go (sequence (λ y b v. walk file readers shared room d y b v parent) plan at used) (walks-sound file readers shared room small d plan at used parent) q where
+    go : (o : Outcome) → Ok (Read file readers shared room small d plan at used parent) o → o ≡ read a e → Bounds file room at used a e
+    go o not-read p = absurd (let z : _≡_ {A = ℕ} 0 1 = cc in omega arith)
+    go o (is-read {a = b} {e = f} v) p =
+        let qb : b ≡ a = cc in
+        let qf : f ≡ e = cc in
+        let l : length (b .1) ≡ size (b .2) = ap length (v .rows-are) ∙ rows-length readers (Within shared) plan (b .2) (v .bytes) (v .laid) at used parent in
+        let bounds : Bounds file room at used b f = record {
+          ahead = omega (arith, v .end);
+          inside = ends file (v .bytes) at f (v .there) (v .end);
+          counted = omega (arith, v .used-is);
+          fits = v .room-left;
+        } in
+        rw (qb, qf) at bounds
