@@ -1,15 +1,15 @@
 -- What the functions of a walk promise of their answer and of the words. Assumes nothing.
-use mathlib.Core.Path.{_≡_}
+use mathlib.Core.Path.{_≡_, _∙_}
 use mathlib.Core.List.{List, [], _∷_}
 use Prim.Native.Nat.{ℕ, _+_, _*_, _≤_, _<_, _^_}
 use lib.ListN.{length}
-use Rattle.layout.specs.Rows.{Row}
+use Rattle.layout.specs.Rows.{Row, row, Wants}
 use Rattle.reading.specs.Answer.{Answer, refused, read}
 use Rattle.reading.specs.Walk.{Outcome}
 use Rattle.table.specs.declared.Walk.{Walk}
 use Rattle.table.specs.declared.Walk.the-variants.{Done, Refused}
 use borrow.Author.Tests.{le-leb}
-use Rattle.table.specs.Written.{written, putRow}
+use Rattle.table.specs.Written.{written, putRow, rowOf, marks, marked}
 
 -- what a program has of an outcome: the rows used and the new rows, without the trees
 abbrev pub Seen : Type 0
@@ -46,3 +46,9 @@ Ahead first (read a e) = (first ≤ e) × (e < 2 ^ 32)
 pub put-free : (w : List ℕ) (u : ℕ) (r : Row) → Free w u → putRow w u r ≡ written w u (r ∷ [])
 unfolding putRow
 put-free w u r f = rw (le-leb (6 * u + 6) (length w) (f .there))
+
+-- a row without children was put
+pub put-leaf : {w w′ : List ℕ} {u mark : ℕ} (kind first z parent detail : ℕ) (wants : Wants) → marks wants ≡ mark → Free w u
+    → w′ ≡ putRow w u (rowOf kind first z mark parent detail) → w′ ≡ written w u (row kind first z 0 parent detail wants ∷ [])
+put-leaf {w} {w′} {u} {mark} kind first z parent detail wants m f e =
+    e ∙ put-free w u (rowOf kind first z mark parent detail) f ∙ rw (← m) (marked w u kind first z parent detail wants)

@@ -2,7 +2,8 @@
 use answers::Number;
 use ids::RowNumber;
 ghost use mathlib.Core.Path.{_≡_};
-ghost use Rattle.table.specs.Written.{putRow, rowOf};
+ghost use Rattle.table.specs.Written.{putRow, rowOf, marks};
+ghost use Rattle.layout.specs.Rows.{Wants};
 ghost use Rattle.table.specs.Contract.{Free, Ahead, Walked};
 ghost use Rattle.table.specs.Leaf.{leafOf};
 ghost use Rattle.answers.specs.Told.{told};
@@ -49,10 +50,10 @@ pub fn put_row(
     words[at + 5] = detail;
 }
 
-// A value without children, once its bytes are read.
-pub fn leaf(words: &mut [u32], h: Head, kind: u32, read: Number) -> Walk
+// A value without children, once its bytes are read; `mark` is the kind that a reference wants, else 0.
+pub fn leaf(words: &mut [u32], h: Head, kind: u32, mark: u32, read: Number) -> Walk
     requires { ⌜ Free (now words) (h .row) × Ahead (h .first) (told read) ⌝ }
-    ensures { λ r. ⌜ Walked (now (words .entry)) (now (words .exit)) (h .row) (leafOf h kind (told read)) r ⌝ }
+    ensures { λ r. ⌜ ((wants : Wants) → marks wants ≡ mark → Walked (now (words .entry)) (now (words .exit)) (h .row) (leafOf h kind wants (told read)) r) ⌝ }
 {
     match read {
         Number::Refused(number, place) => Walk::Refused { number, place },
@@ -66,7 +67,7 @@ pub fn leaf(words: &mut [u32], h: Head, kind: u32, read: Number) -> Walk
                 kind,
                 first,
                 length,
-                0,
+                mark,
                 h.parent,
                 h.detail,
             );

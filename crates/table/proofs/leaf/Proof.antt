@@ -1,7 +1,7 @@
 use mathlib.Core.Path.{_≡_, refl, _∙_}
 use Prim.Native.Nat.{suc, _+_, _≤_, _<_, _^_}
 use native.Mathlib.Omega.{arith}
-use Rattle.table.specs.Contract.{put-free}
+use Rattle.table.specs.Contract.{put-leaf}
 use borrow.Author.Needs.{needs}
 use Rattle.table.proofs.leaf.Statement.{statement}
 use Rattle.table.proofs.leaf.Tie as tie
@@ -37,20 +37,18 @@ put-row-requires c κs = search needs
 
 returns : tie.Need-returns
 returns c =
-    rw (c .before .read .given .1) (record { answers = refl; writes = refl })
+    λ wants m. rw (c .before .read .given .1) (record { answers = refl; writes = refl })
 
 same-length : tie.Need-same-length
 same-length c = search needs
 
 returns-2 : tie.Need-returns-2
 returns-2 c =
+    λ wants m.
     let start = c .before .before .before .before .before .before .before .before .before .before .before in
     let read = c .before .before .before .before .before .before .before .before .read2 .given .1 in
     let e : start .args .h .row + 1 ≡ suc (start .args .h .row) = omega arith in
-    rw (read, e) (record {
-      answers = refl;
-      writes = c .before .before .put-row .ensures ∙ put-free (start .args .words .now) (start .args .h .row) _ (start .pre .0);
-    })
+    rw (read, e) (record { answers = refl; writes = put-leaf (start .args .kind) (start .args .h .first) _ (start .args .h .parent) (start .args .h .detail) wants m (start .pre .0) (c .before .before .put-row .ensures) })
 
 pub leaf-spec : {M : Type 1} → statement M
 leaf-spec =
