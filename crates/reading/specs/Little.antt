@@ -8,7 +8,7 @@ use lib.ListN.{length, take, drop}
 use borrow.Author.Tests.{le-leb, lt-leb}
 use Rattle.layout.specs.Number.{little}
 use Rattle.reading.specs.Answer.{Answer, read, refused, bind, check}
-use Rattle.reading.specs.Reads.{Small, Reads, pure-reads, bind-reads, convert, some, some-reads}
+use Rattle.reading.specs.Reads.{Small, Reads, pure-reads, bind-reads, convert, some, some-reads, next-of}
 
 -- the number that bytes make, low first
 unfoldable pub valueOf : List ℕ → ℕ
@@ -69,3 +69,11 @@ little-there file k place at h = rw (le-leb k (length (drop at file)) h)
 pub little-missing : (file : List ℕ) (k place at : ℕ) → length (drop at file) < k → littleAt file k place at ≡ refused 1 place
 unfolding littleAt bind some check
 little-missing file k place at h = rw (lt-leb k (length (drop at file)) h)
+
+-- a number that was read has its bytes in the file
+pub little-next : (file : List ℕ) → Small file → (k place at : ℕ) {n e : ℕ} → 1 ≤ k → littleAt file k place at ≡ read n e → (e ≡ at + k) × (e ≤ length file) × (n < 256 ^ k)
+little-next file s k place at some q =
+    let w = next-of (little-reads file k place) s at q in
+    let l : length (w .form) ≡ k = ap length (w .laid .1) ∙ length-little k _ in
+    let b = w .behind in
+    (omega arith, w .within (omega arith), w .laid .0)

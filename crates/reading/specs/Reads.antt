@@ -155,3 +155,14 @@ next-of {file} {F = F} {r = r} x s at {a} {e} q = go (r at) (x .sound s at) q wh
         behind = sym ef ∙ v .3;
         within = λ some. omega arith;
       }
+
+-- what is read from inside the file ends inside it
+pub reads-bounds : {file : List ℕ} {A : Type 0} {F : A → List ℕ → Type 0} {r : ℕ → Answer A} → Reads file F r → Small file
+    → (at : ℕ) → at ≤ length file → {a : A} {e : ℕ} → r at ≡ read a e → (at ≤ e) × (e ≤ length file)
+reads-bounds {file} {A} {F} {r} x s at h {a} {e} q = go (r at) (x .sound s at) q where
+  go : (o : Answer A) → Ok (Spans file F at) o → o ≡ read a e → (at ≤ e) × (e ≤ length file)
+  go o not-read p = absurd (let z : _≡_ {A = ℕ} 0 1 = cc in omega arith)
+  go o (is-read {a = b} {e = f} v) p =
+      let ef : f ≡ e = cc in
+      let l : length file - at ≡ length (v .0) + (length file - f) = omega (arith, length-drop at file, length-drop f file, simp length-append at (ap length (v .2))) in
+      (omega (arith, v .3), omega (arith, v .3))

@@ -1,0 +1,73 @@
+use mathlib.Core.Path.{_≡_, sym, _∙_}
+use mathlib.Core.Bool.{true}
+use Prim.Native.Nat.{_+_, _-_, _≤_}
+use native.Mathlib.Omega.{arith}
+use lib.Dec.{leb}
+use lib.ListN.{length, drop, length-drop}
+use borrow.Author.Tests.{leb-true, not-true, not-false}
+use Rattle.leaves.specs.Text.{text-missing, text-there, text-broken}
+use borrow.Author.Needs.{needs}
+use Rattle.leaves.proofs.read.text_bytes.Statement.{statement}
+use Rattle.leaves.proofs.read.text_bytes.Tie as tie
+
+there : (c : tie.Else1) → leb (c .before .before .before .args .count) (length (drop (c .before .before .before .args .start) (c .before .before .before .args .file .now))) ≡ true
+there c = sym (c .before .has-bytes .ensures) ∙ not-false _ (c .if1 .left)
+
+-- the text's bytes are in the file
+inside : (c : tie.Else1) → c .before .before .before .args .start + c .before .before .before .args .count ≤ length (c .before .before .before .args .file .now)
+inside c =
+    let a = c .before .before .before .args in
+    omega (arith, leb-true (a .count) (length (drop (a .start) (a .file .now))) (there c), length-drop (a .start) (a .file .now), c .before .before .before .pre)
+
+has-bytes-requires : tie.Need-has-bytes-requires
+has-bytes-requires c κs = search needs
+
+returns : tie.Need-returns
+returns c =
+    let a = c .before .before .before .args in
+    text-missing (a .file .now) (a .at) (a .count) (a .start) (sym (c .before .has-bytes .ensures) ∙ not-true _ (c .if1 .taken))
+
+add-end : tie.Need-add-end
+add-end c =
+    omega (arith, inside c)
+
+sub-is-utf8 : tie.Need-sub-is-utf8
+sub-is-utf8 c = search needs
+
+part-is-utf8-start : tie.Need-part-is-utf8-start
+part-is-utf8-start c = search needs
+
+part-is-utf8-end : tie.Need-part-is-utf8-end
+part-is-utf8-end c =
+    omega (arith, inside c)
+
+is-utf8-requires : tie.Need-is-utf8-requires
+is-utf8-requires c κs = search needs
+
+returns-2 : tie.Need-returns-2
+returns-2 c =
+    let at = c .before .before .before in
+    let a = at .before .before .before .args in
+    let e : a .start + a .count - a .start ≡ a .count = omega arith in
+    text-there (a .file .now) (a .at) (a .count) (a .start) (there at) (sym (rw e at (c .before .is-utf8 .ensures)) ∙ c .if2 .taken)
+
+returns-3 : tie.Need-returns-3
+returns-3 c =
+    let at = c .before .before .before in
+    let a = at .before .before .before .args in
+    let e : a .start + a .count - a .start ≡ a .count = omega arith in
+    text-broken (a .file .now) (a .at) (a .count) (a .start) (there at) (sym (rw e at (c .before .is-utf8 .ensures)) ∙ c .if2 .left)
+
+pub text-bytes-spec : {M : Type 1} → statement M
+text-bytes-spec =
+    tie.close
+    (tie.spec
+    has-bytes-requires
+    returns
+    add-end
+    sub-is-utf8
+    part-is-utf8-start
+    part-is-utf8-end
+    is-utf8-requires
+    returns-2
+    returns-3)

@@ -1,0 +1,2 @@
+// Values without children: texts, image levels, characters, values of fixed size and shared references.
+pub mod read;

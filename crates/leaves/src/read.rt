@@ -1,0 +1,55 @@
+// Reading the bytes of values that have no children.
+use answers::Number;
+ghost use mathlib.Core.Path.{_≡_};
+ghost use Prim.Native.Nat.{_≤_};
+ghost use lib.ListN.{length};
+ghost use Rattle.answers.specs.Told.{told};
+ghost use Rattle.layout.specs.Slot.{level};
+ghost use Rattle.reading.specs.Fixed.{sized};
+ghost use Rattle.reading.specs.Heads.{textAt, leafAt};
+ghost use Rattle.leaves.specs.Text.{ownSize, textBytes};
+
+// A text's bytes from `start` on, which its count at `at` says.
+fn text_bytes(file: &[u8], at: usize, start: usize, count: u64) -> Number
+    requires { ⌜ start ≤ length (now file) ⌝ }
+    ensures { λ r. ⌜ told r ≡ ownSize (textBytes (now (file .entry)) at count start) ⌝ }
+{
+    let n = count as usize;
+    if !numbers::little::has_bytes(file, start, n) {
+        return Number::Refused(1, at);
+    }
+    let end = start + n;
+    if text::is_utf8(&file[start..end]) {
+        return Number::Read(count, end);
+    }
+    Number::Refused(15, at)
+}
+
+// A text: its count, then its bytes. The value is the number of its bytes.
+pub fn text_at(file: &[u8], at: usize) -> Number
+    ensures { λ r. ⌜ told r ≡ ownSize (textAt (now (file .entry)) at) ⌝ }
+{
+    match numbers::seven::seven_at(file, at) {
+        Number::Refused(number, place) => Number::Refused(number, place),
+        Number::Read(count, start) => text_bytes(file, at, start, count),
+    }
+}
+
+// An image level of a size: its size field, then its data. The value is the number of its data's bytes.
+pub fn level_at(file: &[u8], size: u64, at: usize) -> Number
+    ensures { λ r. ⌜ told r ≡ sized (leafAt (now (file .entry)) (level size) at) ⌝ }
+{
+    match numbers::little::little4(file, at) {
+        Number::Refused(number, place) => Number::Refused(number, place),
+        Number::Read(n, start) => {
+            if n != size {
+                return Number::Refused(15, at);
+            }
+            let z = n as usize;
+            if !numbers::little::has_bytes(file, start, z) {
+                return Number::Refused(1, at);
+            }
+            Number::Read(n, start + z)
+        }
+    }
+}
