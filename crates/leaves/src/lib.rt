@@ -1,2 +1,3 @@
 // Values without children: texts, image levels, characters, values of fixed size and shared references.
+pub mod plain;
 pub mod read;

@@ -1,0 +1,87 @@
+use mathlib.Core.Path.{_≡_, refl, sym, ap, _∙_}
+use Prim.Native.Nat.{_≤_, _<_, _^_}
+use native.Mathlib.Omega.{arith}
+use lib.ListN.{length}
+use borrow.Author.Tests.{ltb-true, ltb-false}
+use Rattle.answers.specs.Told.{told}
+use Rattle.layout.specs.Rows.{resource}
+use Rattle.reading.specs.Answer.{read}
+use Rattle.reading.specs.Reads.{small-by-index}
+use Rattle.reading.specs.Seven.{sevenAt, seven-next}
+use Rattle.leaves.specs.Plain.{reference-refused, reference-beyond, reference-within}
+use borrow.Author.Needs.{needs}
+use Rattle.leaves.proofs.plain.reference.Statement.{statement}
+use Rattle.leaves.proofs.plain.reference.Tie as tie
+
+-- the resource id was read
+number : (c : tie.After-known-told2)
+    → sevenAt (c .before .before .before .before .before .before .args .file .now) (c .before .before .before .before .before .before .args .h .first) ≡ read (c .before .value .given .0 .0) (c .before .value .given .0 .1 .0)
+number c = sym (c .before .before .before .seven-at .ensures) ∙ ap told (c .before .value .given .1)
+
+behind : (c : tie.After-known-told2)
+    → (c .before .before .before .before .before .before .args .h .first < c .before .value .given .0 .1 .0)
+    × (c .before .value .given .0 .1 .0 ≤ length (c .before .before .before .before .before .before .args .file .now))
+    × (c .before .value .given .0 .0 < 2 ^ 32)
+behind c =
+    let start = c .before .before .before .before .before .before in
+    let s = start .args .file .now in
+    seven-next s (small-by-index s (λ i h. omega (arith, c .before .before .before .before .before .shared-slice-known .given i))) _ (number c)
+
+seven-at-requires : tie.Need-seven-at-requires
+seven-at-requires c κs = search needs
+
+enum-known-number : tie.Need-enum-known-number
+enum-known-number c = search needs
+
+enum-known-value : tie.Need-enum-known-value
+enum-known-value c = search needs
+
+cast-id : tie.Need-cast-id
+cast-id c =
+    omega (arith, behind c)
+
+beyond-requires : tie.Need-beyond-requires
+beyond-requires c κs = search needs
+
+returns : tie.Need-returns
+returns c =
+    let at = c .before .before in
+    let a = at .before .before .before .before .before .before .args in
+    rw (← reference-beyond (a .file .now) (a .shared) (a .wanted) (a .h) (number at) (ltb-true _ _ (sym (c .before .beyond .ensures) ∙ c .if1 .taken))) (record { answers = refl; writes = refl })
+
+leaf-requires : tie.Need-leaf-requires
+leaf-requires c κs =
+    let at = c .before .before .before in
+    let start = at .before .before .before .before .before .before in
+    let r = start .pre in
+    (record { there = r .free; few = r .few }, omega (arith, behind at, r .short))
+
+returns-2 : tie.Need-returns-2
+returns-2 c =
+    let a = c .before .before .before .before .before .before .args in
+    rw (← reference-refused (a .file .now) (a .shared) (a .wanted) (a .h) (sym (c .before .before .before .seven-at .ensures) ∙ ap told (c .before .number .given .1))) (record { answers = refl; writes = refl })
+
+same-length : tie.Need-same-length
+same-length c = search needs
+
+returns-3 : tie.Need-returns-3
+returns-3 c =
+    let at = c .before .before .before .before .before .before in
+    let a = at .before .before .before .before .before .before .args in
+    rw (← reference-within (a .file .now) (a .shared) (a .wanted) (a .h) (number at) (ltb-false _ _ (sym (c .before .before .before .before .before .beyond .ensures) ∙ c .before .before .before .before .if1 .left)))
+    (c .before .before .leaf .ensures (resource (a .wanted)) refl)
+
+pub reference-spec : {M : Type 1} → statement M
+reference-spec =
+    tie.close
+    (tie.spec
+    seven-at-requires
+    enum-known-number
+    enum-known-value
+    cast-id
+    beyond-requires
+    returns
+    leaf-requires
+    returns-2
+    same-length
+    returns-3)

@@ -1,0 +1,110 @@
+// A value that has no children and needs no reader list.
+use answers::Number;
+use ids::Position;
+use ids::ResourceId;
+use table::Head;
+use table::Walk;
+ghost use mathlib.Core.Path.{_≡_};
+ghost use mathlib.Core.List.{List};
+ghost use Prim.Native.Nat.{_≤_};
+ghost use lib.Dec.{ltb};
+ghost use lib.ListN.{length};
+ghost use Rattle.layout.specs.Target.{Target};
+ghost use Rattle.reading.specs.Walk.{walk};
+ghost use Rattle.table.specs.Contract.{seen, Walked};
+ghost use Rattle.leaves.specs.Plain.{Lawful, Begin, Ready, plainSlot, plainOf, referenceOf};
+
+// How such a value stands: raw of a kind of fixed size, with the size; a raw character; an image level of a size; a reference that wants a kind.
+pub enum Plain {
+    Fixed(u32, usize),
+    Char,
+    Level(u64),
+    Reference(u32),
+}
+
+// Whether a resource id is above the shared count.
+fn beyond(id: ResourceId, shared: u32) -> bool
+    ensures { λ r. ⌜ r ≡ ltb shared (id .0) ⌝ }
+{
+    match id.position() {
+        Position::Null => false,
+        Position::At(i) => shared <= i,
+    }
+}
+
+// A shared reference.
+fn reference(file: &[u8], words: &mut [u32], shared: u32, wanted: u32, h: Head) -> Walk
+    requires { ⌜ Ready (now file) (now words) h ⌝ }
+    ensures { λ r. ⌜ Walked (now (words .entry)) (now (words .exit)) (h .row) (referenceOf (now (file .entry)) shared wanted h) r ⌝ }
+{
+    let at = h.first;
+    match numbers::seven::seven_at(file, at) {
+        Number::Refused(number, place) => Walk::Refused { number, place },
+        Number::Read(value, next) => {
+            let id = value as u32;
+            if beyond(ResourceId(id), shared) {
+                return Walk::Refused {
+                    number: 16,
+                    place: at,
+                };
+            }
+            let named = Head {
+                row: h.row,
+                first: h.first,
+                parent: h.parent,
+                detail: id,
+            };
+            table::leaf(words, named, 36, wanted, Number::Read(value, next))
+        }
+    }
+}
+
+// The value, once it may have a row.
+fn plain_value(file: &[u8], words: &mut [u32], shared: u32, slot: Plain, h: Head) -> Walk
+    requires { ⌜ Ready (now file) (now words) h × Lawful slot ⌝ }
+    ensures { λ r. ⌜ Walked (now (words .entry)) (now (words .exit)) (h .row) (plainOf (now (file .entry)) shared slot h) r ⌝ }
+{
+    let at = h.first;
+    match slot {
+        Plain::Fixed(kind, size) => table::leaf(words, h, kind, 0, values::fixed_at(file, kind, size, at)),
+        Plain::Char => table::leaf(words, h, 12, 0, text::char_at(file, at)),
+        Plain::Level(size) => table::leaf(words, h, 35, 0, crate::read::level_at(file, size, at)),
+        Plain::Reference(wanted) => reference(file, words, shared, wanted, h),
+    }
+}
+
+// A value in such a slot, with the depth left.
+pub fn read_plain(
+    file: &[u8],
+    words: &mut [u32],
+    room: u32,
+    shared: u32,
+    slot: Plain,
+    at: usize,
+    used: u32,
+    depth: u32,
+    parent: u32,
+) -> Walk
+    requires { ⌜ Begin (now file) (now words) room at used × Lawful slot ⌝ }
+    ensures { λ r. ⌜ ((readers : List Target) → Walked (now (words .entry)) (now (words .exit)) used (seen (walk (now (file .entry)) readers shared room depth (plainSlot slot) at used parent)) r) ⌝ }
+{
+    if depth == 0 {
+        return Walk::Refused {
+            number: 18,
+            place: at,
+        };
+    }
+    if room <= used {
+        return Walk::Refused {
+            number: 19,
+            place: at,
+        };
+    }
+    let h = Head {
+        row: used,
+        first: at,
+        parent,
+        detail: 0,
+    };
+    plain_value(file, words, shared, slot, h)
+}
