@@ -66,7 +66,13 @@ fn plain_value(file: &[u8], words: &mut [u32], shared: u32, slot: Plain, h: Head
 {
     let at = h.first;
     match slot {
-        Plain::Fixed(kind, size) => table::leaf(words, h, kind, 0, values::fixed_at(file, kind, size, at)),
+        Plain::Fixed(kind, size) => table::leaf(
+            words,
+            h,
+            kind,
+            0,
+            values::fixed_at(file, kind, size, at),
+        ),
         Plain::Char => table::leaf(words, h, 12, 0, text::char_at(file, at)),
         Plain::Level(size) => table::leaf(words, h, 35, 0, crate::read::level_at(file, size, at)),
         Plain::Reference(wanted) => reference(file, words, shared, wanted, h),

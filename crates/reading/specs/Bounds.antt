@@ -78,16 +78,16 @@ module _ (file : List ℕ) (readers : List Target) (shared room : ℕ) (small : 
       → sequence (λ y b v. walk file readers shared room d y b v parent) plan at used ≡ read a e → Bounds file room at used a e
   sequence-bounds d plan at used parent a e q =
       go (sequence (λ y b v. walk file readers shared room d y b v parent) plan at used) (walks-sound file readers shared room small d plan at used parent) q where
-    go : (o : Outcome) → Ok (Read file readers shared room small d plan at used parent) o → o ≡ read a e → Bounds file room at used a e
-    go o not-read p = absurd (let z : _≡_ {A = ℕ} 0 1 = cc in omega arith)
-    go o (is-read {a = b} {e = f} v) p =
-        let qb : b ≡ a = cc in
-        let qf : f ≡ e = cc in
-        let l : length (b .1) ≡ size (b .2) = ap length (v .rows-are) ∙ rows-length readers (Within shared) plan (b .2) (v .bytes) (v .laid) at used parent in
-        let bounds : Bounds file room at used b f = record {
-          ahead = omega (arith, v .end);
-          inside = ends file (v .bytes) at f (v .there) (v .end);
-          counted = omega (arith, v .used-is);
-          fits = v .room-left;
-        } in
-        rw (qb, qf) at bounds
+        go : (o : Outcome) → Ok (Read file readers shared room small d plan at used parent) o → o ≡ read a e → Bounds file room at used a e
+        go o not-read p = absurd (let z : _≡_ {A = ℕ} 0 1 = cc in omega arith)
+        go o (is-read {a = b} {e = f} v) p =
+            let qb : b ≡ a = cc in
+            let qf : f ≡ e = cc in
+            let l : length (b .1) ≡ size (b .2) = ap length (v .rows-are) ∙ rows-length readers (Within shared) plan (b .2) (v .bytes) (v .laid) at used parent in
+            let bounds : Bounds file room at used b f = record {
+              ahead = omega (arith, v .end);
+              inside = ends file (v .bytes) at f (v .there) (v .end);
+              counted = omega (arith, v .used-is);
+              fits = v .room-left;
+            } in
+            rw (qb, qf) at bounds

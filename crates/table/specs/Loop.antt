@@ -80,8 +80,7 @@ unfolding seen bind
 rest-seen a (refused n p) = refl
 rest-seen a (read b n) = refl
 
-module _ (file : List ℕ) (room : ℕ) (step : Slot → ℕ → ℕ → Outcome) (bounded : (x : Slot) (at used : ℕ) (a : Taken) (e : ℕ) → step x at used ≡ read a e → Bounds file room at used a e)
-    (slots : List Slot) (w₀ : List ℕ) (at used : ℕ) where
+module _ (file : List ℕ) (room : ℕ) (step : Slot → ℕ → ℕ → Outcome) (slots : List Slot) (w₀ : List ℕ) (at used : ℕ) where
   -- i values are read, with their rows; the rest gives what is left
   pub record Reading (w : List ℕ) (next row i : ℕ) : Type 0 where
     pub rows : List Row
@@ -112,11 +111,10 @@ module _ (file : List ℕ) (room : ℕ) (step : Slot → ℕ → ℕ → Outcome
   next-slot i x h e = rw (add-one i) (drop-cons slots i x h ∙ ap (λ (y : Slot). y ∷ drop (suc i) slots) e)
 
   pub turn : {w w′ : List ℕ} {next row i : ℕ} (x : Slot) {a u : ℕ} → Reading w next row i → i < length slots → getD slots i x ≡ x
-      → Got w w′ row (step x next row) a u → Reading w′ a u (i + 1)
+      → (g : Got w w′ row (step x next row) a u) → Bounds file room next row (g .taken) a → Reading w′ a u (i + 1)
   unfolding sequence each bind
-  turn {w} {w′} {next} {row} {i} x {a} {u} r h e g =
+  turn {w} {w′} {next} {row} {i} x {a} {u} r h e g b =
       let t = g .taken in
-      let b = bounded x next row t a (g .is) in
       let more : List Row = t .1 in
       let rest : Answer Seen = seen (sequence step (each (drop (i + 1) slots)) a (t .0)) in
       let one : seen (sequence step (each (drop i slots)) next row) ≡ prefixed more rest = rw (next-slot i x h e, g .is) (rest-seen t (sequence step (each (drop (i + 1) slots)) a (t .0))) in
