@@ -12,3 +12,4 @@ pub mod Font
 pub mod Layout
 pub mod Resource
 pub mod Rows
+pub mod File

@@ -14,3 +14,8 @@ pub mod Complete
 pub mod Sound
 pub mod Unique
 pub mod Bounds
+pub mod File
+pub mod Front
+pub mod References
+pub mod Accepts
+pub mod Theorems

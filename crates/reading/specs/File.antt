@@ -1,0 +1,136 @@
+-- What loading a file answers: the first fault in file order with its number and place, or the rows, the number of readers and the shared count (01, "File header", "The row table" and "Refusals"). Assumes nothing.
+use mathlib.Core.Path.{_≡_}
+use mathlib.Core.Bool.{Bool}
+use mathlib.Core.List.{List, [], _∷_, _++_}
+use Prim.Native.Nat.{ℕ, zero, suc, _*_, _-_, _/_, min}
+use lib.Dec.{ltb, leb, eqb}
+use lib.ListN.{length, take, drop, getD, replicate}
+use Rattle.layout.specs.Target.{Target}
+use Rattle.layout.specs.Rows.{Row, row, flat}
+use Rattle.layout.specs.File.{FileTree, objectsPlan}
+use Rattle.reading.specs.Answer.{Answer, refused, read, bind, check, within}
+use Rattle.reading.specs.Reads.{some}
+use Rattle.reading.specs.Seven.{sevenAt}
+use Rattle.reading.specs.Little.{littleAt, valueOf}
+use Rattle.reading.specs.Rules.{either}
+use Rattle.reading.specs.Resource.{suits}
+use Rattle.reading.specs.Walk.{Taken, Outcome, sequence, walk}
+
+-- 01, offset 3: "`w`, `m` or `x`"
+unfoldable pub isPlatform : ℕ → Bool
+isPlatform b = either (eqb b 0x77) (either (eqb b 0x6D) (eqb b 0x78))
+
+-- header bytes 3 and 5, and where the header ends. 01: "Before these: longer than 16,777,216 bytes is 9 at 0; shorter than 10 is 1 at 0. Then in table order".
+unfoldable pub headerAt : List ℕ → Answer (ℕ × ℕ)
+headerAt file =
+    check (leb (length file) 16777216) 9 0
+    (check (leb 10 (length file)) 1 0
+    (check (eqb (getD file 0 0) 0x58) 2 0
+    (check (eqb (getD file 1 0) 0x4E) 2 0
+    (check (eqb (getD file 2 0) 0x42) 2 0
+    (check (isPlatform (getD file 3 0)) 3 3
+    (check (eqb (getD file 4 0) 5) 4 4
+    (check (ltb (getD file 5 0) 0x80) 5 5
+    (check (leb (getD file 5 0) 1) 6 5
+    (check (eqb (valueOf (take 4 (drop 6 file))) (length file)) 7 6
+    (read (getD file 3 0, getD file 5 0) 10))))))))))
+
+-- what a reader's name is read as: refused with 10 or 11, or a reader of a target
+pub data Named : Type 0 where
+  unknown : (number : ℕ) → Named
+  known : Target → Named
+
+-- the reading of names says just what the layout's relation says
+pub record Judges (named : List ℕ → Target → Type 0) (nameOf : List ℕ → Named) : Type 0 where
+  pub known-sound : (name : List ℕ) (t : Target) → nameOf name ≡ known t → named name t
+  pub known-complete : (name : List ℕ) (t : Target) → named name t → nameOf name ≡ known t
+
+-- 01: "Both are placed at the reader name's first byte"
+unfoldable pub judge : Named → (place at : ℕ) → Answer Target
+judge (unknown number) place at = refused number place
+judge (known t) place at = read t at
+
+-- the kinds of the rows that have no parent: those of the primary and the shared objects, in order
+unfoldable pub rootKind : (parent kind : ℕ) → List ℕ → List ℕ
+rootKind zero kind kinds = kind ∷ kinds
+rootKind (suc parent) kind kinds = kinds
+
+unfoldable pub rootKinds : List Row → List ℕ
+rootKinds [] = []
+rootKinds (row kind first z children parent id wants ∷ rows) = rootKind parent kind (rootKinds rows)
+
+-- 01: "17 last, in row order", at the reference: what each row wants of the shared objects, which have these kinds
+unfoldable pub judged : {A : Type 0} → (shared : List ℕ) → List Row → Answer A → Answer A
+judged shared [] x = x
+judged shared (row kind first z children parent id wants ∷ rows) x = check (suits shared wants id) 17 first (judged shared rows x)
+
+-- a file that was read: its file tree, which no program holds, its rows, the number of readers and the shared count
+pub record Loaded : Type 0 where
+  pub tree : FileTree
+  pub rows : List Row
+  pub readers : ℕ
+  pub shared : ℕ
+
+module _ (file : List ℕ) where
+  -- the primary and the shared objects, which have no parent; 01: "to depth 32, the primary and each shared object being depth 1"
+  unfoldable pub objectsAt : (room : ℕ) (readers : List Target) (shared at : ℕ) → Outcome
+  objectsAt room readers shared at = sequence (λ x a used. walk file readers shared room 32 x a used 0) (objectsPlan shared) at 0
+
+  -- 01: "20 after the last object, 17 last"
+  unfoldable pub finished : (platform flags : ℕ) (names : List (List ℕ)) (readers shared : ℕ) → Taken → ℕ → Answer Loaded
+  finished platform flags names readers shared a e =
+      check (eqb e (length file)) 20 e
+      (judged (drop 1 (rootKinds (a .1))) (a .1)
+      (read (record {
+        tree = record { platform = platform; flags = flags; names = names; objects = a .2 };
+        rows = a .1;
+        readers = readers;
+        shared = shared;
+      }) e))
+
+module _ (nameOf : List ℕ → Named) (file : List ℕ) where
+  -- a reader: its name and its target. 01: "A reader's name is judged in full (9, 1, 10, 11) before its version"; missing bytes of a name are placed at its count.
+  unfoldable pub readerAt : ℕ → Answer (List ℕ × Target)
+  readerAt at =
+      bind (sevenAt file at) (λ n first. check (within 1024 n) 9 at
+      (bind (some file n at first) (λ name end. bind (judge (nameOf name) first end) (λ t version.
+      bind (littleAt file 4 version version) (λ v next. check (eqb v 0) 12 version (read (name, t) next))))))
+
+  -- so many readers: their names, and their targets
+  unfoldable pub readersAt : (n at : ℕ) → Answer (List (List ℕ) × List Target)
+  readersAt zero at = read ([], []) at
+  readersAt (suc n) at = bind (readerAt at) (λ a e. bind (readersAt n e) (λ l next. read (a .0 ∷ l .0, a .1 ∷ l .1) next))
+
+  -- 01: "reader count (0 to 64), the readers, shared count (0 to 256)": the names, the targets and the shared count
+  unfoldable pub listsAt : ℕ → Answer (List (List ℕ) × List Target × ℕ)
+  listsAt at =
+      bind (sevenAt file at) (λ n e. check (leb n 64) 9 at
+      (bind (readersAt n e) (λ l shared. bind (sevenAt file shared) (λ s next. check (leb s 256) 9 shared (read (l .0, l .1, s) next)))))
+
+  -- the whole file, where the table has room for so many rows
+  unfoldable pub fileAt : (room : ℕ) → Answer Loaded
+  fileAt room =
+      bind (headerAt file) (λ h at. bind (listsAt at) (λ l first. bind (objectsAt file room (l .1) (l .2) first) (λ a e.
+      finished file (h .0) (h .1) (l .0) (length (l .1)) (l .2) a e)))
+
+-- what a program is told: a refusal's number and place, or the rows, the number of readers and the shared count
+pub data Load : Type 0 where
+  refusal : (number place : ℕ) → Load
+  accepted : (rows : List Row) (readers shared : ℕ) → Load
+
+unfoldable pub toLoad : Answer Loaded → Load
+toLoad (refused number place) = refusal number place
+toLoad (read a e) = accepted (a .rows) (a .readers) (a .shared)
+
+-- 01: "Room is the number of whole rows in the words, at most 65,536"
+unfoldable pub roomOf : (words : ℕ) → ℕ
+roomOf words = min (words / 6) 65536
+
+-- what loading answers for a file, where so many words are lent
+unfoldable pub loadOf : (List ℕ → Named) → (file : List ℕ) (words : ℕ) → Load
+loadOf nameOf file words = toLoad (fileAt nameOf file (roomOf words))
+
+-- what loading leaves in the words lent; 01: "Every word not in a used row is zero"
+unfoldable pub tableOf : Load → (words : ℕ) → List ℕ
+tableOf (refusal number place) words = replicate words 0
+tableOf (accepted rows readers shared) words = flat rows ++ replicate (words - 6 * length rows) 0
