@@ -1,0 +1,4 @@
+pub mod Laws
+pub mod Tables
+pub mod Steps
+pub mod Whole

@@ -1,0 +1,54 @@
+use borrow.Author.Needs.{needs}
+use mathlib.Core.Path.{_≡_, refl, sym, _∙_}
+use Prim.Native.Nat.{_-_, _≤_}
+use lib.ListN.{length, drop}
+use borrow.Author.Tests.{not-true, not-false}
+use Rattle.types.specs.Judge.{argumentsOk}
+use Rattle.types.proofs.Loops.{arguments-end, arguments-no, arguments-step}
+use Rattle.types.proofs.arguments_ok.Statement.{statement}
+use Rattle.types.proofs.arguments_ok.Tie as tie
+
+abbrev Inv-loop : tie.InvT-loop
+Inv-loop s first nullable₀ i₀ nullable i = (i ≤ length s) × (argumentsOk first s ≡ argumentsOk nullable (drop i s))
+
+abbrev μ-loop : tie.MeasureT-loop
+μ-loop s first nullable₀ i₀ nullable i = length s - i
+
+loop-holds : tie.Need-loop-holds Inv-loop μ-loop
+loop-holds c = (search needs, refl)
+
+shared-slice-read-b : tie.Need-shared-slice-read-b Inv-loop μ-loop
+shared-slice-read-b c = search needs
+
+argument-ok-requires : tie.Need-argument-ok-requires Inv-loop μ-loop
+argument-ok-requires c κs = search needs
+
+returns : tie.Need-returns Inv-loop μ-loop
+returns c = arguments-no _ _ _ ((c .before .before .before .before .loop) .inv .1) ((c .before .before .before .loop-test) .taken) (sym ((c .before .argument-ok) .ensures) ∙ not-true _ ((c .if1) .taken))
+
+add-i : tie.Need-add-i Inv-loop μ-loop
+add-i c = search needs
+
+loop-less : tie.Need-loop-less Inv-loop μ-loop
+loop-less c = search needs
+
+loop-again : tie.Need-loop-again Inv-loop μ-loop
+loop-again c = (search needs, arguments-step _ _ _ ((c .before .before .before .before .loop) .inv .1) ((c .before .before .before .loop-test) .taken) (sym ((c .before .argument-ok) .ensures) ∙ not-false _ ((c .if1) .left)))
+
+returns-2 : tie.Need-returns-2 Inv-loop μ-loop
+returns-2 c = arguments-end _ _ _ ((c .before .loop) .inv .1) ((c .loop-test) .left)
+
+pub arguments-ok-spec : {M : Type 1} → statement M
+arguments-ok-spec =
+    tie.close
+    (tie.spec
+    Inv-loop
+    μ-loop
+    loop-holds
+    shared-slice-read-b
+    argument-ok-requires
+    returns
+    add-i
+    loop-less
+    loop-again
+    returns-2)

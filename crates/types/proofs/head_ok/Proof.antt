@@ -1,0 +1,27 @@
+use borrow.Author.Needs.{needs}
+use borrow.Author.Tests.{lt-ltb, le-ltb, eq-eqb, ne-eqb}
+use Rattle.types.specs.Judge.{headOk}
+use Rattle.types.proofs.head_ok.Statement.{statement}
+use Rattle.types.proofs.head_ok.Tie as tie
+
+plain-ok-requires : tie.Need-plain-ok-requires
+plain-ok-requires c κs = search needs
+
+returns : tie.Need-returns
+unfolding headOk
+returns c = rw (lt-ltb _ _ ((c .before .if1) .taken)) ((c .plain-ok) .ensures)
+
+returns-2 : tie.Need-returns-2
+unfolding headOk
+returns-2 c = rw (le-ltb _ _ ((c .before .if1) .left), eq-eqb _ _ ((c .if2) .taken))
+
+returns-3 : tie.Need-returns-3
+unfolding headOk
+returns-3 c = rw (le-ltb _ _ ((c .before .before .if1) .left), ne-eqb _ _ ((c .before .if2) .left), eq-eqb _ _ ((c .if3) .taken))
+
+returns-4 : tie.Need-returns-4
+unfolding headOk
+returns-4 c = rw (le-ltb _ _ ((c .before .before .if1) .left), ne-eqb _ _ ((c .before .if2) .left), ne-eqb _ _ ((c .if3) .left))
+
+pub head-ok-spec : {M : Type 1} → statement M
+head-ok-spec = tie.close (tie.spec plain-ok-requires returns returns-2 returns-3 returns-4)

@@ -1,0 +1,27 @@
+use borrow.Author.Needs.{needs}
+use mathlib.Core.Path.{sym, _∙_}
+use Rattle.types.specs.Types.{fixedKind}
+use Rattle.types.specs.Judge.{valueOk}
+use Rattle.types.proofs.value_ok.Statement.{statement}
+use Rattle.types.proofs.value_ok.Tie as tie
+
+within-requires : tie.Need-within-requires
+within-requires c κs = search needs
+
+returns : tie.Need-returns
+unfolding valueOk fixedKind
+returns c = rw (sym ((c .before .within) .ensures) ∙ (c .if1) .taken)
+
+within-requires-2 : tie.Need-within-requires-2
+within-requires-2 c κs = search needs
+
+returns-2 : tie.Need-returns-2
+unfolding valueOk fixedKind
+returns-2 c = rw (sym ((c .before .before .before .within) .ensures) ∙ (c .before .before .if1) .left, sym ((c .before .within2) .ensures) ∙ (c .if2) .taken)
+
+returns-3 : tie.Need-returns-3
+unfolding valueOk fixedKind
+returns-3 c = rw (sym ((c .before .before .before .within) .ensures) ∙ (c .before .before .if1) .left, sym ((c .before .within2) .ensures) ∙ (c .if2) .left)
+
+pub value-ok-spec : {M : Type 1} → statement M
+value-ok-spec = tie.close (tie.spec within-requires returns within-requires-2 returns-2 returns-3)

@@ -1,0 +1,13 @@
+-- The types of reader names, and types as places in an array of codes. The modules stand in the order in which a reader meets the rules.
+pub mod Types
+pub mod Code
+pub mod Place
+pub mod Judge
+pub mod Coded
+pub mod Decode
+pub mod Extent
+pub mod Laws
+pub mod Contract
+pub mod Short
+pub mod Meaning
+pub mod Examples

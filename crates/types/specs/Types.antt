@@ -1,0 +1,60 @@
+-- The target of a reader's name (01, "Reader names"). Assumes nothing.
+use mathlib.Core.Bool.{Bool, true, false, not, _&&_, _||_}
+use Prim.Native.Nat.{ℕ}
+use lib.Dec.{eqb}
+use Rattle.layout.specs.Target.{Target, fixed, char, string, object, texture, texture2D, spriteFont, page, enum, nullable, array, list, dictionary, kindOf, isValue}
+use Rattle.names.specs.Name.{Name, simple, one, two, between}
+use Rattle.names.specs.Kind.{lookup, targets, readers}
+use Rattle.names.specs.Parse.{pick}
+
+-- 01: "A head that is not listed, or a wrong argument count: 11": such a name is unknown
+pub data Typed : Type 0 where
+  unknown : Typed
+  known : Target → Typed
+
+-- the kinds that are `fixed` targets: those for which 01 fixes a size, but Enum
+unfoldable pub fixedKind : ℕ → Bool
+fixedKind k = between 1 11 k || between 20 30 k
+
+-- 01: "Enum, Nullable, Array and List take one argument, Dictionary two, the rest none": a kind with no argument
+unfoldable pub plain : ℕ → Typed
+plain k =
+    pick (fixedKind k) (known (fixed k)) (pick (eqb k 12) (known char) (pick (eqb k 13) (known string) (pick (eqb k 14) (known object)
+    (pick (eqb k 31) (known texture) (pick (eqb k 32) (known texture2D) (pick (eqb k 33) (known spriteFont) (pick (eqb k 34) (known page) unknown)))))))
+
+-- 01: "Nullable's argument must be a value type other than Nullable"
+unfoldable pub nullableOf : Target → Typed
+nullableOf t = pick (isValue t && not (eqb (kindOf t) 16)) (known (nullable t)) unknown
+
+-- a kind with one argument, as an argument and as a reader
+unfoldable pub wrapped : ℕ → Typed → Typed
+wrapped k unknown = unknown
+wrapped k (known t) = pick (eqb k 16) (nullableOf t) (pick (eqb k 18) (known (list t)) unknown)
+
+-- a kind with two arguments
+unfoldable pub paired : ℕ → Typed → Typed → Typed
+paired k unknown b = unknown
+paired k (known t) unknown = unknown
+paired k (known t) (known u) = pick (eqb k 19) (known (dictionary t u)) unknown
+
+-- the type of an argument; 01: "Arguments are target type names as 000 gives them"
+unfoldable pub typeOf : Name → Typed
+typeOf (simple h t) = plain (lookup h targets)
+typeOf (one h a t) = wrapped (lookup h targets) (typeOf a)
+typeOf (two h a b t) = paired (lookup h targets) (typeOf a) (typeOf b)
+
+-- 01: "Array and enum types are not known as arguments, but Enum's own has any head that is no target name above and no arguments"
+unfoldable pub enumOf : Name → Typed
+enumOf (simple h t) = pick (eqb (lookup h targets) 0) (known (enum h)) unknown
+enumOf (one h a t) = unknown
+enumOf (two h a b t) = unknown
+
+unfoldable pub arrayOf : Typed → Typed
+arrayOf unknown = unknown
+arrayOf (known t) = known (array t)
+
+-- the target of a reader
+unfoldable pub readerOf : Name → Typed
+readerOf (simple h t) = plain (lookup h readers)
+readerOf (one h a t) = pick (eqb (lookup h readers) 15) (enumOf a) (pick (eqb (lookup h readers) 17) (arrayOf (typeOf a)) (wrapped (lookup h readers) (typeOf a)))
+readerOf (two h a b t) = paired (lookup h readers) (typeOf a) (typeOf b)
