@@ -1,0 +1,2 @@
+// The head of a raw value of each type, and the slots that stand below it.
+pub mod slot;
