@@ -1,2 +1,3 @@
 // The head of a raw value of each type, and the slots that stand below it.
+pub mod nest;
 pub mod slot;

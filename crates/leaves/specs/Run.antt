@@ -43,14 +43,14 @@ unfolding levels leaves
 length-levels f w h zero = refl
 length-levels f w h (suc n) = ap suc (length-levels f _ _ n)
 
-pair-even : (n i : ℕ) (x y d : Slot) → i < 2 * n → i % 2 ≡ 0 → getD (pairs n x y) i d ≡ x
+pub pair-even : (n i : ℕ) (x y d : Slot) → i < 2 * n → i % 2 ≡ 0 → getD (pairs n x y) i d ≡ x
 unfolding pairs
 pair-even zero i x y d h e = absurd (omega arith)
 pair-even (suc n) zero x y d h e = refl
 pair-even (suc n) (suc zero) x y d h e = absurd (omega arith)
 pair-even (suc n) (suc (suc i)) x y d h e = pair-even n i x y d (omega arith) (omega arith)
 
-pair-odd : (n i : ℕ) (x y d : Slot) → i < 2 * n → (i % 2 ≡ 0 → ⊥) → getD (pairs n x y) i d ≡ y
+pub pair-odd : (n i : ℕ) (x y d : Slot) → i < 2 * n → (i % 2 ≡ 0 → ⊥) → getD (pairs n x y) i d ≡ y
 unfolding pairs
 pair-odd zero i x y d h e = absurd (omega arith)
 pair-odd (suc n) zero x y d h e = absurd (e refl)

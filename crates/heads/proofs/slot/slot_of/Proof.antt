@@ -1,39 +1,28 @@
-use mathlib.Core.Path.{_≡_, refl, sym, ap, _∙_}
+use mathlib.Core.Path.{sym, _∙_}
 use native.Mathlib.Omega.{arith}
-use Rattle.layout.specs.Target.{kindOf}
 use Rattle.types.specs.Laws.{kind-is}
 use Rattle.heads.specs.Slots.{char-slot, nullable-slot, object-slot, fixed-slot}
 use borrow.Author.Needs.{needs}
 use Rattle.heads.proofs.slot.slot_of.Statement.{statement}
 use Rattle.heads.proofs.slot.slot_of.Tie as tie
-use Rattle.heads.proofs.slot.slot_of.Reads as reads
-use Rattle.heads.proofs.slot.slot_of.Lts as lts
-use Rattle.types.proofs.kind_at.Reads as kind-at-reads
-use Rattle.values.proofs.size_of_kind.Reads as size-of-kind-reads
 
--- src/slot.rt:19:16
 kind-at-requires : tie.Need-kind-at-requires
 kind-at-requires c κs = search needs
 
--- src/slot.rt:19:16
 cast-kind : tie.Need-cast-kind
 cast-kind c = search needs
 
--- src/slot.rt:21:9
 returns : tie.Need-returns
 returns c =
     λ t s n. (char-slot t (s .lawful) (sym (c .before .kind-at .ensures ∙ kind-is s) ∙ c .if1 .taken), tt)
 
--- src/slot.rt:24:9
 returns-2 : tie.Need-returns-2
 returns-2 c =
     λ t s n. nullable-slot t s n (sym (c .before .before .kind-at .ensures ∙ kind-is s) ∙ c .if2 .taken)
 
--- src/slot.rt:26:9
 size-of-kind-requires : tie.Need-size-of-kind-requires
 size-of-kind-requires c κs = search needs
 
--- src/slot.rt:28:9
 returns-3 : tie.Need-returns-3
 returns-3 c =
     λ t s n.
@@ -45,7 +34,6 @@ returns-3 c =
       plain = n;
     }
 
--- src/slot.rt:16:1
 returns-4 : tie.Need-returns-4
 returns-4 c =
     λ t s n.
