@@ -91,7 +91,7 @@ module _ (codes : List ℕ) (p : Prelude codes) where
   font-child (suc (suc (suc (suc (suc zero))))) h = record { slot = raw (fixed 9); at = refl; is = (refl, (refl, omega arith)) }
   font-child (suc (suc (suc (suc (suc (suc zero)))))) h = record { slot = object (list (fixed 24)); at = refl; is = declared 5 (list (fixed 24)) _ refl tt refl }
   font-child (suc (suc (suc (suc (suc (suc (suc zero))))))) h =
-      record { slot = raw (nullable char); at = refl; is = record { type = char; is = refl; stands = stands 8 (nullable char) _ tt refl; plain = tt } }
+      record { slot = raw (nullable char); at = refl; is = record { type = nullable char; is = refl; stands = stands 8 (nullable char) _ tt refl; plain = tt } }
   font-child (suc (suc (suc (suc (suc (suc (suc (suc i)))))))) h = absurd (omega arith)
 
   pub page-child : (i : ℕ) → i < length pageSlots → ChildIs codes pageSlots i (pageChild i)

@@ -22,11 +22,11 @@ use Rattle.leaves.specs.Plain.{plainSlot, Lawful}
 use Rattle.heads.specs.declared.slot.Slot.{Slot}
 use Rattle.heads.specs.declared.slot.Slot.the-variants.{Simple, Raw, Object}
 
--- a raw nullable or an object of a type, which stands at a place of the codes and has no enum in it
+-- a raw value or an object of a type, which stands at a place of the codes and has no enum in it
 pub record RawIs (codes : List ℕ) (place : ℕ) (x : L.Slot) : Type 0 where
   pub type : Target
-  pub is : x ≡ raw (nullable type)
-  pub stands : Stands codes place (nullable type)
+  pub is : x ≡ raw type
+  pub stands : Stands codes place type
   pub plain : NoEnum type
 
 pub record ObjectIs (codes : List ℕ) (place : ℕ) (x : L.Slot) : Type 0 where
@@ -90,7 +90,7 @@ nullable-slot char s n e = absurd (omega arith)
 nullable-slot string s n e = absurd (omega arith)
 nullable-slot anything s n e = absurd (omega arith)
 nullable-slot (enum name) s n e = absurd (omega arith)
-nullable-slot (nullable t) s n e = record { type = t; is = refl; stands = s; plain = n }
+nullable-slot (nullable t) s n e = record { type = nullable t; is = refl; stands = s; plain = n }
 nullable-slot (array t) s n e = absurd (omega arith)
 nullable-slot (list t) s n e = absurd (omega arith)
 nullable-slot (dictionary k v) s n e = absurd (omega arith)
@@ -130,3 +130,36 @@ fixed-slot texture n c o e = absurd (e refl)
 fixed-slot texture2D n c o e = absurd (e refl)
 fixed-slot spriteFont n c o e = absurd (e refl)
 fixed-slot page n c o e = absurd (e refl)
+
+-- a raw value of a type: a character, a value of fixed size, or another
+pub raw-char : (t : Target) → LawfulTarget t → kindOf t ≡ 12 → t ≡ char
+unfolding Throughout kindOf fixedKind between
+raw-char (fixed k) l e = absurd (let q : _≡_ {A = Bool} false true = rw e at l in let z : _≡_ {A = ℕ} 0 1 = cc in omega arith)
+raw-char char l e = refl
+raw-char string l e = absurd (omega arith)
+raw-char anything l e = absurd (omega arith)
+raw-char (enum name) l e = absurd (omega arith)
+raw-char (nullable t) l e = absurd (omega arith)
+raw-char (array t) l e = absurd (omega arith)
+raw-char (list t) l e = absurd (omega arith)
+raw-char (dictionary k v) l e = absurd (omega arith)
+raw-char texture l e = absurd (omega arith)
+raw-char texture2D l e = absurd (omega arith)
+raw-char spriteFont l e = absurd (omega arith)
+raw-char page l e = absurd (omega arith)
+
+pub raw-fixed : (t : Target) → NoEnum t → (getD sizes (kindOf t) 0 ≡ 0 → ⊥) → t ≡ fixed (kindOf t)
+unfolding Throughout kindOf sizes
+raw-fixed (fixed k) n e = refl
+raw-fixed char n e = absurd (e refl)
+raw-fixed string n e = absurd (e refl)
+raw-fixed anything n e = absurd (e refl)
+raw-fixed (enum name) n e = absurd n
+raw-fixed (nullable t) n e = absurd (e refl)
+raw-fixed (array t) n e = absurd (e refl)
+raw-fixed (list t) n e = absurd (e refl)
+raw-fixed (dictionary k v) n e = absurd (e refl)
+raw-fixed texture n e = absurd (e refl)
+raw-fixed texture2D n e = absurd (e refl)
+raw-fixed spriteFont n e = absurd (e refl)
+raw-fixed page n e = absurd (e refl)

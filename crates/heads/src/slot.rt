@@ -2,7 +2,7 @@
 use leaves::plain::Plain;
 ghost use mathlib.Core.Path.{_≡_};
 ghost use Rattle.layout.specs.Target.{Target};
-ghost use Rattle.layout.specs.Slot.{slotOf};
+ghost use Rattle.layout.specs.Slot.{slotOf, raw};
 ghost use Rattle.types.specs.Code.{Stands, NoEnum};
 ghost use Rattle.heads.specs.Slots.{SlotIs};
 
@@ -26,6 +26,21 @@ pub fn slot_of(codes: &[u8], a: usize) -> Slot
     let size = values::size_of_kind(kind);
     if size == 0 {
         return Slot::Object(a);
+    }
+    Slot::Simple(Plain::Fixed(kind, size))
+}
+
+// A raw value of the type at a place.
+pub fn raw_of(codes: &[u8], a: usize) -> Slot
+    ensures { λ r. ⌜ ((t : Target) → Stands (now (codes .entry)) a t → NoEnum t → SlotIs (now (codes .entry)) r (raw t)) ⌝ }
+{
+    let kind = types::kind_at(codes, a) as u32;
+    if kind == 12 {
+        return Slot::Simple(Plain::Char);
+    }
+    let size = values::size_of_kind(kind);
+    if size == 0 {
+        return Slot::Raw(a);
     }
     Slot::Simple(Plain::Fixed(kind, size))
 }
