@@ -1,2 +1,5 @@
 pub mod Slots
 pub mod Nests
+pub mod Opens
+pub mod Below
+pub mod Images

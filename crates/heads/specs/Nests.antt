@@ -21,7 +21,7 @@ use Rattle.heads.specs.declared.slot.Slot.the-variants.{Simple, Raw, Obj
 use Rattle.heads.specs.declared.nest.Nest.{Nest}
 use Rattle.heads.specs.declared.nest.Nest.the-variants.{Each, Pairs, Font, Page}
 use Rattle.heads.specs.declared.nest.Below.{Below}
-use Rattle.heads.specs.declared.nest.Below.the-variants.{Nothing, Nested} 
+use Rattle.heads.specs.declared.nest.Below.the-variants.{Nothing, Nested}
 use Rattle.heads.specs.declared.nest.Below.the-variants.{Simple as SimpleRun}
 use Rattle.heads.specs.Slots.{RawIs, ObjectIs, SlotIs}
 

@@ -13,7 +13,7 @@ use Rattle.names.specs.Name.{between}
 use Rattle.types.specs.Decode.{fixed-small}
 use Rattle.layout.specs.Target.{Target, fixed, char, string, object as anything, texture, texture2D, spriteFont, page, enum, nullable, array, list, dictionary, kindOf, isValue}
 use Rattle.layout.specs.Fixed.{sizes}
-use Rattle.layout.specs.Slot.{raw, object, slotOf, rawOrObject} 
+use Rattle.layout.specs.Slot.{raw, object, slotOf, rawOrObject}
 use Rattle.layout.specs.Slot as L
 use Rattle.types.specs.Types.{fixedKind}
 use Rattle.types.specs.Code.{Stands, NoEnum, Lawful as LawfulTarget, Throughout}

@@ -2,21 +2,21 @@
 use mathlib.Core.Path.{_≡_, refl, sym, ap, _∙_}
 use mathlib.Core.Bool.{Bool, true, false}
 use mathlib.Core.List.{List, [], _∷_, _++_}
-use Prim.Native.Nat.{ℕ, zero, suc, _+_, _-_, _≤_}
+use Prim.Native.Nat.{ℕ, suc, _+_, _-_, _≤_}
 use native.Mathlib.Omega.{arith}
 use lib.ListN.{length, take, drop, set, length-append, length-drop}
 use lib.Seq.{sets}
 use Rattle.layout.specs.Text.{ascii}
 use Rattle.names.specs.declared.Parsed.{Parsed}
 use Rattle.names.specs.declared.Parsed.the-variants.{Name as Parsed-name, Broken as Parsed-broken}
-use Rattle.names.specs.Name.{Name, Tail, none, simple, one, two, write, headByte, Head, Formed}
-use Rattle.names.specs.Kind.{Heading, heading, headings, codes, node, lookup, listed}
-use Rattle.names.specs.Parse.{Read, broken, name, pick, span, starts, tailOf, tailSize, ended, closed, opening, onOnly, onSecond, onFirst, afterHead, headed, nameIn}
-use Rattle.names.specs.Complete.{long, length-write}
-use Rattle.names.specs.Sound.{Ok, not-read, read, Stands, span-le, sound}
-use Rattle.names.specs.Laws.{heads-short, codes-append, codes-length}
-use Rattle.names.specs.Contract.{answer, met, Parses, Inside, tailed, closing, parting}
+use Rattle.names.specs.Name.{Name, Tail, none, simple, one, two, headByte, Heading, heading, headings}
+use Rattle.names.specs.Kind.{codes, node, lookup, listed}
+use Rattle.names.specs.Parse.{Read, broken, name, pick, span, starts, tailOf, ended, closed, opening, onOnly, onSecond, onFirst, afterHead, headed, nameIn}
+use Rattle.names.specs.Complete.{length-write}
+use Rattle.names.specs.Sound.{Ok, read, Stands, span-le, sound}
+use Rattle.names.specs.Contract.{answer, met, Parses, Inside, tailed, passed, tailedAfter, closing}
 use Rattle.names.proofs.Laws.{rest, starts-fits}
+use Rattle.names.specs.Codes.{heads-short, codes-append, codes-length}
 
 -- what follows a head: at most 3, and four bytes where arguments are opened
 abbrev by : (a b c : Bool) → ℕ
@@ -111,9 +111,9 @@ module _ (own : Bool) (s : List ℕ) (h : ℕ) where
   closed-met n hs e f = elim (starts (ascii "]]") (drop e s)) as (λ b. met (pick b (ended n s (e + 2)) (broken (headings (n none)))) ≡ hs) [ true ↦ f (tailOf (drop (e + 2) s)) | false ↦ f none ]
 
   closed-answer : (n : Tail → Name) (hs : List Heading) (a k u used : ℕ) → ((t : Tail) → headings (n t) ≡ hs) → u ≡ used + length hs → closing s a (Parsed-name k u) ≡ answer used (closed n s (a + k))
-  unfolding closed
+  unfolding closed ascii
   closed-answer n hs a k u used f v =
-      elim (starts (ascii "]]") (drop (a + k) s)) as (λ b. pick b (tailed s (a + k + 2) u) Parsed-broken ≡ answer used (pick b (ended n s (a + k + 2)) (broken (headings (n none)))))
+      elim (starts (ascii "]]") (drop (a + k) s)) as (λ b. tailedAfter s (pick b (Parsed-name (a + k + 2) u) Parsed-broken) ≡ answer used (pick b (ended n s (a + k + 2)) (broken (headings (n none)))))
       [ true ↦ rw (f (tailOf (drop (a + k + 2) s)), v) | false ↦ refl ]
 
   only-met : (a : ℕ) (r : Read) → codes own (met (onOnly s h a r)) ≡ first 1 ∷ codes false (met r)
@@ -143,9 +143,9 @@ module _ (own : Bool) (s : List ℕ) (h : ℕ) where
   comma-lost second hs b u used true e = absurd (let z : _≡_ {A = ℕ} 0 1 = cc in omega arith)
   comma-lost second hs b u used false e = (refl, refl)
 
-  first-lost : (below : List ℕ → Read) (a u used : ℕ) (r : Read) → parting s a (answer u r) ≡ Parsed-broken
+  first-lost : (below : List ℕ → Read) (a u used : ℕ) (r : Read) → passed (ascii "],[") s a (answer u r) ≡ Parsed-broken
       → (answer used (onFirst below s h a r) ≡ Parsed-broken) × (codes own (met (onFirst below s h a r)) ≡ first 2 ∷ codes false (met r))
-  unfolding onFirst codes
+  unfolding onFirst codes ascii
   first-lost below a u used (broken hs) e = (refl, refl)
   first-lost below a u used (name x k) e =
       let b = a + k + 3 in
@@ -168,33 +168,39 @@ part-inside {l} s a {used} h p = inside s a used l h (part-answer s a p .answers
 pub part-length : (s : List ℕ) (a : ℕ) → length (take (length s - a) (drop a s)) ≡ length s - a
 part-length s a = ap length (rest s a) ∙ length-drop a s
 
--- where the second argument starts
-pub record Parted (s : List ℕ) (a b u : ℕ) (first : Parsed) : Type 0 where
+-- an argument that was read, and a text after it
+pub record Passed (w s : List ℕ) (a b u : ℕ) (argument : Parsed) : Type 0 where
   pub k : ℕ
-  pub is : first ≡ Parsed-name k u
-  pub comma : starts (ascii "],[") (drop (a + k) s) ≡ true
-  pub next : b ≡ a + k + 3
+  pub is : argument ≡ Parsed-name k u
+  pub stands : starts w (drop (a + k) s) ≡ true
+  pub next : b ≡ a + k + length w
 
-parted-as : (s : List ℕ) (a b u : ℕ) (first : Parsed) (k v : ℕ) (x : Bool) → first ≡ Parsed-name k v → starts (ascii "],[") (drop (a + k) s) ≡ x
-    → pick x (Parsed-name (a + k + 3) v) Parsed-broken ≡ Parsed-name b u → Parted s a b u first
-parted-as s a b u first k v false q c e = absurd (let z : _≡_ {A = ℕ} 0 1 = cc in omega arith)
-parted-as s a b u first k v true q c e =
-    let i : v ≡ u = cc in
-    let j : b ≡ a + k + 3 = cc in
-    record { k = k; is = q ∙ ap (Parsed-name k) i; comma = c; next = j }
+module _ (w s : List ℕ) (a b u : ℕ) where
+  passed-as : (argument : Parsed) (k v : ℕ) (x : Bool) → argument ≡ Parsed-name k v → starts w (drop (a + k) s) ≡ x → pick x (Parsed-name (a + k + length w) v) Parsed-broken ≡ Parsed-name b u
+      → Passed w s a b u argument
+  passed-as argument k v false q c e = absurd (let z : _≡_ {A = ℕ} 0 1 = cc in omega arith)
+  passed-as argument k v true q c e =
+      let i : v ≡ u = cc in
+      let j : b ≡ a + k + length w = cc in
+      record { k = k; is = q ∙ ap (Parsed-name k) i; stands = c; next = j }
 
-pub parted : (s : List ℕ) (a b u : ℕ) (first : Parsed) → parting s a first ≡ Parsed-name b u → Parted s a b u first
-parted s a b u Parsed-broken e = absurd (let z : _≡_ {A = ℕ} 0 1 = cc in omega arith)
-parted s a b u (Parsed-name k v) e = parted-as s a b u (Parsed-name k v) k v (starts (ascii "],[") (drop (a + k) s)) refl refl e
+  pub has-passed : (argument : Parsed) → passed w s a argument ≡ Parsed-name b u → Passed w s a b u argument
+  has-passed Parsed-broken e = absurd (let z : _≡_ {A = ℕ} 0 1 = cc in omega arith)
+  has-passed (Parsed-name k v) e = passed-as (Parsed-name k v) k v (starts w (drop (a + k) s)) refl refl e
+
+  pub passed-fits : (argument : Parsed) → Inside (length s) a argument → passed w s a argument ≡ Parsed-name b u → b ≤ length s
+  passed-fits argument i e =
+      let t = has-passed argument e in
+      omega (arith, t .next, starts-fits w s (a + t .k) (within (length s) a i (t .is)) (t .stands))
 
 -- the second argument starts within the part, and leaves room for its codes
 pub second-fits : {own : Bool} {l : ℕ} (s : List ℕ) (a : ℕ) {c c′ : List ℕ} {used : ℕ} {f : Parsed} (b u : ℕ) → a ≤ length s → Parses own l (take (length s - a) (drop a s)) c c′ used f
-    → parting s a f ≡ Parsed-name b u → (b ≤ length s) × (u + a ≤ used + b)
+    → passed (ascii "],[") s a f ≡ Parsed-name b u → (b ≤ length s) × (u + a ≤ used + b)
 unfolding ascii
 second-fits {l} s a {used} {f} b u h p y =
-    let t = parted s a b u f y in
+    let t = has-passed (ascii "],[") s a b u f y in
     let k = took s a used l h (part-answer s a p .answers) (t .is) in
-    let g = starts-fits _ s (a + t .k) (k .within) (t .comma) in
+    let g = starts-fits _ s (a + t .k) (k .within) (t .stands) in
     (omega (arith, t .next), omega (arith, t .next, k .more, k .most))
 
 -- what `parse` returns
@@ -223,36 +229,36 @@ module _ {own : Bool} {l : ℕ} {s c : List ℕ} {used : ℕ} where
           let i : nameIn l s ≡ onOnly s h (h + 4) x = e ∙ rw z in
           record {
             answers = q ∙ ap (closing s (h + 4)) (d .answers) ∙ only-answer own s h (h + 4) used x ∙ ap (answer used) (sym i);
-            writes = fronted c used (first own s h 1) (codes false (met x)) (rw z at w) (d .writes) ∙ ap (sets c used) (sym (only-met own s h (h + 4) x) ∙ ap (λ (r : Read). codes own (met r)) (sym i))
+            writes = fronted c used (first own s h 1) (codes false (met x)) (rw z at w) (d .writes) ∙ ap (sets c used) (sym (only-met own s h (h + 4) x) ∙ ap (λ (r : Read). codes own (met r)) (sym i));
           }
 
-      pub both-done : (b u : ℕ) {c₃ : List ℕ} {f₂ r : Parsed} → n ≡ 2 → h + 4 ≤ length s → parting s (h + 4) f ≡ Parsed-name b u
+      pub both-done : (b u : ℕ) {c₃ : List ℕ} {f₂ r : Parsed} → n ≡ 2 → h + 4 ≤ length s → passed (ascii "],[") s (h + 4) f ≡ Parsed-name b u
           → Parses false (l - 1) (take (length s - b) (drop b s)) c₂ c₃ u f₂ → r ≡ closing s b f₂ → Parses own l s c c₃ used r
-      unfolding afterHead onFirst
+      unfolding afterHead onFirst ascii
       both-done b u {c₃} z g y p₂ q =
           let d = part-answer s (h + 4) p in
           let d₂ = part-answer s b p₂ in
-          let t = parted s (h + 4) b u f y in
+          let t = has-passed (ascii "],[") s (h + 4) b u f y in
           let k = took s (h + 4) (used + 1) (l - 1) g (d .answers) (t .is) in
           let r₂ = nameIn (l - 1) (drop b s) in
-          let i : nameIn l s ≡ onSecond s h (k .n) b r₂ = e ∙ rw (z, k .is, t .comma, ← t .next) in
+          let i : nameIn l s ≡ onSecond s h (k .n) b r₂ = e ∙ rw (z, k .is, t .stands, ← t .next) in
           let xs = codes false (headings (k .n)) in
           let w₂ : c₂ ≡ sets c used (first own s h 2 ∷ xs) = fronted c used (first own s h 2) xs (rw z at w) (d .writes ∙ rw (k .is)) in
           let v : u ≡ used + length (first own s h 2 ∷ xs) = omega (arith, k .more, codes-length false (headings (k .n))) in
           let w₃ : c₃ ≡ sets (sets c used (first own s h 2 ∷ xs)) (used + length (first own s h 2 ∷ xs)) (codes false (met r₂)) = d₂ .writes ∙ ap (λ (k : List ℕ). sets k u (codes false (met r₂))) w₂ ∙ ap (λ (k : ℕ). sets (sets c used (first own s h 2 ∷ xs)) k (codes false (met r₂))) v in
           record {
             answers = q ∙ ap (closing s b) (d₂ .answers) ∙ second-answer own s h (k .n) b u used (k .more) r₂ ∙ ap (answer used) (sym i);
-            writes = w₃ ∙ sets-append c used (first own s h 2 ∷ xs) (codes false (met r₂)) ∙ ap (sets c used) (sym (second-met own s h (k .n) b r₂) ∙ ap (λ (r : Read). codes own (met r)) (sym i))
+            writes = w₃ ∙ sets-append c used (first own s h 2 ∷ xs) (codes false (met r₂)) ∙ ap (sets c used) (sym (second-met own s h (k .n) b r₂) ∙ ap (λ (r : Read). codes own (met r)) (sym i));
           }
 
-      pub part-lost : n ≡ 2 → parting s (h + 4) f ≡ Parsed-broken → Parses own l s c c₂ used Parsed-broken
+      pub part-lost : n ≡ 2 → passed (ascii "],[") s (h + 4) f ≡ Parsed-broken → Parses own l s c c₂ used Parsed-broken
       unfolding afterHead
       part-lost z y =
           let d = part-answer s (h + 4) p in
           let x = nameIn (l - 1) (drop (h + 4) s) in
           let i : nameIn l s ≡ onFirst (nameIn (l - 1)) s h (h + 4) x = e ∙ rw z in
-          let g = first-lost own s h (nameIn (l - 1)) (h + 4) (used + 1) used x (ap (parting s (h + 4)) (sym (d .answers)) ∙ y) in
+          let g = first-lost own s h (nameIn (l - 1)) (h + 4) (used + 1) used x (ap (passed (ascii "],[") s (h + 4)) (sym (d .answers)) ∙ y) in
           record {
             answers = sym (g .0) ∙ ap (answer used) (sym i);
-            writes = fronted c used (first own s h 2) (codes false (met x)) (rw z at w) (d .writes) ∙ ap (sets c used) (sym (g .1) ∙ ap (λ (r : Read). codes own (met r)) (sym i))
+            writes = fronted c used (first own s h 2) (codes false (met x)) (rw z at w) (d .writes) ∙ ap (sets c used) (sym (g .1) ∙ ap (λ (r : Read). codes own (met r)) (sym i));
           }

@@ -1,17 +1,14 @@
 -- A head looked up in a table of entries. Assumes nothing.
 use mathlib.Core.Path.{_≡_, refl, sym, ap, _∙_}
-use mathlib.Core.Bool.{Bool, true, false, not, _&&_, _||_}
+use mathlib.Core.Bool.{true, false, _&&_}
 use mathlib.Core.List.{List, [], _∷_, _++_}
-use Prim.Native.Nat.{ℕ, zero, suc, _+_, _-_, _≤_, _<_}
+use Prim.Native.Nat.{ℕ, suc, _+_, _-_, _≤_, _<_}
 use native.Mathlib.Omega.{arith}
-use lib.Dec.{eqb, leb, ltb}
-use borrow.Author.Tests.{ltb-true}
-use Rattle.layout.specs.Text.{ascii}
-use Rattle.names.specs.Complete.{both}
-use lib.ListN.{length, take, drop, getD, length-drop, length-append, drop-of-length-le}
+use lib.Dec.{eqb}
+use lib.ListN.{length, take, drop, getD, length-drop, length-append}
 use lib.Seq.{getD-drop, drop-drop, drop-append-seam, take-append-seam}
 use Rattle.names.specs.Parse.{starts}
-use Rattle.names.specs.Kind.{Entry, entry, alike, lookup, flat, listed, readers, targets, reader, target, found}
+use Rattle.names.specs.Kind.{Entry, entry, alike, lookup, flat}
 
 pub alike-length : (h n : List ℕ) → (length h ≡ length n → ⊥) → false ≡ alike h n
 unfolding alike
@@ -41,12 +38,17 @@ opened table at [] e h = absurd (omega (arith, ap length e, length-drop at table
 opened table at (entry n k ∷ es′) e h =
     let z : at + 0 ≡ at = omega arith in
     let d : drop (at + 2) table ≡ n ++ flat es′ = sym (drop-drop 2 at table) ∙ ap (drop 2) e in
-    let l : length table - at ≡ suc (suc (length n + length (flat es′))) = sym (length-drop at table) ∙ ap length e ∙ ap (λ (x : ℕ). suc (suc x)) (length-append n (flat es′)) in
-    (n, k, es′, refl,
-    ap (λ (x : ℕ). getD table x 0) (sym z) ∙ sym (getD-drop at table 0 0) ∙ ap (λ (l : List ℕ). getD l 0 0) e,
-    sym (getD-drop at table 1 0) ∙ ap (λ (l : List ℕ). getD l 1 0) e,
-    ap (take (length n)) d ∙ take-append-seam n (flat es′), omega arith,
-    sym (drop-drop (length n) (at + 2) table) ∙ ap (drop (length n)) d ∙ drop-append-seam n (flat es′))
+    let l : length table - at ≡ suc (suc (length n + length (flat es′))) = sym (length-drop at table) ∙ ap length e ∙ ap (λ (x : ℕ). suc (suc x)) (length-append n (flat es′)) in (
+      n,
+      k,
+      es′,
+      refl,
+      ap (λ (x : ℕ). getD table x 0) (sym z) ∙ sym (getD-drop at table 0 0) ∙ ap (λ (l : List ℕ). getD l 0 0) e,
+      sym (getD-drop at table 1 0) ∙ ap (λ (l : List ℕ). getD l 1 0) e,
+      ap (take (length n)) d ∙ take-append-seam n (flat es′),
+      omega arith,
+      sym (drop-drop (length n) (at + 2) table) ∙ ap (drop (length n)) d ∙ drop-append-seam n (flat es′),
+    )
 
 -- the end of the entry at `at`, as the code has it
 abbrev pub endAt : List ℕ → ℕ → ℕ
@@ -75,14 +77,14 @@ module _ {table head : List ℕ} {all : List Entry} {at : ℕ} (left : Left tabl
       ap (λ (k : ℕ). take k (drop (at + 2) table)) z ∙ o .6
 
   pub find-this : alike head (nameAt table at) ≡ true → getD table (at + 1) 0 ≡ lookup head all
-  unfolding lookup found
+  unfolding lookup
   find-this b =
       let q : alike head (o .0) ≡ true = ap (alike head) (sym name-is) ∙ b in
       let y : lookup head (entry (o .0) (o .1) ∷ o .2) ≡ o .1 = rw q in
       o .5 ∙ sym y ∙ ap (lookup head) (sym (o .3)) ∙ left .same
 
   pub find-next : alike head (nameAt table at) ≡ false → Left table head all (endAt table at)
-  unfolding lookup found
+  unfolding lookup
   find-next b =
       let q : alike head (o .0) ≡ false = ap (alike head) (sym name-is) ∙ b in
       let y : lookup head (entry (o .0) (o .1) ∷ o .2) ≡ lookup head (o .2) = rw q in

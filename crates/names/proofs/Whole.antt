@@ -1,17 +1,17 @@
 -- What `read_name` returns. Assumes nothing.
-use mathlib.Core.Path.{_≡_, refl, sym, ap, _∙_}
-use mathlib.Core.Bool.{Bool, true, false}
+use mathlib.Core.Path.{_≡_, refl, sym, _∙_}
+use mathlib.Core.Bool.{true}
 use mathlib.Core.List.{List}
 use Prim.Native.Nat.{ℕ, _+_, _<_, _≤_}
 use native.Mathlib.Omega.{arith}
-use lib.Dec.{leb, eqb}
 use lib.ListN.{length}
 use lib.Seq.{sets}
 use borrow.Author.Tests.{lt-leb, le-leb, eq-eqb, ne-eqb}
 use Rattle.names.specs.declared.Parsed.{Parsed}
 use Rattle.names.specs.declared.Parsed.the-variants.{Name as Parsed-name, Broken as Parsed-broken}
 use Rattle.names.specs.declared.Named.the-variants.{Codes, Broken, NoRoom}
-use Rattle.names.specs.Kind.{headings, codes}
+use Rattle.names.specs.Kind.{codes}
+use Rattle.names.specs.Name.{headings}
 use Rattle.names.specs.Parse.{Read, broken, name, nameIn, whole, nameOf}
 use Rattle.names.specs.Contract.{answer, met, Parses, roomy, answerOf, contentOf, ReadsName}
 
@@ -37,9 +37,10 @@ module _ (s c c′ : List ℕ) (used : ℕ) (h : used + length s ≤ length c) w
   named-as k u (name n j) i a w =
       let b = le-leb (used + length s) (length c) h in
       let p : k ≡ j = cc in
-      let v : u ≡ used + length (headings n) = cc in
-      ((λ e. let q = eq-eqb j (length s) (sym p ∙ e) in record { answers = rw (b, i, q, v); writes = w ∙ rw (b, i, q) }),
-      (λ f. let q = ne-eqb j (length s) (λ e. f (p ∙ e)) in record { answers = rw (b, i, q); writes = w ∙ rw (b, i, q) }))
+      let v : u ≡ used + length (headings n) = cc in (
+        (λ e. let q = eq-eqb j (length s) (sym p ∙ e) in record { answers = rw (b, i, q, v); writes = w ∙ rw (b, i, q) }),
+        (λ f. let q = ne-eqb j (length s) (λ e. f (p ∙ e)) in record { answers = rw (b, i, q); writes = w ∙ rw (b, i, q) }),
+      )
 
   module _ {f : Parsed} (p : Parses true 8 s c c′ used f) where
     pub broken-is : f ≡ Parsed-broken → ReadsName s c c′ used Broken

@@ -1,16 +1,15 @@
 -- A lawful name that is written is read back. Assumes nothing.
 use mathlib.Core.Path.{_≡_, refl, sym, ap, _∙_}
-use mathlib.Core.Bool.{Bool, true, false, _&&_, _||_, not}
+use mathlib.Core.Bool.{Bool, true, false, _&&_}
 use mathlib.Core.List.{List, [], _∷_, _++_}
 use Prim.Native.Nat.{ℕ, zero, suc, _+_}
 use native.Mathlib.Omega.{arith}
 use Prim.Native.Char.{code}
-use lib.Dec.{eqb, leb}
-use lib.ListN.{length, take, drop, length-append}
+use lib.ListN.{length, drop, length-append}
 use lib.Seq.{drop-drop, drop-append-seam, drop-append-add, take-append-seam}
 use Rattle.layout.specs.Text.{ascii}
 use Rattle.names.specs.Name.{Tail, none, some, Name, simple, one, two, writeTail, write, between, headByte, tailByte, all, Head, Tailed, Formed}
-use Rattle.names.specs.Parse.{Read, name, pick, span, starts, tailSize, tailOf, ended, closed, opening, onOnly, onSecond, onFirst, afterHead, headed, nameIn}
+use Rattle.names.specs.Parse.{Read, name, span, starts, tailSize, tailOf, ended, closed, opening, onOnly, onSecond, onFirst, afterHead, headed, nameIn}
 
 -- what may follow a name: nothing, or a closing bracket
 pub data Stops : List ℕ → Type 0 where

@@ -1,7 +1,7 @@
 -- What the parser answers and which codes it leaves. Assumes nothing.
 use mathlib.Core.Path.{_≡_}
 use mathlib.Core.Bool.{Bool, true, false}
-use mathlib.Core.List.{List, [], _∷_, _++_}
+use mathlib.Core.List.{List}
 use Prim.Native.Nat.{ℕ, _+_, _≤_}
 use lib.Dec.{leb}
 use lib.ListN.{length, drop}
@@ -11,8 +11,8 @@ use Rattle.names.specs.declared.Parsed.{Parsed}
 use Rattle.names.specs.declared.Parsed.the-variants.{Name as Parsed-name, Broken as Parsed-broken}
 use Rattle.names.specs.declared.Named.{Named}
 use Rattle.names.specs.declared.Named.the-variants.{Codes, Broken, NoRoom}
-use Rattle.names.specs.Name.{headByte, tailByte}
-use Rattle.names.specs.Kind.{Heading, headings, codes}
+use Rattle.names.specs.Name.{headByte, tailByte, Heading, headings}
+use Rattle.names.specs.Kind.{codes}
 use Rattle.names.specs.Parse.{Read, broken, name, pick, starts, tailSize, nameIn, nameOf}
 
 -- the classes of bytes: those of a tail, or those of a head
@@ -44,15 +44,18 @@ Inside l at Parsed-broken = Unit {0}
 abbrev pub tailed : List ℕ → ℕ → ℕ → Parsed
 tailed s e used = Parsed-name (e + tailSize (drop e s)) used
 
+-- after an argument that was read from `at` on: the text w stands there, and this is where it ends
+abbrev pub passed : (w s : List ℕ) (at : ℕ) → Parsed → Parsed
+passed w s at Parsed-broken = Parsed-broken
+passed w s at (Parsed-name k u) = pick (starts w (drop (at + k) s)) (Parsed-name (at + k + length w) u) Parsed-broken
+
+abbrev pub tailedAfter : List ℕ → Parsed → Parsed
+tailedAfter s Parsed-broken = Parsed-broken
+tailedAfter s (Parsed-name e u) = tailed s e u
+
 -- after the last argument, which was read from `at` on: two brackets, and perhaps a tail
 abbrev pub closing : List ℕ → ℕ → Parsed → Parsed
-closing s at Parsed-broken = Parsed-broken
-closing s at (Parsed-name k u) = pick (starts (ascii "]]") (drop (at + k) s)) (tailed s (at + k + 2) u) Parsed-broken
-
--- after the first of two arguments, which was read from `at` on: where the second starts
-abbrev pub parting : List ℕ → ℕ → Parsed → Parsed
-parting s at Parsed-broken = Parsed-broken
-parting s at (Parsed-name k u) = pick (starts (ascii "],[") (drop (at + k) s)) (Parsed-name (at + k + 3) u) Parsed-broken
+closing s at argument = tailedAfter s (passed (ascii "]]") s at argument)
 
 -- what a reader's name comes to: how many codes are used, a refusal of 01, or no room for the codes
 pub data Answer : Type 0 where

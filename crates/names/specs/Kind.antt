@@ -6,7 +6,8 @@ use Prim.Native.String.{String}
 use lib.Dec.{eqb}
 use lib.ListN.{length}
 use Rattle.layout.specs.Text.{ascii}
-use Rattle.names.specs.Name.{Name, simple, one, two}
+use Rattle.names.specs.Name.{Heading, heading}
+use Rattle.names.specs.Parse.{pick}
 
 -- a head and the kind that it names
 pub data Entry : Type 0 where
@@ -16,7 +17,7 @@ pub data Entry : Type 0 where
 unfoldable pub reader : String → ℕ → Entry
 reader s k = entry (ascii "Microsoft.Xna.Framework.Content." ++ (ascii s ++ ascii "Reader")) k
 
--- in the order of 000 and of 01's kinds, with 01's "One house reader: `Coach.Console.PageReader`"
+-- the readers in the order of 000 and of 01's kinds, and 01's "One house reader: `Coach.Console.PageReader`"
 unfoldable pub readers : List Entry
 readers =
     reader "Byte" 1 ∷ reader "SByte" 2 ∷ reader "Int16" 3 ∷ reader "UInt16" 4 ∷ reader "Int32" 5 ∷ reader "UInt32" 6
@@ -27,10 +28,11 @@ readers =
     ∷ reader "Point" 29 ∷ reader "Rectangle" 30 ∷ reader "Texture" 31 ∷ reader "Texture2D" 32 ∷ reader "SpriteFont" 33
     ∷ entry (ascii "Coach.Console.PageReader") 34 ∷ []
 
+-- 01: "target type names as 000 gives them", with their namespace
 unfoldable pub target : (space name : String) → ℕ → Entry
 target space name k = entry (ascii space ++ ascii name) k
 
--- 01: "Arguments are target type names as 000 gives them .., or `Coach.Console.Page`. Array and enum types are not known as arguments": in the order of 000 and of 01's kinds
+-- 01: "Arguments are target type names as 000 gives them .., or `Coach.Console.Page`. Array and enum types are not known as arguments"; in the order of 000 and of 01's kinds
 unfoldable pub targets : List Entry
 targets =
     target "System." "Byte" 1 ∷ target "System." "SByte" 2 ∷ target "System." "Int16" 3 ∷ target "System." "UInt16" 4
@@ -58,29 +60,15 @@ alike [] (b ∷ t) = false
 alike (a ∷ s) [] = false
 alike (a ∷ s) (b ∷ t) = eqb a b && alike s t
 
-unfoldable pub found : Bool → ℕ → ℕ → ℕ
-found true k other = k
-found false k other = other
-
 -- the kind that a head names, 0 if it is not listed
 unfoldable pub lookup : List ℕ → List Entry → ℕ
 lookup h [] = 0
-lookup h (entry n k ∷ es) = found (alike h n) k (lookup h es)
+lookup h (entry n k ∷ es) = pick (alike h n) k (lookup h es)
 
--- entries as bytes: a length, a kind and a head for each
+-- entries as the code has them, in bytes: for each the head's length, the kind and the head
 unfoldable pub flat : List Entry → List ℕ
 flat [] = []
 flat (entry n k ∷ es) = length n ∷ k ∷ (n ++ flat es)
-
--- a head and how many arguments it has
-pub data Heading : Type 0 where
-  heading : (head : List ℕ) (arguments : ℕ) → Heading
-
--- the heads of a name in the order in which they stand
-unfoldable pub headings : Name → List Heading
-headings (simple h t) = heading h 0 ∷ []
-headings (one h a t) = heading h 1 ∷ headings a
-headings (two h a b t) = heading h 2 ∷ (headings a ++ headings b)
 
 -- a kind and a number of arguments as one byte
 abbrev pub node : ℕ → ℕ → ℕ

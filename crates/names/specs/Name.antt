@@ -1,9 +1,9 @@
 -- Reader names as they are written (01, "Reader names"). Assumes nothing.
 use mathlib.Core.Path.{_≡_}
-use mathlib.Core.Bool.{Bool, true, false, not, _&&_, _||_}
+use mathlib.Core.Bool.{Bool, true, not, _&&_, _||_}
 use mathlib.Core.List.{List, [], _∷_, _++_}
 use Prim.Native.Nat.{ℕ, zero, suc}
-use Prim.Native.Char.{Char, code}
+use Prim.Native.Char.{code}
 use lib.Dec.{leb, eqb}
 use Rattle.layout.specs.Text.{ascii}
 
@@ -12,58 +12,69 @@ pub data Tail : Type 0 where
   none : Tail
   some : List ℕ → Tail
 
--- 01: "A name is a head, perhaps a backquote, one digit and bracketed arguments, then perhaps a comma and a tail": a name with no argument, with one, with two
+-- 01: "A name is a head, perhaps a backquote, one digit and bracketed arguments, then perhaps a comma and a tail": with no argument, with one and with two
 pub data Name : Type 0 where
   simple : (head : List ℕ) (tail : Tail) → Name
   one : (head : List ℕ) (a : Name) (tail : Tail) → Name
   two : (head : List ℕ) (a b : Name) (tail : Tail) → Name
 
--- a number from one to another
+-- a number from `low` to `high`
 unfoldable pub between : (low high : ℕ) → ℕ → Bool
 between low high b = leb low b && leb b high
 
--- 01: "The head is one or more ASCII letters, digits, `.`, `_`, `+`": one of them
+-- 01: "ASCII letters, digits, `.`, `_`, `+`"
 unfoldable pub headByte : ℕ → Bool
 headByte b =
     between (code "a") (code "z") b || (between (code "A") (code "Z") b || (between (code "0") (code "9") b
     || (eqb b (code ".") || (eqb b (code "_") || eqb b (code "+")))))
 
--- each byte is of a class
+-- each of some bytes is of a class
 unfoldable pub all : (ℕ → Bool) → List ℕ → Bool
 all p [] = true
 all p (b ∷ s) = p b && all p s
 
--- 01: "The head is one or more .."
+-- 01: "The head is one or more ASCII letters, digits, `.`, `_`, `+`"
 pub record Head (h : List ℕ) : Type 0 where
   pub some : h ≡ [] → ⊥
   pub bytes : all headByte h ≡ true
 
--- 01: "Arguments stand as `[[A]]` or `[[A],[B]]`, as many as the digit (1 or 2) says": what a name writes, before what follows it
-unfoldable pub writeTail : Tail → List ℕ → List ℕ
+-- a comma and a tail, if there is one, and then `rest`
+unfoldable pub writeTail : Tail → (rest : List ℕ) → List ℕ
 writeTail none rest = rest
 writeTail (some t) rest = ascii "," ++ (t ++ rest)
 
--- 01: "The part between a pair of inner brackets is again such a name"
-unfoldable pub write : Name → List ℕ → List ℕ
+-- 01: "Arguments stand as `[[A]]` or `[[A],[B]]`, as many as the digit (1 or 2) says. The part between a pair of inner brackets is again such a name": a name, and then `rest`
+unfoldable pub write : Name → (rest : List ℕ) → List ℕ
 write (simple h t) rest = h ++ writeTail t rest
 write (one h a t) rest = h ++ (ascii "`1[[" ++ write a (ascii "]]" ++ writeTail t rest))
 write (two h a b t) rest = h ++ (ascii "`2[[" ++ write a (ascii "],[" ++ write b (ascii "]]" ++ writeTail t rest)))
 
--- the whole of what a name writes
+-- the bytes of a name
 abbrev pub text : Name → List ℕ
 text n = write n []
 
--- 01: "The tail is zero or more bytes 20 to 7E hex without brackets": one of them
+-- 01: "bytes 20 to 7E hex without brackets"
 unfoldable pub tailByte : ℕ → Bool
 tailByte b = between 0x20 0x7E b && (not (eqb b (code "[")) && not (eqb b (code "]")))
 
+-- 01: "The tail is zero or more bytes 20 to 7E hex without brackets"
 unfoldable pub Tailed : Tail → Type 0
 Tailed none = Unit {0}
 Tailed (some t) = all tailByte t ≡ true
 
--- 01: "Names nest at most 8 levels, the reader's own being level 1": a name that keeps these rules and nests at most so many levels
+-- 01: "Names nest at most 8 levels, the reader's own being level 1": a name that keeps the rules above and nests at most so many levels
 unfoldable pub Formed : (levels : ℕ) → Name → Type 0
 Formed zero n = ⊥
 Formed (suc l) (simple h t) = Head h × Tailed t
 Formed (suc l) (one h a t) = Head h × Formed l a × Tailed t
 Formed (suc l) (two h a b t) = Head h × Formed l a × Formed l b × Tailed t
+
+-- a head and how many arguments it has
+pub data Heading : Type 0 where
+  heading : (head : List ℕ) (arguments : ℕ) → Heading
+
+-- the heads of a name in the order in which they stand
+unfoldable pub headings : Name → List Heading
+headings (simple h t) = heading h 0 ∷ []
+headings (one h a t) = heading h 1 ∷ headings a
+headings (two h a b t) = heading h 2 ∷ (headings a ++ headings b)

@@ -5,14 +5,14 @@ use Prim.Native.Nat.{ℕ, zero, suc, _+_}
 use lib.Dec.{eqb}
 use lib.ListN.{length, take, drop}
 use Rattle.layout.specs.Text.{ascii}
-use Rattle.names.specs.Name.{Tail, none, some, Name, simple, one, two, headByte, tailByte}
-use Rattle.names.specs.Kind.{Heading, heading, headings}
+use Rattle.names.specs.Name.{Tail, none, some, Name, simple, one, two, headByte, tailByte, Heading, heading, headings}
 
 -- broken, with the heads that stand before the fault; or the name that stands first, and how many bytes it has
 pub data Read : Type 0 where
   broken : List Heading → Read
   name : Name → ℕ → Read
 
+-- the first where the test holds, else the second
 abbrev pub pick : {A : Type 0} → Bool → A → A → A
 pick true a b = a
 pick false a b = b
@@ -28,10 +28,11 @@ starts [] s = true
 starts (a ∷ t) [] = false
 starts (a ∷ t) (b ∷ s) = eqb a b && starts t s
 
--- perhaps a comma and a tail: how many bytes, and the tail
+-- perhaps a comma and a tail: how many bytes they have
 unfoldable pub tailSize : List ℕ → ℕ
 tailSize s = pick (starts (ascii ",") s) (suc (span tailByte (drop 1 s))) 0
 
+-- the tail itself
 unfoldable pub tailOf : List ℕ → Tail
 tailOf s = pick (starts (ascii ",") s) (some (take (span tailByte (drop 1 s)) (drop 1 s))) none
 
@@ -70,20 +71,21 @@ afterHead below s h (suc zero) = onOnly s h (h + 4) (below (drop (h + 4) s))
 afterHead below s h (suc (suc zero)) = onFirst below s h (h + 4) (below (drop (h + 4) s))
 afterHead below s h (suc (suc (suc n))) = broken []
 
+-- after the bytes that may stand in a head: there is at least one
 unfoldable pub headed : (List ℕ → Read) → List ℕ → ℕ → Read
 headed below s zero = broken []
 headed below s (suc h) = afterHead below s (suc h) (opening (drop (suc h) s))
 
--- the name of at most so many levels that stands first
+-- the name that stands first in s, if it nests at most so many levels
 unfoldable pub nameIn : (levels : ℕ) → List ℕ → Read
 nameIn zero s = broken []
 nameIn (suc l) s = headed (nameIn l) s (span headByte s)
 
--- a reader's name is the whole of its bytes
+-- nothing stands after the name
 unfoldable pub whole : List ℕ → Read → Read
 whole s (broken hs) = broken hs
 whole s (name n k) = pick (eqb k (length s)) (name n k) (broken (headings n))
 
--- 01: "Names nest at most 8 levels, the reader's own being level 1"
+-- a reader's name; 01: "Names nest at most 8 levels, the reader's own being level 1"
 unfoldable pub nameOf : List ℕ → Read
 nameOf s = whole s (nameIn 8 s)

@@ -149,7 +149,7 @@ length-flat [] = refl
 length-flat (row kind first z children parent id wants ∷ rows) = omega (arith, length-flat rows)
 
 -- the rows with no parent, and how many rows there are
-roots-append : (a b : List Row) → rootKinds (a ++ b) ≡ rootKinds a ++ rootKinds b
+pub roots-append : (a b : List Row) → rootKinds (a ++ b) ≡ rootKinds a ++ rootKinds b
 unfolding rootKinds rootKind
 roots-append [] b = refl
 roots-append (row kind first z children zero id wants ∷ a) b = ap (λ (l : List ℕ). kind ∷ l) (roots-append a b)

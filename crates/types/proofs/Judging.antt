@@ -1,45 +1,19 @@
 -- The heads of a name pass exactly when it has a target. Assumes nothing.
 use mathlib.Core.Path.{_≡_, refl, sym, ap, _∙_}
-use mathlib.Core.Bool.{Bool, true, false, not, _&&_, _||_, and-false, and-true}
-use mathlib.Core.List.{List, [], _∷_, _++_, append-assoc, append-nil}
-use Prim.Native.Nat.{ℕ, zero, suc, _+_, _*_, _<_}
+use mathlib.Core.Bool.{Bool, true, false, not, _&&_, _||_, and-true}
+use mathlib.Core.List.{List, [], _++_, append-assoc, append-nil}
+use Prim.Native.Nat.{ℕ, _+_, _*_, _<_}
 use native.Mathlib.Omega.{arith}
-use lib.Dec.{eqb, ltb, leb}
+use lib.Dec.{eqb, leb}
 use borrow.Author.Tests.{eqb-true, eqb-false, eq-eqb, ne-eqb, lt-ltb, le-ltb, lt-leb}
-use Rattle.layout.specs.Target.{Target, fixed, char, string, object, texture, texture2D, spriteFont, page, enum, nullable, array, list, dictionary, kindOf, isValue}
-use Rattle.names.specs.Name.{Name, simple, one, two, between}
-use Rattle.names.specs.Kind.{headings, codes, lookup, listed, targets, readers, node}
+use Rattle.layout.specs.Target.{Target, enum, nullable, list, dictionary, kindOf, isValue}
+use Rattle.names.specs.Name.{Name, simple, one, two, between, headings}
+use Rattle.names.specs.Kind.{codes, lookup, listed, targets, readers, node}
 use Rattle.names.specs.Parse.{pick}
-use Rattle.names.specs.Complete.{both}
-use Rattle.names.specs.Laws.{kind-is-small, codes-append}
 use Rattle.types.specs.Types.{Typed, unknown, known, fixedKind, plain, nullableOf, wrapped, paired, typeOf, enumOf, arrayOf, readerOf}
+use Rattle.types.specs.Finite.{allBelow, below-is, agrees, agree}
 use Rattle.types.specs.Judge.{isKnown, headOk, valueOk, argumentsOk, enumOk, readerOk}
-
--- a test of every number below n
-allBelow : (ℕ → Bool) → ℕ → Bool
-allBelow f zero = true
-allBelow f (suc n) = f n && allBelow f n
-
-below-as : (f : ℕ → Bool) (n k : ℕ) (x : Bool) → eqb k n ≡ x → f n ≡ true → (k < n → f k ≡ true) → k < suc n → f k ≡ true
-below-as f n k true e p g h = ap f (eqb-true k n e) ∙ p
-below-as f n k false e p g h = g (let q = eqb-false k n e in omega arith)
-
-below-is : (f : ℕ → Bool) (n k : ℕ) → allBelow f n ≡ true → k < n → f k ≡ true
-unfolding allBelow
-below-is f zero k e h = absurd (omega arith)
-below-is f (suc n) k e h =
-    let q = both (f n) (allBelow f n) e in
-    below-as f n k (eqb k n) refl (q .0) (below-is f n k (q .1)) h
-
-agrees : Bool → Bool → Bool
-agrees true b = b
-agrees false b = not b
-
-agree : (a b : Bool) → agrees a b ≡ true → b ≡ a
-unfolding agrees
-agree true b e = e
-agree false true e = sym e
-agree false false e = refl
+use Rattle.names.specs.Codes.{kind-is-small, codes-append}
 
 -- 01: "a value type other than Nullable"
 abbrev pub valuable : Typed → Bool
@@ -76,18 +50,26 @@ module _ (k : ℕ) (small : k < 64) where
   one-head : headOk (node k 1) ≡ pick (eqb k 16) true (eqb k 18)
   unfolding headOk
   one-head =
-      rw (le-ltb (k + 64 * 1) 64 (omega arith), eqb-as (k + 64 * 1) 80 k 16 (eqb k 16) (λ q. omega arith) (λ q. omega arith) refl,
-      eqb-as (k + 64 * 1) 82 k 18 (eqb k 18) (λ q. omega arith) (λ q. omega arith) refl, ne-eqb (k + 64 * 1) 147 (λ q. omega arith)) (last (eqb k 16) (eqb k 18)) where
-    last : (a b : Bool) → pick a true (pick b true false) ≡ pick a true b
-    last true b = refl
-    last false true = refl
-    last false false = refl
+      rw (
+        le-ltb (k + 64 * 1) 64 (omega arith),
+        eqb-as (k + 64 * 1) 80 k 16 (eqb k 16) (λ q. omega arith) (λ q. omega arith) refl,
+        eqb-as (k + 64 * 1) 82 k 18 (eqb k 18) (λ q. omega arith) (λ q. omega arith) refl,
+        ne-eqb (k + 64 * 1) 147 (λ q. omega arith),
+      ) (last (eqb k 16) (eqb k 18)) where
+        last : (a b : Bool) → pick a true (pick b true false) ≡ pick a true b
+        last true b = refl
+        last false true = refl
+        last false false = refl
 
   two-head : headOk (node k 2) ≡ eqb k 19
   unfolding headOk
   two-head =
-      rw (le-ltb (k + 64 * 2) 64 (omega arith), ne-eqb (k + 64 * 2) 80 (λ q. omega arith), ne-eqb (k + 64 * 2) 82 (λ q. omega arith),
-      eqb-as (k + 64 * 2) 147 k 19 (eqb k 19) (λ q. omega arith) (λ q. omega arith) refl)
+      rw (
+        le-ltb (k + 64 * 2) 64 (omega arith),
+        ne-eqb (k + 64 * 2) 80 (λ q. omega arith),
+        ne-eqb (k + 64 * 2) 82 (λ q. omega arith),
+        eqb-as (k + 64 * 2) 147 k 19 (eqb k 19) (λ q. omega arith) (λ q. omega arith) refl,
+      )
 
   none-value : valueOk (node k 0) ≡ valuable (plain k)
   none-value = let z : k + 64 * 0 ≡ k = omega arith in rw z (value-test k small)
@@ -207,13 +189,31 @@ reader-judged (one h a t) =
     let b : k < 64 = kind-is-small true h in
     let r = typeOf a in
     let w : (pick (eqb k 16) true (eqb k 18) && fitting (eqb k 16) r) ≡ isKnown (wrapped k r)
-        = ap (λ (y : Bool). pick (eqb k 16) true (eqb k 18) && y) (sym (and-true (fitting (eqb k 16) r))) ∙ one-is false k true r ∙ and-true (isKnown (wrapped k r)) in
-    rw (same-node k 15 1, same-node k 17 1, same-node k 16 1, one-head k b, alone a (eqb k 16), alone a false, enum-judged a, w,
-    pick-apart (eqb k 15) (enumOf a) (pick (eqb k 17) (arrayOf r) (wrapped k r)), pick-apart (eqb k 17) (arrayOf r) (wrapped k r), array-known r)
+    = ap (λ (y : Bool). pick (eqb k 16) true (eqb k 18) && y) (sym (and-true (fitting (eqb k 16) r))) ∙ one-is false k true r ∙ and-true (isKnown (wrapped k r)) in
+    rw (
+      same-node k 15 1,
+      same-node k 17 1,
+      same-node k 16 1,
+      one-head k b,
+      alone a (eqb k 16),
+      alone a false,
+      enum-judged a,
+      w,
+      pick-apart (eqb k 15) (enumOf a) (pick (eqb k 17) (arrayOf r) (wrapped k r)),
+      pick-apart (eqb k 17) (arrayOf r) (wrapped k r),
+      array-known r,
+    )
 reader-judged (two h a c t) =
     let k = lookup h readers in
     let b : k < 64 = kind-is-small true h in
     let x = codes false (headings a) in
-    rw (ne-eqb (k + 64 * 2) 79 (λ q. omega arith), ne-eqb (k + 64 * 2) 81 (λ q. omega arith), two-head k b, ne-eqb (k + 64 * 2) 80 (λ q. omega arith),
-    codes-append (headings a) (headings c), argument-judged a false (codes false (headings c)), alone c false)
+    rw (
+      ne-eqb (k + 64 * 2) 79 (λ q. omega arith),
+      ne-eqb (k + 64 * 2) 81 (λ q. omega arith),
+      two-head k b,
+      ne-eqb (k + 64 * 2) 80 (λ q. omega arith),
+      codes-append (headings a) (headings c),
+      argument-judged a false (codes false (headings c)),
+      alone c false,
+    )
     (ap (λ (y : Bool). eqb k 19 && (isKnown (typeOf a) && y)) (sym (and-true (isKnown (typeOf c)))) ∙ two-is false k true (typeOf a) (typeOf c) ∙ and-true (isKnown (paired k (typeOf a) (typeOf c))))

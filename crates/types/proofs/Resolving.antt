@@ -1,27 +1,26 @@
 -- What `resolve` returns. Assumes nothing.
 use mathlib.Core.Path.{_≡_, refl, sym, ap, _∙_}
 use mathlib.Core.Bool.{Bool, true, false}
-use mathlib.Core.List.{List, [], _∷_, _++_, append-assoc}
-use Prim.Native.Nat.{ℕ, suc, _+_, _-_, _≤_}
+use mathlib.Core.List.{List, _++_, append-assoc}
+use Prim.Native.Nat.{ℕ, _+_, _-_, _≤_}
 use native.Mathlib.Omega.{arith}
-use lib.Dec.{leb}
 use lib.ListN.{length, take, drop}
 use lib.Seq.{sets, sets-eq, length-sets, length-take-le, drop-append-seam, take-append-seam}
 use borrow.Author.Tests.{leb-true}
 use Rattle.names.specs.declared.Named.{Named}
 use Rattle.names.specs.declared.Named.the-variants.{Codes, Broken as Named-broken, NoRoom as Named-no-room}
-use Rattle.names.specs.Name.{Name}
-use Rattle.names.specs.Kind.{Heading, heading, headings, codes}
+use Rattle.names.specs.Name.{Name, headings}
+use Rattle.names.specs.Kind.{codes}
 use Rattle.names.specs.Parse.{Read, broken, name, nameOf}
-use Rattle.names.specs.Laws.{read-has-room, codes-length}
-use Rattle.names.specs.Contract.{Answer, coded, refused, no-room, roomy, answerOf, contentOf, met, ReadsName}
+use Rattle.names.specs.Contract.{coded, refused, no-room, roomy, answerOf, contentOf, ReadsName}
 use Rattle.types.specs.declared.Resolved.the-variants.{Target, Broken, Unknown, NoRoom}
 use Rattle.types.specs.Types.{Typed, unknown, known, readerOf}
 use Rattle.types.specs.Code.{code}
-use Rattle.types.specs.Coded.{Ok, none, some, reader-coded}
+use Rattle.types.specs.Coded.{Ok, some, reader-coded}
 use Rattle.types.specs.Judge.{isKnown, readerOk}
 use Rattle.types.specs.Contract.{judged, resolution, left, content, Resolves}
 use Rattle.types.proofs.Judging.{reader-judged}
+use Rattle.names.specs.Codes.{read-has-room, codes-length}
 
 -- the part of a list that was just written
 part-is : (c ws : List ℕ) (used : ℕ) → used + length ws ≤ length c → take (length ws) (drop used (sets c used ws)) ≡ ws
@@ -68,8 +67,14 @@ module _ (s c c′ : List ℕ) (used : ℕ) where
       let m = read-has-room s n k i in
       let z : end - used ≡ length ws = omega arith in
       record {
-        n = n; k = k; room = q; is = i; ends = e; writes = w; within = omega (arith, ap length w, length-sets c used ws);
-        part = ap (λ (j : ℕ). take j (drop used c′)) z ∙ ap (λ (x : List ℕ). take (length ws) (drop used x)) w ∙ part-is c ws used (omega arith)
+        n = n;
+        k = k;
+        room = q;
+        is = i;
+        ends = e;
+        writes = w;
+        within = omega (arith, ap length w, length-sets c used ws);
+        part = ap (λ (j : ℕ). take j (drop used c′)) z ∙ ap (λ (x : List ℕ). take (length ws) (drop used x)) w ∙ part-is c ws used (omega arith);
       }
 
   unknown-as : {end : ℕ} (g : Got end) (r : Typed) → readerOf (g .n) ≡ r → isKnown r ≡ false → Resolves s c c′ used Unknown

@@ -8,7 +8,7 @@ use Rattle.layout.specs.Target.{Target, fixed, char, string, object, texture, t
 use Rattle.names.specs.Kind.{node}
 use Rattle.types.specs.Types.{fixedKind}
 
--- a kind and the number of its arguments, then the arguments; an enum's argument has a code of its own, and its name has none
+-- a type's kind and number of arguments, then the codes of its arguments; the name of an enum is not in its codes
 unfoldable pub code : Target → List ℕ
 code (fixed k) = k ∷ []
 code char = 12 ∷ []
@@ -40,7 +40,7 @@ Throughout P E texture2D = Unit {0}
 Throughout P E spriteFont = Unit {0}
 Throughout P E page = Unit {0}
 
--- each `fixed` has a kind of its own
+-- each `fixed` in it has one of the kinds that are `fixed` targets, so that no two types but enums have one code
 abbrev pub Lawful : Target → Type 0
 Lawful t = Throughout (λ k. fixedKind k ≡ true) (Unit {0}) t
 
@@ -48,7 +48,7 @@ Lawful t = Throughout (λ k. fixedKind k ≡ true) (Unit {0}) t
 abbrev pub NoEnum : Target → Type 0
 NoEnum t = Throughout (λ k. Unit {0}) ⊥ t
 
--- the codes from a place on begin with those of a type
+-- a lawful type stands at a place: the codes from there on begin with its codes
 pub record Stands (codes : List ℕ) (place : ℕ) (t : Target) : Type 0 where
   pub lawful : Lawful t
   pub rest : List ℕ

@@ -1,5 +1,5 @@
 -- The heads' codes of a name that has a target are that target's codes. Assumes nothing.
-use mathlib.Core.Path.{_≡_, refl, sym, ap, _∙_}
+use mathlib.Core.Path.{_≡_, refl, ap}
 use mathlib.Core.Bool.{Bool, true, false, not, _&&_}
 use mathlib.Core.List.{List, [], _∷_, _++_}
 use mathlib.Core.Logic.{_⊎_, inl, inr}
@@ -8,12 +8,12 @@ use native.Mathlib.Omega.{arith}
 use lib.Dec.{eqb}
 use borrow.Author.Tests.{eqb-true}
 use Rattle.layout.specs.Target.{Target, fixed, char, string, object, texture, texture2D, spriteFont, page, enum, nullable, array, list, dictionary, kindOf, isValue}
-use Rattle.names.specs.Name.{Name, simple, one, two}
-use Rattle.names.specs.Kind.{headings, codes, lookup, listed, targets, readers, node}
+use Rattle.names.specs.Name.{Name, simple, one, two, headings}
+use Rattle.names.specs.Kind.{codes, lookup, listed, targets, readers, node}
 use Rattle.names.specs.Parse.{pick}
-use Rattle.names.specs.Laws.{codes-append}
 use Rattle.types.specs.Types.{Typed, unknown, known, fixedKind, plain, nullableOf, wrapped, paired, typeOf, enumOf, arrayOf, readerOf}
 use Rattle.types.specs.Code.{code, Throughout}
+use Rattle.names.specs.Codes.{codes-append}
 
 -- what holds of a target that is known
 pub data Ok (P : Target → Type 0) : Typed → Type 0 where

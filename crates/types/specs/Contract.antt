@@ -5,7 +5,8 @@ use mathlib.Core.List.{List}
 use Prim.Native.Nat.{ℕ, _+_}
 use lib.ListN.{length}
 use lib.Seq.{sets}
-use Rattle.names.specs.Kind.{Heading, headings, codes}
+use Rattle.names.specs.Kind.{codes}
+use Rattle.names.specs.Name.{Heading, headings}
 use Rattle.names.specs.Parse.{Read, broken, name, nameOf}
 use Rattle.names.specs.Contract.{Answer, coded, refused, no-room, roomy}
 use Rattle.types.specs.declared.Resolved.{Resolved}

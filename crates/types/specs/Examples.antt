@@ -1,13 +1,12 @@
 -- Reader names and what they come to, by computation (01, "Reader names"; 000's names). Assumes nothing.
 use mathlib.Core.Path.{_≡_, refl}
-use mathlib.Core.Bool.{Bool, true, false, not, _&&_, _||_}
 use mathlib.Core.List.{List, [], _∷_}
 use Prim.Native.Nat.{ℕ}
 use Prim.Native.String.{String}
 use Rattle.layout.specs.Text.{ascii}
 use Rattle.layout.specs.Target.{Target, fixed, char, string, object, texture, texture2D, spriteFont, page, enum, nullable, array, list, dictionary, kindOf, isValue}
-use Rattle.names.specs.Name.{Name, between, headByte, tailByte}
-use Rattle.names.specs.Kind.{lookup, found, alike, listed, reader, readers, target as target-entry, targets, headings}
+use Rattle.names.specs.Name.{between, headByte, tailByte, headings}
+use Rattle.names.specs.Kind.{lookup, alike, listed, reader, readers, target as target-entry, targets}
 use Rattle.names.specs.Parse.{Read, broken, name, span, starts, tailSize, tailOf, closed, opening, onOnly, onSecond, onFirst, afterHead, headed, nameIn, whole, nameOf}
 use Rattle.types.specs.Types.{Typed, unknown, known, fixedKind, plain, nullableOf, wrapped, paired, typeOf, enumOf, arrayOf, readerOf}
 
@@ -95,5 +94,5 @@ pub examples : outcomes names ≡
     ∷ target (list (list (list (list (list (list (list char)))))))
     ∷ refused 10
     ∷ []
-unfolding names ascii nameOf whole nameIn headed afterHead onFirst onSecond onOnly closed opening starts span headByte tailByte between tailOf tailSize headings readerOf typeOf enumOf arrayOf plain fixedKind wrapped nullableOf paired isValue kindOf lookup found alike listed readers reader targets target-entry
+unfolding names ascii nameOf whole nameIn headed afterHead onFirst onSecond onOnly closed opening starts span headByte tailByte between tailOf tailSize headings readerOf typeOf enumOf arrayOf plain fixedKind wrapped nullableOf paired isValue kindOf lookup alike listed readers reader targets target-entry
 examples = refl

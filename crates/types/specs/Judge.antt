@@ -1,5 +1,5 @@
 -- Whether the codes of a well-formed name's heads are those of a target, from left to right. Assumes nothing.
-use mathlib.Core.Bool.{Bool, true, false, _&&_, _||_}
+use mathlib.Core.Bool.{Bool, true, false, _&&_}
 use mathlib.Core.List.{List, [], _∷_}
 use Prim.Native.Nat.{ℕ}
 use lib.Dec.{eqb, ltb}
@@ -7,6 +7,7 @@ use Rattle.names.specs.Kind.{node}
 use Rattle.names.specs.Parse.{pick}
 use Rattle.types.specs.Types.{Typed, unknown, known, fixedKind, plain}
 
+-- a name has a target
 unfoldable pub isKnown : Typed → Bool
 isKnown unknown = false
 isKnown (known t) = true

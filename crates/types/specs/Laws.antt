@@ -3,23 +3,26 @@ use mathlib.Core.Path.{_≡_, refl, sym, ap, _∙_}
 use mathlib.Core.Bool.{Bool, true, false, _&&_}
 use mathlib.Core.List.{List, [], _∷_, _++_, append-assoc}
 use mathlib.Core.Logic.{_⊎_, inl, inr}
-use Prim.Native.Nat.{ℕ, zero, suc, _+_, _-_, _%_, _≤_}
+use Prim.Native.Nat.{ℕ, suc, _+_, _-_, _%_, _≤_, _<_}
 use native.Mathlib.Omega.{arith}
-use lib.Dec.{eqb}
-use lib.ListN.{length, take, drop, getD, set, length-append, take-append-drop}
-use lib.Seq.{drop-drop, drop-append-seam, drop-append-le, getD-drop, drop-set-add, length-take-le, sets, sets-eq, take-append-le}
-use borrow.Author.Tests.{eqb-true, eq-eqb}
-use Rattle.layout.specs.Target.{Target, fixed, char, string, object, texture, texture2D, spriteFont, page, enum, nullable, array, list, dictionary, kindOf, Serves, same, any, picture}
+use lib.Dec.{eqb, ltb}
+use lib.ListN.{length, take, drop, getD, set}
+use lib.Seq.{drop-drop, drop-append-seam, getD-drop, drop-set-add, length-take-le, sets, sets-eq}
+use borrow.Author.Tests.{eqb-true, eq-eqb, ltb-true}
+use Rattle.layout.specs.Target.{Target, fixed, char, string, object, texture, texture2D, spriteFont, page, enum, nullable, array, list, dictionary, kindOf, isValue, Serves, same, any, picture}
+use Rattle.layout.specs.Fixed.{sizes}
 use Rattle.names.specs.Name.{Name, simple, one, two, between}
-use Rattle.names.specs.Kind.{headings, codes, lookup, readers, targets}
+use Rattle.names.specs.Codes.{alike-then, alike-self}
+use Rattle.names.specs.Kind.{alike, lookup, readers, targets}
 use Rattle.names.specs.Parse.{pick, starts}
 use Rattle.names.specs.Complete.{both}
 use Rattle.names.specs.Sound.{starts-is}
-use Rattle.types.specs.Types.{Typed, unknown, known, fixedKind, plain, wrapped, paired, typeOf, enumOf, arrayOf, readerOf}
+use Rattle.types.specs.Finite.{allBelow, below-is}
+use Rattle.types.specs.Types.{Typed, known, fixedKind, plain, wrapped, paired, typeOf, enumOf, readerOf}
 use Rattle.types.specs.Code.{code, Throughout, Lawful, NoEnum, Stands}
-use Rattle.types.specs.Place.{kindAt, extent, placeAfter, agree, equalAt, fitsAt}
+use Rattle.types.specs.Place.{kindAt, valueKind, extent, placeAfter, equalAt, fitsAt}
 use Rattle.types.specs.Coded.{Ok, none, some, got, any-type, ok-pick, ok-plain, ok-wrapped, ok-paired, ok-array, type-keeps, reader-keeps}
-use Rattle.types.specs.Decode.{unique}
+use Rattle.types.specs.Decode.{fixed-small, unique}
 use Rattle.types.specs.Extent.{code-extent, code-agree, code-kind}
 
 -- a type at a place: its kind, and the place after it
@@ -65,6 +68,11 @@ module _ {c : List ℕ} {a : ℕ} {t : Target} where
 -- 01: "Targets are equal when heads and arguments are": types with equal codes are equal, where one has no enum
 pub equal-codes : (d t : Target) → NoEnum d → Lawful d → Lawful t → code d ≡ code t → d ≡ t
 equal-codes d t n w v e = unique d t [] [] n w v (ap (λ (l : List ℕ). l ++ []) e)
+
+-- the same of the test of two lists of codes
+pub alike-codes : (d t : Target) → NoEnum d → Lawful d → Lawful t → (alike (code d) (code t) ≡ true → d ≡ t) × (d ≡ t → alike (code d) (code t) ≡ true)
+alike-codes d t n w v =
+    ((λ e. equal-codes d t n w v (alike-then (code d) (code t) e)), (λ e. rw e (alike-self (code t))))
 
 starts-self : (s r : List ℕ) → starts s (s ++ r) ≡ true
 unfolding starts
@@ -134,6 +142,34 @@ module _ {c : List ℕ} {a b : ℕ} where
   then-fits n p q same = rw (then-equal n p q refl) (last-true (eqb (kindAt c a) 14) (eqb (kindAt c a) 31 && eqb (kindAt c b) 32))
   then-fits n p q any = rw (kind-is p)
   then-fits n p q picture = rw (kind-is p, kind-is q)
+
+fixed-tested : ℕ → Bool
+fixed-tested k = pick (fixedKind k) (ltb 0 (getD sizes k 0) && valueKind k) true
+
+fixed-test : (k : ℕ) → fixedKind k ≡ true → (ltb 0 (getD sizes k 0) && valueKind k) ≡ true
+unfolding fixed-tested allBelow fixedKind valueKind between sizes
+fixed-test k e = rw e at (below-is fixed-tested 64 k refl (fixed-small k e))
+
+-- a kind that is a `fixed` target has a size in 01
+pub fixed-has-size : (k : ℕ) → fixedKind k ≡ true → 0 < getD sizes k 0
+fixed-has-size k e = ltb-true 0 (getD sizes k 0) (both (ltb 0 (getD sizes k 0)) (valueKind k) (fixed-test k e) .0)
+
+-- a type is a value type exactly if its kind is one of 01's
+pub value-is : (t : Target) → Lawful t → valueKind (kindOf t) ≡ isValue t
+unfolding Throughout valueKind between kindOf isValue
+value-is (fixed k) w = both (ltb 0 (getD sizes k 0)) (valueKind k) (fixed-test k w) .1
+value-is char w = refl
+value-is string w = refl
+value-is object w = refl
+value-is (enum name) w = refl
+value-is (nullable t) w = refl
+value-is (array t) w = refl
+value-is (list t) w = refl
+value-is (dictionary k v) w = refl
+value-is texture w = refl
+value-is texture2D w = refl
+value-is spriteFont w = refl
+value-is page w = refl
 
 -- a name's own head
 unfoldable pub headOf : Name → List ℕ

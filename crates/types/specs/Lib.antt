@@ -3,6 +3,7 @@ pub mod Types
 pub mod Code
 pub mod Place
 pub mod Judge
+pub mod Finite
 pub mod Coded
 pub mod Decode
 pub mod Extent

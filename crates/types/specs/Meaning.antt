@@ -4,16 +4,15 @@ use mathlib.Core.Bool.{Bool, true, false}
 use mathlib.Core.List.{List}
 use Prim.Native.Nat.{ℕ, _+_, _≤_, _<_}
 use native.Mathlib.Omega.{arith}
-use lib.Dec.{leb}
 use lib.ListN.{length}
 use lib.Seq.{sets}
 use borrow.Author.Tests.{leb-true, leb-false}
 use Rattle.layout.specs.Target.{Target}
-use Rattle.names.specs.Name.{Name, text, Formed}
+use Rattle.names.specs.Name.{Name, text, Formed, headings}
 use Rattle.names.specs.Parse.{Read, broken, name, nameOf}
-use Rattle.names.specs.Laws.{read-is-text, read-has-room, broken-is-no-text, codes-length}
-use Rattle.names.specs.Kind.{headings, codes}
-use Rattle.names.specs.Contract.{Answer, coded, refused, no-room, roomy}
+use Rattle.names.specs.Laws.{read-is-text, broken-is-no-text}
+use Rattle.names.specs.Codes.{read-has-room, codes-length}
+use Rattle.names.specs.Contract.{coded, refused, no-room, roomy}
 use Rattle.types.specs.declared.Resolved.{Resolved}
 use Rattle.types.specs.Types.{Typed, unknown, known, readerOf}
 use Rattle.types.specs.Code.{code, Stands}
@@ -43,8 +42,15 @@ module _ (s c c′ : List ℕ) (used : ℕ) where
       let l : length (headings n) ≡ length (code t) = sym (codes-length true (headings n)) ∙ ap length (got (reader-coded n) e) in
       let h : used + length (code t) ≤ length c = omega (arith, leb-true (used + length s) (length c) q, read-has-room s n j i) in
       record {
-        n = n; t = t; formed = g .0; writes = g .1; target = e; ends = z; room = omega arith; content = w;
-        stands = rw w (written-stands c used t (reader-is-lawful n t e) h)
+        n = n;
+        t = t;
+        formed = g .0;
+        writes = g .1;
+        target = e;
+        ends = z;
+        room = omega arith;
+        content = w;
+        stands = rw w (written-stands c used t (reader-is-lawful n t e) h);
       }
 
   named-as : (end : ℕ) (b : Bool) (r : Read) → roomy s c used ≡ b → nameOf s ≡ r → coded end ≡ resolution b used r → c′ ≡ content b c used r → HasTarget s c c′ used end

@@ -1,14 +1,19 @@
 -- What the code asks of types at places of an array of codes. Laws.antt says what it means of the types that stand there. Assumes nothing.
-use mathlib.Core.Bool.{Bool, true, false, _&&_}
+use mathlib.Core.Bool.{Bool, true, false, _&&_, _||_}
 use mathlib.Core.List.{List, [], _∷_}
 use Prim.Native.Nat.{ℕ, zero, suc, _+_, _/_, _%_}
 use lib.Dec.{eqb}
 use lib.ListN.{drop, getD}
+use Rattle.names.specs.Name.{between}
 use Rattle.names.specs.Parse.{pick}
 
 -- the kind of the type at a place
 unfoldable pub kindAt : List ℕ → ℕ → ℕ
 kindAt codes place = getD codes place 0 % 64
+
+-- 01: "Value types are kinds 1 to 12, 15, 16 and 20 to 30"
+unfoldable pub valueKind : ℕ → Bool
+valueKind k = between 1 12 k || (between 15 16 k || between 20 30 k)
 
 -- how many codes the next `need` types have
 unfoldable pub extent : List ℕ → (need : ℕ) → ℕ

@@ -1,37 +1,30 @@
 -- A name that has a target has at least 11 bytes for each of its codes, so that 64 names of 1,024 bytes have fewer than 6,000 codes. Assumes nothing.
 use mathlib.Core.Path.{_≡_, refl, sym, ap, _∙_}
 use mathlib.Core.Bool.{Bool, true, false, _&&_}
-use mathlib.Core.List.{List, [], _∷_, _++_}
-use Prim.Native.Nat.{ℕ, suc, _+_, _*_, _≤_}
+use mathlib.Core.List.{List, [], _∷_}
+use Prim.Native.Nat.{ℕ, suc, _*_, _≤_}
 use native.Mathlib.Omega.{arith}
 use lib.Dec.{eqb, leb}
 use lib.ListN.{length, length-append}
 use borrow.Author.Tests.{leb-true, eqb-true}
 use Rattle.layout.specs.Text.{ascii}
 use Rattle.layout.specs.Target.{Target}
-use Rattle.names.specs.Name.{Name, simple, one, two, between, text}
-use Rattle.names.specs.Kind.{Entry, entry, alike, found, lookup, reader, readers, target, targets, Heading, heading, headings, codes}
-use Rattle.names.specs.Complete.{both, long, longTail, length-write}
-use Rattle.names.specs.Laws.{codes-length}
-use Rattle.types.specs.Types.{Typed, unknown, known, fixedKind, plain, wrapped, paired, typeOf, enumOf, arrayOf, readerOf}
+use Rattle.names.specs.Name.{Name, simple, one, two, between, text, headings}
+use Rattle.names.specs.Kind.{Entry, entry, alike, lookup, reader, readers, target, targets, codes}
+use Rattle.names.specs.Parse.{pick}
+use Rattle.names.specs.Complete.{both, long, length-write}
+use Rattle.types.specs.Types.{Typed, known, fixedKind, plain, wrapped, paired, typeOf, enumOf, readerOf}
 use Rattle.types.specs.Code.{code}
 use Rattle.types.specs.Coded.{Ok, none, some, ok-pick, got, ok-plain, ok-wrapped, ok-paired, ok-array, reader-coded}
+use Rattle.names.specs.Codes.{codes-length, alike-then}
 
 -- every head of a table has at least m bytes
 longs : ℕ → List Entry → Bool
 longs m [] = true
 longs m (entry h k ∷ es) = leb m (length h) && longs m es
 
-alike-length : (h n : List ℕ) → alike h n ≡ true → length h ≡ length n
-unfolding alike
-alike-length [] [] e = refl
-alike-length [] (b ∷ n) e = absurd (let z : _≡_ {A = ℕ} 0 1 = cc in omega arith)
-alike-length (a ∷ h) [] e = absurd (let z : _≡_ {A = ℕ} 0 1 = cc in omega arith)
-alike-length (a ∷ h) (b ∷ n) e = ap suc (alike-length h n (both (eqb a b) (alike h n) e .1))
-
-found-long : (m : ℕ) (h n : List ℕ) (k other : ℕ) (x : Bool) → alike h n ≡ x → m ≤ length n → ((other ≡ 0 → ⊥) → m ≤ length h) → (found x k other ≡ 0 → ⊥) → m ≤ length h
-unfolding found
-found-long m h n k other true e l f z = omega (arith, alike-length h n e)
+found-long : (m : ℕ) (h n : List ℕ) (k other : ℕ) (x : Bool) → alike h n ≡ x → m ≤ length n → ((other ≡ 0 → ⊥) → m ≤ length h) → (pick x k other ≡ 0 → ⊥) → m ≤ length h
+found-long m h n k other true e l f z = omega (arith, ap length (alike-then h n e))
 found-long m h n k other false e l f z = f z
 
 -- a head that is listed is as long

@@ -1,5 +1,5 @@
 -- The target of a reader's name (01, "Reader names"). Assumes nothing.
-use mathlib.Core.Bool.{Bool, true, false, not, _&&_, _||_}
+use mathlib.Core.Bool.{Bool, not, _&&_, _||_}
 use Prim.Native.Nat.{ℕ}
 use lib.Dec.{eqb}
 use Rattle.layout.specs.Target.{Target, fixed, char, string, object, texture, texture2D, spriteFont, page, enum, nullable, array, list, dictionary, kindOf, isValue}
@@ -26,12 +26,12 @@ plain k =
 unfoldable pub nullableOf : Target → Typed
 nullableOf t = pick (isValue t && not (eqb (kindOf t) 16)) (known (nullable t)) unknown
 
--- a kind with one argument, as an argument and as a reader
+-- a kind with one argument: Nullable or List
 unfoldable pub wrapped : ℕ → Typed → Typed
 wrapped k unknown = unknown
 wrapped k (known t) = pick (eqb k 16) (nullableOf t) (pick (eqb k 18) (known (list t)) unknown)
 
--- a kind with two arguments
+-- a kind with two arguments: Dictionary
 unfoldable pub paired : ℕ → Typed → Typed → Typed
 paired k unknown b = unknown
 paired k (known t) unknown = unknown
@@ -49,11 +49,12 @@ enumOf (simple h t) = pick (eqb (lookup h targets) 0) (known (enum h)) unknown
 enumOf (one h a t) = unknown
 enumOf (two h a b t) = unknown
 
+-- an Array reader's target
 unfoldable pub arrayOf : Typed → Typed
 arrayOf unknown = unknown
 arrayOf (known t) = known (array t)
 
--- the target of a reader
+-- the target of a reader's name: Enum and Array take their argument here alone, the other kinds as arguments do
 unfoldable pub readerOf : Name → Typed
 readerOf (simple h t) = plain (lookup h readers)
 readerOf (one h a t) = pick (eqb (lookup h readers) 15) (enumOf a) (pick (eqb (lookup h readers) 17) (arrayOf (typeOf a)) (wrapped (lookup h readers) (typeOf a)))

@@ -1,11 +1,12 @@
 -- `names::parse` meets its contract: the level falls, and each return is a law of proofs/Steps.
 -- Assumes nothing.
 use borrow.Author.Needs.{needs}
-use mathlib.Core.Path.{_≡_, sym, ap, _∙_}
+use mathlib.Core.Path.{sym, ap, _∙_}
 use native.Mathlib.Omega.{arith}
-use Prim.Native.Nat.{_+_, _≤_}
-use lib.ListN.{length, length-set, set}
+use Prim.Native.Nat.{_+_}
+use lib.ListN.{length-set, set}
 use lib.Seq.{length-take-le}
+use Rattle.layout.specs.Text.{ascii}
 use Rattle.names.specs.Name.{headByte}
 use Rattle.names.specs.Sound.{span-le}
 use Rattle.names.proofs.Steps.{opening-small, opening-fits, too-deep, headless, opened, part-inside, part-length, second-fits, give-up, odd-done, simple-done, only-done, both-done, part-lost}
@@ -18,7 +19,7 @@ use Rattle.names.proofs.+parse.Lts-parse as parse-lts
 use Rattle.names.proofs.close.Reads as close-reads
 use Rattle.names.proofs.node_of.Reads as node-of-reads
 use Rattle.names.proofs.opening_at.Reads as opening-at-reads
-use Rattle.names.proofs.part.Reads as part-reads
+use Rattle.names.proofs.past.Reads as past-reads
 use Rattle.names.proofs.run.Reads as run-reads
 use Rattle.names.proofs.tailed_at.Reads as tailed-at-reads
 use Rattle.names.proofs.+parse.{statement}
@@ -47,8 +48,8 @@ claims t = (
   parse.Post,
   close-reads.Asked,
   close-reads.Learnt,
-  part-reads.Asked,
-  part-reads.Learnt,
+  past-reads.Asked,
+  past-reads.Learnt,
 )
 
 parse-returns : (t : ℕ) → parse-lts.Need-returns (claims t) (parse-at t) parse.Post
@@ -119,8 +120,11 @@ parse-same-length-2 t c = (c .before .before .before .before .parse) .kept .1 .1
 parse-returns-5 : (t : ℕ) → parse-lts.Need-returns-5 (claims t) (parse-at t) parse.Post
 parse-returns-5 t c = only-done _ _ (opened _ _ _ ((c .before .before .before .before .before .before .before .before .before .before .before .before .before .before .if1) .left) ((c .before .before .before .before .before .before .before .before .before .before .before .before .before .run) .ensures) ((c .before .before .before .before .before .before .before .before .before .before .before .before .if2) .left) _ ((c .before .before .before .before .before .before .before .before .before .before .before .opening-at) .ensures)) (ap (set ((c .before .before .before .before .before .before .before .before .before .before .before .before .before .before .before .before .before .args) .codes .now) ((c .before .before .before .before .before .before .before .before .before .before .before .before .before .before .before .before .before .args) .used)) ((c .before .before .before .before .before .before .before .before .node-of) .ensures)) ((c .before .before .before .before .parse) .ensures) ((c .before .if5) .taken) ((c .close) .ensures)
 
-parse-part-requires : (t : ℕ) → parse-lts.Need-part-requires (claims t) (parse-at t) parse.Post
-parse-part-requires t c κs = part-inside ((c .before .before .before .before .before .before .before .before .before .before .before .before .before .before .before .before .args) .name .now) _ (opening-fits _ _ _ ((c .before .before .before .before .before .before .before .before .before .before .before .before .run) .ensures) ((c .before .before .before .before .before .before .before .before .before .before .opening-at) .ensures) ((c .before .before .before .before .before .before .if4) .left) ((c .before .before .before .before .before .before .before .before .before .if3) .left)) ((c .before .before .before .parse) .ensures)
+parse-slice-aggregate-past : (t : ℕ) → parse-lts.Need-slice-aggregate-past (claims t) (parse-at t) parse.Post
+parse-slice-aggregate-past t c = search needs
+
+parse-past-requires : (t : ℕ) → parse-lts.Need-past-requires (claims t) (parse-at t) parse.Post
+parse-past-requires t c κs = part-inside ((c .before .before .before .before .before .before .before .before .before .before .before .before .before .before .before .before .before .args) .name .now) _ (opening-fits _ _ _ ((c .before .before .before .before .before .before .before .before .before .before .before .before .before .run) .ensures) ((c .before .before .before .before .before .before .before .before .before .before .before .opening-at) .ensures) ((c .before .before .before .before .before .before .before .if4) .left) ((c .before .before .before .before .before .before .before .before .before .before .if3) .left)) ((c .before .before .before .before .parse) .ensures)
 
 parse-enum-told : (t : ℕ) → parse-lts.Need-enum-told (claims t) (parse-at t) parse.Post
 parse-enum-told t c = search needs
@@ -129,10 +133,12 @@ parse-enum-known-b : (t : ℕ) → parse-lts.Need-enum-known-b (claims t) (parse
 parse-enum-known-b t c = search needs
 
 parse-sub-parse-3 : (t : ℕ) → parse-lts.Need-sub-parse-3 (claims t) (parse-at t) parse.Post
-parse-sub-parse-3 t c = second-fits ((c .before .before .before .before .before .before .before .before .before .before .before .before .before .before .before .before .before .before .before .before .args) .name .now) _ _ _ (opening-fits _ _ _ ((c .before .before .before .before .before .before .before .before .before .before .before .before .before .before .before .before .run) .ensures) ((c .before .before .before .before .before .before .before .before .before .before .before .before .before .before .opening-at) .ensures) ((c .before .before .before .before .before .before .before .before .before .before .if4) .left) ((c .before .before .before .before .before .before .before .before .before .before .before .before .before .if3) .left)) ((c .before .before .before .before .before .before .before .parse) .ensures) (sym ((c .before .before .before .part) .ensures) ∙ (c .before .b) .given .1) .0
+unfolding ascii
+parse-sub-parse-3 t c = second-fits ((c .before .before .before .before .before .before .before .before .before .before .before .before .before .before .before .before .before .before .before .before .before .args) .name .now) _ _ _ (opening-fits _ _ _ ((c .before .before .before .before .before .before .before .before .before .before .before .before .before .before .before .before .before .run) .ensures) ((c .before .before .before .before .before .before .before .before .before .before .before .before .before .before .before .opening-at) .ensures) ((c .before .before .before .before .before .before .before .before .before .before .before .if4) .left) ((c .before .before .before .before .before .before .before .before .before .before .before .before .before .before .if3) .left)) ((c .before .before .before .before .before .before .before .before .parse) .ensures) (sym ((c .before .before .before .past) .ensures) ∙ (c .before .b) .given .1) .0
 
 parse-part-parse-start-2 : (t : ℕ) → parse-lts.Need-part-parse-start-2 (claims t) (parse-at t) parse.Post
-parse-part-parse-start-2 t c = second-fits ((c .before .before .before .before .before .before .before .before .before .before .before .before .before .before .before .before .before .before .before .before .args) .name .now) _ _ _ (opening-fits _ _ _ ((c .before .before .before .before .before .before .before .before .before .before .before .before .before .before .before .before .run) .ensures) ((c .before .before .before .before .before .before .before .before .before .before .before .before .before .before .opening-at) .ensures) ((c .before .before .before .before .before .before .before .before .before .before .if4) .left) ((c .before .before .before .before .before .before .before .before .before .before .before .before .before .if3) .left)) ((c .before .before .before .before .before .before .before .parse) .ensures) (sym ((c .before .before .before .part) .ensures) ∙ (c .before .b) .given .1) .0
+unfolding ascii
+parse-part-parse-start-2 t c = second-fits ((c .before .before .before .before .before .before .before .before .before .before .before .before .before .before .before .before .before .before .before .before .before .args) .name .now) _ _ _ (opening-fits _ _ _ ((c .before .before .before .before .before .before .before .before .before .before .before .before .before .before .before .before .before .run) .ensures) ((c .before .before .before .before .before .before .before .before .before .before .before .before .before .before .before .opening-at) .ensures) ((c .before .before .before .before .before .before .before .before .before .before .before .if4) .left) ((c .before .before .before .before .before .before .before .before .before .before .before .before .before .before .if3) .left)) ((c .before .before .before .before .before .before .before .before .parse) .ensures) (sym ((c .before .before .before .past) .ensures) ∙ (c .before .b) .given .1) .0
 
 parse-part-parse-end-2 : (t : ℕ) → parse-lts.Need-part-parse-end-2 (claims t) (parse-at t) parse.Post
 parse-part-parse-end-2 t c = search needs
@@ -141,27 +147,31 @@ parse-sub-parse-4 : (t : ℕ) → parse-lts.Need-sub-parse-4 (claims t) (parse-a
 parse-sub-parse-4 t c = search needs
 
 parse-parse-requires-2 : (t : ℕ) → parse-lts.Need-parse-requires-2 (claims t) (parse-at t) parse.Post
+unfolding ascii
 parse-parse-requires-2 t c κs =
-    let s = (c .before .before .before .before .before .before .before .before .before .before .before .before .before .before .before .before .before .before .before .before .before .before .args) .name .now in
-    let g = opening-fits _ _ _ ((c .before .before .before .before .before .before .before .before .before .before .before .before .before .before .before .before .before .before .run) .ensures) ((c .before .before .before .before .before .before .before .before .before .before .before .before .before .before .before .before .opening-at) .ensures) ((c .before .before .before .before .before .before .before .before .before .before .before .before .if4) .left) ((c .before .before .before .before .before .before .before .before .before .before .before .before .before .before .before .if3) .left) in
-    let b = second-fits s _ _ _ g ((c .before .before .before .before .before .before .before .before .before .parse) .ensures) (sym ((c .before .before .before .before .before .part) .ensures) ∙ (c .before .before .before .b) .given .1) in
-    let k = (c .before .before .before .before .before .before .before .before .before .parse) .kept .1 .1 .1 .0 ∙ length-set ((c .before .before .before .before .before .before .before .before .before .before .before .before .before .before .before .before .before .before .before .before .before .before .args) .codes .now) ((c .before .before .before .before .before .before .before .before .before .before .before .before .before .before .before .before .before .before .before .before .before .before .args) .used) ((c .before .before .before .before .before .before .before .before .before .before .before .before .before .node-of) .result) in
-    (omega (arith, (c .before .before .before .before .before .before .before .before .before .before .before .before .before .before .before .before .before .before .before .if1) .left, (c .before .before .before .before .before .before .before .before .before .before .before .before .before .before .before .before .before .before .before .before .before .before .pre) .0), omega (arith, part-length s ((c .before .before .before .b) .given .0 .0), (c .before .before .before .before .before .before .before .before .before .before .before .before .before .before .before .before .before .before .before .before .before .before .pre) .1))
+    let s = (c .before .before .before .before .before .before .before .before .before .before .before .before .before .before .before .before .before .before .before .before .before .before .before .args) .name .now in
+    let g = opening-fits _ _ _ ((c .before .before .before .before .before .before .before .before .before .before .before .before .before .before .before .before .before .before .before .run) .ensures) ((c .before .before .before .before .before .before .before .before .before .before .before .before .before .before .before .before .before .opening-at) .ensures) ((c .before .before .before .before .before .before .before .before .before .before .before .before .before .if4) .left) ((c .before .before .before .before .before .before .before .before .before .before .before .before .before .before .before .before .if3) .left) in
+    let b = second-fits s _ _ _ g ((c .before .before .before .before .before .before .before .before .before .before .parse) .ensures) (sym ((c .before .before .before .before .before .past) .ensures) ∙ (c .before .before .before .b) .given .1) in
+    let k = (c .before .before .before .before .before .before .before .before .before .before .parse) .kept .1 .1 .1 .0 ∙ length-set ((c .before .before .before .before .before .before .before .before .before .before .before .before .before .before .before .before .before .before .before .before .before .before .before .args) .codes .now) ((c .before .before .before .before .before .before .before .before .before .before .before .before .before .before .before .before .before .before .before .before .before .before .before .args) .used) ((c .before .before .before .before .before .before .before .before .before .before .before .before .before .before .node-of) .result) in
+    (omega (arith, (c .before .before .before .before .before .before .before .before .before .before .before .before .before .before .before .before .before .before .before .before .if1) .left, (c .before .before .before .before .before .before .before .before .before .before .before .before .before .before .before .before .before .before .before .before .before .before .before .pre) .0), omega (arith, part-length s ((c .before .before .before .b) .given .0 .0), (c .before .before .before .before .before .before .before .before .before .before .before .before .before .before .before .before .before .before .before .before .before .before .before .pre) .1))
 
 parse-close-requires-2 : (t : ℕ) → parse-lts.Need-close-requires-2 (claims t) (parse-at t) parse.Post
-parse-close-requires-2 t c κs = part-inside ((c .before .before .before .before .before .before .before .before .before .before .before .before .before .before .before .before .before .before .before .before .before .before .before .before .before .args) .name .now) _ (second-fits ((c .before .before .before .before .before .before .before .before .before .before .before .before .before .before .before .before .before .before .before .before .before .before .before .before .before .args) .name .now) _ _ _ (opening-fits _ _ _ ((c .before .before .before .before .before .before .before .before .before .before .before .before .before .before .before .before .before .before .before .before .before .run) .ensures) ((c .before .before .before .before .before .before .before .before .before .before .before .before .before .before .before .before .before .before .before .opening-at) .ensures) ((c .before .before .before .before .before .before .before .before .before .before .before .before .before .before .before .if4) .left) ((c .before .before .before .before .before .before .before .before .before .before .before .before .before .before .before .before .before .before .if3) .left)) ((c .before .before .before .before .before .before .before .before .before .before .before .before .parse) .ensures) (sym ((c .before .before .before .before .before .before .before .before .part) .ensures) ∙ (c .before .before .before .before .before .before .b) .given .1) .0) ((c .before .before .parse2) .ensures)
+unfolding ascii
+parse-close-requires-2 t c κs = part-inside ((c .before .before .before .before .before .before .before .before .before .before .before .before .before .before .before .before .before .before .before .before .before .before .before .before .before .before .args) .name .now) _ (second-fits ((c .before .before .before .before .before .before .before .before .before .before .before .before .before .before .before .before .before .before .before .before .before .before .before .before .before .before .args) .name .now) _ _ _ (opening-fits _ _ _ ((c .before .before .before .before .before .before .before .before .before .before .before .before .before .before .before .before .before .before .before .before .before .before .run) .ensures) ((c .before .before .before .before .before .before .before .before .before .before .before .before .before .before .before .before .before .before .before .before .opening-at) .ensures) ((c .before .before .before .before .before .before .before .before .before .before .before .before .before .before .before .before .if4) .left) ((c .before .before .before .before .before .before .before .before .before .before .before .before .before .before .before .before .before .before .before .if3) .left)) ((c .before .before .before .before .before .before .before .before .before .before .before .before .before .parse) .ensures) (sym ((c .before .before .before .before .before .before .before .before .past) .ensures) ∙ (c .before .before .before .before .before .before .b) .given .1) .0) ((c .before .before .parse2) .ensures)
 
 parse-same-length-3 : (t : ℕ) → parse-lts.Need-same-length-3 (claims t) (parse-at t) parse.Post
-parse-same-length-3 t c = (c .before .before .before .before .before .before .parse) .kept .1 .1 .1 .0 ∙ length-set ((c .before .before .before .before .before .before .before .before .before .before .before .before .before .before .before .before .before .before .before .args) .codes .now) ((c .before .before .before .before .before .before .before .before .before .before .before .before .before .before .before .before .before .before .before .args) .used) ((c .before .before .before .before .before .before .before .before .before .before .node-of) .result)
+parse-same-length-3 t c = (c .before .before .before .before .before .before .before .parse) .kept .1 .1 .1 .0 ∙ length-set ((c .before .before .before .before .before .before .before .before .before .before .before .before .before .before .before .before .before .before .before .before .args) .codes .now) ((c .before .before .before .before .before .before .before .before .before .before .before .before .before .before .before .before .before .before .before .before .args) .used) ((c .before .before .before .before .before .before .before .before .before .before .before .node-of) .result)
 
 parse-returns-6 : (t : ℕ) → parse-lts.Need-returns-6 (claims t) (parse-at t) parse.Post
-parse-returns-6 t c = part-lost _ _ (opened _ _ _ ((c .before .before .before .before .before .before .before .before .before .before .before .before .before .before .before .before .if1) .left) ((c .before .before .before .before .before .before .before .before .before .before .before .before .before .before .before .run) .ensures) ((c .before .before .before .before .before .before .before .before .before .before .before .before .before .before .if2) .left) _ ((c .before .before .before .before .before .before .before .before .before .before .before .before .before .opening-at) .ensures)) (ap (set ((c .before .before .before .before .before .before .before .before .before .before .before .before .before .before .before .before .before .before .before .args) .codes .now) ((c .before .before .before .before .before .before .before .before .before .before .before .before .before .before .before .before .before .before .before .args) .used)) ((c .before .before .before .before .before .before .before .before .before .before .node-of) .ensures)) ((c .before .before .before .before .before .before .parse) .ensures) (omega (arith, (c .before .before .before .before .before .before .before .before .before .before .before .before .if3) .left, (c .before .before .before .before .before .before .before .before .before .if4) .left, (c .before .before .before .if5) .left, opening-small ((c .before .before .before .before .before .before .before .before .before .before .before .before .before .before .before .before .before .before .before .args) .name .now) _ _ ((c .before .before .before .before .before .before .before .before .before .before .before .before .before .before .before .run) .ensures) ((c .before .before .before .before .before .before .before .before .before .before .before .before .before .opening-at) .ensures))) (sym ((c .before .before .part) .ensures) ∙ (c .enum-told) .given .1)
+unfolding ascii
+parse-returns-6 t c = part-lost _ _ (opened _ _ _ ((c .before .before .before .before .before .before .before .before .before .before .before .before .before .before .before .before .before .if1) .left) ((c .before .before .before .before .before .before .before .before .before .before .before .before .before .before .before .before .run) .ensures) ((c .before .before .before .before .before .before .before .before .before .before .before .before .before .before .before .if2) .left) _ ((c .before .before .before .before .before .before .before .before .before .before .before .before .before .before .opening-at) .ensures)) (ap (set ((c .before .before .before .before .before .before .before .before .before .before .before .before .before .before .before .before .before .before .before .before .args) .codes .now) ((c .before .before .before .before .before .before .before .before .before .before .before .before .before .before .before .before .before .before .before .before .args) .used)) ((c .before .before .before .before .before .before .before .before .before .before .before .node-of) .ensures)) ((c .before .before .before .before .before .before .before .parse) .ensures) (omega (arith, (c .before .before .before .before .before .before .before .before .before .before .before .before .before .if3) .left, (c .before .before .before .before .before .before .before .before .before .before .if4) .left, (c .before .before .before .before .if5) .left, opening-small ((c .before .before .before .before .before .before .before .before .before .before .before .before .before .before .before .before .before .before .before .before .args) .name .now) _ _ ((c .before .before .before .before .before .before .before .before .before .before .before .before .before .before .before .before .run) .ensures) ((c .before .before .before .before .before .before .before .before .before .before .before .before .before .before .opening-at) .ensures))) (sym ((c .before .before .past) .ensures) ∙ (c .enum-told) .given .1)
 
 parse-same-length-4 : (t : ℕ) → parse-lts.Need-same-length-4 (claims t) (parse-at t) parse.Post
-parse-same-length-4 t c = (c .before .before .before .parse2) .kept .1 .1 .1 .0 ∙ (c .before .before .before .before .before .before .before .before .before .before .before .before .before .parse) .kept .1 .1 .1 .0 ∙ length-set ((c .before .before .before .before .before .before .before .before .before .before .before .before .before .before .before .before .before .before .before .before .before .before .before .before .before .before .args) .codes .now) ((c .before .before .before .before .before .before .before .before .before .before .before .before .before .before .before .before .before .before .before .before .before .before .before .before .before .before .args) .used) ((c .before .before .before .before .before .before .before .before .before .before .before .before .before .before .before .before .before .node-of) .result)
+parse-same-length-4 t c = (c .before .before .before .parse2) .kept .1 .1 .1 .0 ∙ (c .before .before .before .before .before .before .before .before .before .before .before .before .before .before .parse) .kept .1 .1 .1 .0 ∙ length-set ((c .before .before .before .before .before .before .before .before .before .before .before .before .before .before .before .before .before .before .before .before .before .before .before .before .before .before .before .args) .codes .now) ((c .before .before .before .before .before .before .before .before .before .before .before .before .before .before .before .before .before .before .before .before .before .before .before .before .before .before .before .args) .used) ((c .before .before .before .before .before .before .before .before .before .before .before .before .before .before .before .before .before .before .node-of) .result)
 
 parse-returns-7 : (t : ℕ) → parse-lts.Need-returns-7 (claims t) (parse-at t) parse.Post
-parse-returns-7 t c = both-done _ _ (opened _ _ _ ((c .before .before .before .before .before .before .before .before .before .before .before .before .before .before .before .before .before .before .before .before .before .before .before .if1) .left) ((c .before .before .before .before .before .before .before .before .before .before .before .before .before .before .before .before .before .before .before .before .before .before .run) .ensures) ((c .before .before .before .before .before .before .before .before .before .before .before .before .before .before .before .before .before .before .before .before .before .if2) .left) _ ((c .before .before .before .before .before .before .before .before .before .before .before .before .before .before .before .before .before .before .before .before .opening-at) .ensures)) (ap (set ((c .before .before .before .before .before .before .before .before .before .before .before .before .before .before .before .before .before .before .before .before .before .before .before .before .before .before .args) .codes .now) ((c .before .before .before .before .before .before .before .before .before .before .before .before .before .before .before .before .before .before .before .before .before .before .before .before .before .before .args) .used)) ((c .before .before .before .before .before .before .before .before .before .before .before .before .before .before .before .before .before .node-of) .ensures)) ((c .before .before .before .before .before .before .before .before .before .before .before .before .before .parse) .ensures) _ _ (omega (arith, (c .before .before .before .before .before .before .before .before .before .before .before .before .before .before .before .before .before .before .before .if3) .left, (c .before .before .before .before .before .before .before .before .before .before .before .before .before .before .before .before .if4) .left, (c .before .before .before .before .before .before .before .before .before .before .if5) .left, opening-small ((c .before .before .before .before .before .before .before .before .before .before .before .before .before .before .before .before .before .before .before .before .before .before .before .before .before .before .args) .name .now) _ _ ((c .before .before .before .before .before .before .before .before .before .before .before .before .before .before .before .before .before .before .before .before .before .before .run) .ensures) ((c .before .before .before .before .before .before .before .before .before .before .before .before .before .before .before .before .before .before .before .before .opening-at) .ensures))) (opening-fits _ _ _ ((c .before .before .before .before .before .before .before .before .before .before .before .before .before .before .before .before .before .before .before .before .before .before .run) .ensures) ((c .before .before .before .before .before .before .before .before .before .before .before .before .before .before .before .before .before .before .before .before .opening-at) .ensures) ((c .before .before .before .before .before .before .before .before .before .before .before .before .before .before .before .before .if4) .left) ((c .before .before .before .before .before .before .before .before .before .before .before .before .before .before .before .before .before .before .before .if3) .left)) (sym ((c .before .before .before .before .before .before .before .before .before .part) .ensures) ∙ (c .before .before .before .before .before .before .before .b) .given .1) ((c .before .before .before .parse2) .ensures) ((c .close2) .ensures)
+unfolding ascii
+parse-returns-7 t c = both-done _ _ (opened _ _ _ ((c .before .before .before .before .before .before .before .before .before .before .before .before .before .before .before .before .before .before .before .before .before .before .before .before .if1) .left) ((c .before .before .before .before .before .before .before .before .before .before .before .before .before .before .before .before .before .before .before .before .before .before .before .run) .ensures) ((c .before .before .before .before .before .before .before .before .before .before .before .before .before .before .before .before .before .before .before .before .before .before .if2) .left) _ ((c .before .before .before .before .before .before .before .before .before .before .before .before .before .before .before .before .before .before .before .before .before .opening-at) .ensures)) (ap (set ((c .before .before .before .before .before .before .before .before .before .before .before .before .before .before .before .before .before .before .before .before .before .before .before .before .before .before .before .args) .codes .now) ((c .before .before .before .before .before .before .before .before .before .before .before .before .before .before .before .before .before .before .before .before .before .before .before .before .before .before .before .args) .used)) ((c .before .before .before .before .before .before .before .before .before .before .before .before .before .before .before .before .before .before .node-of) .ensures)) ((c .before .before .before .before .before .before .before .before .before .before .before .before .before .before .parse) .ensures) _ _ (omega (arith, (c .before .before .before .before .before .before .before .before .before .before .before .before .before .before .before .before .before .before .before .before .if3) .left, (c .before .before .before .before .before .before .before .before .before .before .before .before .before .before .before .before .before .if4) .left, (c .before .before .before .before .before .before .before .before .before .before .before .if5) .left, opening-small ((c .before .before .before .before .before .before .before .before .before .before .before .before .before .before .before .before .before .before .before .before .before .before .before .before .before .before .before .args) .name .now) _ _ ((c .before .before .before .before .before .before .before .before .before .before .before .before .before .before .before .before .before .before .before .before .before .before .before .run) .ensures) ((c .before .before .before .before .before .before .before .before .before .before .before .before .before .before .before .before .before .before .before .before .before .opening-at) .ensures))) (opening-fits _ _ _ ((c .before .before .before .before .before .before .before .before .before .before .before .before .before .before .before .before .before .before .before .before .before .before .before .run) .ensures) ((c .before .before .before .before .before .before .before .before .before .before .before .before .before .before .before .before .before .before .before .before .before .opening-at) .ensures) ((c .before .before .before .before .before .before .before .before .before .before .before .before .before .before .before .before .before .if4) .left) ((c .before .before .before .before .before .before .before .before .before .before .before .before .before .before .before .before .before .before .before .before .if3) .left)) (sym ((c .before .before .before .before .before .before .before .before .before .past) .ensures) ∙ (c .before .before .before .before .before .before .before .b) .given .1) ((c .before .before .before .parse2) .ensures) ((c .close2) .ensures)
 
 pub +parse-spec : {M : Type 1} → statement M
 +parse-spec = close μ-parse λ t. parse-lts.spec (claims t)
@@ -188,7 +198,8 @@ pub +parse-spec : {M : Type 1} → statement M
     (parse-close-requires t)
     (parse-same-length-2 t)
     (parse-returns-5 t)
-    (parse-part-requires t)
+    (parse-slice-aggregate-past t)
+    (parse-past-requires t)
     (parse-enum-told t)
     (parse-enum-known-b t)
     (parse-sub-parse-3 t)

@@ -1,60 +1,42 @@
 use borrow.Author.Needs.{needs}
-use mathlib.Core.Path.{sym, _∙_}
-use native.Mathlib.Omega.{arith}
-use borrow.Author.Tests.{not-true, not-false}
+use mathlib.Core.Path.{sym, ap, _∙_}
 use Rattle.layout.specs.Text.{ascii}
-use Rattle.names.proofs.Laws.{starts-fits}
-use Rattle.names.proofs.Steps.{within}
+use Rattle.names.specs.Contract.{tailedAfter}
+use Rattle.names.proofs.Steps.{passed-fits}
 use Rattle.names.proofs.close.Statement.{statement}
 use Rattle.names.proofs.close.Tie as tie
+
+slice-aggregate-past : tie.Need-slice-aggregate-past
+slice-aggregate-past c = search needs
+
+past-requires : tie.Need-past-requires
+past-requires c κs = search needs
 
 enum-told : tie.Need-enum-told
 enum-told c = search needs
 
-enum-known-argument : tie.Need-enum-known-argument
-enum-known-argument c = search needs
+enum-known-end : tie.Need-enum-known-end
+enum-known-end c = search needs
 
-add-e : tie.Need-add-e
-add-e c =
-    let b = within _ ((c .before .before .before .before .args) .at) (c .before .before .before .before .pre) ((c .before .argument) .given .1) in
-    omega arith
-
-slice-aggregate-stands : tie.Need-slice-aggregate-stands
-slice-aggregate-stands c = search needs
-
-stands-requires : tie.Need-stands-requires
-stands-requires c κs = within _ ((c .before .before .before .before .before .args) .at) (c .before .before .before .before .before .pre) ((c .before .before .argument) .given .1)
+tailed-at-requires : tie.Need-tailed-at-requires
+tailed-at-requires c κs = passed-fits _ ((c .before .before .before .before .before .before .args) .name .now) ((c .before .before .before .before .before .before .args) .at) _ _ ((c .before .before .before .before .before .before .args) .argument) (c .before .before .before .before .before .before .pre) (sym ((c .before .before .before .past) .ensures) ∙ (c .before .end) .given .1)
 
 returns : tie.Need-returns
 unfolding ascii
-returns c = rw ((c .before .before .before .before .argument) .given .1, sym ((c .before .stands) .ensures) ∙ not-true _ ((c .if1) .taken))
-
-add-next : tie.Need-add-next
-add-next c =
-    let b = starts-fits _ _ _ (within _ ((c .before .before .before .before .before .before .before .args) .at) (c .before .before .before .before .before .before .before .pre) ((c .before .before .before .before .argument) .given .1)) (sym ((c .before .stands) .ensures) ∙ not-false _ ((c .if1) .left)) in
-    omega arith
-
-tailed-at-requires : tie.Need-tailed-at-requires
-tailed-at-requires c κs = starts-fits _ _ _ (within _ ((c .before .before .before .before .before .before .before .args) .at) (c .before .before .before .before .before .before .before .pre) ((c .before .before .before .before .argument) .given .1)) (sym ((c .before .stands) .ensures) ∙ not-false _ ((c .if1) .left))
+returns c = sym (ap (tailedAfter ((c .before .before .before .before .before .args) .name .now)) (sym ((c .before .before .past) .ensures) ∙ (c .enum-told) .given .1))
 
 returns-2 : tie.Need-returns-2
-returns-2 c = search needs
-
-returns-3 : tie.Need-returns-3
 unfolding ascii
-returns-3 c = rw ((c .before .before .before .before .before .argument) .given .1, sym ((c .before .before .stands) .ensures) ∙ not-false _ ((c .before .if1) .left)) ((c .tailed-at) .ensures)
+returns-2 c = (c .tailed-at) .ensures ∙ sym (ap (tailedAfter ((c .before .before .before .before .before .before .before .args) .name .now)) (sym ((c .before .before .before .before .past) .ensures) ∙ (c .before .before .end) .given .1))
 
 pub close-spec : {M : Type 1} → statement M
 close-spec =
     tie.close
     (tie.spec
+    slice-aggregate-past
+    past-requires
     enum-told
-    enum-known-argument
-    add-e
-    slice-aggregate-stands
-    stands-requires
-    returns
-    add-next
+    enum-known-end
     tailed-at-requires
-    returns-2
-    returns-3)
+    returns
+    returns-2)

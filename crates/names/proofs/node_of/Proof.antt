@@ -1,8 +1,8 @@
 use borrow.Author.Needs.{needs}
 use native.Mathlib.Omega.{arith}
-use Rattle.names.specs.Laws.{kind-is-small}
 use Rattle.names.proofs.node_of.Statement.{statement}
 use Rattle.names.proofs.node_of.Tie as tie
+use Rattle.names.specs.Codes.{kind-is-small}
 
 kind-of-requires : tie.Need-kind-of-requires
 kind-of-requires c κs = search needs

@@ -1,7 +1,4 @@
 use borrow.Author.Needs.{needs}
-use mathlib.Core.Path.{sym, ap, _∙_}
-use native.Mathlib.Omega.{arith}
-use Rattle.types.specs.Judge.{enumOk}
 use Rattle.types.proofs.Loops.{enum-none, enum-some}
 use Rattle.types.proofs.enum_ok.Statement.{statement}
 use Rattle.types.proofs.enum_ok.Tie as tie

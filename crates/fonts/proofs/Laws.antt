@@ -1,0 +1,51 @@
+-- Laws of the font rule over the words. Assumes nothing.
+use mathlib.Core.Path.{_≡_, refl}
+use mathlib.Core.Bool.{Bool, true, false, not}
+use mathlib.Core.List.{List}
+use Prim.Native.Nat.{ℕ, zero, suc, _+_, _-_, _<_, _≤_}
+use native.Mathlib.Omega.{arith}
+use native.Mathlib.Numerals.{add-one}
+use borrow.Author.Tests.{lt-ltb, le-ltb}
+use Rattle.reading.specs.Rules.{both}
+use Rattle.reading.specs.Answer.{Answer}
+use Rattle.reading.specs.Utf8.{charAt}
+use Rattle.reading.specs.Walk.{valueOr}
+use Rattle.fonts.specs.FontWords.{wordAt, codeAt, nextAbove, risingRows}
+
+-- a test that failed, and one that passed
+pub no : {a r : Bool} (rest : Bool) → r ≡ a → not r ≡ true → false ≡ both a rest
+no {r = true} rest e t = absurd (let z : _≡_ {A = ℕ} 0 1 = cc in omega arith)
+no {r = false} rest e t = rw (← e)
+
+pub yes : {a r x rest : Bool} → r ≡ a → not r ≡ false → x ≡ rest → x ≡ both a rest
+yes {r = true} e t q = rw (← e) q
+yes {r = false} e t q = absurd (let z : _≡_ {A = ℕ} 0 1 = cc in omega arith)
+
+module _ (file words : List ℕ) where
+  -- one character does not fall
+  pub few-rise : (n row : ℕ) → n ≤ 1 → risingRows file words n row ≡ true
+  unfolding risingRows nextAbove
+  few-rise zero row h = refl
+  few-rise (suc zero) row h = refl
+  few-rise (suc (suc n)) row h = absurd (omega arith)
+
+  -- the second of some characters is above the first
+  pub step-up : (n row : ℕ) → 1 < n → codeAt file words row < codeAt file words (row + 1) → risingRows file words n row ≡ risingRows file words (n - 1) (row + 1)
+  unfolding risingRows nextAbove
+  step-up zero row h l = absurd (omega arith)
+  step-up (suc zero) row h l = absurd (omega arith)
+  step-up (suc (suc n)) row h l =
+      let m : suc (suc n) - 1 ≡ suc n = omega arith in
+      rw (m, ← add-one row, lt-ltb (codeAt file words row) (codeAt file words (row + 1)) l)
+
+  -- the second of some characters is not above the first
+  pub no-step : (n row : ℕ) → 1 < n → codeAt file words (row + 1) ≤ codeAt file words row → risingRows file words n row ≡ false
+  unfolding risingRows nextAbove
+  no-step zero row h l = absurd (omega arith)
+  no-step (suc zero) row h l = absurd (omega arith)
+  no-step (suc (suc n)) row h l = rw (← add-one row, le-ltb (codeAt file words row) (codeAt file words (row + 1)) l)
+
+  -- the character that was read at a row's first byte
+  pub code-of : {first : ℕ} (row : ℕ) {x : Answer ℕ} → x ≡ charAt file first → first ≡ wordAt words row 1 → valueOr x ≡ codeAt file words row
+  unfolding codeAt
+  code-of row e f = rw (← f, e)

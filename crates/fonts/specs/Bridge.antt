@@ -1,0 +1,135 @@
+-- When a font's children were read, the test over the words is the test over the trees. Assumes nothing.
+use mathlib.Core.Path.{_≡_, refl, sym, ap, _∙_}
+use mathlib.Core.Bool.{Bool, true, false}
+use mathlib.Core.List.{List}
+use Prim.Native.Nat.{ℕ, suc, _+_, _*_, _<_, _≤_}
+use native.Mathlib.Omega.{arith}
+use native.Mathlib.Numerals.{add-one}
+use lib.Dec.{ltb, eqb}
+use lib.ListN.{length, drop}
+use Rattle.layout.specs.Target.{Target, fixed, char, texture2D, spriteFont, list, isValue, kindOf}
+use Rattle.layout.specs.Tree.{Trees, none, tree, count, size, kindAt, childrenAt}
+use Rattle.layout.specs.Slot.{Slot, raw, object, slotOf, rawOrObject, each, fontSlots}
+use Rattle.layout.specs.Layout.{Lays}
+use Rattle.layout.specs.Resource.{Within}
+use Rattle.layout.specs.Rows.{rowsOf}
+use Rattle.reading.specs.Answer.{read, Ok, not-read, is-read}
+use Rattle.reading.specs.Reads.{Small}
+use Rattle.reading.specs.Rules.{both, same, same-true, same-refl}
+use Rattle.reading.specs.Font.{rising, fontTest, fontIf, fontOk}
+use Rattle.reading.specs.Walk.{Taken, Outcome, point, sequence, walk}
+use Rattle.reading.specs.Sound.{Read, walks-sound}
+use Rattle.table.specs.Written.{written}
+use Rattle.fonts.specs.FontWords.{wordAt, after, some, equal, allThere, allEqual, fontWords, by-rows}
+use Rattle.fonts.specs.Stands.{Stands, written-stands}
+use Rattle.fonts.specs.Children.{childRow, row-next, lays-count, Flat, fixed-childless, char-childless, picture-flat, list-flat, There, Placed, placed-at, object-row}
+use Rattle.fonts.specs.Characters.{map-rising}
+
+-- the tests of objects, of counts and of characters, one after the other
+regroup : (a b c d e f g h r : Bool) → both (both a (both b (both c (both d e)))) (both (both f (both g h)) r) ≡ both a (both b (both c (both d (both e (both f (both g (both h r)))))))
+regroup false b c d e f g h r = refl
+regroup true false c d e f g h r = refl
+regroup true true false d e f g h r = refl
+regroup true true true false e f g h r = refl
+regroup true true true true false f g h r = refl
+regroup true true true true true false g h r = refl
+regroup true true true true true true false h r = refl
+regroup true true true true true true true h r = refl
+
+first-row : (ts : Trees) (n : ℕ) → childRow 0 ts n ≡ n
+unfolding childRow
+first-row none n = refl
+first-row (tree k d own cs rest) n = refl
+
+-- the row after a child with flat children is the next child's
+after-child : (words : List ℕ) (i : ℕ) (ts : Trees) (n : ℕ) → i < count ts → wordAt words (childRow i ts n) 3 ≡ count (childrenAt i ts) → size (childrenAt i ts) ≡ count (childrenAt i ts)
+    → childRow (suc i) ts n ≡ after words (childRow i ts n)
+unfolding after
+after-child words i ts n h r f = omega (arith, row-next i ts n h)
+
+module _ (file words : List ℕ) (readers : List Target) (refers : Target → ℕ → Type 0) where
+  flat-child : {x : Slot} {k n : ℕ} {cs : Trees} → Flat readers refers x → Placed file words readers refers x k cs n → size cs ≡ count cs
+  flat-child {x} {k} {n} {cs} f p = f k (p .id) (p .own) cs (p .bytes) (p .value)
+
+  no-child : (z : ℕ) {k n : ℕ} {cs : Trees} → Placed file words readers refers (raw (fixed z)) k cs n → size cs ≡ 0
+  unfolding size
+  no-child z {k} {n} {cs} p = ap size (fixed-childless readers refers z k (p .id) (p .own) cs (p .bytes) (p .value))
+
+  list-fixed : (z : ℕ) → Flat readers refers (object (list (fixed z)))
+  unfolding slotOf isValue rawOrObject
+  list-fixed z = list-flat readers refers (fixed z) (fixed-childless readers refers z)
+
+  list-char : Flat readers refers (object (list char))
+  unfolding slotOf isValue rawOrObject
+  list-char = list-flat readers refers char (char-childless readers refers)
+
+  -- a font's children that are laid down in the file, with their rows in the words
+  pub laid-words : (ts : Trees) (bs : List ℕ) (w : Lays readers refers (each fontSlots) ts bs) (at number parent used : ℕ)
+      → There file at bs → Stands words (suc used) (rowsOf readers refers (each fontSlots) ts bs w at number parent) → fontWords file words used ≡ fontTest point ts
+  unfolding fontSlots allThere allEqual some equal fontTest
+  laid-words ts bs w at number parent used t s =
+      let n = suc used in
+      let m : count ts ≡ 8 = lays-count readers refers fontSlots ts bs w in
+      let p₀ = placed-at file words readers refers 0 fontSlots (object texture2D) ts bs w at number parent n t s (omega arith) refl in
+      let p₁ = placed-at file words readers refers 1 fontSlots (object (list (fixed 30))) ts bs w at number parent n t s (omega arith) refl in
+      let p₂ = placed-at file words readers refers 2 fontSlots (object (list (fixed 30))) ts bs w at number parent n t s (omega arith) refl in
+      let p₃ = placed-at file words readers refers 3 fontSlots (object (list char)) ts bs w at number parent n t s (omega arith) refl in
+      let p₄ = placed-at file words readers refers 4 fontSlots (raw (fixed 5)) ts bs w at number parent n t s (omega arith) refl in
+      let p₅ = placed-at file words readers refers 5 fontSlots (raw (fixed 9)) ts bs w at number parent n t s (omega arith) refl in
+      let p₆ = placed-at file words readers refers 6 fontSlots (object (list (fixed 24))) ts bs w at number parent n t s (omega arith) refl in
+      let r₀ = object-row file words readers refers p₀ in
+      let r₁ = object-row file words readers refers p₁ in
+      let r₂ = object-row file words readers refers p₂ in
+      let r₃ = object-row file words readers refers p₃ in
+      let r₆ = object-row file words readers refers p₆ in
+      let e₀ : used + 1 ≡ childRow 0 ts n = add-one used ∙ sym (first-row ts n) in
+      let e₁ : childRow 1 ts n ≡ after words (childRow 0 ts n) = after-child words 0 ts n (omega arith) (r₀ .1) (flat-child (picture-flat readers refers) p₀) in
+      let e₂ : childRow 2 ts n ≡ after words (childRow 1 ts n) = after-child words 1 ts n (omega arith) (r₁ .1) (flat-child (list-fixed 30) p₁) in
+      let e₃ : childRow 3 ts n ≡ after words (childRow 2 ts n) = after-child words 2 ts n (omega arith) (r₂ .1) (flat-child (list-fixed 30) p₂) in
+      let e₄ : childRow 4 ts n ≡ after words (childRow 3 ts n) = after-child words 3 ts n (omega arith) (r₃ .1) (flat-child list-char p₃) in
+      let e₆ : childRow 4 ts n + 2 ≡ childRow 6 ts n = omega (arith, row-next 4 ts n (omega arith), row-next 5 ts n (omega arith), no-child 5 p₄, no-child 9 p₅) in
+      by-rows file words used (rw e₀ e₁) e₂ e₃ e₄
+      ∙ rw (e₀, e₆, r₀ .0, r₁ .0, r₂ .0, r₃ .0, r₆ .0, r₁ .1, r₂ .1, r₆ .1, r₃ .1, add-one (childRow 3 ts n), ← map-rising file words readers refers p₃)
+      (regroup (ltb 0 (kindAt 0 ts)) (ltb 0 (kindAt 1 ts)) (ltb 0 (kindAt 2 ts)) (ltb 0 (kindAt 3 ts)) (ltb 0 (kindAt 6 ts))
+      (eqb (count (childrenAt 1 ts)) (count (childrenAt 3 ts))) (eqb (count (childrenAt 2 ts)) (count (childrenAt 3 ts))) (eqb (count (childrenAt 6 ts)) (count (childrenAt 3 ts)))
+      (rising point (childrenAt 3 ts)))
+
+-- a font's eight children were read and their rows stored, with room for them: the test over the words is the test over the trees
+pub font-words : (file : List ℕ) → Small file → (readers : List Target) (shared room d at used : ℕ) (a : Taken) (e : ℕ)
+    → sequence (λ y b v. walk file readers shared room d y b v (suc used)) (each fontSlots) at (suc used) ≡ read a e
+    → (w w′ : List ℕ) → w′ ≡ written w (suc used) (a .1) → 6 * (suc used + length (a .1)) ≤ length w′ → fontWords file w′ used ≡ fontTest point (a .2)
+font-words file small readers shared room d at used a e q w w′ ew h =
+    go (sequence (λ y b v. walk file readers shared room d y b v (suc used)) (each fontSlots) at (suc used))
+    (walks-sound file readers shared room small d (each fontSlots) at (suc used) (suc used)) q where
+      go : (o : Outcome) → Ok (Read file readers shared room small d (each fontSlots) at (suc used) (suc used)) o → o ≡ read a e → fontWords file w′ used ≡ fontTest point (a .2)
+      go o not-read p = absurd (let z : _≡_ {A = ℕ} 0 1 = cc in omega arith)
+      go o (is-read {a = b} {e = f} v) p =
+          let qb : b ≡ a = cc in
+          let s : Stands w′ (suc used) (a .1) = rw ew (written-stands w (suc used) (a .1) (rw ew at h)) in
+          let s′ : Stands w′ (suc used) (b .1) = rw qb s in
+          let x = laid-words file w′ readers (Within shared) (b .2) (v .bytes) (v .laid) at (suc used) (suc used) used (drop f file, v .there) (rw (v .rows-are) at s′) in
+          rw qb at x
+
+-- only a font has the rule
+pub font-only : (t : Target) (cs : Trees) → (t ≡ spriteFont → ⊥) → fontOk point t cs ≡ true
+unfolding fontOk fontIf
+font-only t cs n = go (same t spriteFont) refl where
+  go : (b : Bool) → same t spriteFont ≡ b → fontIf point b cs ≡ true
+  go true e = absurd (n (same-true t spriteFont e))
+  go false e = refl
+
+-- a value of another kind is no font
+pub other-kind : (t : Target) (cs : Trees) → (kindOf t ≡ 33 → ⊥) → fontOk point t cs ≡ true
+unfolding kindOf
+other-kind t cs n = font-only t cs (λ e. n (ap kindOf e))
+
+-- a font has it
+pub font-has : (cs : Trees) → fontOk point spriteFont cs ≡ fontTest point cs
+unfolding fontOk fontIf
+font-has cs = rw (same-refl spriteFont)
+
+-- the walk's test of a font whose children were read, over the words
+pub font-judged : (file : List ℕ) → Small file → (readers : List Target) (shared room d at used : ℕ) (a : Taken) (e : ℕ)
+    → sequence (λ y b v. walk file readers shared room d y b v (suc used)) (each fontSlots) at (suc used) ≡ read a e
+    → (w w′ : List ℕ) → w′ ≡ written w (suc used) (a .1) → 6 * (suc used + length (a .1)) ≤ length w′ → fontOk point spriteFont (a .2) ≡ fontWords file w′ used
+font-judged file small readers shared room d at used a e q w w′ ew h = font-has (a .2) ∙ sym (font-words file small readers shared room d at used a e q w w′ ew h)

@@ -1,0 +1,199 @@
+-- A font's children by their rows in the words: where each stands, and that what is below it has no children. Assumes nothing.
+use mathlib.Core.Path.{_≡_, refl, sym, ap, _∙_}
+use mathlib.Core.List.{List, [], _∷_, _++_, append-assoc, append-nil}
+use mathlib.Core.Logic.{inl, inr}
+use Prim.Native.Nat.{ℕ, zero, suc, _+_, _<_}
+use native.Mathlib.Omega.{arith}
+use lib.ListN.{length, getD, drop, replicate}
+use Rattle.layout.specs.Target.{Target, fixed, char, texture2D, list, Serves, same as serves-same}
+use Rattle.layout.specs.Tree.{Trees, none, tree, count, size, kindAt, childrenAt}
+use Rattle.layout.specs.Image.{levels}
+use Rattle.layout.specs.Slot.{Leaf, level, Slot, raw, object, leaf, slotOf, Plan, stop, put, each, leaves}
+use Rattle.layout.specs.Head.{Head, Counted, Pictured}
+use Rattle.layout.specs.Layout.{Value, Lays}
+use Rattle.layout.specs.Rows.{Row, rawRows, valueRows, rowsOf}
+use Rattle.reading.specs.Reads.{seam}
+use Rattle.reading.specs.Bounds.{rows-length}
+use Rattle.fonts.specs.FontWords.{wordAt}
+use Rattle.fonts.specs.Stands.{Stands, stands-left, stands-right, stands-row}
+
+-- the row of child i, where the first child's row is n
+unfoldable pub childRow : ℕ → Trees → ℕ → ℕ
+childRow i none n = n
+childRow zero (tree k d own cs rest) n = n
+childRow (suc i) (tree k d own cs rest) n = childRow i rest (n + suc (size cs))
+
+-- a child's row comes after all that is below the child before it
+pub row-next : (i : ℕ) (ts : Trees) (n : ℕ) → i < count ts → childRow (suc i) ts n ≡ childRow i ts n + suc (size (childrenAt i ts))
+unfolding childRow childrenAt count
+row-next i none n h = absurd (omega arith)
+row-next zero (tree k d own cs none) n h = refl
+row-next zero (tree k d own cs (tree k′ d′ own′ cs′ rest)) n h = refl
+row-next (suc i) (tree k d own cs rest) n h = row-next i rest (n + suc (size cs)) (omega arith)
+
+-- the reader of a list, and what stands below a list and a picture
+pub only-list : {t u : Target} → Serves (list t) u → u ≡ list t
+only-list serves-same = refl
+
+only-picture : {u : Target} → Serves texture2D u → u ≡ texture2D
+only-picture serves-same = refl
+
+picture-plan : (u : Target) (own : List ℕ) (plan : Plan) (b : List ℕ) → u ≡ texture2D → Head u own plan b → (zs : List ℕ) × (plan ≡ each (leaves zs))
+unfolding Head Pictured
+picture-plan u own plan b e w = let h : Head texture2D own plan b = rw e at w in (levels (h .0) (h .1) (h .2) (h .3), h .13)
+
+pub list-plan : (t u : Target) (own : List ℕ) (plan : Plan) (b : List ℕ) → u ≡ list t → Head u own plan b → (n : ℕ) × (plan ≡ each (replicate n (slotOf t)))
+unfolding Head Counted
+list-plan t u own plan b e w = let h : Head (list t) own plan b = rw e at w in (h .0, h .4)
+
+module _ (readers : List Target) (refers : Target → ℕ → Type 0) where
+  pub lays-count : (slots : List Slot) (ts : Trees) (bs : List ℕ) → Lays readers refers (each slots) ts bs → count ts ≡ length slots
+  unfolding Lays each count
+  lays-count [] none bs w = refl
+  lays-count [] (tree k i own cs rest) bs w = absurd w
+  lays-count (x ∷ slots) none bs w = absurd w
+  lays-count (x ∷ slots) (tree k i own cs rest) bs w = ap suc (lays-count slots rest (w .1) (w .4))
+
+  -- a slot whose values have no children
+  abbrev Childless : Slot → Type 0
+  Childless x = (k i : ℕ) (own : List ℕ) (cs : Trees) (b : List ℕ) → Value readers refers (λ plan b. Lays readers refers plan cs b) x k i own cs b → cs ≡ none
+
+  Every : List Slot → Type 0
+  Every [] = Unit {0}
+  Every (x ∷ xs) = Childless x × Every xs
+
+  every-same : (x : Slot) → Childless x → (n : ℕ) → Every (replicate n x)
+  unfolding Every
+  every-same x h zero = tt
+  every-same x h (suc n) = (h, every-same x h n)
+
+  nothing-below : (cs : Trees) (b : List ℕ) → Lays readers refers stop cs b → cs ≡ none
+  unfolding Lays
+  nothing-below none b w = refl
+  nothing-below (tree k i own cs rest) b w = absurd w
+
+  stopped : (plan : Plan) (cs : Trees) (b : List ℕ) → plan ≡ stop → Lays readers refers plan cs b → cs ≡ none
+  stopped plan cs b e w = nothing-below cs b (rw e at w)
+
+  pub fixed-childless : (t : ℕ) → Childless (raw (fixed t))
+  unfolding Value Head
+  fixed-childless t k i own cs b w = stopped (w .1 .plan) cs (w .1 .children) (w .1 .headed .2) (w .1 .laid)
+
+  pub char-childless : Childless (raw char)
+  unfolding Value Head
+  char-childless k i own cs b w = stopped (w .1 .plan) cs (w .1 .children) (w .1 .headed .2) (w .1 .laid)
+
+  leaf-childless : (x : Leaf) → Childless (leaf x)
+  unfolding Value
+  leaf-childless x k i own cs b w = w .1
+
+  every-leaf : (zs : List ℕ) → Every (leaves zs)
+  unfolding Every leaves
+  every-leaf [] = tt
+  every-leaf (z ∷ zs) = (leaf-childless (level z), every-leaf zs)
+
+  flat : (slots : List Slot) (ts : Trees) (bs : List ℕ) → Every slots → Lays readers refers (each slots) ts bs → size ts ≡ count ts
+  unfolding Lays each Every size count
+  flat [] none bs h w = refl
+  flat [] (tree k i own cs rest) bs h w = absurd w
+  flat (x ∷ slots) none bs h w = absurd w
+  flat (x ∷ slots) (tree k i own cs rest) bs h w =
+      let z : size cs ≡ 0 = rw (h .0 k i own cs (w .0) (w .3)) in
+      omega (arith, flat slots rest (w .1) (h .1) (w .4))
+
+  flat-plan : (plan : Plan) (slots : List Slot) (ts : Trees) (bs : List ℕ) → plan ≡ each slots → Every slots → Lays readers refers plan ts bs → size ts ≡ count ts
+  flat-plan plan slots ts bs e h w = flat slots ts bs h (rw e at w)
+
+  -- what is below a value has no children
+  abbrev pub Flat : Slot → Type 0
+  Flat x = (k i : ℕ) (own : List ℕ) (cs : Trees) (b : List ℕ) → Value readers refers (λ plan b. Lays readers refers plan cs b) x k i own cs b → size cs ≡ count cs
+
+  pub picture-flat : Flat (object texture2D)
+  unfolding Value size count
+  picture-flat k i own cs b (inl w) = rw (w .childless)
+  picture-flat k i own cs b (inr w) =
+      let p = picture-plan (w .target) own (w .laid .plan) (w .laid .head) (only-picture (w .serves)) (w .laid .headed) in
+      flat-plan (w .laid .plan) (leaves (p .0)) cs (w .laid .children) (p .1) (every-leaf (p .0)) (w .laid .laid)
+
+  pub list-flat : (t : Target) → Childless (slotOf t) → Flat (object (list t))
+  unfolding Value size count
+  list-flat t h k i own cs b (inl w) = rw (w .childless)
+  list-flat t h k i own cs b (inr w) =
+      let p = list-plan t (w .target) own (w .laid .plan) (w .laid .head) (only-list (w .serves)) (w .laid .headed) in
+      flat-plan (w .laid .plan) (replicate (p .0) (slotOf t)) cs (w .laid .children) (p .1) (every-same (slotOf t) h (p .0)) (w .laid .laid)
+
+  -- the rows of a value in a slot
+  abbrev pub rowsAt : (x : Slot) (k i : ℕ) (own : List ℕ) (cs : Trees) (b : List ℕ) → Value readers refers (λ plan b. Lays readers refers plan cs b) x k i own cs b → (at number parent : ℕ) → List Row
+  rowsAt x k i own cs b v at number parent =
+      valueRows readers refers (λ plan b. Lays readers refers plan cs b) (λ plan b v a n p. rowsOf readers refers plan cs b v a n p) x k i own cs b v at number parent
+
+  pub value-length : (x : Slot) (k i : ℕ) (own : List ℕ) (cs : Trees) (b : List ℕ) (v : Value readers refers (λ plan b. Lays readers refers plan cs b) x k i own cs b) (at number parent : ℕ)
+      → length (rowsAt x k i own cs b v at number parent) ≡ suc (size cs)
+  unfolding Lays rowsOf size
+  value-length x k i own cs b v at number parent =
+      let r : length (rowsAt x k i own cs b v at number parent ++ []) ≡ suc (size cs) + 0
+      = rows-length readers refers (put x (λ o. stop)) (tree k i own cs none) b (b, [], sym (append-nil b), v, refl) at number parent in
+      omega (arith, rw append-nil at r)
+
+-- where bytes stand in the file
+abbrev pub There : (file : List ℕ) → ℕ → List ℕ → Type 0
+There file at bs = (rest : List ℕ) × (drop at file ≡ bs ++ rest)
+
+pub there-left : (file : List ℕ) (at : ℕ) (bs b₁ b₂ : List ℕ) → bs ≡ b₁ ++ b₂ → There file at bs → There file at b₁
+there-left file at bs b₁ b₂ e t = (b₂ ++ t .0, t .1 ∙ ap (λ (l : List ℕ). l ++ t .0) e ∙ append-assoc b₁ b₂ (t .0))
+
+pub there-right : (file : List ℕ) (at : ℕ) (bs b₁ b₂ : List ℕ) → bs ≡ b₁ ++ b₂ → There file at bs → There file (at + length b₁) b₂
+there-right file at bs b₁ b₂ e t = (t .0, seam file at b₁ b₂ (t .0) (t .1 ∙ ap (λ (l : List ℕ). l ++ t .0) e))
+
+module _ (file words : List ℕ) (readers : List Target) (refers : Target → ℕ → Type 0) where
+  -- a value in a slot, whose rows stand in the words from row n on
+  pub record Placed (x : Slot) (kind : ℕ) (cs : Trees) (n : ℕ) : Type 0 where
+    pub id : ℕ
+    pub own : List ℕ
+    pub bytes : List ℕ
+    pub value : Value readers refers (λ plan b. Lays readers refers plan cs b) x kind id own cs bytes
+    pub at : ℕ
+    pub number : ℕ
+    pub parent : ℕ
+    pub there : There file at bytes
+    pub stands : Stands words n (rowsAt readers refers x kind id own cs bytes value at number parent)
+
+  -- a child of the values that a list of slots has laid down
+  pub placed-at : (i : ℕ) (slots : List Slot) (x : Slot) (ts : Trees) (bs : List ℕ) (w : Lays readers refers (each slots) ts bs) (at number parent n : ℕ)
+      → There file at bs → Stands words n (rowsOf readers refers (each slots) ts bs w at number parent)
+      → i < length slots → getD slots i x ≡ x → Placed x (kindAt i ts) (childrenAt i ts) (childRow i ts n)
+  unfolding Lays each kindAt childrenAt childRow rowsOf
+  placed-at i [] x ts bs w at number parent n t s h e = absurd (omega arith)
+  placed-at i (y ∷ slots) x none bs w at number parent n t s h e = absurd w
+  placed-at zero (y ∷ slots) x (tree k d own cs rest) bs w at number parent n t s h e =
+      let first : Placed y k cs n = record {
+        id = d;
+        own = own;
+        bytes = w .0;
+        value = w .3;
+        at = at;
+        number = number;
+        parent = parent;
+        there = there-left file at bs (w .0) (w .1) (w .2) t;
+        stands = stands-left words n _ _ s;
+      } in
+      rw e at first
+  placed-at (suc i) (y ∷ slots) x (tree k d own cs rest) bs w at number parent n t s h e =
+      let v = rowsAt readers refers y k d own cs (w .0) (w .3) at number parent in
+      let l : length v ≡ suc (size cs) = value-length readers refers y k d own cs (w .0) (w .3) at number parent in
+      placed-at i slots x rest (w .1) (w .4) (at + length (w .0)) (number + suc (size cs)) parent (n + suc (size cs))
+      (there-right file at bs (w .0) (w .1) (w .2) t) (rw l at (stands-right words n v _ s)) (omega arith) e
+
+  -- the kind and the number of children of a value
+  object-words : (t : Target) (k i : ℕ) (own : List ℕ) (cs : Trees) (b : List ℕ) (v : Value readers refers (λ plan b. Lays readers refers plan cs b) (object t) k i own cs b) (at number parent n : ℕ)
+      → Stands words n (rowsAt readers refers (object t) k i own cs b v at number parent) → (wordAt words n 0 ≡ k) × (wordAt words n 3 ≡ count cs)
+  unfolding Value valueRows rawRows count
+  object-words t k i own cs b (inl v) at number parent n s =
+      let r = stands-row words n 0 at (length b) 0 parent 0 [] s in
+      (r .0 ∙ sym (v .kind-of), r .2 ∙ sym (ap count (v .childless)))
+  object-words t k i own cs b (inr v) at number parent n s =
+      let r = stands-row words n k at (length b) (count cs) parent i _ s in
+      (r .0, r .2)
+
+  pub object-row : {t : Target} {k n : ℕ} {cs : Trees} → Placed (object t) k cs n → (wordAt words n 0 ≡ k) × (wordAt words n 3 ≡ count cs)
+  object-row {t} {k} {n} {cs} p = object-words t k (p .id) (p .own) cs (p .bytes) (p .value) (p .at) (p .number) (p .parent) n (p .stands)

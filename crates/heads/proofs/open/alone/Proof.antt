@@ -1,0 +1,36 @@
+use mathlib.Core.Path.{_≡_, refl, sym, ap, _∙_}
+use Prim.Native.Nat.{ℕ, _<_, _^_}
+use native.Mathlib.Omega.{arith}
+use Rattle.answers.specs.Told.{told}
+use Rattle.reading.specs.Reads.{small-by-index}
+use Rattle.reading.specs.Little.{littleAt, little-next}
+use Rattle.table.specs.Leaf.{mute}
+use Rattle.heads.specs.Below.{alone-refused, alone-read, opens-refused, opens-head, list-refused, list-read, pairs-refused, pairs-read, flag-refused, flag-zero, flag-one, flag-other, array-list}
+use borrow.Author.Needs.{needs}
+use Rattle.heads.proofs.open.alone.Statement.{statement}
+use Rattle.heads.proofs.open.alone.Tie as tie
+use Rattle.heads.proofs.open.alone.Reads as reads
+use Rattle.heads.proofs.open.alone.Lts as lts
+
+-- src/open.rt:34:25
+enum-known-read : tie.Need-enum-known-read
+enum-known-read c = search needs
+
+-- src/open.rt:35:25
+enum-known-read-2 : tie.Need-enum-known-read-2
+enum-known-read-2 c = search needs
+
+-- src/open.rt:30:1
+returns : tie.Need-returns
+unfolding mute
+returns c =
+    λ codes x e st. alone-refused codes x (rw (c .before .read .given .1) at e)
+
+-- src/open.rt:30:1
+returns-2 : tie.Need-returns-2
+unfolding mute
+returns-2 c =
+    λ codes x e st. alone-read codes x (rw (c .before .read2 .given .1) at e) st
+
+pub alone-spec : {M : Type 1} → statement M
+alone-spec = tie.close (tie.spec enum-known-read enum-known-read-2 returns returns-2)

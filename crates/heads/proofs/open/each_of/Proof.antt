@@ -1,0 +1,47 @@
+use mathlib.Core.Path.{_≡_, refl, sym, ap, _∙_}
+use Prim.Native.Nat.{ℕ, _<_, _^_}
+use native.Mathlib.Omega.{arith}
+use Rattle.answers.specs.Told.{told}
+use Rattle.reading.specs.Reads.{small-by-index}
+use Rattle.reading.specs.Little.{littleAt, little-next}
+use Rattle.table.specs.Leaf.{mute}
+use Rattle.heads.specs.Below.{alone-refused, alone-read, opens-refused, opens-head, list-refused, list-read, pairs-refused, pairs-read, flag-refused, flag-zero, flag-one, flag-other, array-list}
+use borrow.Author.Needs.{needs}
+use Rattle.heads.proofs.open.each_of.Statement.{statement}
+use Rattle.heads.proofs.open.each_of.Tie as tie
+use Rattle.heads.proofs.open.each_of.Reads as reads
+use Rattle.heads.proofs.open.each_of.Lts as lts
+
+-- src/open.rt:55:22
+enum-known-slot : tie.Need-enum-known-slot
+enum-known-slot c = search needs
+
+-- src/open.rt:56:19
+enum-known-slot-2 : tie.Need-enum-known-slot-2
+enum-known-slot-2 c = search needs
+
+-- src/open.rt:57:22
+enum-known-slot-3 : tie.Need-enum-known-slot-3
+enum-known-slot-3 c = search needs
+
+-- src/open.rt:51:1
+returns : tie.Need-returns
+returns c =
+    λ codes x s.
+    let w = rw (c .before .slot .given .1) at s in
+    (rw (w .0), w .1)
+
+-- src/open.rt:51:1
+returns-2 : tie.Need-returns-2
+returns-2 c =
+    λ codes x s. record { slot = x; are = refl; is = rw (c .before .slot2 .given .1) at s }
+
+-- src/open.rt:51:1
+returns-3 : tie.Need-returns-3
+returns-3 c =
+    λ codes x s. record { slot = x; are = refl; is = rw (c .before .slot3 .given .1) at s }
+
+pub each-of-spec : {M : Type 1} → statement M
+each-of-spec =
+    tie.close
+    (tie.spec enum-known-slot enum-known-slot-2 enum-known-slot-3 returns returns-2 returns-3)

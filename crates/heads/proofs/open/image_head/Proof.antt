@@ -1,0 +1,55 @@
+use mathlib.Core.Path.{_≡_, sym, ap, _∙_}
+use native.Mathlib.Omega.{arith}
+use Rattle.answers.specs.Told.{told}
+use Rattle.reading.specs.Answer.{read}
+use Rattle.heads.specs.Opens.{rangedAt, widthAt}
+use Rattle.heads.specs.Images.{opens-refused, opens-read, ranged-bounds, image-fields}
+use borrow.Author.Needs.{needs}
+use Rattle.heads.proofs.open.image_head.Statement.{statement}
+use Rattle.heads.proofs.open.image_head.Tie as tie
+
+field : (c : tie.After-known-told2) → rangedAt (c .before .before .before .before .before .args .file .now) 0 18 (c .before .before .before .before .before .args .at) ≡ read (c .before .n .given .0 .0) (c .before .n .given .0 .1 .0)
+field c = sym (c .before .before .before .ranged .ensures) ∙ ap told (c .before .n .given .1)
+
+ranged-requires : tie.Need-ranged-requires
+ranged-requires c κs = search needs
+
+enum-known-number : tie.Need-enum-known-number
+enum-known-number c = search needs
+
+enum-known-n : tie.Need-enum-known-n
+enum-known-n c = search needs
+
+cast-image-width : tie.Need-cast-image-width
+cast-image-width c =
+    let a = c .before .before .before .before .before .args in
+    let b = ranged-bounds (a .file .now) 0 18 (a .at) (field c) in
+    omega arith
+
+image-width-requires : tie.Need-image-width-requires
+image-width-requires c κs =
+    let a = c .before .before .before .before .before .args in
+    let b = ranged-bounds (a .file .now) 0 18 (a .at) (field c) in
+    b .1
+
+returns : tie.Need-returns
+returns c codes =
+    let a = c .before .before .before .before .before .args in
+    rw (image-fields (a .file .now) (a .at)) (opens-refused codes (λ n e. widthAt (a .file .now) n e) (sym (c .before .before .before .ranged .ensures) ∙ ap told (c .before .number .given .1)))
+
+returns-2 : tie.Need-returns-2
+returns-2 c codes =
+    let a = c .before .before .before .before .before .before .args in
+    rw (image-fields (a .file .now) (a .at)) (opens-read codes (λ n e. widthAt (a .file .now) n e) (c .image-width .result) (field (c .before)) (c .image-width .ensures codes))
+
+pub image-head-spec : {M : Type 1} → statement M
+image-head-spec =
+    tie.close
+    (tie.spec
+    ranged-requires
+    enum-known-number
+    enum-known-n
+    cast-image-width
+    image-width-requires
+    returns
+    returns-2)

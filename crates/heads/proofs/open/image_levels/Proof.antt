@@ -1,0 +1,48 @@
+use mathlib.Core.Path.{sym, ap, _∙_}
+use Rattle.answers.specs.Told.{told}
+use Rattle.heads.specs.Opens.{levelsAt}
+use Rattle.heads.specs.Images.{opens-refused, levels-open}
+use borrow.Author.Needs.{needs}
+use Rattle.heads.proofs.open.image_levels.Statement.{statement}
+use Rattle.heads.proofs.open.image_levels.Tie as tie
+
+longest-chain-requires : tie.Need-longest-chain-requires
+longest-chain-requires c κs = search needs
+
+cast-most : tie.Need-cast-most
+cast-most c = search needs
+
+ranged-requires : tie.Need-ranged-requires
+ranged-requires c κs = search needs
+
+enum-known-number : tie.Need-enum-known-number
+enum-known-number c = search needs
+
+enum-known-n : tie.Need-enum-known-n
+enum-known-n c = search needs
+
+returns : tie.Need-returns
+unfolding levelsAt
+returns c codes =
+    let most = c .before .before .before .before .longest-chain .ensures in
+    opens-refused codes _ (rw (← most) (sym (c .before .before .before .ranged .ensures) ∙ ap told (c .before .number .given .1)))
+
+returns-2 : tie.Need-returns-2
+returns-2 c codes =
+    let a = c .before .before .before .before .before .before .args in
+    let p = c .before .before .before .before .before .before .pre in
+    let most = c .before .before .before .before .longest-chain .ensures in
+    let field = sym (c .before .before .before .ranged .ensures) ∙ ap told (c .before .n .given .1) in
+    levels-open (a .file .now) codes (a .format) (a .width) (a .height) (a .at) _ _ (p .0) (p .1) (p .2) (p .3) (p .4) (rw most at field)
+
+pub image-levels-spec : {M : Type 1} → statement M
+image-levels-spec =
+    tie.close
+    (tie.spec
+    longest-chain-requires
+    cast-most
+    ranged-requires
+    enum-known-number
+    enum-known-n
+    returns
+    returns-2)

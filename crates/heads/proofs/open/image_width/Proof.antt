@@ -1,0 +1,57 @@
+use mathlib.Core.Path.{_≡_, sym, ap, _∙_}
+use native.Mathlib.Omega.{arith}
+use Rattle.answers.specs.Told.{told}
+use Rattle.reading.specs.Answer.{read}
+use Rattle.heads.specs.Opens.{rangedAt, widthAt, heightAt}
+use Rattle.heads.specs.Images.{opens-refused, opens-read, ranged-bounds}
+use borrow.Author.Needs.{needs}
+use Rattle.heads.proofs.open.image_width.Statement.{statement}
+use Rattle.heads.proofs.open.image_width.Tie as tie
+
+field : (c : tie.After-known-told2) → rangedAt (c .before .before .before .before .before .args .file .now) 1 4096 (c .before .before .before .before .before .args .at) ≡ read (c .before .n .given .0 .0) (c .before .n .given .0 .1 .0)
+field c = sym (c .before .before .before .ranged .ensures) ∙ ap told (c .before .n .given .1)
+
+ranged-requires : tie.Need-ranged-requires
+ranged-requires c κs = search needs
+
+enum-known-number : tie.Need-enum-known-number
+enum-known-number c = search needs
+
+enum-known-n : tie.Need-enum-known-n
+enum-known-n c = search needs
+
+cast-image-height : tie.Need-cast-image-height
+cast-image-height c =
+    let a = c .before .before .before .before .before .args in
+    let b = ranged-bounds (a .file .now) 1 4096 (a .at) (field c) in
+    omega arith
+
+image-height-requires : tie.Need-image-height-requires
+image-height-requires c κs =
+    let a = c .before .before .before .before .before .args in
+    let b = ranged-bounds (a .file .now) 1 4096 (a .at) (field c) in
+    (c .before .before .before .before .before .pre, b .0, b .1)
+
+returns : tie.Need-returns
+unfolding widthAt
+returns c codes =
+    let a = c .before .before .before .before .before .args in
+    opens-refused codes (λ n e. heightAt (a .file .now) (a .format) n e) (sym (c .before .before .before .ranged .ensures) ∙ ap told (c .before .number .given .1))
+
+returns-2 : tie.Need-returns-2
+unfolding widthAt
+returns-2 c codes =
+    let a = c .before .before .before .before .before .before .args in
+    opens-read codes (λ n e. heightAt (a .file .now) (a .format) n e) (c .image-height .result) (field (c .before)) (c .image-height .ensures codes)
+
+pub image-width-spec : {M : Type 1} → statement M
+image-width-spec =
+    tie.close
+    (tie.spec
+    ranged-requires
+    enum-known-number
+    enum-known-n
+    cast-image-height
+    image-height-requires
+    returns
+    returns-2)

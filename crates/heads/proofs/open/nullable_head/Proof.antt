@@ -1,0 +1,72 @@
+use mathlib.Core.Path.{_≡_, refl, sym, ap, _∙_}
+use mathlib.Core.List.{[]}
+use Prim.Native.Nat.{ℕ, _<_, _^_}
+use Rattle.heads.specs.declared.nest.Below.the-variants.{Nothing}
+use native.Mathlib.Omega.{arith}
+use Rattle.answers.specs.Told.{told}
+use Rattle.reading.specs.Reads.{small-by-index}
+use Rattle.reading.specs.Little.{littleAt, little-next}
+use Rattle.table.specs.Leaf.{mute}
+use Rattle.heads.specs.Below.{alone-refused, alone-read, opens-refused, opens-head, list-refused, list-read, pairs-refused, pairs-read, flag-refused, flag-zero, flag-one, flag-other, array-list}
+use borrow.Author.Needs.{needs}
+use Rattle.heads.proofs.open.nullable_head.Statement.{statement}
+use Rattle.heads.proofs.open.nullable_head.Tie as tie
+use Rattle.heads.proofs.open.nullable_head.Reads as reads
+use Rattle.heads.proofs.open.nullable_head.Lts as lts
+use Rattle.heads.proofs.open.each_of.Reads as each-of-reads
+use Rattle.heads.proofs.slot.raw_of.Reads as raw-of-reads
+use Rattle.numbers.proofs.little.little1.Reads as little1-reads
+
+-- src/open.rt:78:11
+little1-requires : tie.Need-little1-requires
+little1-requires c κs = search needs
+
+-- src/open.rt:79:25
+enum-known-number : tie.Need-enum-known-number
+enum-known-number c = search needs
+
+-- src/open.rt:80:22
+enum-known-flag : tie.Need-enum-known-flag
+enum-known-flag c = search needs
+
+-- src/open.rt:82:17
+returns : tie.Need-returns
+returns c =
+    λ t s n. opens-head _ _ [] Nothing (flag-zero _ _ t (sym (c .before .before .before .before .little1 .ensures) ∙ ap told (c .before .before .flag .given .1)) (c .if1 .taken)) refl
+
+-- src/open.rt:85:51
+raw-of-requires : tie.Need-raw-of-requires
+raw-of-requires c κs = search needs
+
+-- src/open.rt:85:43
+each-of-requires : tie.Need-each-of-requires
+each-of-requires c κs = search needs
+
+-- src/open.rt:85:17
+returns-2 : tie.Need-returns-2
+returns-2 c =
+    λ t s n. opens-head _ _ _ _ (flag-one _ _ t (sym (c .before .before .before .before .before .before .before .little1 .ensures) ∙ ap told (c .before .before .before .before .before .flag .given .1)) (c .before .before .if2 .taken)) (c .each-of .ensures _ _ (c .before .raw-of .ensures t s n))
+
+-- src/open.rt:75:1
+returns-3 : tie.Need-returns-3
+returns-3 c =
+    λ t s n. opens-refused _ _ (flag-refused _ _ t (sym (c .before .before .before .little1 .ensures) ∙ ap told (c .before .number .given .1)))
+
+-- src/open.rt:75:1
+returns-4 : tie.Need-returns-4
+returns-4 c =
+    λ t s n. opens-refused _ _ (flag-other _ _ t (sym (c .before .before .before .before .before .little1 .ensures) ∙ ap told (c .before .before .before .flag .given .1)) (c .before .if1 .left) (c .if2 .left))
+
+pub nullable-head-spec : {M : Type 1} → statement M
+nullable-head-spec =
+    tie.close
+    (tie.spec
+    little1-requires
+    enum-known-number
+    enum-known-flag
+    returns
+    raw-of-requires
+    each-of-requires
+    returns-2
+    returns-3
+    returns-4)

@@ -1,0 +1,217 @@
+-- Laws of opening values with children. Assumes nothing.
+use mathlib.Core.Path.{_≡_, refl, sym, ap, _∙_}
+use mathlib.Core.Bool.{Bool, true, false, _&&_}
+use mathlib.Core.List.{List, [], _∷_}
+use mathlib.Core.Logic.{_⊎_, inl, inr}
+use Prim.Native.Nat.{ℕ, zero, suc, _+_, _*_, _≤_, _<_, _^_}
+use native.Mathlib.Omega.{arith}
+use lib.Dec.{leb, eqb}
+use lib.ListN.{length, take, drop, getD, replicate, length-drop}
+use lib.Seq.{drop-cons}
+use borrow.Author.Tests.{le-leb, lt-leb, leb-true, leb-false}
+use Rattle.layout.specs.Target.{Target, fixed, char, string, object as anything, texture, texture2D, spriteFont, page, enum, nullable, array, list, dictionary, kindOf}
+use Rattle.layout.specs.Slot as L
+use Rattle.layout.specs.Slot.{Plan, stop, each, raw, slotOf, pairs, fontSlots, pageSlots}
+use Rattle.reading.specs.Answer.{Answer, refused, read, bind, check}
+use Rattle.reading.specs.Reads.{some, field}
+use Rattle.reading.specs.Little.{littleAt, valueOf}
+use Rattle.reading.specs.Fixed.{isBoolean}
+use Rattle.reading.specs.Heads.{Opening, headAt, countAt, flagAt, flagPlan, always}
+use Rattle.table.specs.Leaf.{mute}
+use Rattle.heads.specs.declared.nest.Below.{Below}
+use Rattle.heads.specs.declared.nest.Below.the-variants.{Nothing}
+use Rattle.heads.specs.declared.open.Opened.{Opened}
+use Rattle.heads.specs.declared.open.Opened.the-variants.{Refused, Head}
+use Rattle.heads.specs.Nests.{BelowIs}
+use lib.Dec.{ltb}
+use Rattle.layout.specs.Fixed.{sizes}
+use Rattle.reading.specs.Seven.{sevenAt}
+use Rattle.reading.specs.Utf8.{utf8s, charAt}
+use Rattle.reading.specs.Fixed.{fixedAt}
+use Rattle.reading.specs.Rules.{invoked, found}
+use Rattle.reading.specs.Heads.{whole, ownAt, fixedHeadAt, textAt}
+use Rattle.types.specs.Code.{Stands, NoEnum, Throughout}
+use Rattle.types.specs.Place.{placeAfter}
+use Rattle.types.specs.Laws.{nullable-argument, array-argument, list-argument, dictionary-key, dictionary-value}
+use Rattle.heads.specs.Slots.{fixed-sized}
+use Rattle.heads.specs.Opens.{OpenIs, Opens, Stopping, Leafy, of-fixed, of-enum, of-char, of-string, Arguments}
+
+pub alone-refused : (codes : List ℕ) (x : Answer Opening) {n p : ℕ} → refused n p ≡ mute x → Opens codes x (Refused n p)
+unfolding mute
+alone-refused codes (refused m q) {n} {p} e =
+    let e₁ : n ≡ m = cc in
+    let e₂ : p ≡ q = cc in
+    rw (e₁, e₂)
+alone-refused codes (read o e′) e = absurd (let z : _≡_ {A = ℕ} 0 1 = cc in omega arith)
+
+pub alone-read : (codes : List ℕ) (x : Answer Opening) {e : ℕ} → read tt e ≡ mute x → Stopping x → Opens codes x (Head e Nothing)
+unfolding mute each
+alone-read codes (refused m q) q′ s = absurd (let z : _≡_ {A = ℕ} 0 1 = cc in omega arith)
+alone-read codes (read o f) {e} q s =
+    let e₁ : e ≡ f = cc in
+    rw e₁ (record { below = Nothing; is = refl; slots = []; plan = s o f refl; stands = refl })
+
+-- an answer that is known
+pub opens-refused : (codes : List ℕ) (x : Answer Opening) {n p : ℕ} → x ≡ refused n p → Opens codes x (Refused n p)
+opens-refused codes x e = rw e refl
+
+pub opens-head : (codes : List ℕ) (x : Answer Opening) {own : List ℕ} (slots : List L.Slot) {e : ℕ} (below : Below) → x ≡ read (own, each slots) e → BelowIs codes below slots → Opens codes x (Head e below)
+opens-head codes x {own} slots {e} below q b = rw q (record { below = below; is = refl; slots = slots; plan = refl; stands = b })
+
+module _ (file : List ℕ) (at : ℕ) where
+  count-refused : (slots : ℕ → List L.Slot) {n p : ℕ} → littleAt file 4 at at ≡ refused n p → countAt file slots at ≡ refused n p
+  unfolding countAt field bind
+  count-refused slots e = rw e
+
+  count-read : (slots : ℕ → List L.Slot) {n e : ℕ} → littleAt file 4 at at ≡ read n e → countAt file slots at ≡ read ([], each (slots n)) e
+  unfolding countAt field bind check always
+  count-read slots e = rw e
+
+  pub list-refused : (t : Target) {n p : ℕ} → littleAt file 4 at at ≡ refused n p → headAt file (list t) at ≡ refused n p
+  unfolding headAt
+  list-refused t e = count-refused (λ n. replicate n (slotOf t)) e
+
+  pub list-read : (t : Target) {n e : ℕ} → littleAt file 4 at at ≡ read n e → headAt file (list t) at ≡ read ([], each (replicate n (slotOf t))) e
+  unfolding headAt
+  list-read t e = count-read (λ n. replicate n (slotOf t)) e
+
+  pub pairs-refused : (t u : Target) {n p : ℕ} → littleAt file 4 at at ≡ refused n p → headAt file (dictionary t u) at ≡ refused n p
+  unfolding headAt
+  pairs-refused t u e = count-refused (λ n. pairs n (slotOf t) (slotOf u)) e
+
+  pub pairs-read : (t u : Target) {n e : ℕ} → littleAt file 4 at at ≡ read n e → headAt file (dictionary t u) at ≡ read ([], each (pairs n (slotOf t) (slotOf u))) e
+  unfolding headAt
+  pairs-read t u e = count-read (λ n. pairs n (slotOf t) (slotOf u)) e
+
+  -- an array's head is a list's
+  pub array-list : (t : Target) → headAt file (array t) at ≡ headAt file (list t) at
+  unfolding headAt
+  array-list t = refl
+
+  -- one byte: missing, or there
+  one-byte : leb 1 (length (drop at file)) ≡ true → drop at file ≡ getD file at 0 ∷ drop (suc at) file
+  one-byte t = drop-cons file at 0 (omega (arith, leb-true 1 (length (drop at file)) t, length-drop at file))
+
+  -- what the head and the number say alike
+  data Flag (t : Target) : Type 0 where
+    absent : headAt file (nullable t) at ≡ refused 1 at → littleAt file 1 at at ≡ refused 1 at → Flag t
+    present : headAt file (nullable t) at ≡ check (isBoolean (getD file at 0 ∷ [])) 15 at (read (getD file at 0 ∷ [], flagPlan t (getD file at 0 ∷ [])) (at + 1))
+        → littleAt file 1 at at ≡ read (getD file at 0) (at + 1) → Flag t
+
+  flag-of : (t : Target) (b : Bool) → leb 1 (length (drop at file)) ≡ b
+      → Flag t
+  unfolding headAt flagAt field some bind check littleAt valueOf
+  flag-of t false e = absent (rw e) (rw e)
+  flag-of t true e =
+      let d = one-byte e in
+      let z : getD file at 0 + 256 * 0 ≡ getD file at 0 = omega arith in
+      present (rw (e, d)) (rw (e, d, z))
+
+  pub flag-refused : (t : Target) {n p : ℕ} → littleAt file 1 at at ≡ refused n p → headAt file (nullable t) at ≡ refused n p
+  flag-refused t {n} {p} q = go (flag-of t (leb 1 (length (drop at file))) refl) where
+    go : Flag t → headAt file (nullable t) at ≡ refused n p
+    go (absent h l) =
+        let e : _≡_ {A = Answer ℕ} (refused 1 at) (refused n p) = sym l ∙ q in
+        let e₁ : 1 ≡ n = cc in
+        let e₂ : at ≡ p = cc in
+        rw (← e₁, ← e₂) h
+    go (present h l) = absurd (let z : _≡_ {A = ℕ} 0 1 = cc in omega arith)
+
+  flag-read : (t : Target) {b e : ℕ} → littleAt file 1 at at ≡ read b e → headAt file (nullable t) at ≡ check (isBoolean (b ∷ [])) 15 at (read (b ∷ [], flagPlan t (b ∷ [])) e)
+  flag-read t {b} {e} q = go (flag-of t (leb 1 (length (drop at file))) refl) where
+    go : Flag t → headAt file (nullable t) at ≡ check (isBoolean (b ∷ [])) 15 at (read (b ∷ [], flagPlan t (b ∷ [])) e)
+    go (absent h l) = absurd (let z : _≡_ {A = ℕ} 0 1 = cc in omega arith)
+    go (present h l) =
+        let p : _≡_ {A = Answer ℕ} (read (getD file at 0) (at + 1)) (read b e) = sym l ∙ q in
+        let e₁ : getD file at 0 ≡ b = cc in
+        let e₂ : at + 1 ≡ e = cc in
+        rw (← e₁, ← e₂) h
+
+  pub flag-zero : (t : Target) {b e : ℕ} → littleAt file 1 at at ≡ read b e → b ≡ 0 → headAt file (nullable t) at ≡ read (0 ∷ [], each []) e
+  unfolding check isBoolean flagPlan each
+  flag-zero t q z = let q′ = rw z at q in flag-read t q′
+
+  pub flag-one : (t : Target) {b e : ℕ} → littleAt file 1 at at ≡ read b e → b ≡ 1 → headAt file (nullable t) at ≡ read (1 ∷ [], each (replicate 1 (raw t))) e
+  unfolding check isBoolean flagPlan each
+  flag-one t q z = let q′ = rw z at q in flag-read t q′
+
+  pub flag-other : (t : Target) {b e : ℕ} → littleAt file 1 at at ≡ read b e → (b ≡ 0 → ⊥) → (b ≡ 1 → ⊥) → headAt file (nullable t) at ≡ refused 15 at
+  unfolding check isBoolean
+  flag-other t {b} q z o = flag-read t q ∙ rw (lt-leb b 1 (more b z o)) where
+    more : (b : ℕ) → (b ≡ 0 → ⊥) → (b ≡ 1 → ⊥) → 1 < b
+    more zero z o = absurd (z refl)
+    more (suc zero) z o = absurd (o refl)
+    more (suc (suc b)) z o = omega arith
+
+-- nothing stands below a leaf
+whole-stops : (file : List ℕ) (r : Answer (List ℕ)) → Stopping (whole file r)
+unfolding whole bind
+whole-stops file (refused n p) o e q = absurd (let z : _≡_ {A = ℕ} 0 1 = cc in omega arith)
+whole-stops file (read own f) o e q =
+    let w : (own, stop) ≡ o = cc in
+    ap (λ (x : Opening). x .1) (sym w)
+
+check-stops : (b : Bool) (n p : ℕ) (x : Answer Opening) → Stopping x → Stopping (check b n p x)
+unfolding check
+check-stops true n p x s o e q = s o e q
+check-stops false n p x s o e q = absurd (let z : _≡_ {A = ℕ} 0 1 = cc in omega arith)
+
+field-stops : (file : List ℕ) (r : Answer (List ℕ)) (place : ℕ) → Stopping (bind r (λ a e. check (utf8s a) 15 place (read (a, stop) e)))
+unfolding bind
+field-stops file (refused n p) place o e q = absurd (let z : _≡_ {A = ℕ} 0 1 = cc in omega arith)
+field-stops file (read a f) place o e q = check-stops (utf8s a) 15 place (read (a, stop) f) (λ o′ e′ q′. let w : (a, stop) ≡ o′ = cc in ap (λ (x : Opening). x .1) (sym w)) o e q
+
+text-stops : (file : List ℕ) (at : ℕ) (r : Answer ℕ) → Stopping (bind r (λ n e. field file (some file n at) utf8s (λ own. (own, stop)) at e))
+unfolding bind field
+text-stops file at (refused n p) o e q = absurd (let z : _≡_ {A = ℕ} 0 1 = cc in omega arith)
+text-stops file at (read n f) o e q = field-stops file (some file n at f) at o e q
+
+pub leaf-stops : (file : List ℕ) (at : ℕ) {t : Target} → Leafy t → Stopping (headAt file t at)
+unfolding headAt fixedHeadAt textAt
+leaf-stops file at (of-fixed {k = k} s) = check-stops (ltb 0 (getD sizes k 0)) 15 at _ (whole-stops file (fixedAt file k (getD sizes k 0) at))
+leaf-stops file at of-enum = check-stops (ltb 0 (getD sizes 15 0)) 15 at _ (whole-stops file (fixedAt file 15 (getD sizes 15 0) at))
+leaf-stops file at of-char = whole-stops file (ownAt file (charAt file) at)
+leaf-stops file at of-string = text-stops file at (sevenAt file at)
+
+-- by the kind of a type whose reader is invoked
+module _ (file codes : List ℕ) (t at : ℕ) (r : Opened) where
+  pub by-kind : (x : Target) → Stands codes t x → invoked x ≡ found x → Arguments x
+      → (kindOf x ≡ 16 → (u : Target) → Stands codes (t + 1) u → NoEnum u → Opens codes (headAt file (nullable u) at) r)
+      → (kindOf x ≡ 17 → (u : Target) → Stands codes (t + 1) u → NoEnum u → Opens codes (headAt file (list u) at) r)
+      → (kindOf x ≡ 18 → (u : Target) → Stands codes (t + 1) u → NoEnum u → Opens codes (headAt file (list u) at) r)
+      → (kindOf x ≡ 19 → (u v : Target) → Stands codes (t + 1) u → NoEnum u → Stands codes (placeAfter codes (t + 1)) v → NoEnum v → Opens codes (headAt file (dictionary u v) at) r)
+      → (kindOf x ≡ 32 → Opens codes (headAt file texture2D at) r)
+      → (kindOf x ≡ 33 → Opens codes (headAt file spriteFont at) r)
+      → (kindOf x ≡ 34 → Opens codes (headAt file page at) r)
+      → (Leafy x → Opens codes (headAt file x at) r)
+      → Opens codes (headAt file x at) r
+  unfolding kindOf invoked Arguments Throughout
+  by-kind (fixed k) s v a n m l d i f p e = e (of-fixed (fixed-sized k (s .lawful)))
+  by-kind char s v a n m l d i f p e = e of-char
+  by-kind string s v a n m l d i f p e = e of-string
+  by-kind anything s v a n m l d i f p e = absurd (let z : _≡_ {A = ℕ} 0 1 = cc in omega arith)
+  by-kind (enum name) s v a n m l d i f p e = e of-enum
+  by-kind (nullable u) s v a n m l d i f p e = n refl u (nullable-argument s) a
+  by-kind (array u) s v a n m l d i f p e = rw (array-list file at u) (m refl u (array-argument s) a)
+  by-kind (list u) s v a n m l d i f p e = l refl u (list-argument s) a
+  by-kind (dictionary u w) s v a n m l d i f p e = d refl u w (dictionary-key s) (a .0) (dictionary-value s) (a .1)
+  by-kind texture s v a n m l d i f p e = absurd (let z : _≡_ {A = ℕ} 0 1 = cc in omega arith)
+  by-kind texture2D s v a n m l d i f p e = i refl
+  by-kind spriteFont s v a n m l d i f p e = f refl
+  by-kind page s v a n m l d i f p e = p refl
+
+pub font-head : (file : List ℕ) (at : ℕ) → headAt file spriteFont at ≡ read ([], each fontSlots) at
+unfolding headAt
+font-head file at = refl
+
+pub page-head : (file : List ℕ) (at : ℕ) → headAt file page at ≡ read ([], each pageSlots) at
+unfolding headAt
+page-head file at = refl
+
+-- a kind whose values have children is no leaf's
+pub leafless : {x : Target} (n : ℕ) → getD sizes n 0 ≡ 0 → 15 < n → kindOf x ≡ n → Leafy x → ⊥
+unfolding kindOf
+leafless n z h e (of-fixed {k = k} s) = let s′ = rw e at s in omega (arith, s′, z)
+leafless n z h e of-enum = omega (arith, e)
+leafless n z h e of-char = omega (arith, e)
+leafless n z h e of-string = omega (arith, e)

@@ -1,0 +1,77 @@
+-- What opening a value answers in code, and the layout's head that it is. Assumes nothing.
+use mathlib.Core.Path.{_≡_, refl, sym, ap, _∙_}
+use mathlib.Core.Bool.{Bool, true, false}
+use mathlib.Core.List.{List, [], _∷_, _++_}
+use Prim.Native.Nat.{ℕ, zero, suc, _+_, _≤_, _<_, _^_, max}
+use native.Mathlib.Omega.{arith}
+use lib.Dec.{leb, eqb}
+use lib.ListN.{length, getD, replicate}
+use borrow.Author.Tests.{le-leb, lt-leb, leb-true}
+use Rattle.layout.specs.Number.{little}
+use Rattle.layout.specs.Target.{Target, fixed, char, string, object as anything, texture, texture2D, spriteFont, page, enum, nullable, array, list, dictionary, kindOf}
+use Rattle.layout.specs.Image.{levels, digits}
+use Rattle.layout.specs.Fixed.{sizes}
+use Rattle.layout.specs.Slot as L
+use Rattle.layout.specs.Slot.{Plan, stop, each, leaves}
+use Rattle.reading.specs.Answer.{Answer, refused, read, bind, check, within}
+use Rattle.reading.specs.Little.{littleAt}
+use Rattle.reading.specs.Heads.{Opening, headAt, imageAt}
+use Rattle.types.specs.Code.{NoEnum}
+use Rattle.heads.specs.declared.nest.Below.{Below}
+use Rattle.heads.specs.declared.open.Opened.{Opened}
+use Rattle.heads.specs.declared.open.Opened.the-variants.{Refused, Head}
+use Rattle.heads.specs.Nests.{BelowIs}
+
+-- a head was read: where it ends, and the slots of what stands below it
+pub record OpenIs (codes : List ℕ) (o : Opening) (e : ℕ) (r : Opened) : Type 0 where
+  pub below : Below
+  pub is : r ≡ Head e below
+  pub slots : List L.Slot
+  pub plan : o .1 ≡ each slots
+  pub stands : BelowIs codes below slots
+
+abbrev pub Opens : List ℕ → Answer Opening → Opened → Type 0
+Opens codes (refused n p) r = r ≡ Refused n p
+Opens codes (read o e) r = OpenIs codes o e r
+
+-- nothing stands below
+abbrev pub Stopping : Answer Opening → Type 0
+Stopping x = (o : Opening) (e : ℕ) → x ≡ read o e → o .1 ≡ stop
+
+-- the types without children
+pub data Leafy : Target → Type 0 where
+  of-fixed : {k : ℕ} → 0 < getD sizes k 0 → Leafy (fixed k)
+  of-enum : {name : List ℕ} → Leafy (enum name)
+  of-char : Leafy char
+  of-string : Leafy string
+
+-- no enum is an argument
+unfoldable pub Arguments : Target → Type 0
+Arguments (fixed k) = Unit {0}
+Arguments char = Unit {0}
+Arguments string = Unit {0}
+Arguments anything = Unit {0}
+Arguments (enum name) = Unit {0}
+Arguments (nullable t) = NoEnum t
+Arguments (array t) = NoEnum t
+Arguments (list t) = NoEnum t
+Arguments (dictionary k v) = NoEnum k × NoEnum v
+Arguments texture = Unit {0}
+Arguments texture2D = Unit {0}
+Arguments spriteFont = Unit {0}
+Arguments page = Unit {0}
+
+module _ (file : List ℕ) where
+  -- a field of four bytes within bounds
+  unfoldable pub rangedAt : (low high at : ℕ) → Answer ℕ
+  rangedAt low high at = bind (littleAt file 4 at at) (λ n e. check (leb low n) 15 at (check (leb n high) 15 at (read n e)))
+
+  unfoldable pub levelsAt : (format width height at : ℕ) → Answer Opening
+  levelsAt f w h at =
+      bind (rangedAt 1 (digits 32 (max w h)) at) (λ n e. read (little 4 f ++ little 4 w ++ little 4 h, each (leaves (levels f w h n))) e)
+
+  unfoldable pub heightAt : (format width at : ℕ) → Answer Opening
+  heightAt f w at = bind (rangedAt 1 4096 at) (λ h e. levelsAt f w h e)
+
+  unfoldable pub widthAt : (format at : ℕ) → Answer Opening
+  widthAt f at = bind (rangedAt 1 4096 at) (λ w e. heightAt f w e)

@@ -1,0 +1,204 @@
+// Reading the head of a raw value: a refusal, or where the head ends and what stands below it.
+use crate::nest::Below;
+use crate::nest::Nest;
+use crate::slot::Slot;
+use answers::Number;
+use leaves::run::Run;
+ghost use mathlib.Core.Path.{_≡_};
+ghost use mathlib.Core.List.{List};
+ghost use Prim.Native.Nat.{ℕ, _≤_, _<_, _^_};
+ghost use lib.ListN.{replicate};
+ghost use Rattle.answers.specs.Told.{told};
+ghost use Rattle.layout.specs.Slot as L;
+ghost use Rattle.layout.specs.Slot.{pairs};
+ghost use Rattle.layout.specs.Target.{Target, nullable, array, list, dictionary, texture2D, kindOf};
+ghost use Rattle.reading.specs.Answer.{Answer};
+ghost use Rattle.reading.specs.Rules.{invoked, found};
+ghost use Rattle.reading.specs.Heads.{Opening, headAt, flagAt};
+ghost use Rattle.table.specs.Leaf.{mute};
+ghost use Rattle.types.specs.Code.{Stands, NoEnum};
+ghost use Rattle.heads.specs.Slots.{SlotIs};
+ghost use Rattle.heads.specs.Nests.{BelowIs};
+ghost use Rattle.heads.specs.Opens.{Opens, Stopping, Leafy, rangedAt, heightAt, levelsAt, widthAt, Arguments};
+
+pub enum Opened {
+    Refused(u32, usize),
+    Head(usize, Below),
+}
+
+// A value without children, once its bytes are read.
+fn alone(read: Number) -> Opened
+    ensures { λ r. ⌜ ((codes : List ℕ) (x : Answer Opening) → mute (told read) ≡ mute x → Stopping x → Opens codes x r) ⌝ }
+{
+    match read {
+        Number::Refused(number, place) => Opened::Refused(number, place),
+        Number::Read(_, next) => Opened::Head(next, Below::Nothing),
+    }
+}
+
+// The bytes of a value of a kind without children.
+fn leaf_at(file: &[u8], kind: u32, at: usize) -> Number
+    ensures { λ r. ⌜ ((t : Target) → Leafy t → kindOf t ≡ kind → mute (told r) ≡ mute (headAt (now (file .entry)) t at)) ⌝ }
+{
+    match kind {
+        12 => text::char_at(file, at),
+        13 => leaves::read::text_at(file, at),
+        _ => values::fixed_at(file, kind, values::size_of_kind(kind), at),
+    }
+}
+
+// n values that stand alike.
+fn each_of(slot: Slot, n: u32) -> Below
+    ensures { λ r. ⌜ ((codes : List ℕ) (x : L.Slot) → SlotIs codes slot x → BelowIs codes r (replicate n x)) ⌝ }
+{
+    match slot {
+        Slot::Simple(value) => Below::Simple(Run::Same(value, n as usize)),
+        Slot::Raw(a) => Below::Nested(Nest::Each(Slot::Raw(a), n)),
+        Slot::Object(a) => Below::Nested(Nest::Each(Slot::Object(a), n)),
+    }
+}
+
+// n keys and values in turn.
+fn pairs_of(key: Slot, value: Slot, n: u32) -> Below
+    ensures { λ r. ⌜ ((codes : List ℕ) (x y : L.Slot) → SlotIs codes key x → SlotIs codes value y → BelowIs codes r (pairs n x y)) ⌝ }
+{
+    let Slot::Simple(k) = key else {
+        return Below::Nested(Nest::Pairs(key, value, n));
+    };
+    let Slot::Simple(v) = value else {
+        return Below::Nested(Nest::Pairs(key, value, n));
+    };
+    Below::Simple(Run::Turns(k, v, n as usize))
+}
+
+// A nullable of the type at `a`: its first byte, and perhaps the value.
+fn nullable_head(file: &[u8], codes: &[u8], a: usize, at: usize) -> Opened
+    ensures { λ r. ⌜ ((t : Target) → Stands (now (codes .entry)) a t → NoEnum t → Opens (now (codes .entry)) (headAt (now (file .entry)) (nullable t) at) r) ⌝ }
+{
+    match numbers::little::little1(file, at) {
+        Number::Refused(number, place) => Opened::Refused(number, place),
+        Number::Read(flag, next) => {
+            if flag == 0 {
+                return Opened::Head(next, Below::Nothing);
+            }
+            if flag == 1 {
+                return Opened::Head(next, each_of(crate::slot::raw_of(codes, a), 1));
+            }
+            Opened::Refused(15, at)
+        }
+    }
+}
+
+// An array or a list of the type at `a`: its count.
+fn list_head(file: &[u8], codes: &[u8], a: usize, at: usize) -> Opened
+    ensures { λ r. ⌜ ((t : Target) → Stands (now (codes .entry)) a t → NoEnum t → Opens (now (codes .entry)) (headAt (now (file .entry)) (list t) at) r) ⌝ }
+{
+    match numbers::little::little4(file, at) {
+        Number::Refused(number, place) => Opened::Refused(number, place),
+        Number::Read(n, next) => Opened::Head(
+            next,
+            each_of(crate::slot::slot_of(codes, a), n as u32),
+        ),
+    }
+}
+
+// A dictionary of the types at `a` and `b`: its count.
+fn dictionary_head(file: &[u8], codes: &[u8], a: usize, b: usize, at: usize) -> Opened
+    ensures { λ r. ⌜ ((t u : Target) → Stands (now (codes .entry)) a t → NoEnum t → Stands (now (codes .entry)) b u → NoEnum u → Opens (now (codes .entry)) (headAt (now (file .entry)) (dictionary t u) at) r) ⌝ }
+{
+    match numbers::little::little4(file, at) {
+        Number::Refused(number, place) => Opened::Refused(number, place),
+        Number::Read(n, next) => Opened::Head(
+            next,
+            pairs_of(
+                crate::slot::slot_of(codes, a),
+                crate::slot::slot_of(codes, b),
+                n as u32,
+            ),
+        ),
+    }
+}
+
+// A field of four bytes from `low` to `high`.
+fn ranged(file: &[u8], low: u64, high: u64, at: usize) -> Number
+    ensures { λ r. ⌜ told r ≡ rangedAt (now (file .entry)) low high at ⌝ }
+{
+    match numbers::little::little4(file, at) {
+        Number::Refused(number, place) => Number::Refused(number, place),
+        Number::Read(n, next) => {
+            if n < low {
+                return Number::Refused(15, at);
+            }
+            if high < n {
+                return Number::Refused(15, at);
+            }
+            Number::Read(n, next)
+        }
+    }
+}
+
+// An image's level count.
+fn image_levels(file: &[u8], format: u32, width: u32, height: u32, at: usize) -> Opened
+    requires { ⌜ (format ≤ 18) × (1 ≤ width) × (width ≤ 4096) × (1 ≤ height) × (height ≤ 4096) ⌝ }
+    ensures { λ r. ⌜ ((codes : List ℕ) → Opens codes (levelsAt (now (file .entry)) format width height at) r) ⌝ }
+{
+    let most = images::longest_chain(width, height) as u64;
+    match ranged(file, 1, most, at) {
+        Number::Refused(number, place) => Opened::Refused(number, place),
+        Number::Read(n, next) => Opened::Head(
+            next,
+            Below::Simple(Run::Levels(format, width, height, n as usize)),
+        ),
+    }
+}
+
+// An image's height, and what follows it.
+fn image_height(file: &[u8], format: u32, width: u32, at: usize) -> Opened
+    requires { ⌜ (format ≤ 18) × (1 ≤ width) × (width ≤ 4096) ⌝ }
+    ensures { λ r. ⌜ ((codes : List ℕ) → Opens codes (heightAt (now (file .entry)) format width at) r) ⌝ }
+{
+    match ranged(file, 1, 4096, at) {
+        Number::Refused(number, place) => Opened::Refused(number, place),
+        Number::Read(n, next) => image_levels(file, format, width, n as u32, next),
+    }
+}
+
+// An image's width, and what follows it.
+fn image_width(file: &[u8], format: u32, at: usize) -> Opened
+    requires { ⌜ format ≤ 18 ⌝ }
+    ensures { λ r. ⌜ ((codes : List ℕ) → Opens codes (widthAt (now (file .entry)) format at) r) ⌝ }
+{
+    match ranged(file, 1, 4096, at) {
+        Number::Refused(number, place) => Opened::Refused(number, place),
+        Number::Read(n, next) => image_height(file, format, n as u32, next),
+    }
+}
+
+// An image: format, width, height and level count, each judged before the next.
+fn image_head(file: &[u8], at: usize) -> Opened
+    ensures { λ r. ⌜ ((codes : List ℕ) → Opens codes (headAt (now (file .entry)) texture2D at) r) ⌝ }
+{
+    match ranged(file, 0, 18, at) {
+        Number::Refused(number, place) => Opened::Refused(number, place),
+        Number::Read(n, next) => image_width(file, n as u32, next),
+    }
+}
+
+// The head of a raw value of the type at `t`, whose reader is one that is invoked.
+pub fn open(file: &[u8], codes: &[u8], t: usize, at: usize) -> Opened
+    requires { ⌜ t < 2 ^ 32 ⌝ }
+    ensures { λ r. ⌜ ((x : Target) → Stands (now (codes .entry)) t x → invoked x ≡ found x → Arguments x → Opens (now (codes .entry)) (headAt (now (file .entry)) x at) r) ⌝ }
+{
+    let kind = types::kind_at(codes, t) as u32;
+    let first = t + 1;
+    match kind {
+        16 => nullable_head(file, codes, first, at),
+        17 => list_head(file, codes, first, at),
+        18 => list_head(file, codes, first, at),
+        19 => dictionary_head(file, codes, first, types::after(codes, first), at),
+        32 => image_head(file, at),
+        33 => Opened::Head(at, Below::Nested(Nest::Font)),
+        34 => Opened::Head(at, Below::Nested(Nest::Page)),
+        _ => alone(leaf_at(file, kind, at)),
+    }
+}

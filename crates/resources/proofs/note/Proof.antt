@@ -1,0 +1,28 @@
+-- `resources::note` meets its contract. Assumes nothing.
+use native.Mathlib.Omega.{arith}
+use Rattle.resources.proofs.Padded.{no-root, one-root, room}
+use borrow.Author.Needs.{needs}
+use Rattle.resources.proofs.note.Statement.{statement}
+use Rattle.resources.proofs.note.Tie as tie
+
+returns : tie.Need-returns
+returns c = λ found h few. no-root _ _ (c .if1 .taken) h
+
+returns-2 : tie.Need-returns-2
+returns-2 c = λ found h few. absurd (omega (arith, room _ _ (c .before .if1 .left) h few))
+
+mul-kinds : tie.Need-mul-kinds
+mul-kinds c = search needs
+
+element-write-kinds : tie.Need-element-write-kinds
+element-write-kinds c = search needs
+
+add-result : tie.Need-add-result
+add-result c = search needs
+
+returns-3 : tie.Need-returns-3
+returns-3 c = λ found h few. one-root _ _ (c .before .if1 .left) (c .if2 .left) h
+
+pub note-spec : {M : Type 1} → statement M
+note-spec =
+    tie.close (tie.spec returns returns-2 mul-kinds element-write-kinds add-result returns-3)

@@ -1,0 +1,4 @@
+pub mod Marked
+pub mod Settled
+pub mod Roots
+pub mod Objects

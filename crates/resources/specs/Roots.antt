@@ -1,0 +1,14 @@
+-- The kinds of the rows that have no parent, in an array. Assumes nothing.
+use mathlib.Core.Path.{_≡_}
+use mathlib.Core.List.{List, _++_}
+use Prim.Native.Nat.{ℕ, _-_}
+use lib.ListN.{length, replicate}
+
+-- kinds in an array of 257, for the primary and the shared objects; 01: "shared count (0 to 256)"
+unfoldable pub padded : List ℕ → List ℕ
+padded kinds = kinds ++ replicate (257 - length kinds) 0
+
+-- an array has n kinds, and these are found so far
+pub record Holds (array : List ℕ) (n : ℕ) (kinds : List ℕ) : Type 0 where
+  pub array-is : array ≡ padded kinds
+  pub count : n ≡ length kinds

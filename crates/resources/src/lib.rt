@@ -1,0 +1,136 @@
+// The last pass over the rows (01, "17 last, in row order"): it judges whether each shared reference names a resource of the type that it wants, and clears the kind that the reference's row has in the place of its number of children.
+use ids::Position;
+use ids::ResourceId;
+use ids::RowNumber;
+ghost use mathlib.Core.Path.{_≡_};
+ghost use mathlib.Core.List.{List, [], _∷_, _++_};
+ghost use Prim.Native.Nat.{ℕ, _*_, _≤_};
+ghost use lib.ListN.{length, getD, drop, set};
+ghost use Rattle.layout.specs.Rows.{Row, resource, words as wordsOf, flat};
+ghost use Rattle.table.specs.Written.{draft};
+ghost use Rattle.reading.specs.Resource.{suit, suits};
+ghost use Rattle.reading.specs.File.{rootKind, rootKinds};
+ghost use Rattle.resources.specs.Marked.{Marked};
+ghost use Rattle.resources.specs.Settled.{Drafted, Settles};
+ghost use Rattle.resources.specs.Roots.{padded, Holds};
+
+// Every reference names a resource that suits it, or the first byte of the first that does not.
+pub enum Settled {
+    Fine,
+    Wrong(u32),
+}
+
+// The word at a place, 0 where there is none.
+fn word(words: &[u32], at: usize) -> u32
+    ensures { λ r. ⌜ r ≡ getD (now (words .entry)) at 0 ⌝ }
+{
+    if at < words.len() {
+        return words[at];
+    }
+    0
+}
+
+// Stores a word at a place, where there is one.
+fn put_word(words: &mut [u32], at: usize, value: u32)
+    ensures { λ _. ⌜ now (words .exit) ≡ set (now (words .entry)) at value ⌝ }
+{
+    if at < words.len() {
+        words[at] = value;
+    }
+}
+
+// Puts the kind of a row that has no parent behind the `n` kinds before it; how many there are then.
+fn note(kinds: &mut [u32; 257], n: usize, parent: u32, kind: u32) -> usize
+    ensures { λ r. ⌜ ((found : List ℕ) → Holds (now (kinds .entry)) n found → length (found ++ rootKind parent kind []) ≤ 257 → Holds (now (kinds .exit)) r (found ++ rootKind parent kind [])) ⌝ }
+{
+    if parent != 0 {
+        return n;
+    }
+    if 257 <= n {
+        return n;
+    }
+    kinds[n] = kind;
+    n + 1
+}
+
+// The kinds of the rows that have no parent: the primary's, then those of the shared objects.
+fn root_kinds(words: &[u32], used: u32) -> [u32; 257]
+    ensures { λ r. ⌜ ((rows : List Row) (rest : List ℕ) → Drafted (now (words .entry)) used rows rest → r ≡ padded (rootKinds rows)) ⌝ }
+{
+    let mut kinds = [0u32; 257];
+    let mut n = 0;
+    let mut i = 0;
+    while i < used {
+        let at = RowNumber(i).position();
+        let kind = word(words, at);
+        let parent = word(words, at + 4);
+        n = note(&mut kinds, n, parent, kind);
+        i += 1;
+    }
+    kinds
+}
+
+// A resource of a kind suits a reference that wants a kind, and null suits every reference.
+fn suits_kind(wanted: u32, kind: u32) -> bool
+    ensures { λ r. ⌜ r ≡ suit wanted kind ⌝ }
+{
+    if kind == 0 {
+        return true;
+    }
+    kind == wanted
+}
+
+// The same by the resource's id, where `kinds` has the primary's kind and then those of the shared objects.
+fn suits_id(kinds: &[u32], id: ResourceId, wanted: u32) -> bool
+    ensures { λ r. ⌜ r ≡ suits (drop 1 (now (kinds .entry))) (resource wanted) (id .0) ⌝ }
+{
+    match id.position() {
+        Position::Null => true,
+        Position::At(i) => {
+            let at = i as usize + 1;
+            suits_kind(wanted, word(kinds, at))
+        }
+    }
+}
+
+// Judges one row and clears its mark.
+fn judge_row(words: &mut [u32], row: RowNumber, kinds: &[u32]) -> Settled
+    ensures { λ r. ⌜ ((before : List ℕ) (x : Row) (behind : List ℕ) → now (words .entry) ≡ before ++ (draft x ++ behind) → length before ≡ 6 * row .0 → Marked (x ∷ []) → Settles (drop 1 (now (kinds .entry))) (x ∷ []) (now (words .exit)) (before ++ (wordsOf x ++ behind)) r) ⌝ }
+{
+    let at = row.position();
+    if word(words, at) != 36 {
+        return Settled::Fine;
+    }
+    let wanted = word(words, at + 3);
+    let id = word(words, at + 5);
+    if suits_id(kinds, ResourceId(id), wanted) {
+        put_word(words, at + 3, 0);
+        return Settled::Fine;
+    }
+    Settled::Wrong(word(words, at + 1))
+}
+
+// Judges the rows in order.
+fn judge_rows(words: &mut [u32], used: u32, kinds: &[u32]) -> Settled
+    ensures { λ r. ⌜ ((rows : List Row) (rest : List ℕ) → Drafted (now (words .entry)) used rows rest → Settles (drop 1 (now (kinds .entry))) rows (now (words .exit)) (flat rows ++ rest) r) ⌝ }
+{
+    let mut i = 0;
+    while i < used {
+        match judge_row(words, RowNumber(i), kinds) {
+            Settled::Fine => {}
+            Settled::Wrong(first) => {
+                return Settled::Wrong(first);
+            }
+        }
+        i += 1;
+    }
+    Settled::Fine
+}
+
+// Judges the references of the first `used` rows, which stand in the words as drafts, and makes them the rows of 01.
+pub fn settle(words: &mut [u32], used: u32) -> Settled
+    ensures { λ r. ⌜ ((rows : List Row) (rest : List ℕ) → Drafted (now (words .entry)) used rows rest → Settles (drop 1 (rootKinds rows)) rows (now (words .exit)) (flat rows ++ rest) r) ⌝ }
+{
+    let kinds = root_kinds(words, used);
+    judge_rows(words, used, &kinds)
+}

@@ -1,0 +1,21 @@
+//! Sample XNB 5 files, written from descriptions in code.
+//!
+//! While a file is written, the writer notes the rows that a loader must give for it.
+//! It shares no code and no table with any loader.
+
+pub mod damaged;
+pub mod lawful;
+pub mod names;
+pub mod readers;
+pub mod sample;
+pub mod values;
+pub mod writer;
+
+pub use sample::Sample;
+
+/// Every sample of the corpus.
+pub fn samples() -> Vec<Sample> {
+    let mut samples = lawful::samples();
+    samples.extend(damaged::samples());
+    samples
+}

@@ -1,0 +1,68 @@
+//! A sample: a file and what `rows` must print for it.
+
+use crate::writer::{write, File, Written};
+
+pub struct Sample {
+    pub name: String,
+    pub bytes: Vec<u8>,
+    /// The expected output of `rows`.
+    pub rows: String,
+    /// Whether the sample is kept in the repository as files; every sample is used in tests.
+    pub kept: bool,
+}
+
+impl Sample {
+    /// The same sample, used in tests only.
+    pub fn further(self) -> Sample {
+        Sample {
+            kept: false,
+            ..self
+        }
+    }
+}
+
+/// A file that must be accepted with the rows as written.
+pub fn accepted(name: &str, file: File) -> Sample {
+    let written = write(&file);
+    Sample {
+        name: format!("ok-{name}"),
+        rows: row_lines(&written),
+        bytes: written.bytes,
+        kept: true,
+    }
+}
+
+/// A file that must be refused at the place marked in it.
+pub fn refused(name: &str, number: u32, file: File) -> Sample {
+    let written = write(&file);
+    let place = written.fault.expect("a damaged file marks its fault");
+    refused_bytes(name, number, place, written.bytes)
+}
+
+/// Bytes that must be refused at a place.
+pub fn refused_bytes(name: &str, number: u32, place: usize, bytes: Vec<u8>) -> Sample {
+    Sample {
+        name: format!("bad-{number:02}-{name}"),
+        rows: refusal_line(number, place),
+        bytes,
+        kept: true,
+    }
+}
+
+pub fn refusal_line(number: u32, place: usize) -> String {
+    format!("refused {number} at {place}\n")
+}
+
+/// What `rows` prints for an accepted file.
+pub fn row_lines(written: &Written) -> String {
+    let rows = written.rows.len();
+    let mut lines = format!(
+        "rows {rows} readers {} shared {}\n",
+        written.readers, written.shared
+    );
+    for (number, row) in written.rows.iter().enumerate() {
+        let words: Vec<String> = row.iter().map(u32::to_string).collect();
+        lines += &format!("{number} {}\n", words.join(" "));
+    }
+    lines
+}

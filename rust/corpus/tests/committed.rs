@@ -1,0 +1,81 @@
+//! The files kept in the repository are those that the program writes, and they show every case.
+
+use corpus::{samples, Sample};
+use std::collections::BTreeSet;
+use std::path::{Path, PathBuf};
+
+fn folder() -> PathBuf {
+    Path::new(env!("CARGO_MANIFEST_DIR")).join("../../corpus")
+}
+
+fn kept() -> Vec<Sample> {
+    samples().into_iter().filter(|sample| sample.kept).collect()
+}
+
+#[test]
+fn kept_files_are_up_to_date() {
+    let mut expected = BTreeSet::new();
+    for sample in kept() {
+        let xnb = format!("{}.xnb", sample.name);
+        let rows = format!("{}.rows", sample.name);
+        let read = |name: &str| std::fs::read(folder().join(name)).unwrap_or_default();
+        assert_eq!(read(&xnb), sample.bytes, "{xnb}: run corpus/make");
+        assert_eq!(
+            read(&rows),
+            sample.rows.as_bytes(),
+            "{rows}: run corpus/make"
+        );
+        expected.insert(xnb);
+        expected.insert(rows);
+    }
+    let mut found = BTreeSet::new();
+    for entry in std::fs::read_dir(folder()).expect("the corpus is there") {
+        let name = entry.expect("a file").file_name();
+        let name = name.to_string_lossy().into_owned();
+        if name.ends_with(".xnb") || name.ends_with(".rows") {
+            found.insert(name);
+        }
+    }
+    assert_eq!(found, expected);
+}
+
+#[test]
+fn names_of_samples_differ() {
+    let names: BTreeSet<String> = samples().into_iter().map(|sample| sample.name).collect();
+    assert_eq!(names.len(), samples().len());
+}
+
+#[test]
+fn every_kind_stands_in_a_kept_file() {
+    let mut kinds = BTreeSet::new();
+    for sample in kept() {
+        for line in sample.rows.lines().skip(1) {
+            let kind = line.split(' ').nth(1).expect("a kind");
+            kinds.insert(kind.parse::<u32>().expect("a number"));
+        }
+    }
+    let lawful = |kind: &u32| *kind != 14 && *kind != 31;
+    assert_eq!(kinds, (0..=36).filter(lawful).collect());
+}
+
+#[test]
+fn every_refusal_of_a_load_stands_in_a_kept_file() {
+    let mut numbers = BTreeSet::new();
+    for sample in kept() {
+        if let Some(rest) = sample.rows.strip_prefix("refused ") {
+            let number = rest.split(' ').next().expect("a number");
+            numbers.insert(number.parse::<u32>().expect("a number"));
+        }
+    }
+    let of_a_load = |number: &u32| *number != 21;
+    assert_eq!(numbers, (1..=22).filter(of_a_load).collect());
+}
+
+#[test]
+fn the_corpus_is_small() {
+    let bytes: usize = kept()
+        .iter()
+        .map(|sample| sample.bytes.len() + sample.rows.len())
+        .sum();
+    assert!(bytes < 1_000_000, "{bytes} bytes");
+}

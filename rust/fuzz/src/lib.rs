@@ -1,0 +1,93 @@
+//! Random XNB 5 files, lawful and damaged.
+//!
+//! `case(seed)` gives one file; equal seeds give equal files.
+//! `limits::cases()` gives files at every bound of 01 and just past it.
+
+mod aimed;
+mod blind;
+pub mod limits;
+mod maker;
+mod random;
+mod shape;
+
+use corpus::writer::{write, Row, Written};
+use maker::{make, Planted};
+use random::Random;
+
+/// Words for 1,024 rows, as the builder and `rows` have.
+pub const GENEROUS_WORDS: usize = 6 * 1024;
+
+/// A file to be loaded with so many lent words.
+#[derive(Clone, Debug)]
+pub struct Case {
+    pub bytes: Vec<u8>,
+    pub words: usize,
+    /// What every loader must answer, if it is known without one.
+    pub known: Option<Known>,
+}
+
+#[derive(Clone, Debug, PartialEq, Eq)]
+pub enum Known {
+    Accepted {
+        rows: Vec<Row>,
+        readers: usize,
+        shared: usize,
+    },
+    Refused {
+        number: u32,
+        place: usize,
+    },
+}
+
+/// The case of a seed: a lawful file, one with a known fault or one damaged at random.
+pub fn case(seed: u64) -> Case {
+    let mut random = Random::new(seed);
+    match random.below(10) {
+        0..=2 => {
+            let written = write(&make(&mut random, Planted::Nothing).file);
+            lawful_case(&mut random, written)
+        }
+        3..=6 => aimed::aimed_case(&mut random),
+        _ => {
+            let planted = some_fault(&mut random);
+            let written = write(&make(&mut random, planted).file);
+            Case {
+                bytes: blind::damaged(&mut random, &written),
+                words: some_words(&mut random, written.rows.len()),
+                known: None,
+            }
+        }
+    }
+}
+
+/// Mostly no fault.
+fn some_fault(random: &mut Random) -> Planted {
+    match random.below(10) {
+        0 => Planted::WrongResource,
+        1 => Planted::BadFont,
+        2 => Planted::TooDeep,
+        _ => Planted::Nothing,
+    }
+}
+
+/// A lawful file with room enough.
+fn lawful_case(random: &mut Random, written: Written) -> Case {
+    Case {
+        words: some_words(random, written.rows.len()),
+        bytes: written.bytes,
+        known: Some(Known::Accepted {
+            rows: written.rows,
+            readers: written.readers,
+            shared: written.shared,
+        }),
+    }
+}
+
+/// Words for 1,024 rows, or for just these rows and a part of one more.
+fn some_words(random: &mut Random, rows: usize) -> usize {
+    if rows <= 1024 && random.chance(60) {
+        GENEROUS_WORDS
+    } else {
+        6 * rows + random.below(6)
+    }
+}

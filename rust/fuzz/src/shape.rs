@@ -1,0 +1,217 @@
+//! Target types to choose from, and their names.
+
+use crate::random::Random;
+
+pub const CHAR: u32 = 12;
+pub const STRING: u32 = 13;
+pub const OBJECT: u32 = 14;
+pub const ENUM: u32 = 15;
+pub const NULLABLE: u32 = 16;
+pub const ARRAY: u32 = 17;
+pub const LIST: u32 = 18;
+pub const DICTIONARY: u32 = 19;
+pub const VECTOR3: u32 = 24;
+pub const RECTANGLE: u32 = 30;
+pub const TEXTURE: u32 = 31;
+pub const TEXTURE2D: u32 = 32;
+pub const SPRITE_FONT: u32 = 33;
+pub const PAGE: u32 = 34;
+
+/// A target type; enums are told apart by nothing.
+#[derive(Clone, Debug, PartialEq, Eq)]
+pub struct Shape {
+    pub kind: u32,
+    pub arguments: Vec<Shape>,
+}
+
+/// Kinds whose values stand raw and have no arguments, with their sizes; 0 for Char.
+pub const RAW_KINDS: [(u32, usize); 23] = [
+    (1, 1),
+    (2, 1),
+    (3, 2),
+    (4, 2),
+    (5, 4),
+    (6, 4),
+    (7, 8),
+    (8, 8),
+    (9, 4),
+    (10, 8),
+    (11, 1),
+    (12, 0),
+    (20, 8),
+    (21, 8),
+    (22, 16),
+    (23, 8),
+    (24, 12),
+    (25, 16),
+    (26, 64),
+    (27, 16),
+    (28, 4),
+    (29, 8),
+    (30, 16),
+];
+
+const TEXT_AND_GRAPHICS: [u32; 4] = [STRING, TEXTURE2D, SPRITE_FONT, PAGE];
+const GENERIC: [u32; 4] = [NULLABLE, ARRAY, LIST, DICTIONARY];
+const DEEPEST_ARGUMENT: u32 = 6;
+
+impl Shape {
+    pub fn plain(kind: u32) -> Shape {
+        let arguments = Vec::new();
+        Shape { kind, arguments }
+    }
+
+    pub fn of(kind: u32, argument: Shape) -> Shape {
+        let arguments = vec![argument];
+        Shape { kind, arguments }
+    }
+
+    /// Value types stand raw as elements and fields.
+    pub fn is_raw(&self) -> bool {
+        self.kind == NULLABLE || RAW_KINDS.iter().any(|(kind, _)| *kind == self.kind)
+    }
+
+    /// A type whose reader can be invoked.
+    pub fn any(random: &mut Random) -> Shape {
+        match random.below(10) {
+            0..=2 => raw_shape(random),
+            3..=4 => Shape::plain(random.pick(&TEXT_AND_GRAPHICS)),
+            5 => Shape::plain(ENUM),
+            _ => generic_shape(random, 1),
+        }
+    }
+
+    /// The name of the reader whose target this is, often with tails.
+    pub fn reader_name(&self, random: &mut Random) -> String {
+        let name = match self.kind {
+            PAGE => "Coach.Console.PageReader".to_string(),
+            ENUM => content_reader("Enum") + "`1[[" + &enum_name(random) + "]]",
+            ARRAY => content_reader("Array") + &self.argument_names(random),
+            _ => {
+                let head = target_head(self.kind);
+                let last = head.rsplit('.').next().unwrap_or(head);
+                content_reader(last) + &self.argument_names(random)
+            }
+        };
+        name + tail(random)
+    }
+
+    fn target_name(&self, random: &mut Random) -> String {
+        let arguments = self.argument_names(random);
+        target_head(self.kind).to_string() + &arguments + tail(random)
+    }
+
+    fn argument_names(&self, random: &mut Random) -> String {
+        if self.arguments.is_empty() {
+            return String::new();
+        }
+        let mut names = Vec::new();
+        for argument in &self.arguments {
+            names.push(format!("[{}]", argument.target_name(random)));
+        }
+        format!("`{}[{}]", names.len(), names.join(","))
+    }
+}
+
+fn raw_shape(random: &mut Random) -> Shape {
+    Shape::plain(random.pick(&RAW_KINDS).0)
+}
+
+fn generic_shape(random: &mut Random, level: u32) -> Shape {
+    let kind = random.pick(&GENERIC);
+    let arguments = match kind {
+        NULLABLE => vec![raw_shape(random)],
+        DICTIONARY => vec![
+            argument_shape(random, level + 1),
+            argument_shape(random, level + 1),
+        ],
+        _ => vec![argument_shape(random, level + 1)],
+    };
+    Shape { kind, arguments }
+}
+
+/// A type as an argument; arrays and enums are not known there.
+fn argument_shape(random: &mut Random, level: u32) -> Shape {
+    match random.below(10) {
+        0..=2 => raw_shape(random),
+        3..=4 => Shape::plain(OBJECT),
+        5 => Shape::plain(random.pick(&TEXT_AND_GRAPHICS)),
+        6 => Shape::plain(TEXTURE),
+        _ if level > DEEPEST_ARGUMENT => Shape::plain(STRING),
+        _ => {
+            let shape = generic_shape(random, level);
+            if shape.kind == ARRAY {
+                Shape::of(LIST, shape.arguments[0].clone())
+            } else {
+                shape
+            }
+        }
+    }
+}
+
+fn content_reader(name: &str) -> String {
+    format!("Microsoft.Xna.Framework.Content.{name}Reader")
+}
+
+fn target_head(kind: u32) -> &'static str {
+    match kind {
+        1 => "System.Byte",
+        2 => "System.SByte",
+        3 => "System.Int16",
+        4 => "System.UInt16",
+        5 => "System.Int32",
+        6 => "System.UInt32",
+        7 => "System.Int64",
+        8 => "System.UInt64",
+        9 => "System.Single",
+        10 => "System.Double",
+        11 => "System.Boolean",
+        12 => "System.Char",
+        13 => "System.String",
+        14 => "System.Object",
+        16 => "System.Nullable",
+        18 => "System.Collections.Generic.List",
+        19 => "System.Collections.Generic.Dictionary",
+        20 => "System.TimeSpan",
+        21 => "System.DateTime",
+        22 => "System.Decimal",
+        23 => "Microsoft.Xna.Framework.Vector2",
+        24 => "Microsoft.Xna.Framework.Vector3",
+        25 => "Microsoft.Xna.Framework.Vector4",
+        26 => "Microsoft.Xna.Framework.Matrix",
+        27 => "Microsoft.Xna.Framework.Quaternion",
+        28 => "Microsoft.Xna.Framework.Color",
+        29 => "Microsoft.Xna.Framework.Point",
+        30 => "Microsoft.Xna.Framework.Rectangle",
+        31 => "Microsoft.Xna.Framework.Graphics.Texture",
+        32 => "Microsoft.Xna.Framework.Graphics.Texture2D",
+        33 => "Microsoft.Xna.Framework.Graphics.SpriteFont",
+        34 => "Coach.Console.Page",
+        _ => unreachable!("kind {kind} has no target name"),
+    }
+}
+
+fn enum_name(random: &mut Random) -> String {
+    let names = [
+        "Coach.Door",
+        "Coach.Door+State",
+        "E",
+        "_9.",
+        "System.DayOfWeek",
+        "System.Byte2",
+    ];
+    random.pick(&names).to_string() + tail(random)
+}
+
+fn tail(random: &mut Random) -> &'static str {
+    let tails = [
+        "",
+        "",
+        "",
+        ",",
+        ", mscorlib",
+        ", a, `1 ~!\"#$%&'()*",
+        ", mscorlib, Version=4.0.0.0, Culture=neutral, PublicKeyToken=b77a5c561934e089",
+    ];
+    random.pick(&tails)
+}

@@ -1,0 +1,28 @@
+//! A second loader for uncompressed XNB 5 files.
+//!
+//! It is written from documents 000 and 01 alone and shares no code and no table with the proved loader.
+
+mod cursor;
+mod header;
+mod image;
+mod kinds;
+mod load;
+mod lookup;
+mod name;
+mod refusal;
+mod rewrite;
+mod row;
+mod seven;
+mod ticks;
+mod types;
+mod utf8;
+mod walk;
+
+pub use image::{level_size, longest_chain};
+pub use load::{builder_answer, load, Loaded};
+pub use lookup::{part, signed, text};
+pub use refusal::Refusal;
+pub use rewrite::rewrite;
+pub use row::WORDS_PER_ROW;
+pub use seven::{read_seven, shortest_seven, Seven};
+pub use ticks::{split_ticks, Time};

@@ -1,0 +1,122 @@
+//! Loading a whole file.
+
+use crate::cursor::Cursor;
+use crate::header::{check_header, HEADER_BYTES};
+use crate::kinds::OBJECT;
+use crate::name::parse_name;
+use crate::refusal::{
+    demand, refuse, Refusal, LEFT_OVER, NAME_GRAMMAR, NAME_HEAD, READER_VERSION, TOO_LARGE,
+};
+use crate::row::{fill, room, Row, WORDS_PER_ROW};
+use crate::seven::Seven;
+use crate::types::{reader_target, Type};
+use crate::walk::{Spot, Walk};
+
+const MOST_READERS: u32 = 64;
+const MOST_SHARED: u32 = 256;
+const LONGEST_NAME: u32 = 1024;
+const BUILDER_ROWS: usize = 1024;
+
+/// What an accepted file holds.
+#[derive(Clone, Copy, Debug, PartialEq, Eq)]
+pub struct Loaded {
+    pub rows: usize,
+    pub readers: usize,
+    pub shared: usize,
+}
+
+/// A file that was read: its counts, its rows and its seven-bit numbers in order.
+pub struct Read {
+    pub loaded: Loaded,
+    pub rows: Vec<Row>,
+    pub sevens: Vec<(usize, Seven)>,
+}
+
+/// Loads a file and leaves its rows in the words, with zeros in every other word.
+pub fn load(file: &[u8], words: &mut [u32]) -> Result<Loaded, Refusal> {
+    let answer = read_file(file, room(words));
+    match answer {
+        Ok(read) => {
+            fill(words, &read.rows);
+            Ok(read.loaded)
+        }
+        Err(refusal) => {
+            words.fill(0);
+            Err(refusal)
+        }
+    }
+}
+
+/// The asset builder's number: refusal times 2 to the 32 plus place, or the row count.
+pub fn builder_answer(file: &[u8]) -> u64 {
+    let mut words = vec![0; BUILDER_ROWS * WORDS_PER_ROW];
+    match load(file, &mut words) {
+        Ok(loaded) => loaded.rows as u64,
+        Err(refusal) => (u64::from(refusal.number) << 32) + refusal.place as u64,
+    }
+}
+
+/// Reads a file into at most as many rows as there is room for.
+pub fn read_file(file: &[u8], room: usize) -> Result<Read, Refusal> {
+    check_header(file)?;
+    let mut cursor = Cursor::new(file, HEADER_BYTES);
+    let readers = read_readers(&mut cursor)?;
+    let shared = read_count(&mut cursor, MOST_SHARED)?;
+    let mut walk = Walk::new(cursor, &readers, shared, room);
+    let anything = Type::plain(OBJECT);
+
+    walk.object(&anything, Spot::TOP)?;
+    let mut resources = Vec::new();
+    for _ in 0..shared {
+        resources.push(walk.object(&anything, Spot::TOP)?);
+    }
+    demand(walk.cursor.left() == 0, LEFT_OVER, walk.cursor.at)?;
+    walk.check_references(&resources)?;
+
+    let loaded = Loaded {
+        rows: walk.rows.len(),
+        readers: readers.len(),
+        shared: shared as usize,
+    };
+    Ok(Read {
+        loaded,
+        rows: walk.rows,
+        sevens: walk.cursor.sevens,
+    })
+}
+
+/// A seven-bit count with an upper bound.
+fn read_count(cursor: &mut Cursor, most: u32) -> Result<u32, Refusal> {
+    let start = cursor.at;
+    let count = cursor.take_seven()?;
+    demand(count <= most, TOO_LARGE, start)?;
+    Ok(count)
+}
+
+fn read_readers(cursor: &mut Cursor) -> Result<Vec<Type>, Refusal> {
+    let count = read_count(cursor, MOST_READERS)?;
+    let mut readers = Vec::new();
+    for _ in 0..count {
+        readers.push(read_reader(cursor)?);
+    }
+    Ok(readers)
+}
+
+/// One reader: its name is judged in full before its version.
+fn read_reader(cursor: &mut Cursor) -> Result<Type, Refusal> {
+    let length_place = cursor.at;
+    let length = read_count(cursor, LONGEST_NAME)?;
+    demand(length > 0, TOO_LARGE, length_place)?;
+    let name_place = cursor.at;
+    let text = cursor.take_placed(length as usize, length_place)?;
+    let Some(name) = parse_name(text) else {
+        return refuse(NAME_GRAMMAR, name_place);
+    };
+    let Some(target) = reader_target(&name) else {
+        return refuse(NAME_HEAD, name_place);
+    };
+    let version_place = cursor.at;
+    let version = cursor.take_u32()?;
+    demand(version == 0, READER_VERSION, version_place)?;
+    Ok(target)
+}
