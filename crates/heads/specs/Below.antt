@@ -28,7 +28,6 @@ use Rattle.layout.specs.Fixed.{sizes}
 use Rattle.reading.specs.Seven.{sevenAt}
 use Rattle.reading.specs.Utf8.{utf8s, charAt}
 use Rattle.reading.specs.Fixed.{fixedAt}
-use Rattle.reading.specs.Rules.{invoked, found}
 use Rattle.reading.specs.Heads.{whole, ownAt, fixedHeadAt, textAt}
 use Rattle.types.specs.Code.{Stands, NoEnum, Throughout}
 use Rattle.types.specs.Place.{placeAfter}
@@ -175,7 +174,9 @@ leaf-stops file at of-string = text-stops file at (sevenAt file at)
 
 -- by the kind of a type whose reader is invoked
 module _ (file codes : List ℕ) (t at : ℕ) (r : Opened) where
-  pub by-kind : (x : Target) → Stands codes t x → invoked x ≡ found x → Arguments x
+  pub by-kind : (x : Target) → Stands codes t x → Arguments x
+      → (kindOf x ≡ 14 → Opens codes (refused 13 at) r)
+      → (kindOf x ≡ 31 → Opens codes (refused 13 at) r)
       → (kindOf x ≡ 16 → (u : Target) → Stands codes (t + 1) u → NoEnum u → Opens codes (headAt file (nullable u) at) r)
       → (kindOf x ≡ 17 → (u : Target) → Stands codes (t + 1) u → NoEnum u → Opens codes (headAt file (list u) at) r)
       → (kindOf x ≡ 18 → (u : Target) → Stands codes (t + 1) u → NoEnum u → Opens codes (headAt file (list u) at) r)
@@ -185,20 +186,20 @@ module _ (file codes : List ℕ) (t at : ℕ) (r : Opened) where
       → (kindOf x ≡ 34 → Opens codes (headAt file page at) r)
       → (Leafy x → Opens codes (headAt file x at) r)
       → Opens codes (headAt file x at) r
-  unfolding kindOf invoked Arguments Throughout
-  by-kind (fixed k) s v a n m l d i f p e = e (of-fixed (fixed-sized k (s .lawful)))
-  by-kind char s v a n m l d i f p e = e of-char
-  by-kind string s v a n m l d i f p e = e of-string
-  by-kind anything s v a n m l d i f p e = absurd (let z : _≡_ {A = ℕ} 0 1 = cc in omega arith)
-  by-kind (enum name) s v a n m l d i f p e = e of-enum
-  by-kind (nullable u) s v a n m l d i f p e = n refl u (nullable-argument s) a
-  by-kind (array u) s v a n m l d i f p e = rw (array-list file at u) (m refl u (array-argument s) a)
-  by-kind (list u) s v a n m l d i f p e = l refl u (list-argument s) a
-  by-kind (dictionary u w) s v a n m l d i f p e = d refl u w (dictionary-key s) (a .0) (dictionary-value s) (a .1)
-  by-kind texture s v a n m l d i f p e = absurd (let z : _≡_ {A = ℕ} 0 1 = cc in omega arith)
-  by-kind texture2D s v a n m l d i f p e = i refl
-  by-kind spriteFont s v a n m l d i f p e = f refl
-  by-kind page s v a n m l d i f p e = p refl
+  unfolding kindOf headAt Arguments Throughout
+  by-kind (fixed k) s a o x n m l d i f p e = e (of-fixed (fixed-sized k (s .lawful)))
+  by-kind char s a o x n m l d i f p e = e of-char
+  by-kind string s a o x n m l d i f p e = e of-string
+  by-kind anything s a o x n m l d i f p e = o refl
+  by-kind (enum name) s a o x n m l d i f p e = e of-enum
+  by-kind (nullable u) s a o x n m l d i f p e = n refl u (nullable-argument s) a
+  by-kind (array u) s a o x n m l d i f p e = rw (array-list file at u) (m refl u (array-argument s) a)
+  by-kind (list u) s a o x n m l d i f p e = l refl u (list-argument s) a
+  by-kind (dictionary u w) s a o x n m l d i f p e = d refl u w (dictionary-key s) (a .0) (dictionary-value s) (a .1)
+  by-kind texture s a o x n m l d i f p e = x refl
+  by-kind texture2D s a o x n m l d i f p e = i refl
+  by-kind spriteFont s a o x n m l d i f p e = f refl
+  by-kind page s a o x n m l d i f p e = p refl
 
 pub font-head : (file : List ℕ) (at : ℕ) → headAt file spriteFont at ≡ read ([], each fontSlots) at
 unfolding headAt
@@ -215,3 +216,11 @@ leafless n z h e (of-fixed {k = k} s) = let s′ = rw e at s in omega (arith, s�
 leafless n z h e of-enum = omega (arith, e)
 leafless n z h e of-char = omega (arith, e)
 leafless n z h e of-string = omega (arith, e)
+
+-- nor is Object's
+pub never-leaf : {x : Target} → kindOf x ≡ 14 → Leafy x → ⊥
+unfolding kindOf sizes
+never-leaf e (of-fixed {k = k} s) = let s′ = rw e at s in omega (arith, s′)
+never-leaf e of-enum = omega (arith, e)
+never-leaf e of-char = omega (arith, e)
+never-leaf e of-string = omega (arith, e)

@@ -13,7 +13,6 @@ ghost use Rattle.layout.specs.Slot as L;
 ghost use Rattle.layout.specs.Slot.{pairs};
 ghost use Rattle.layout.specs.Target.{Target, nullable, array, list, dictionary, texture2D, kindOf};
 ghost use Rattle.reading.specs.Answer.{Answer};
-ghost use Rattle.reading.specs.Rules.{invoked, found};
 ghost use Rattle.reading.specs.Heads.{Opening, headAt, flagAt};
 ghost use Rattle.table.specs.Leaf.{mute};
 ghost use Rattle.types.specs.Code.{Stands, NoEnum};
@@ -184,18 +183,20 @@ fn image_head(file: &[u8], at: usize) -> Opened
     }
 }
 
-// The head of a raw value of the type at `t`, whose reader is one that is invoked.
+// The head of a raw value of the type at `t`; Object and Texture have no raw values.
 pub fn open(file: &[u8], codes: &[u8], t: usize, at: usize) -> Opened
     requires { ⌜ t < 2 ^ 32 ⌝ }
-    ensures { λ r. ⌜ ((x : Target) → Stands (now (codes .entry)) t x → invoked x ≡ found x → Arguments x → Opens (now (codes .entry)) (headAt (now (file .entry)) x at) r) ⌝ }
+    ensures { λ r. ⌜ ((x : Target) → Stands (now (codes .entry)) t x → Arguments x → Opens (now (codes .entry)) (headAt (now (file .entry)) x at) r) ⌝ }
 {
     let kind = types::kind_at(codes, t) as u32;
     let first = t + 1;
     match kind {
+        14 => Opened::Refused(13, at),
         16 => nullable_head(file, codes, first, at),
         17 => list_head(file, codes, first, at),
         18 => list_head(file, codes, first, at),
         19 => dictionary_head(file, codes, first, types::after(codes, first), at),
+        31 => Opened::Refused(13, at),
         32 => image_head(file, at),
         33 => Opened::Head(at, Below::Nested(Nest::Font)),
         34 => Opened::Head(at, Below::Nested(Nest::Page)),

@@ -110,7 +110,7 @@ kind-type texture2D t w e = cc
 kind-type spriteFont t w e = cc
 kind-type page t w e = cc
 
-of-kind : (d t : Target) (k : ℕ) → Lawful d → kindOf d ≡ k → plain k ≡ known t → d ≡ t
+pub of-kind : (d t : Target) (k : ℕ) → Lawful d → kindOf d ≡ k → plain k ≡ known t → d ≡ t
 of-kind d t k w e q = kind-type d t w (ap plain e ∙ q)
 
 last-true : (a b : Bool) → pick a true (pick b true true) ≡ true

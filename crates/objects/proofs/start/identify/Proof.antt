@@ -1,0 +1,38 @@
+use mathlib.Core.Path.{_≡_, refl, sym, ap, subst, _∙_}
+use mathlib.Core.Bool.{true, false}
+use mathlib.Core.Logic.{inl, inr}
+use Prim.Native.Nat.{ℕ, suc, _+_}
+use native.Mathlib.Omega.{arith}
+use Rattle.objects.specs.Start.{Identifies, null-id, at-id}
+use borrow.Author.Needs.{needs}
+use Rattle.objects.proofs.start.identify.Statement.{statement}
+use Rattle.objects.proofs.start.identify.Tie as tie
+use Rattle.objects.proofs.start.identify.Reads as reads
+use Rattle.objects.proofs.start.identify.Lts as lts
+use Rattle.ids.proofs.TypeId.position.Reads as position-reads
+use Rattle.objects.proofs.start.reader_for.Reads as reader-for-reads
+
+position-requires : tie.Need-position-requires
+position-requires c κs = search needs
+
+enum-told : tie.Need-enum-told
+enum-told c = search needs
+
+enum-known-i : tie.Need-enum-known-i
+enum-known-i c = search needs
+
+reader-for-requires : tie.Need-reader-for-requires
+reader-for-requires c κs = search needs
+
+returns : tie.Need-returns
+returns c =
+    λ readers d l s n. null-id (sym (c .enum-told .given .1) ∙ c .before .before .position .ensures)
+
+returns-2 : tie.Need-returns-2
+returns-2 c =
+    λ readers d l s n. subst (λ i. Identifies (c .before .before .before .before .before .before .args .codes .now) readers d i (c .reader-for .result)) (sym (at-id (sym (c .before .before .i .given .1) ∙ c .before .before .before .before .position .ensures))) (c .reader-for .ensures readers d l s n)
+
+pub identify-spec : {M : Type 1} → statement M
+identify-spec =
+    tie.close
+    (tie.spec position-requires enum-told enum-known-i reader-for-requires returns returns-2)

@@ -1,0 +1,68 @@
+use mathlib.Core.Path.{_≡_, refl, sym, ap, subst, _∙_}
+use mathlib.Core.Bool.{true, false}
+use mathlib.Core.Logic.{inl, inr}
+use Prim.Native.Nat.{ℕ, suc, _+_}
+use native.Mathlib.Omega.{arith}
+use Rattle.objects.specs.Start.{beyond-list, beyond-most, never-called, called-by}
+use borrow.Author.Needs.{needs}
+use Rattle.objects.proofs.start.reader_for.Statement.{statement}
+use Rattle.objects.proofs.start.reader_for.Tie as tie
+use Rattle.objects.proofs.start.reader_for.Reads as reads
+use Rattle.objects.proofs.start.reader_for.Lts as lts
+use Rattle.types.proofs.fits.Reads as fits-reads
+use Rattle.types.proofs.kind_at.Reads as kind-at-reads
+
+returns : tie.Need-returns
+returns c =
+    λ readers d l s n. beyond-list l s n (c .if1 .taken)
+
+returns-2 : tie.Need-returns-2
+returns-2 c =
+    λ readers d l s n. beyond-most l s n (c .if2 .taken)
+
+mul-place : tie.Need-mul-place
+mul-place c = search needs
+
+element-copy-out-place : tie.Need-element-copy-out-place
+element-copy-out-place c = search needs
+
+cast-place : tie.Need-cast-place
+cast-place c = search needs
+
+kind-at-requires : tie.Need-kind-at-requires
+kind-at-requires c κs = search needs
+
+returns-3 : tie.Need-returns-3
+returns-3 c =
+    λ readers d l s n. never-called l s n (c .before .before .before .before .if1 .left) refl (c .before .kind-at .ensures) (inl (c .if3 .taken))
+
+returns-4 : tie.Need-returns-4
+returns-4 c =
+    λ readers d l s n. never-called l s n (c .before .before .before .before .before .if1 .left) refl (c .before .before .kind-at .ensures) (inr (c .if4 .taken))
+
+fits-requires : tie.Need-fits-requires
+fits-requires c κs = search needs
+
+returns-5 : tie.Need-returns-5
+returns-5 c =
+    λ readers d l s n. called-by l s n (c .before .before .before .before .before .before .before .if1 .left) refl (c .before .before .before .before .kind-at .ensures) (c .before .before .before .if3 .left) (c .before .before .if4 .left) true (sym (c .before .fits2 .ensures) ∙ c .if5 .taken)
+
+returns-6 : tie.Need-returns-6
+returns-6 c =
+    λ readers d l s n. called-by l s n (c .before .before .before .before .before .before .before .if1 .left) refl (c .before .before .before .before .kind-at .ensures) (c .before .before .before .if3 .left) (c .before .before .if4 .left) false (sym (c .before .fits2 .ensures) ∙ c .if5 .left)
+
+pub reader-for-spec : {M : Type 1} → statement M
+reader-for-spec =
+    tie.close
+    (tie.spec
+    returns
+    returns-2
+    mul-place
+    element-copy-out-place
+    cast-place
+    kind-at-requires
+    returns-3
+    returns-4
+    fits-requires
+    returns-5
+    returns-6)

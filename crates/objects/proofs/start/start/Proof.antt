@@ -1,0 +1,71 @@
+use mathlib.Core.Path.{_≡_, refl, sym, ap, subst, _∙_}
+use Prim.Native.Nat.{ℕ, suc, _+_}
+use native.Mathlib.Omega.{arith}
+use Rattle.objects.specs.Start.{ObjectStarts, too-deep, no-row, raw-starts, object-starts, raw-invoked}
+use borrow.Author.Needs.{needs}
+use Rattle.objects.proofs.start.start.Statement.{statement}
+use Rattle.objects.proofs.start.start.Tie as tie
+use Rattle.objects.proofs.start.start.Reads as reads
+use Rattle.objects.proofs.start.start.Lts as lts
+use Rattle.objects.proofs.start.object_start.Reads as object-start-reads
+
+enum-known-slot : tie.Need-enum-known-slot
+enum-known-slot c = search needs
+
+enum-known-slot-2 : tie.Need-enum-known-slot-2
+enum-known-slot-2 c = search needs
+
+returns : tie.Need-returns
+returns c =
+    λ readers x l s p. too-deep _ (c .before .before .before .before .before .before .args .codes .now) readers _ x _ _ (c .if1 .taken)
+
+returns-2 : tie.Need-returns-2
+returns-2 c =
+    λ readers x l s p. no-row _ (c .before .before .before .before .before .before .before .args .codes .now) readers _ x _ _ (c .before .if1 .left) (c .if2 .taken)
+
+enum-known-slot-3 : tie.Need-enum-known-slot-3
+enum-known-slot-3 c = search needs
+
+returns-3 : tie.Need-returns-3
+returns-3 c =
+    λ readers x l s p. too-deep _ (c .before .before .before .before .before .before .args .codes .now) readers _ x _ _ (c .if3 .taken)
+
+returns-4 : tie.Need-returns-4
+returns-4 c =
+    λ readers x l s p. no-row _ (c .before .before .before .before .before .before .before .args .codes .now) readers _ x _ _ (c .before .if3 .left) (c .if4 .taken)
+
+object-start-requires : tie.Need-object-start-requires
+object-start-requires c κs = search needs
+
+returns-5 : tie.Need-returns-5
+returns-5 c =
+    λ readers x l s p. rw (c .before .slot .given .1) at s
+
+returns-6 : tie.Need-returns-6
+returns-6 c =
+    λ readers x l s p.
+    let w = rw (c .before .before .before .slot2 .given .1) at s in
+    raw-starts _ (c .before .before .before .before .before .before .before .args .codes .now) readers _ x _ _ (c .before .if1 .left) (c .if2 .left) p (w .type) (w .is) (raw-invoked (w .stands) (w .plain))
+
+returns-7 : tie.Need-returns-7
+returns-7 c =
+    λ readers x l s p.
+    let a = c .before .before .before .before .before .before .before .before .args in
+    let w = rw (c .before .before .before .before .slot3 .given .1) at s in
+    object-starts (a .file .now) (a .codes .now) readers (a .room) x (a .at) (a .used) (c .before .before .if3 .left) (c .before .if4 .left) (c .object-start .result) (subst (λ y. ObjectStarts (a .file .now) (a .codes .now) readers y (a .at) (c .object-start .result)) (sym (w .is)) (c .object-start .ensures readers (w .type) l (w .stands) (w .plain)))
+
+pub start-spec : {M : Type 1} → statement M
+start-spec =
+    tie.close
+    (tie.spec
+    enum-known-slot
+    enum-known-slot-2
+    returns
+    returns-2
+    enum-known-slot-3
+    returns-3
+    returns-4
+    object-start-requires
+    returns-5
+    returns-6
+    returns-7)

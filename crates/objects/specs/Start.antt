@@ -1,0 +1,314 @@
+-- What a value begins with, and the walk that it is. Assumes nothing.
+use mathlib.Core.Path.{_≡_, refl, sym, ap, subst, _∙_}
+use mathlib.Core.Bool.{Bool, true, false}
+use mathlib.Core.List.{List, [], _∷_}
+use mathlib.Core.Logic.{_⊎_, inl, inr}
+use Prim.Native.Nat.{ℕ, zero, suc, _+_, _-_, _≤_, _<_}
+use native.Mathlib.Omega.{arith}
+use lib.ListN.{length, getD}
+use lib.Dec.{ltb}
+use borrow.Author.Tests.{lt-ltb, le-ltb}
+use Rattle.layout.specs.Target.{Target, fixed, char, string, object as anything, texture, texture2D, spriteFont, page, enum, nullable, array, list, dictionary, kindOf, Serves}
+use Rattle.layout.specs.Tree.{none, tree}
+use Rattle.layout.specs.Slot as L
+use Rattle.layout.specs.Slot.{Plan, raw, object}
+use Rattle.layout.specs.Rows.{row, nothing}
+use Rattle.reading.specs.Answer.{Answer, refused, read, bind, check}
+use Rattle.reading.specs.Seven.{sevenAt, seven-next}
+use Rattle.reading.specs.Reads.{Small}
+use Rattle.ids.specs.Position.{positionOf}
+use Rattle.ids.specs.declared.Position.the-variants.{Null as Null-position, At}
+use Rattle.reading.specs.Rules.{Found, missing, found, invoked, reader, serves, serves-complete, serves-sound}
+use Rattle.reading.specs.Walk.{Outcome, done, sequence, rawAt, byReader, objectAt, valueAt, walk}
+use Rattle.types.specs.Code.{Stands, NoEnum, Throughout}
+use Rattle.types.specs.Types.{plain, fixedKind}
+use Rattle.names.specs.Name.{between}
+use Rattle.types.specs.Place.{kindAt, fitsAt}
+use Rattle.types.specs.Laws.{kind-is, fits-then, then-fits, of-kind}
+use Rattle.readers.specs.declared.Readers.{Readers}
+use Rattle.readers.specs.Listed.{Listed}
+use Rattle.leaves.specs.Plain.{plainSlot, Lawful}
+use Rattle.heads.specs.Opens.{Arguments}
+use Rattle.heads.specs.Slots.{SlotIs}
+use Rattle.objects.specs.declared.start.Identified.{Identified}
+use Rattle.objects.specs.declared.start.Identified.the-variants.{Null, Reader, Refused}
+use Rattle.objects.specs.declared.start.Started.{Started}
+use Rattle.objects.specs.declared.start.Started.the-variants.{Raw, Plain} 
+use Rattle.objects.specs.declared.start.Started.the-variants.{Null as NullValue, Refused as RefusedValue}
+
+-- a type without enums in its arguments stands at a place
+pub record Invoked (codes : List ℕ) (place : ℕ) (t : Target) : Type 0 where
+  pub stands : Stands codes place t
+  pub plain : Arguments t
+
+-- what a type id comes to, for an object declared as d
+pub record ReadBy (codes : List ℕ) (readers : List Target) (d : Target) (id place : ℕ) : Type 0 where
+  pub type : Target
+  pub at : Invoked codes place type
+  pub named : reader readers id ≡ found type
+  pub serving : serves d type ≡ true
+
+abbrev pub Identifies : List ℕ → List Target → Target → ℕ → Identified → Type 0
+Identifies codes readers d id Null = id ≡ 0
+Identifies codes readers d id (Refused n) = ((n ≡ 13) × (0 < id) × (reader readers id ≡ missing)) ⊎ ((n ≡ 14) × (0 < id) × ((u : Target) × (reader readers id ≡ found u) × (serves d u ≡ false)))
+Identifies codes readers d id (Reader place) = (0 < id) × ReadBy codes readers d id place
+
+-- 14 unless the reader serves
+abbrev pub by : Bool → (place : ℕ) → Identified
+by true place = Reader place
+by false place = Refused 14
+
+-- reader i of the list
+reader-at : (readers : List Target) (i : ℕ) → i < length readers → reader readers (suc i) ≡ invoked (getD readers i anything)
+unfolding reader
+reader-at [] i h = absurd (omega arith)
+reader-at (t ∷ readers) zero h = refl
+reader-at (t ∷ readers) (suc i) h = reader-at readers i (omega arith)
+
+pub no-reader : (readers : List Target) (i : ℕ) → length readers ≤ i → reader readers (suc i) ≡ missing
+unfolding reader
+no-reader [] i h = refl
+no-reader (t ∷ readers) zero h = absurd (omega arith)
+no-reader (t ∷ readers) (suc i) h = no-reader readers i (omega arith)
+
+-- 01: "Object and Texture readers are never invoked", all others are
+always : (t : Target) → (kindOf t ≡ 14 → ⊥) → (kindOf t ≡ 31 → ⊥) → invoked t ≡ found t
+unfolding invoked kindOf
+always (fixed k) a b = refl
+always char a b = refl
+always string a b = refl
+always anything a b = absurd (a refl)
+always (enum name) a b = refl
+always (nullable t) a b = refl
+always (array t) a b = refl
+always (list t) a b = refl
+always (dictionary t u) a b = refl
+always texture a b = absurd (b refl)
+always texture2D a b = refl
+always spriteFont a b = refl
+always page a b = refl
+
+-- no enum is an argument
+no-enum : (t : Target) → NoEnum t → Arguments t
+unfolding Arguments Throughout
+no-enum (fixed k) n = tt
+no-enum char n = tt
+no-enum string n = tt
+no-enum anything n = tt
+no-enum (enum name) n = tt
+no-enum (nullable t) n = n
+no-enum (array t) n = n
+no-enum (list t) n = n
+no-enum (dictionary t u) n = n
+no-enum texture n = tt
+no-enum texture2D n = tt
+no-enum spriteFont n = tt
+no-enum page n = tt
+
+arguments : (t : Target) → NoEnum t ⊎ ((name : List ℕ) × (t ≡ enum name)) → Arguments t
+unfolding Arguments
+arguments t (inl n) = no-enum t n
+arguments t (inr e) = rw (e .1) tt
+
+-- the reader at place i of a list that the code has
+module _ {codes : List ℕ} {rd : Readers} {readers : List Target} {declared : ℕ} {d : Target} (l : Listed codes rd readers) (s : Stands codes declared d) (n : NoEnum d) where
+  pub beyond-list : {i : ℕ} → rd .count ≤ i → Identifies codes readers d (suc i) (Refused 13)
+  beyond-list {i} h = inl (refl, omega arith, no-reader readers i (omega (arith, l .counts)))
+
+  pub beyond-most : {i : ℕ} → 64 ≤ i → Identifies codes readers d (suc i) (Refused 13)
+  beyond-most {i} h = inl (refl, omega arith, no-reader readers i (omega (arith, l .few)))
+
+  pub never-called : {i place k : ℕ} → i < rd .count → getD (rd .targets) i 0 ≡ place → k ≡ kindAt codes place → (k ≡ 14) ⊎ (k ≡ 31) → Identifies codes readers d (suc i) (Refused 13)
+  unfolding plain fixedKind between invoked
+  never-called {i} {place} {k} h e q w = inl (refl, omega arith, reader-at readers i g ∙ go w) where
+    g : i < length readers
+    g = omega (arith, l .counts)
+    kind : kindOf (getD readers i anything) ≡ k
+    kind = sym (kind-is (l .stands i g)) ∙ ap (kindAt codes) e ∙ sym q
+    go : (k ≡ 14) ⊎ (k ≡ 31) → invoked (getD readers i anything) ≡ missing
+    go (inl y) = rw (of-kind (getD readers i anything) anything 14 (l .stands i g .lawful) (kind ∙ y) refl)
+    go (inr y) = rw (of-kind (getD readers i anything) texture 31 (l .stands i g .lawful) (kind ∙ y) refl)
+
+  pub called-by : {i place k : ℕ} → i < rd .count → getD (rd .targets) i 0 ≡ place → k ≡ kindAt codes place → (k ≡ 14 → ⊥) → (k ≡ 31 → ⊥)
+      → (b : Bool) → fitsAt codes declared place ≡ b → Identifies codes readers d (suc i) (by b place)
+  called-by {i} {place} {k} h e q x y b f = go b f where
+    g : i < length readers
+    g = omega (arith, l .counts)
+    t : Target
+    t = getD readers i anything
+    kind : kindOf t ≡ k
+    kind = sym (kind-is (l .stands i g)) ∙ ap (kindAt codes) e ∙ sym q
+    there : Stands codes place t
+    there = subst (λ a. Stands codes a t) e (l .stands i g)
+    called : invoked t ≡ found t
+    called = always t (λ z. x (sym kind ∙ z)) (λ z. y (sym kind ∙ z))
+    named : reader readers (suc i) ≡ found t
+    named = reader-at readers i g ∙ called
+    serving : (b c : Bool) → fitsAt codes declared place ≡ b → serves d t ≡ c → c ≡ b
+    serving true true f c = refl
+    serving false false f c = refl
+    serving true false f c = absurd (let z : _≡_ {A = Bool} true false = sym (serves-complete (fits-then n s there f)) ∙ c in let y : _≡_ {A = ℕ} 0 1 = cc in omega arith)
+    serving false true f c = absurd (let z : _≡_ {A = Bool} true false = sym (then-fits n s there (serves-sound d t c)) ∙ f in let y : _≡_ {A = ℕ} 0 1 = cc in omega arith)
+    go : (b : Bool) → fitsAt codes declared place ≡ b → Identifies codes readers d (suc i) (by b place)
+    go true f = (omega arith, record { type = t; at = record { stands = there; plain = arguments t (l .plain i g) }; named = named; serving = serving true (serves d t) f refl })
+    go false f = inr (refl, omega arith, (t, named, serving false (serves d t) f refl))
+
+-- an id and its position
+pub null-id : {id : ℕ} → Null-position ≡ positionOf id → id ≡ 0
+null-id {id = zero} e = refl
+null-id {id = suc i} e = absurd (let z : _≡_ {A = ℕ} 0 1 = cc in omega arith)
+
+pub at-id : {id i : ℕ} → At i ≡ positionOf id → id ≡ suc i
+at-id {id = zero} e = absurd (let z : _≡_ {A = ℕ} 0 1 = cc in omega arith)
+at-id {id = suc j} {i = i} e = let q : i ≡ j = cc in ap suc (sym q)
+
+-- the row and the tree of a null
+abbrev pub nulled : (at next used parent : ℕ) → Outcome
+nulled at next used parent = done next (suc used) (row 0 at (next - at) 0 parent 0 nothing ∷ []) (tree 0 0 [] none none)
+
+-- what stands after an object's type id
+pub record Invokes (file codes : List ℕ) (readers : List Target) (x : L.Slot) (at place from id : ℕ) : Type 0 where
+  pub type : Target
+  pub stands : Invoked codes place type
+  pub ahead : at ≤ from
+  pub inside : from ≤ length file
+  pub is : (shared room : ℕ) (below : Plan → ℕ → ℕ → Outcome) (used parent : ℕ) → valueAt file readers shared room below x at used parent ≡ rawAt file readers shared room below type at from used parent id
+
+pub record IsNull (file : List ℕ) (readers : List Target) (x : L.Slot) (at next : ℕ) : Type 0 where
+  pub ahead : at ≤ next
+  pub inside : next ≤ length file
+  pub is : (shared room : ℕ) (below : Plan → ℕ → ℕ → Outcome) (used parent : ℕ) → valueAt file readers shared room below x at used parent ≡ nulled at next used parent
+
+abbrev pub ObjectStarts : (file codes : List ℕ) → List Target → L.Slot → (at : ℕ) → Started → Type 0
+ObjectStarts file codes readers x at (RefusedValue n p) = (shared room : ℕ) (below : Plan → ℕ → ℕ → Outcome) (used parent : ℕ) → valueAt file readers shared room below x at used parent ≡ refused n p
+ObjectStarts file codes readers x at (Plain p) = ⊥
+ObjectStarts file codes readers x at (NullValue next) = IsNull file readers x at next
+ObjectStarts file codes readers x at (Raw place from id) = Invokes file codes readers x at place from id
+
+module _ (file codes : List ℕ) (readers : List Target) (d : Target) (at : ℕ) where
+  pub no-number : {n p : ℕ} → sevenAt file at ≡ refused n p → ObjectStarts file codes readers (object d) at (RefusedValue n p)
+  unfolding valueAt bind
+  no-number e shared room below used parent = rw e
+
+  module _ (small : Small file) {id next : ℕ} (e : sevenAt file at ≡ read id next) where
+    pub null-starts : id ≡ 0 → ObjectStarts file codes readers (object d) at (NullValue next)
+    unfolding valueAt bind objectAt
+    null-starts z =
+        let b = seven-next file small at e in
+        record { ahead = omega (arith, b .0); inside = b .1; is = λ shared room below used parent. rw (e, z) }
+
+    by-id : (id : ℕ) → 0 < id → (shared room : ℕ) (below : Plan → ℕ → ℕ → Outcome) (used parent : ℕ)
+        → objectAt file readers shared room below d id at next used parent ≡ byReader file readers shared room (reader readers id) below d id at next used parent
+    unfolding objectAt
+    by-id zero h shared room below used parent = absurd (omega arith)
+    by-id (suc i) h shared room below used parent = refl
+
+    pub unread : {n : ℕ} → Identifies codes readers d id (Refused n) → ObjectStarts file codes readers (object d) at (RefusedValue n at)
+    unfolding valueAt bind byReader check
+    unread (inl w) shared room below used parent = rw (e, by-id id (w .1) shared room below used parent, w .2, w .0)
+    unread (inr w) shared room below used parent = rw (e, by-id id (w .1) shared room below used parent, w .2 .1, w .2 .2, w .0)
+
+    pub read-starts : {place : ℕ} → (0 < id) × ReadBy codes readers d id place → ObjectStarts file codes readers (object d) at (Raw place next id)
+    unfolding valueAt bind byReader check
+    read-starts w =
+        let b = seven-next file small at e in
+        record {
+          type = w .1 .type;
+          stands = w .1 .at;
+          ahead = omega (arith, b .0);
+          inside = b .1;
+          is = λ shared room below used parent. rw (e, by-id id (w .0) shared room below used parent, w .1 .named, w .1 .serving);
+        }
+
+-- what the values below stand for, by the depth that is left to them
+abbrev pub under : (file : List ℕ) → List Target → (shared room below used : ℕ) → Plan → ℕ → ℕ → Outcome
+under file readers shared room below used = λ plan a u. sequence (λ y b v. walk file readers shared room below y b v (suc used)) plan a u
+
+-- what a value begins with, where it may have a row
+pub record Begins (file codes : List ℕ) (readers : List Target) (room depth : ℕ) (x : L.Slot) (at used place from id : ℕ) : Type 0 where
+  pub type : Target
+  pub stands : Invoked codes place type
+  pub ahead : at ≤ from
+  pub inside : from ≤ length file
+  pub free : used < room
+  pub deep : 0 < depth
+  pub is : (shared below parent : ℕ) → depth ≡ suc below → walk file readers shared room depth x at used parent ≡ rawAt file readers shared room (under file readers shared room below used) type at from used parent id
+
+pub record BeginsNull (file : List ℕ) (readers : List Target) (room depth : ℕ) (x : L.Slot) (at used next : ℕ) : Type 0 where
+  pub ahead : at ≤ next
+  pub inside : next ≤ length file
+  pub free : used < room
+  pub is : (shared parent : ℕ) → walk file readers shared room depth x at used parent ≡ nulled at next used parent
+
+abbrev pub Starts : (file codes : List ℕ) → List Target → (room depth : ℕ) → L.Slot → (at used : ℕ) → Started → Type 0
+Starts file codes readers room depth x at used (RefusedValue n p) = (shared parent : ℕ) → walk file readers shared room depth x at used parent ≡ refused n p
+Starts file codes readers room depth x at used (Plain p) = (x ≡ plainSlot p) × Lawful p
+Starts file codes readers room depth x at used (NullValue next) = BeginsNull file readers room depth x at used next
+Starts file codes readers room depth x at used (Raw place from id) = Begins file codes readers room depth x at used place from id
+
+module _ (file codes : List ℕ) (readers : List Target) (room : ℕ) (x : L.Slot) (at used : ℕ) where
+  pub too-deep : {depth : ℕ} → depth ≡ 0 → Starts file codes readers room depth x at used (RefusedValue 18 at)
+  unfolding walk
+  too-deep e shared parent = rw e
+
+  walked : (shared depth below parent : ℕ) → depth ≡ suc below → used < room
+      → walk file readers shared room depth x at used parent ≡ valueAt file readers shared room (under file readers shared room below used) x at used parent
+  unfolding walk check
+  walked shared depth below parent e h = rw (e, lt-ltb used room h)
+
+  full : (shared depth parent : ℕ) → (depth ≡ 0 → ⊥) → room ≤ used → walk file readers shared room depth x at used parent ≡ refused 19 at
+  unfolding walk check
+  full shared zero parent z h = absurd (z refl)
+  full shared (suc d) parent z h = rw (le-ltb used room h)
+
+  pub no-row : {depth : ℕ} → (depth ≡ 0 → ⊥) → room ≤ used → Starts file codes readers room depth x at used (RefusedValue 19 at)
+  no-row {depth} z h shared parent = full shared depth parent z h
+
+  some-depth : (depth : ℕ) → (depth ≡ 0 → ⊥) → (d : ℕ) × (depth ≡ suc d)
+  some-depth zero z = absurd (z refl)
+  some-depth (suc d) z = (d, refl)
+
+  -- a slot of raw values
+  pub raw-starts : {depth place : ℕ} → (depth ≡ 0 → ⊥) → used < room → at ≤ length file → (t : Target) → x ≡ raw t → Invoked codes place t → Starts file codes readers room depth x at used (Raw place at 0)
+  unfolding valueAt
+  raw-starts {depth} z h p t e i =
+      let d = some-depth depth z in
+      record {
+        type = t;
+        stands = i;
+        ahead = omega arith;
+        inside = p;
+        free = h;
+        deep = omega (arith, d .1);
+        is = λ shared below parent q. walked shared depth below parent q h ∙ rw e;
+      }
+
+  -- a slot of objects
+  pub object-starts : {depth : ℕ} → (depth ≡ 0 → ⊥) → used < room → (r : Started) → ObjectStarts file codes readers x at r → Starts file codes readers room depth x at used r
+  object-starts {depth} z h (RefusedValue n p) s =
+      let d = some-depth depth z in
+      λ shared parent. walked shared depth (d .0) parent (d .1) h ∙ s shared room (under file readers shared room (d .0) used) used parent
+  object-starts z h (Plain p) s = absurd s
+  object-starts {depth} z h (NullValue next) s =
+      let d = some-depth depth z in
+      record {
+        ahead = s .ahead;
+        inside = s .inside;
+        free = h;
+        is = λ shared parent. walked shared depth (d .0) parent (d .1) h ∙ s .is shared room (under file readers shared room (d .0) used) used parent;
+      }
+  object-starts {depth} z h (Raw place from id) s =
+      let d = some-depth depth z in
+      record {
+        type = s .type;
+        stands = s .stands;
+        ahead = s .ahead;
+        inside = s .inside;
+        free = h;
+        deep = omega (arith, d .1);
+        is = λ shared below parent q. walked shared depth below parent q h ∙ s .is shared room (under file readers shared room below used) used parent;
+      }
+
+-- a raw slot's type
+pub raw-invoked : {codes : List ℕ} {place : ℕ} {t : Target} → Stands codes place t → NoEnum t → Invoked codes place t
+raw-invoked {t = t} s n = record { stands = s; plain = no-enum t n }

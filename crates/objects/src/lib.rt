@@ -1,0 +1,2 @@
+// How a value begins and ends: its type id before its raw value, and its row after its children.
+pub mod start;

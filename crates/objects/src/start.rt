@@ -1,0 +1,110 @@
+// What a value begins with: the limits of depth and rows, and an object's type id.
+use answers::Number;
+use heads::slot::Slot;
+use ids::Position;
+use ids::TypeId;
+use leaves::plain::Plain;
+use readers::Readers;
+ghost use mathlib.Core.List.{List};
+ghost use Prim.Native.Nat.{ℕ, suc, _≤_};
+ghost use lib.ListN.{length};
+ghost use Rattle.layout.specs.Target.{Target};
+ghost use Rattle.layout.specs.Slot as L;
+ghost use Rattle.layout.specs.Slot.{object};
+ghost use Rattle.types.specs.Code.{Stands, NoEnum};
+ghost use Rattle.readers.specs.Listed.{Listed};
+ghost use Rattle.heads.specs.Slots.{SlotIs};
+ghost use Rattle.objects.specs.Start.{Identifies, ObjectStarts, Starts};
+
+// Null; the type of the reader that a type id names; or a refusal's number.
+pub enum Identified {
+    Null,
+    Reader(usize),
+    Refused(u32),
+}
+
+// A refusal; a value without children that needs no reader list; null, and where it ends; or a raw value: its type, its first byte and its type id.
+pub enum Started {
+    Refused(u32, usize),
+    Plain(Plain),
+    Null(usize),
+    Raw(usize, usize, u32),
+}
+
+// The reader at a place of the list, for an object declared as the type at `declared`: 13 before 14.
+fn reader_for(codes: &[u8], rd: Readers, declared: usize, i: u32) -> Identified
+    ensures { λ r. ⌜ ((readers : List Target) (d : Target) → Listed (now (codes .entry)) rd readers → Stands (now (codes .entry)) declared d → NoEnum d → Identifies (now (codes .entry)) readers d (suc i) r) ⌝ }
+{
+    if rd.count <= i {
+        return Identified::Refused(13);
+    }
+    if 64 <= i {
+        return Identified::Refused(13);
+    }
+    let place = rd.targets[i as usize] as usize;
+    let kind = types::kind_at(codes, place);
+    if kind == 14 {
+        return Identified::Refused(13);
+    }
+    if kind == 31 {
+        return Identified::Refused(13);
+    }
+    if types::fits(codes, declared, place) {
+        return Identified::Reader(place);
+    }
+    Identified::Refused(14)
+}
+
+// The type that a type id names, for an object declared as the type at `declared`.
+fn identify(codes: &[u8], rd: Readers, declared: usize, id: TypeId) -> Identified
+    ensures { λ r. ⌜ ((readers : List Target) (d : Target) → Listed (now (codes .entry)) rd readers → Stands (now (codes .entry)) declared d → NoEnum d → Identifies (now (codes .entry)) readers d (id .0) r) ⌝ }
+{
+    match id.position() {
+        Position::Null => Identified::Null,
+        Position::At(i) => reader_for(codes, rd, declared, i),
+    }
+}
+
+// An object declared as the type at `declared`: its type id.
+fn object_start(file: &[u8], codes: &[u8], rd: Readers, declared: usize, at: usize) -> Started
+    ensures { λ r. ⌜ ((readers : List Target) (d : Target) → Listed (now (codes .entry)) rd readers → Stands (now (codes .entry)) declared d → NoEnum d → ObjectStarts (now (file .entry)) (now (codes .entry)) readers (object d) at r) ⌝ }
+{
+    match numbers::seven::seven_at(file, at) {
+        Number::Refused(number, place) => Started::Refused(number, place),
+        Number::Read(value, next) => {
+            let id = value as u32;
+            match identify(codes, rd, declared, TypeId(id)) {
+                Identified::Null => Started::Null(next),
+                Identified::Reader(place) => Started::Raw(place, next, id),
+                Identified::Refused(number) => Started::Refused(number, at),
+            }
+        }
+    }
+}
+
+// The value in a slot: 18, then 19, then its type id if it is an object.
+pub fn start(file: &[u8], codes: &[u8], rd: Readers, room: u32, slot: Slot, at: usize, used: u32, depth: u32) -> Started
+    ensures { λ r. ⌜ ((readers : List Target) (x : L.Slot) → Listed (now (codes .entry)) rd readers → SlotIs (now (codes .entry)) slot x → at ≤ length (now (file .entry)) → Starts (now (file .entry)) (now (codes .entry)) readers room depth x at used r) ⌝ }
+{
+    match slot {
+        Slot::Simple(value) => Started::Plain(value),
+        Slot::Raw(place) => {
+            if depth == 0 {
+                return Started::Refused(18, at);
+            }
+            if room <= used {
+                return Started::Refused(19, at);
+            }
+            Started::Raw(place, at, 0)
+        }
+        Slot::Object(declared) => {
+            if depth == 0 {
+                return Started::Refused(18, at);
+            }
+            if room <= used {
+                return Started::Refused(19, at);
+            }
+            object_start(file, codes, rd, declared, at)
+        }
+    }
+}
