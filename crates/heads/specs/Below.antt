@@ -3,10 +3,10 @@ use mathlib.Core.Path.{_≡_, refl, sym, ap, _∙_}
 use mathlib.Core.Bool.{Bool, true, false, _&&_}
 use mathlib.Core.List.{List, [], _∷_}
 use mathlib.Core.Logic.{_⊎_, inl, inr}
-use Prim.Native.Nat.{ℕ, zero, suc, _+_, _*_, _≤_, _<_, _^_}
+use Prim.Native.Nat.{ℕ, zero, suc, _+_, _*_, _-_, _≤_, _<_, _^_}
 use native.Mathlib.Omega.{arith}
 use lib.Dec.{leb, eqb}
-use lib.ListN.{length, take, drop, getD, replicate, length-drop}
+use lib.ListN.{length, take, drop, getD, replicate, length-drop, length-append}
 use lib.Seq.{drop-cons}
 use borrow.Author.Tests.{le-leb, lt-leb, leb-true, leb-false}
 use Rattle.layout.specs.Target.{Target, fixed, char, string, object as anything, texture, texture2D, spriteFont, page, enum, nullable, array, list, dictionary, kindOf}
@@ -29,7 +29,7 @@ use Rattle.reading.specs.Seven.{sevenAt}
 use Rattle.reading.specs.Utf8.{utf8s, charAt}
 use Rattle.reading.specs.Fixed.{fixedAt}
 use Rattle.reading.specs.Heads.{whole, ownAt, fixedHeadAt, textAt}
-use Rattle.types.specs.Code.{Stands, NoEnum, Throughout}
+use Rattle.types.specs.Code.{code, Stands, NoEnum, Throughout}
 use Rattle.types.specs.Place.{placeAfter}
 use Rattle.types.specs.Laws.{nullable-argument, array-argument, list-argument, dictionary-key, dictionary-value}
 use Rattle.heads.specs.Slots.{fixed-sized}
@@ -224,3 +224,25 @@ never-leaf e (of-fixed {k = k} s) = let s′ = rw e at s in omega (arith, s′)
 never-leaf e of-enum = omega (arith, e)
 never-leaf e of-char = omega (arith, e)
 never-leaf e of-string = omega (arith, e)
+
+-- a type stands inside the codes
+code-some : (t : Target) → 0 < length (code t)
+unfolding code
+code-some (fixed k) = omega arith
+code-some char = omega arith
+code-some string = omega arith
+code-some anything = omega arith
+code-some (enum name) = omega arith
+code-some (nullable t) = omega arith
+code-some (array t) = omega arith
+code-some (list t) = omega arith
+code-some (dictionary k v) = omega arith
+code-some texture = omega arith
+code-some texture2D = omega arith
+code-some spriteFont = omega arith
+code-some page = omega arith
+
+pub stands-inside : {codes : List ℕ} {place : ℕ} {t : Target} → Stands codes place t → place < length codes
+stands-inside {codes} {place} {t} s =
+    let l : length codes - place ≡ length (code t) + length (s .rest) = sym (length-drop place codes) ∙ ap length (s .there) ∙ length-append (code t) (s .rest) in
+    omega (arith, code-some t)

@@ -6,7 +6,7 @@ use answers::Number;
 use leaves::run::Run;
 ghost use mathlib.Core.Path.{_≡_};
 ghost use mathlib.Core.List.{List};
-ghost use Prim.Native.Nat.{ℕ, _≤_, _<_, _^_};
+ghost use Prim.Native.Nat.{ℕ, _≤_};
 ghost use lib.ListN.{replicate};
 ghost use Rattle.answers.specs.Told.{told};
 ghost use Rattle.layout.specs.Slot as L;
@@ -185,9 +185,11 @@ fn image_head(file: &[u8], at: usize) -> Opened
 
 // The head of a raw value of the type at `t`; Object and Texture have no raw values.
 pub fn open(file: &[u8], codes: &[u8], t: usize, at: usize) -> Opened
-    requires { ⌜ t < 2 ^ 32 ⌝ }
     ensures { λ r. ⌜ ((x : Target) → Stands (now (codes .entry)) t x → Arguments x → Opens (now (codes .entry)) (headAt (now (file .entry)) x at) r) ⌝ }
 {
+    if codes.len() <= t {
+        return Opened::Refused(13, at);
+    }
     let kind = types::kind_at(codes, t) as u32;
     let first = t + 1;
     match kind {

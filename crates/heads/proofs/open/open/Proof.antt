@@ -4,7 +4,7 @@ use native.Mathlib.Omega.{arith}
 use Rattle.layout.specs.Fixed.{sizes}
 use Rattle.types.specs.Code.{Stands}
 use Rattle.types.specs.Laws.{kind-is}
-use Rattle.heads.specs.Below.{by-kind, leafless, never-leaf, opens-head, font-head, page-head, leaf-stops}
+use Rattle.heads.specs.Below.{stands-inside, by-kind, leafless, never-leaf, opens-head, font-head, page-head, leaf-stops}
 use borrow.Author.Needs.{needs}
 use Rattle.heads.proofs.open.open.Statement.{statement}
 use Rattle.heads.proofs.open.open.Tie as tie
@@ -53,80 +53,83 @@ alone-requires : tie.Need-alone-requires
 alone-requires c κs = search needs
 
 returns : tie.Need-returns
-unfolding sizes
-returns c x s a =
-    let args = c .before .before .before .before .args in
-    let kind = sym (kind-is s) ∙ sym (c .before .kind-at .ensures) in
-    let k = kind ∙ c .match .keys1 in
-    by-kind (args .file .now) (args .codes .now) (args .t) (args .at) _ x s a (λ _. refl) (λ e. absurd (omega (arith, e, k))) (λ e. absurd (omega (arith, e, k))) (λ e. absurd (omega (arith, e, k))) (λ e. absurd (omega (arith, e, k))) (λ e. absurd (omega (arith, e, k))) (λ e. absurd (omega (arith, e, k))) (λ e. absurd (omega (arith, e, k))) (λ e. absurd (omega (arith, e, k))) (λ l. absurd (never-leaf k l))
+returns c x s a = absurd (omega (arith, stands-inside s, c .if1 .taken))
 
 returns-2 : tie.Need-returns-2
 unfolding sizes
 returns-2 c x s a =
     let args = c .before .before .before .before .before .args in
-    let kind = sym (kind-is s) ∙ sym (c .before .before .kind-at .ensures) in
-    let k = kind ∙ c .before .match .keys2 in
-    by-kind (args .file .now) (args .codes .now) (args .t) (args .at) _ x s a (λ e. absurd (omega (arith, e, k))) (λ e. absurd (omega (arith, e, k))) (λ _ u p n. c .nullable-head .ensures u p n) (λ e. absurd (omega (arith, e, k))) (λ e. absurd (omega (arith, e, k))) (λ e. absurd (omega (arith, e, k))) (λ e. absurd (omega (arith, e, k))) (λ e. absurd (omega (arith, e, k))) (λ e. absurd (omega (arith, e, k))) (λ l. absurd (leafless 16 refl (omega arith) k l))
+    let kind = sym (kind-is s) ∙ sym (c .before .kind-at .ensures) in
+    let k = kind ∙ c .match .keys1 in
+    by-kind (args .file .now) (args .codes .now) (args .t) (args .at) _ x s a (λ _. refl) (λ e. absurd (omega (arith, e, k))) (λ e. absurd (omega (arith, e, k))) (λ e. absurd (omega (arith, e, k))) (λ e. absurd (omega (arith, e, k))) (λ e. absurd (omega (arith, e, k))) (λ e. absurd (omega (arith, e, k))) (λ e. absurd (omega (arith, e, k))) (λ e. absurd (omega (arith, e, k))) (λ l. absurd (never-leaf k l))
 
 returns-3 : tie.Need-returns-3
 unfolding sizes
 returns-3 c x s a =
-    let args = c .before .before .before .before .before .args in
+    let args = c .before .before .before .before .before .before .args in
     let kind = sym (kind-is s) ∙ sym (c .before .before .kind-at .ensures) in
-    let k = kind ∙ c .before .match .keys3 in
-    by-kind (args .file .now) (args .codes .now) (args .t) (args .at) _ x s a (λ e. absurd (omega (arith, e, k))) (λ e. absurd (omega (arith, e, k))) (λ e. absurd (omega (arith, e, k))) (λ _ u p n. c .list-head .ensures u p n) (λ e. absurd (omega (arith, e, k))) (λ e. absurd (omega (arith, e, k))) (λ e. absurd (omega (arith, e, k))) (λ e. absurd (omega (arith, e, k))) (λ e. absurd (omega (arith, e, k))) (λ l. absurd (leafless 17 refl (omega arith) k l))
+    let k = kind ∙ c .before .match .keys2 in
+    by-kind (args .file .now) (args .codes .now) (args .t) (args .at) _ x s a (λ e. absurd (omega (arith, e, k))) (λ e. absurd (omega (arith, e, k))) (λ _ u p n. c .nullable-head .ensures u p n) (λ e. absurd (omega (arith, e, k))) (λ e. absurd (omega (arith, e, k))) (λ e. absurd (omega (arith, e, k))) (λ e. absurd (omega (arith, e, k))) (λ e. absurd (omega (arith, e, k))) (λ e. absurd (omega (arith, e, k))) (λ l. absurd (leafless 16 refl (omega arith) k l))
 
 returns-4 : tie.Need-returns-4
 unfolding sizes
 returns-4 c x s a =
-    let args = c .before .before .before .before .before .args in
+    let args = c .before .before .before .before .before .before .args in
     let kind = sym (kind-is s) ∙ sym (c .before .before .kind-at .ensures) in
-    let k = kind ∙ c .before .match .keys4 in
-    by-kind (args .file .now) (args .codes .now) (args .t) (args .at) _ x s a (λ e. absurd (omega (arith, e, k))) (λ e. absurd (omega (arith, e, k))) (λ e. absurd (omega (arith, e, k))) (λ e. absurd (omega (arith, e, k))) (λ _ u p n. c .list-head2 .ensures u p n) (λ e. absurd (omega (arith, e, k))) (λ e. absurd (omega (arith, e, k))) (λ e. absurd (omega (arith, e, k))) (λ e. absurd (omega (arith, e, k))) (λ l. absurd (leafless 18 refl (omega arith) k l))
+    let k = kind ∙ c .before .match .keys3 in
+    by-kind (args .file .now) (args .codes .now) (args .t) (args .at) _ x s a (λ e. absurd (omega (arith, e, k))) (λ e. absurd (omega (arith, e, k))) (λ e. absurd (omega (arith, e, k))) (λ _ u p n. c .list-head .ensures u p n) (λ e. absurd (omega (arith, e, k))) (λ e. absurd (omega (arith, e, k))) (λ e. absurd (omega (arith, e, k))) (λ e. absurd (omega (arith, e, k))) (λ e. absurd (omega (arith, e, k))) (λ l. absurd (leafless 17 refl (omega arith) k l))
 
 returns-5 : tie.Need-returns-5
 unfolding sizes
 returns-5 c x s a =
     let args = c .before .before .before .before .before .before .args in
-    let kind = sym (kind-is s) ∙ sym (c .before .before .before .kind-at .ensures) in
-    let k = kind ∙ c .before .before .match .keys5 in
-    by-kind (args .file .now) (args .codes .now) (args .t) (args .at) _ x s a (λ e. absurd (omega (arith, e, k))) (λ e. absurd (omega (arith, e, k))) (λ e. absurd (omega (arith, e, k))) (λ e. absurd (omega (arith, e, k))) (λ e. absurd (omega (arith, e, k))) (λ _ u w p n q m. c .dictionary-head .ensures u w p n (subst (λ b. Stands (args .codes .now) b w) (sym (c .before .after .ensures)) q) m) (λ e. absurd (omega (arith, e, k))) (λ e. absurd (omega (arith, e, k))) (λ e. absurd (omega (arith, e, k))) (λ l. absurd (leafless 19 refl (omega arith) k l))
+    let kind = sym (kind-is s) ∙ sym (c .before .before .kind-at .ensures) in
+    let k = kind ∙ c .before .match .keys4 in
+    by-kind (args .file .now) (args .codes .now) (args .t) (args .at) _ x s a (λ e. absurd (omega (arith, e, k))) (λ e. absurd (omega (arith, e, k))) (λ e. absurd (omega (arith, e, k))) (λ e. absurd (omega (arith, e, k))) (λ _ u p n. c .list-head2 .ensures u p n) (λ e. absurd (omega (arith, e, k))) (λ e. absurd (omega (arith, e, k))) (λ e. absurd (omega (arith, e, k))) (λ e. absurd (omega (arith, e, k))) (λ l. absurd (leafless 18 refl (omega arith) k l))
 
 returns-6 : tie.Need-returns-6
 unfolding sizes
 returns-6 c x s a =
-    let args = c .before .before .before .before .args in
-    let kind = sym (kind-is s) ∙ sym (c .before .kind-at .ensures) in
-    let k = kind ∙ c .match .keys6 in
-    by-kind (args .file .now) (args .codes .now) (args .t) (args .at) _ x s a (λ e. absurd (omega (arith, e, k))) (λ _. refl) (λ e. absurd (omega (arith, e, k))) (λ e. absurd (omega (arith, e, k))) (λ e. absurd (omega (arith, e, k))) (λ e. absurd (omega (arith, e, k))) (λ e. absurd (omega (arith, e, k))) (λ e. absurd (omega (arith, e, k))) (λ e. absurd (omega (arith, e, k))) (λ l. absurd (leafless 31 refl (omega arith) k l))
+    let args = c .before .before .before .before .before .before .before .args in
+    let kind = sym (kind-is s) ∙ sym (c .before .before .before .kind-at .ensures) in
+    let k = kind ∙ c .before .before .match .keys5 in
+    by-kind (args .file .now) (args .codes .now) (args .t) (args .at) _ x s a (λ e. absurd (omega (arith, e, k))) (λ e. absurd (omega (arith, e, k))) (λ e. absurd (omega (arith, e, k))) (λ e. absurd (omega (arith, e, k))) (λ e. absurd (omega (arith, e, k))) (λ _ u w p n q m. c .dictionary-head .ensures u w p n (subst (λ b. Stands (args .codes .now) b w) (sym (c .before .after .ensures)) q) m) (λ e. absurd (omega (arith, e, k))) (λ e. absurd (omega (arith, e, k))) (λ e. absurd (omega (arith, e, k))) (λ l. absurd (leafless 19 refl (omega arith) k l))
 
 returns-7 : tie.Need-returns-7
 unfolding sizes
 returns-7 c x s a =
     let args = c .before .before .before .before .before .args in
-    let kind = sym (kind-is s) ∙ sym (c .before .before .kind-at .ensures) in
-    let k = kind ∙ c .before .match .keys7 in
-    by-kind (args .file .now) (args .codes .now) (args .t) (args .at) _ x s a (λ e. absurd (omega (arith, e, k))) (λ e. absurd (omega (arith, e, k))) (λ e. absurd (omega (arith, e, k))) (λ e. absurd (omega (arith, e, k))) (λ e. absurd (omega (arith, e, k))) (λ e. absurd (omega (arith, e, k))) (λ _. c .image-head .ensures _) (λ e. absurd (omega (arith, e, k))) (λ e. absurd (omega (arith, e, k))) (λ l. absurd (leafless 32 refl (omega arith) k l))
+    let kind = sym (kind-is s) ∙ sym (c .before .kind-at .ensures) in
+    let k = kind ∙ c .match .keys6 in
+    by-kind (args .file .now) (args .codes .now) (args .t) (args .at) _ x s a (λ e. absurd (omega (arith, e, k))) (λ _. refl) (λ e. absurd (omega (arith, e, k))) (λ e. absurd (omega (arith, e, k))) (λ e. absurd (omega (arith, e, k))) (λ e. absurd (omega (arith, e, k))) (λ e. absurd (omega (arith, e, k))) (λ e. absurd (omega (arith, e, k))) (λ e. absurd (omega (arith, e, k))) (λ l. absurd (leafless 31 refl (omega arith) k l))
 
 returns-8 : tie.Need-returns-8
 unfolding sizes
 returns-8 c x s a =
-    let args = c .before .before .before .before .args in
-    let kind = sym (kind-is s) ∙ sym (c .before .kind-at .ensures) in
-    let k = kind ∙ c .match .keys8 in
-    by-kind (args .file .now) (args .codes .now) (args .t) (args .at) _ x s a (λ e. absurd (omega (arith, e, k))) (λ e. absurd (omega (arith, e, k))) (λ e. absurd (omega (arith, e, k))) (λ e. absurd (omega (arith, e, k))) (λ e. absurd (omega (arith, e, k))) (λ e. absurd (omega (arith, e, k))) (λ e. absurd (omega (arith, e, k))) (λ _. opens-head _ _ _ _ (font-head _ _) refl) (λ e. absurd (omega (arith, e, k))) (λ l. absurd (leafless 33 refl (omega arith) k l))
+    let args = c .before .before .before .before .before .before .args in
+    let kind = sym (kind-is s) ∙ sym (c .before .before .kind-at .ensures) in
+    let k = kind ∙ c .before .match .keys7 in
+    by-kind (args .file .now) (args .codes .now) (args .t) (args .at) _ x s a (λ e. absurd (omega (arith, e, k))) (λ e. absurd (omega (arith, e, k))) (λ e. absurd (omega (arith, e, k))) (λ e. absurd (omega (arith, e, k))) (λ e. absurd (omega (arith, e, k))) (λ e. absurd (omega (arith, e, k))) (λ _. c .image-head .ensures _) (λ e. absurd (omega (arith, e, k))) (λ e. absurd (omega (arith, e, k))) (λ l. absurd (leafless 32 refl (omega arith) k l))
 
 returns-9 : tie.Need-returns-9
 unfolding sizes
 returns-9 c x s a =
-    let args = c .before .before .before .before .args in
+    let args = c .before .before .before .before .before .args in
+    let kind = sym (kind-is s) ∙ sym (c .before .kind-at .ensures) in
+    let k = kind ∙ c .match .keys8 in
+    by-kind (args .file .now) (args .codes .now) (args .t) (args .at) _ x s a (λ e. absurd (omega (arith, e, k))) (λ e. absurd (omega (arith, e, k))) (λ e. absurd (omega (arith, e, k))) (λ e. absurd (omega (arith, e, k))) (λ e. absurd (omega (arith, e, k))) (λ e. absurd (omega (arith, e, k))) (λ e. absurd (omega (arith, e, k))) (λ _. opens-head _ _ _ _ (font-head _ _) refl) (λ e. absurd (omega (arith, e, k))) (λ l. absurd (leafless 33 refl (omega arith) k l))
+
+returns-10 : tie.Need-returns-10
+unfolding sizes
+returns-10 c x s a =
+    let args = c .before .before .before .before .before .args in
     let kind = sym (kind-is s) ∙ sym (c .before .kind-at .ensures) in
     let k = kind ∙ c .match .keys9 in
     by-kind (args .file .now) (args .codes .now) (args .t) (args .at) _ x s a (λ e. absurd (omega (arith, e, k))) (λ e. absurd (omega (arith, e, k))) (λ e. absurd (omega (arith, e, k))) (λ e. absurd (omega (arith, e, k))) (λ e. absurd (omega (arith, e, k))) (λ e. absurd (omega (arith, e, k))) (λ e. absurd (omega (arith, e, k))) (λ e. absurd (omega (arith, e, k))) (λ _. opens-head _ _ _ _ (page-head _ _) refl) (λ l. absurd (leafless 34 refl (omega arith) k l))
 
-returns-10 : tie.Need-returns-10
-returns-10 c x s a =
-    let args = c .before .before .before .before .before .before .args in
+returns-11 : tie.Need-returns-11
+returns-11 c x s a =
+    let args = c .before .before .before .before .before .before .before .args in
     let kind = sym (kind-is s) ∙ sym (c .before .before .before .kind-at .ensures) in
     let rest = c .before .before .match .rest in
     by-kind (args .file .now) (args .codes .now) (args .t) (args .at) _ x s a (λ e. absurd (rest .0 .0 .0 .0 .0 .0 .0 .0 .1 (sym kind ∙ e))) (λ e. absurd (rest .0 .0 .0 .1 (sym kind ∙ e))) (λ e. absurd (rest .0 .0 .0 .0 .0 .0 .0 .1 (sym kind ∙ e))) (λ e. absurd (rest .0 .0 .0 .0 .0 .0 .1 (sym kind ∙ e))) (λ e. absurd (rest .0 .0 .0 .0 .0 .1 (sym kind ∙ e))) (λ e. absurd (rest .0 .0 .0 .0 .1 (sym kind ∙ e))) (λ e. absurd (rest .0 .0 .1 (sym kind ∙ e))) (λ e. absurd (rest .0 .1 (sym kind ∙ e))) (λ e. absurd (rest .1 (sym kind ∙ e))) (λ l. c .alone .ensures _ _ (c .before .leaf-at .ensures x l kind) (leaf-stops _ _ l))
@@ -135,6 +138,7 @@ pub open-spec : {M : Type 1} → statement M
 open-spec =
     tie.close
     (tie.spec
+    returns
     kind-at-requires
     cast-kind
     add-first
@@ -146,7 +150,6 @@ open-spec =
     image-head-requires
     leaf-at-requires
     alone-requires
-    returns
     returns-2
     returns-3
     returns-4
@@ -155,4 +158,5 @@ open-spec =
     returns-7
     returns-8
     returns-9
-    returns-10)
+    returns-10
+    returns-11)

@@ -1,0 +1,125 @@
+-- How a value ends, and the raw value that it is. Assumes nothing.
+use mathlib.Core.Path.{_≡_, refl, sym, ap, subst, _∙_}
+use mathlib.Core.Bool.{Bool, true, false, cond}
+use mathlib.Core.List.{List, [], _∷_}
+use Prim.Native.Nat.{ℕ, zero, suc, _+_, _*_, _-_, _≤_, _<_, _^_}
+use native.Mathlib.Omega.{arith}
+use lib.Dec.{eqb}
+use lib.ListN.{length}
+use borrow.Author.Tests.{eqb-true, eqb-false}
+use Rattle.layout.specs.Target.{Target, spriteFont, kindOf}
+use Rattle.layout.specs.Tree.{Trees, none, tree, count, size}
+use Rattle.layout.specs.Slot as L
+use Rattle.layout.specs.Slot.{Plan, stop, put, each, fontSlots}
+use Rattle.layout.specs.Layout.{Lays}
+use Rattle.layout.specs.Resource.{Within}
+use Rattle.layout.specs.Rows.{Row, row, nothing}
+use Rattle.reading.specs.Answer.{Answer, refused, read, bind, check, Ok, not-read, is-read}
+use Rattle.reading.specs.Reads.{Small}
+use Rattle.reading.specs.Font.{fontOk}
+use Rattle.reading.specs.Heads.{Opening, headAt}
+use Rattle.reading.specs.Walk.{Taken, Outcome, done, point, sequence, rawAt, walk}
+use Rattle.reading.specs.Sound.{Read, walks-sound}
+use Rattle.reading.specs.Bounds.{Bounds, sequence-bounds}
+use Rattle.types.specs.Types.{plain, fixedKind}
+use Rattle.names.specs.Name.{between}
+use Rattle.types.specs.Code.{Lawful}
+use Rattle.types.specs.Laws.{of-kind}
+use Rattle.fonts.specs.FontWords.{fontWords}
+use Rattle.fonts.specs.Bridge.{font-judged, other-kind}
+use Rattle.table.specs.declared.Head.{Head}
+use Rattle.table.specs.declared.Walk.{Walk}
+use Rattle.table.specs.declared.Walk.the-variants.{Done, Refused}
+use Rattle.table.specs.Written.{written, putRow, rowOf, written-under, length-written}
+use Rattle.table.specs.Contract.{Seen, seen, Walked, Free, put-free}
+use Rattle.table.specs.Loop.{Got, got, lost, refusing, reading}
+use Rattle.heads.specs.Below.{font-head}
+use Rattle.objects.specs.Start.{under}
+
+-- only a font has a rule over its children
+unfoldable pub keeps : (file words : List ℕ) (kind number : ℕ) → Bool
+keeps file words kind number = cond (eqb kind 33) (fontWords file words number) true
+
+-- the value's length and its number of children fit a word
+abbrev pub Closable : Head → (children : ℕ) → Walk → Type 0
+Closable h n (Refused m p) = Unit {0}
+Closable h n (Done next used) = (h .first ≤ next) × (next < 2 ^ 32) × (n < 2 ^ 32)
+
+abbrev pub Closing : Bool → (w w′ : List ℕ) → Head → (kind children at next used : ℕ) → Walk → Type 0
+Closing true w w′ h kind n at next used r = (r ≡ Done next used) × (w′ ≡ putRow w (h .row) (rowOf kind (h .first) (next - h .first) n (h .parent) (h .detail)))
+Closing false w w′ h kind n at next used r = r ≡ Refused 22 at
+
+-- a refusal below is the value's; else its rule, then its row
+abbrev pub Closes : (file w w′ : List ℕ) → Head → (kind children at : ℕ) → Walk → Walk → Type 0
+Closes file w w′ h kind n at (Refused m p) r = r ≡ Refused m p
+Closes file w w′ h kind n at (Done next used) r = Closing (keeps file w kind (h .row)) w w′ h kind n at next used r
+
+-- as many children as slots, and a row for each
+laid-count : (readers : List Target) (refers : Target → ℕ → Type 0) (slots : List L.Slot) (ts : Trees) (bs : List ℕ) → Lays readers refers (each slots) ts bs → (count ts ≡ length slots) × (count ts ≤ size ts)
+unfolding Lays each count size
+laid-count readers refers [] none bs w = (refl, omega arith)
+laid-count readers refers [] (tree k i own cs rest) bs w = absurd w
+laid-count readers refers (x ∷ slots) none bs w = absurd w
+laid-count readers refers (x ∷ slots) (tree k i own cs rest) bs w =
+    let r = laid-count readers refers slots rest (w .1) (w .4) in
+    (ap suc (r .0), omega (arith, r .1))
+
+module _ (file : List ℕ) (small : Small file) (readers : List Target) (shared room below : ℕ) where
+  pub counted : (slots : List L.Slot) (at used parent : ℕ) (a : Taken) (e : ℕ) → sequence (λ y b v. walk file readers shared room below y b v parent) (each slots) at used ≡ read a e
+      → (count (a .2) ≡ length slots) × (used + length slots ≤ a .0)
+  counted slots at used parent a e q = go (sequence (λ y b v. walk file readers shared room below y b v parent) (each slots) at used) (walks-sound file readers shared room small below (each slots) at used parent) q where
+    go : (o : Outcome) → Ok (Read file readers shared room small below (each slots) at used parent) o → o ≡ read a e → (count (a .2) ≡ length slots) × (used + length slots ≤ a .0)
+    go o not-read p = absurd (let z : _≡_ {A = ℕ} 0 1 = cc in omega arith)
+    go o (is-read {a = b} {e = f} v) p =
+        let qb : b ≡ a = cc in
+        let c = laid-count readers (Within shared) slots (b .2) (v .bytes) (v .laid) in
+        let d : (count (b .2) ≡ length slots) × (used + length slots ≤ b .0) = (c .0, omega (arith, c .0, c .1, v .used-is)) in
+        rw qb at d
+
+  module _ (t : Target) (lawful : Lawful t) (h : Head) (at : ℕ) (w₀ : List ℕ) (long : 6 * room ≤ length w₀) (few : length w₀ < 2 ^ 32) (free : h .row < room) where
+    abbrev pub rawOf : Outcome
+    rawOf = rawAt file readers shared room (under file readers shared room below (h .row)) t (h .first) at (h .row) (h .parent) (h .detail)
+
+    pub raw-refused : {n p : ℕ} {w : List ℕ} → headAt file t at ≡ refused n p → Walked w₀ w (h .row) (seen rawOf) (Refused n p)
+    unfolding rawAt bind
+    raw-refused e = refusing (rw e)
+
+    module _ {o : Opening} {next : ℕ} (opened : headAt file t at ≡ read o next) (slots : List L.Slot) (plan : o .1 ≡ each slots) where
+      abbrev seq : Outcome
+      seq = sequence (λ y b v. walk file readers shared room below y b v (suc (h .row))) (each slots) next (suc (h .row))
+
+      -- the font rule over the words is that over the trees
+      rule : (a : Taken) (e : ℕ) (w₁ : List ℕ) → seq ≡ read a e → w₁ ≡ written w₀ (suc (h .row)) (a .1) → (b : Bool) → eqb (kindOf t) 33 ≡ b → fontOk point t (a .2) ≡ cond b (fontWords file w₁ (h .row)) true
+      unfolding plain fixedKind between
+      rule a e w₁ q words false z = other-kind t (a .2) (eqb-false (kindOf t) 33 z)
+      rule a e w₁ q words true z =
+          let s : t ≡ spriteFont = of-kind t spriteFont 33 lawful (eqb-true (kindOf t) 33 z) refl in
+          let op : headAt file spriteFont at ≡ read o next = rw s at opened in
+          let g : _≡_ {A = Answer Opening} (read ([], each fontSlots) at) (read o next) = sym (font-head file at) ∙ op in
+          let o₁ : ([], each fontSlots) ≡ o = cc in
+          let p : each fontSlots ≡ each slots = ap (λ (y : Opening). y .1) o₁ ∙ plan in
+          let q′ : sequence (λ y b v. walk file readers shared room below y b v (suc (h .row))) (each fontSlots) next (suc (h .row)) ≡ read a e = rw p q in
+          let k = sequence-bounds file readers shared room small below (each slots) next (suc (h .row)) (suc (h .row)) a e q in
+          let l : length w₁ ≡ length w₀ = ap length words ∙ length-written w₀ (suc (h .row)) (a .1) in
+          rw s (font-judged file small readers shared room below next (h .row) a e q′ w₀ w₁ words (omega (arith, k .counted, k .fits (omega arith))))
+
+      kept : (w₁ w₂ : List ℕ) (n e u : ℕ) (r : Walk) → n ≡ length slots → (g : Got w₀ w₁ (suc (h .row)) seq e u) → (b : Bool) → fontOk point t (g .taken .2) ≡ b → Closing b w₁ w₂ h (kindOf t) n at e u r → Walked w₀ w₂ (h .row) (seen rawOf) r
+      unfolding rawAt bind check
+      kept w₁ w₂ n e u r z g false f c = rw c (refusing (rw (opened, plan, g .is, f)))
+      kept w₁ w₂ n e u r z g true f c =
+          let a = g .taken in
+          let k : count (a .2) ≡ n = counted slots next (suc (h .row)) (suc (h .row)) a e (g .is) .0 ∙ sym z in
+          let x : Row = row (kindOf t) (h .first) (e - h .first) n (h .parent) (h .detail) nothing in
+          let l : length w₁ ≡ length w₀ = ap length (g .words) ∙ length-written w₀ (suc (h .row)) (a .1) in
+          let there : Free w₁ (h .row) = record { there = omega arith; few = omega arith } in
+          let words : w₂ ≡ written w₀ (h .row) (x ∷ a .1) = c .1 ∙ put-free w₁ (h .row) x there ∙ ap (λ w. written w (h .row) (x ∷ [])) (g .words) ∙ written-under w₀ (h .row) x (a .1) in
+          rw (c .0) (reading (a .0, x ∷ a .1, tree (kindOf t) (h .detail) (o .0) (a .2) none) (rw (opened, plan, g .is, f, k)) (sym (g .rows-used)) words)
+
+      -- the children were walked and the value ended
+      pub raw-closed : (w₁ w₂ : List ℕ) (kind n : ℕ) (walked r : Walk) → kind ≡ kindOf t → n ≡ length slots → Walked w₀ w₁ (suc (h .row)) (seen seq) walked → Closes file w₁ w₂ h kind n at walked r → Walked w₀ w₂ (h .row) (seen rawOf) r
+      unfolding rawAt bind keeps
+      raw-closed w₁ w₂ kind n (Refused m p) r k z c d = rw d (refusing (rw (opened, plan, lost c refl)))
+      raw-closed w₁ w₂ kind n (Done e u) r k z c d =
+          let g = got c refl in
+          let f = rule (g .taken) e w₁ (g .is) (g .words) (eqb (kindOf t) 33) refl in
+          kept w₁ w₂ n e u r z g (keeps file w₁ (kindOf t) (h .row)) f (rw k at d)

@@ -1,0 +1,35 @@
+// How a value ends: the rule of its kind, and its row.
+use ids::RowNumber;
+use table::Head;
+use table::Walk;
+ghost use mathlib.Core.Path.{_≡_};
+ghost use Rattle.objects.specs.Close.{keeps, Closable, Closes};
+
+// A value of a kind keeps its rule, where its children's rows are in the words.
+fn keeps_rule(file: &[u8], words: &[u32], kind: u32, row: u32) -> bool
+    ensures { λ r. ⌜ r ≡ keeps (now (file .entry)) (now (words .entry)) kind row ⌝ }
+{
+    if kind == 33 {
+        return fonts::font_rule(file, words, row);
+    }
+    true
+}
+
+// The value whose children were walked: 22, or its row with their number.
+pub fn close(file: &[u8], words: &mut [u32], h: Head, kind: u32, children: usize, at: usize, walked: Walk) -> Walk
+    requires { ⌜ Closable h children walked ⌝ }
+    ensures { λ r. ⌜ Closes (now (file .entry)) (now (words .entry)) (now (words .exit)) h kind children at walked r ⌝ }
+{
+    match walked {
+        Walk::Refused { number, place } => Walk::Refused { number, place },
+        Walk::Done { next, used } => {
+            if keeps_rule(file, words, kind, h.row) {
+                let first = h.first as u32;
+                let length = (next - h.first) as u32;
+                table::put_row(words, RowNumber(h.row), kind, first, length, children as u32, h.parent, h.detail);
+                return Walk::Done { next, used };
+            }
+            Walk::Refused { number: 22, place: at }
+        }
+    }
+}
