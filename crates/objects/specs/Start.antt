@@ -33,7 +33,7 @@ use Rattle.heads.specs.Slots.{SlotIs}
 use Rattle.objects.specs.declared.start.Identified.{Identified}
 use Rattle.objects.specs.declared.start.Identified.the-variants.{Null, Reader, Refused}
 use Rattle.objects.specs.declared.start.Started.{Started}
-use Rattle.objects.specs.declared.start.Started.the-variants.{Raw, Plain} 
+use Rattle.objects.specs.declared.start.Started.the-variants.{Raw, Plain}
 use Rattle.objects.specs.declared.start.Started.the-variants.{Null as NullValue, Refused as RefusedValue}
 
 -- a type without enums in its arguments stands at a place
@@ -123,8 +123,10 @@ module _ {codes : List ℕ} {rd : Readers} {readers : List Target} {declared : �
   never-called {i} {place} {k} h e q w = inl (refl, omega arith, reader-at readers i g ∙ go w) where
     g : i < length readers
     g = omega (arith, l .counts)
+
     kind : kindOf (getD readers i anything) ≡ k
     kind = sym (kind-is (l .stands i g)) ∙ ap (kindAt codes) e ∙ sym q
+
     go : (k ≡ 14) ⊎ (k ≡ 31) → invoked (getD readers i anything) ≡ missing
     go (inl y) = rw (of-kind (getD readers i anything) anything 14 (l .stands i g .lawful) (kind ∙ y) refl)
     go (inr y) = rw (of-kind (getD readers i anything) texture 31 (l .stands i g .lawful) (kind ∙ y) refl)
@@ -134,21 +136,28 @@ module _ {codes : List ℕ} {rd : Readers} {readers : List Target} {declared : �
   called-by {i} {place} {k} h e q x y b f = go b f where
     g : i < length readers
     g = omega (arith, l .counts)
+
     t : Target
     t = getD readers i anything
+
     kind : kindOf t ≡ k
     kind = sym (kind-is (l .stands i g)) ∙ ap (kindAt codes) e ∙ sym q
+
     there : Stands codes place t
     there = subst (λ a. Stands codes a t) e (l .stands i g)
+
     called : invoked t ≡ found t
     called = always t (λ z. x (sym kind ∙ z)) (λ z. y (sym kind ∙ z))
+
     named : reader readers (suc i) ≡ found t
     named = reader-at readers i g ∙ called
+
     serving : (b c : Bool) → fitsAt codes declared place ≡ b → serves d t ≡ c → c ≡ b
     serving true true f c = refl
     serving false false f c = refl
     serving true false f c = absurd (let z : _≡_ {A = Bool} true false = sym (serves-complete (fits-then n s there f)) ∙ c in let y : _≡_ {A = ℕ} 0 1 = cc in omega arith)
     serving false true f c = absurd (let z : _≡_ {A = Bool} true false = sym (then-fits n s there (serves-sound d t c)) ∙ f in let y : _≡_ {A = ℕ} 0 1 = cc in omega arith)
+
     go : (b : Bool) → fitsAt codes declared place ≡ b → Identifies codes readers d (suc i) (by b place)
     go true f = (omega arith, record { type = t; at = record { stands = there; plain = arguments t (l .plain i g) }; named = named; serving = serving true (serves d t) f refl })
     go false f = inr (refl, omega arith, (t, named, serving false (serves d t) f refl))

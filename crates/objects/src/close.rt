@@ -16,7 +16,15 @@ fn keeps_rule(file: &[u8], words: &[u32], kind: u32, row: u32) -> bool
 }
 
 // The value whose children were walked: 22, or its row with their number.
-pub fn close(file: &[u8], words: &mut [u32], h: Head, kind: u32, children: usize, at: usize, walked: Walk) -> Walk
+pub fn close(
+    file: &[u8],
+    words: &mut [u32],
+    h: Head,
+    kind: u32,
+    children: usize,
+    at: usize,
+    walked: Walk,
+) -> Walk
     requires { ⌜ Closable h children walked ⌝ }
     ensures { λ r. ⌜ Closes (now (file .entry)) (now (words .entry)) (now (words .exit)) h kind children at walked r ⌝ }
 {
@@ -26,10 +34,22 @@ pub fn close(file: &[u8], words: &mut [u32], h: Head, kind: u32, children: usize
             if keeps_rule(file, words, kind, h.row) {
                 let first = h.first as u32;
                 let length = (next - h.first) as u32;
-                table::put_row(words, RowNumber(h.row), kind, first, length, children as u32, h.parent, h.detail);
+                table::put_row(
+                    words,
+                    RowNumber(h.row),
+                    kind,
+                    first,
+                    length,
+                    children as u32,
+                    h.parent,
+                    h.detail,
+                );
                 return Walk::Done { next, used };
             }
-            Walk::Refused { number: 22, place: at }
+            Walk::Refused {
+                number: 22,
+                place: at,
+            }
         }
     }
 }

@@ -83,7 +83,16 @@ fn object_start(file: &[u8], codes: &[u8], rd: Readers, declared: usize, at: usi
 }
 
 // The value in a slot: 18, then 19, then its type id if it is an object.
-pub fn start(file: &[u8], codes: &[u8], rd: Readers, room: u32, slot: Slot, at: usize, used: u32, depth: u32) -> Started
+pub fn start(
+    file: &[u8],
+    codes: &[u8],
+    rd: Readers,
+    room: u32,
+    slot: Slot,
+    at: usize,
+    used: u32,
+    depth: u32,
+) -> Started
     ensures { λ r. ⌜ ((readers : List Target) (x : L.Slot) → Listed (now (codes .entry)) rd readers → SlotIs (now (codes .entry)) slot x → at ≤ length (now (file .entry)) → Starts (now (file .entry)) (now (codes .entry)) readers room depth x at used r) ⌝ }
 {
     match slot {

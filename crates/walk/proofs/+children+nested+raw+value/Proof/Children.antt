@@ -1,0 +1,117 @@
+use borrow.Author.Needs.{needs}
+use mathlib.Core.Path.{_≡_, refl, sym, ap, subst, _∙_}
+use mathlib.Core.List.{List, []}
+use Prim.Native.Nat.{ℕ, suc, _+_, _*_, _-_, _≤_, _<_, _^_}
+use native.Mathlib.Omega.{arith}
+use lib.ListN.{length}
+use Rattle.layout.specs.Target.{Target}
+use Rattle.layout.specs.Slot as L
+use Rattle.layout.specs.Slot.{each}
+use Rattle.layout.specs.Rows.{nothing}
+use Rattle.reading.specs.Reads.{small-by-index}
+use Rattle.reading.specs.Heads.{headAt}
+use Rattle.reading.specs.Walk.{walk, sequence}
+use Rattle.reading.specs.Bounds.{walk-bounds}
+use Rattle.table.specs.Contract.{seen, Walked}
+use Rattle.table.specs.Written.{written-none}
+use Rattle.table.specs.Loop.{Reading, start, same, turn, stop, give-up, got, lost, refusing, reading}
+use Rattle.types.specs.Laws.{kind-is}
+use Rattle.leaves.specs.Run.{begin-on}
+use Rattle.readers.specs.Listed.{Listed}
+use Rattle.heads.specs.Nests.{NestIs}
+use Rattle.objects.specs.Close.{raw-refused, raw-closed}
+use Rattle.walk.specs.Laws.{opened-as, refused-as, lawful-below, begin-below, close-ready, after-row}
+use Rattle.walk.proofs.children.Reads as children
+use Rattle.walk.proofs.+children+nested+raw+value.Lts-children as children-lts
+use Rattle.walk.proofs.nested.Reads as nested
+use Rattle.leaves.proofs.run.read_run.Reads as read-run-reads
+use Rattle.walk.proofs.+children+nested+raw+value.Proof.Measures.{children-at, nested-below}
+
+pub children-enum-told : (t : ℕ) → children-lts.Need-enum-told (
+  read-run-reads.Asked,
+  read-run-reads.Learnt,
+  nested-below t,
+  nested.Post,
+) (children-at t) children.Post
+children-enum-told t c = search needs
+
+pub children-enum-known-below : (t : ℕ) → children-lts.Need-enum-known-below (
+  read-run-reads.Asked,
+  read-run-reads.Learnt,
+  nested-below t,
+  nested.Post,
+) (children-at t) children.Post
+children-enum-known-below t c = search needs
+
+pub children-read-run-requires : (t : ℕ) → children-lts.Need-read-run-requires (
+  read-run-reads.Asked,
+  read-run-reads.Learnt,
+  nested-below t,
+  nested.Post,
+) (children-at t) children.Post
+children-read-run-requires t c κs =
+    let w = rw (c .before .before .below .given .1) at (c .before .before .before .before .before .before .before .pre .1 .2 .is) in
+    (c .before .before .before .before .before .before .before .pre .1 .0, w .1)
+
+pub children-enum-known-below-2 : (t : ℕ) → children-lts.Need-enum-known-below-2 (
+  read-run-reads.Asked,
+  read-run-reads.Learnt,
+  nested-below t,
+  nested.Post,
+) (children-at t) children.Post
+children-enum-known-below-2 t c = search needs
+
+pub children-nested-requires : (t : ℕ) → children-lts.Need-nested-requires (
+  read-run-reads.Asked,
+  read-run-reads.Learnt,
+  nested-below t,
+  nested.Post,
+) (children-at t) children.Post
+children-nested-requires t c κs = (omega (arith, c .before .before .before .before .before .before .before .pre .0), (c .before .before .before .before .before .before .before .pre .1 .0, c .before .before .before .before .before .before .before .pre .1 .1, record { slots = c .before .before .before .before .before .before .before .pre .1 .2 .slots; is = rw (c .before .before .below2 .given .1) at (c .before .before .before .before .before .before .before .pre .1 .2 .is) }))
+
+pub children-returns : (t : ℕ) → children-lts.Need-returns (
+  read-run-reads.Asked,
+  read-run-reads.Learnt,
+  nested-below t,
+  nested.Post,
+) (children-at t) children.Post
+unfolding sequence each seen
+children-returns t c =
+    λ readers slots l w.
+    let e : slots ≡ [] = rw (c .enum-told .given .1) at w in
+    rw e (record { answers = refl; writes = sym (written-none _ _) })
+
+pub children-same-length : (t : ℕ) → children-lts.Need-same-length (
+  read-run-reads.Asked,
+  read-run-reads.Learnt,
+  nested-below t,
+  nested.Post,
+) (children-at t) children.Post
+children-same-length t c = search needs
+
+pub children-returns-2 : (t : ℕ) → children-lts.Need-returns-2 (
+  read-run-reads.Asked,
+  read-run-reads.Learnt,
+  nested-below t,
+  nested.Post,
+) (children-at t) children.Post
+children-returns-2 t c =
+    λ readers slots l w.
+    let v = rw (c .before .before .before .before .before .below .given .1) at w in
+    rw (v .0) (c .before .before .read-run .ensures readers)
+
+pub children-same-length-2 : (t : ℕ) → children-lts.Need-same-length-2 (
+  read-run-reads.Asked,
+  read-run-reads.Learnt,
+  nested-below t,
+  nested.Post,
+) (children-at t) children.Post
+children-same-length-2 t c = search needs
+
+pub children-returns-3 : (t : ℕ) → children-lts.Need-returns-3 (
+  read-run-reads.Asked,
+  read-run-reads.Learnt,
+  nested-below t,
+  nested.Post,
+) (children-at t) children.Post
+children-returns-3 t c = λ readers slots l w. c .before .before .nested .ensures readers slots l (rw (c .before .before .before .before .before .below2 .given .1) at w)

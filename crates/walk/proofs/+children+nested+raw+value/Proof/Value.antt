@@ -1,0 +1,247 @@
+use borrow.Author.Needs.{needs}
+use mathlib.Core.Path.{_≡_, refl, sym, ap, subst, _∙_}
+use mathlib.Core.List.{List, []}
+use Prim.Native.Nat.{ℕ, suc, _+_, _*_, _-_, _≤_, _<_, _^_}
+use native.Mathlib.Omega.{arith}
+use lib.ListN.{length}
+use Rattle.layout.specs.Target.{Target}
+use Rattle.layout.specs.Slot as L
+use Rattle.layout.specs.Slot.{each}
+use Rattle.layout.specs.Rows.{nothing}
+use Rattle.reading.specs.Reads.{small-by-index}
+use Rattle.reading.specs.Heads.{headAt}
+use Rattle.reading.specs.Walk.{walk, sequence}
+use Rattle.reading.specs.Bounds.{walk-bounds}
+use Rattle.table.specs.Contract.{seen, Walked}
+use Rattle.table.specs.Written.{written-none}
+use Rattle.table.specs.Loop.{Reading, start, same, turn, stop, give-up, got, lost, refusing, reading}
+use Rattle.types.specs.Laws.{kind-is}
+use Rattle.leaves.specs.Run.{begin-on}
+use Rattle.readers.specs.Listed.{Listed}
+use Rattle.heads.specs.Nests.{NestIs}
+use Rattle.objects.specs.Close.{raw-refused, raw-closed}
+use Rattle.walk.specs.Laws.{opened-as, refused-as, lawful-below, begin-below, close-ready, after-row}
+use Rattle.walk.proofs.raw.Reads as raw
+use Rattle.walk.proofs.value.Reads as value
+use Rattle.walk.proofs.+children+nested+raw+value.Lts-value as value-lts
+use Rattle.leaves.proofs.plain.read_plain.Reads as read-plain-reads
+use Rattle.objects.proofs.start.start.Reads as start-reads
+use Rattle.table.proofs.leaf.Reads as leaf-reads
+use Rattle.walk.proofs.+children+nested+raw+value.Proof.Measures.{raw-below, value-at}
+
+pub value-start-requires : (t : ℕ) → value-lts.Need-start-requires (
+  start-reads.Asked,
+  start-reads.Learnt,
+  read-plain-reads.Asked,
+  read-plain-reads.Learnt,
+  leaf-reads.Asked,
+  leaf-reads.Learnt,
+  raw-below t,
+  raw.Post,
+) (value-at t) value.Post
+value-start-requires t c κs = search needs
+
+pub value-enum-known-number : (t : ℕ) → value-lts.Need-enum-known-number (
+  start-reads.Asked,
+  start-reads.Learnt,
+  read-plain-reads.Asked,
+  read-plain-reads.Learnt,
+  leaf-reads.Asked,
+  leaf-reads.Learnt,
+  raw-below t,
+  raw.Post,
+) (value-at t) value.Post
+value-enum-known-number t c = search needs
+
+pub value-enum-known-plain : (t : ℕ) → value-lts.Need-enum-known-plain (
+  start-reads.Asked,
+  start-reads.Learnt,
+  read-plain-reads.Asked,
+  read-plain-reads.Learnt,
+  leaf-reads.Asked,
+  leaf-reads.Learnt,
+  raw-below t,
+  raw.Post,
+) (value-at t) value.Post
+value-enum-known-plain t c = search needs
+
+pub value-read-plain-requires : (t : ℕ) → value-lts.Need-read-plain-requires (
+  start-reads.Asked,
+  start-reads.Learnt,
+  read-plain-reads.Asked,
+  read-plain-reads.Learnt,
+  leaf-reads.Asked,
+  leaf-reads.Learnt,
+  raw-below t,
+  raw.Post,
+) (value-at t) value.Post
+value-read-plain-requires t c κs =
+    let p = c .before .before .before .before .before .before .before .before .pre .1 in
+    let s = rw (c .before .before .plain .given .1) at (c .before .before .before .before .start .ensures (p .1 .readers) (p .2 .x) (p .1 .listed) (p .2 .is) (p .0 .place)) in
+    (p .0, s .1)
+
+pub value-enum-known-next : (t : ℕ) → value-lts.Need-enum-known-next (
+  start-reads.Asked,
+  start-reads.Learnt,
+  read-plain-reads.Asked,
+  read-plain-reads.Learnt,
+  leaf-reads.Asked,
+  leaf-reads.Learnt,
+  raw-below t,
+  raw.Post,
+) (value-at t) value.Post
+value-enum-known-next t c = search needs
+
+pub value-leaf-requires : (t : ℕ) → value-lts.Need-leaf-requires (
+  start-reads.Asked,
+  start-reads.Learnt,
+  read-plain-reads.Asked,
+  read-plain-reads.Learnt,
+  leaf-reads.Asked,
+  leaf-reads.Learnt,
+  raw-below t,
+  raw.Post,
+) (value-at t) value.Post
+value-leaf-requires t c κs =
+    let p = c .before .before .before .before .before .before .before .before .pre .1 in
+    let s = rw (c .before .before .next .given .1) at (c .before .before .before .before .start .ensures (p .1 .readers) (p .2 .x) (p .1 .listed) (p .2 .is) (p .0 .place)) in
+    (record { there = omega (arith, s .free, p .0 .long); few = p .0 .few }, (s .ahead, omega (arith, s .inside, p .0 .short)))
+
+pub value-enum-known-place : (t : ℕ) → value-lts.Need-enum-known-place (
+  start-reads.Asked,
+  start-reads.Learnt,
+  read-plain-reads.Asked,
+  read-plain-reads.Learnt,
+  leaf-reads.Asked,
+  leaf-reads.Learnt,
+  raw-below t,
+  raw.Post,
+) (value-at t) value.Post
+value-enum-known-place t c = search needs
+
+pub value-sub-raw : (t : ℕ) → value-lts.Need-sub-raw (
+  start-reads.Asked,
+  start-reads.Learnt,
+  read-plain-reads.Asked,
+  read-plain-reads.Learnt,
+  leaf-reads.Asked,
+  leaf-reads.Learnt,
+  raw-below t,
+  raw.Post,
+) (value-at t) value.Post
+value-sub-raw t c =
+    let p = c .before .before .before .before .before .before .before .before .pre .1 in
+    let s = rw (c .before .before .place .given .1) at (c .before .before .before .before .start .ensures (p .1 .readers) (p .2 .x) (p .1 .listed) (p .2 .is) (p .0 .place)) in
+    omega (arith, s .deep)
+
+pub value-raw-requires : (t : ℕ) → value-lts.Need-raw-requires (
+  start-reads.Asked,
+  start-reads.Learnt,
+  read-plain-reads.Asked,
+  read-plain-reads.Learnt,
+  leaf-reads.Asked,
+  leaf-reads.Learnt,
+  raw-below t,
+  raw.Post,
+) (value-at t) value.Post
+value-raw-requires t c κs =
+    let p = c .before .before .before .before .before .before .before .before .pre .1 in
+    let s = rw (c .before .before .place .given .1) at (c .before .before .before .before .start .ensures (p .1 .readers) (p .2 .x) (p .1 .listed) (p .2 .is) (p .0 .place)) in
+    (omega (arith, c .before .before .before .before .before .before .before .before .pre .0, s .deep), (record { long = p .0 .long; few = p .0 .few; free = s .free; begun = s .ahead; place = s .inside; short = p .0 .short }, p .1, record { type = s .type; is = s .stands }))
+
+pub value-returns : (t : ℕ) → value-lts.Need-returns (
+  start-reads.Asked,
+  start-reads.Learnt,
+  read-plain-reads.Asked,
+  read-plain-reads.Learnt,
+  leaf-reads.Asked,
+  leaf-reads.Learnt,
+  raw-below t,
+  raw.Post,
+) (value-at t) value.Post
+value-returns t c =
+    λ readers x l s.
+    let b = rw (c .before .number .given .1) at (c .before .before .before .start .ensures readers x l s (c .before .before .before .before .before .before .before .pre .1 .0 .place)) in
+    refusing (b (c .before .before .before .before .before .before .before .args .shared) (c .before .before .before .before .before .before .before .args .parent))
+
+pub value-same-length : (t : ℕ) → value-lts.Need-same-length (
+  start-reads.Asked,
+  start-reads.Learnt,
+  read-plain-reads.Asked,
+  read-plain-reads.Learnt,
+  leaf-reads.Asked,
+  leaf-reads.Learnt,
+  raw-below t,
+  raw.Post,
+) (value-at t) value.Post
+value-same-length t c = search needs
+
+pub value-returns-2 : (t : ℕ) → value-lts.Need-returns-2 (
+  start-reads.Asked,
+  start-reads.Learnt,
+  read-plain-reads.Asked,
+  read-plain-reads.Learnt,
+  leaf-reads.Asked,
+  leaf-reads.Learnt,
+  raw-below t,
+  raw.Post,
+) (value-at t) value.Post
+value-returns-2 t c =
+    λ readers x l s.
+    let b = rw (c .before .before .before .before .before .plain .given .1) at (c .before .before .before .before .before .before .before .start .ensures readers x l s (c .before .before .before .before .before .before .before .before .before .before .before .pre .1 .0 .place)) in
+    rw (b .0) (c .before .before .read-plain .ensures readers)
+
+pub value-same-length-2 : (t : ℕ) → value-lts.Need-same-length-2 (
+  start-reads.Asked,
+  start-reads.Learnt,
+  read-plain-reads.Asked,
+  read-plain-reads.Learnt,
+  leaf-reads.Asked,
+  leaf-reads.Learnt,
+  raw-below t,
+  raw.Post,
+) (value-at t) value.Post
+value-same-length-2 t c = search needs
+
+pub value-returns-3 : (t : ℕ) → value-lts.Need-returns-3 (
+  start-reads.Asked,
+  start-reads.Learnt,
+  read-plain-reads.Asked,
+  read-plain-reads.Learnt,
+  leaf-reads.Asked,
+  leaf-reads.Learnt,
+  raw-below t,
+  raw.Post,
+) (value-at t) value.Post
+unfolding seen
+value-returns-3 t c =
+    λ readers x l s.
+    let b = rw (c .before .before .before .before .before .next .given .1) at (c .before .before .before .before .before .before .before .start .ensures readers x l s (c .before .before .before .before .before .before .before .before .before .before .before .pre .1 .0 .place)) in
+    rw (b .is (c .before .before .before .before .before .before .before .before .before .before .before .args .shared) (c .before .before .before .before .before .before .before .before .before .before .before .args .parent)) (c .before .before .leaf .ensures nothing refl)
+
+pub value-same-length-3 : (t : ℕ) → value-lts.Need-same-length-3 (
+  start-reads.Asked,
+  start-reads.Learnt,
+  read-plain-reads.Asked,
+  read-plain-reads.Learnt,
+  leaf-reads.Asked,
+  leaf-reads.Learnt,
+  raw-below t,
+  raw.Post,
+) (value-at t) value.Post
+value-same-length-3 t c = search needs
+
+pub value-returns-4 : (t : ℕ) → value-lts.Need-returns-4 (
+  start-reads.Asked,
+  start-reads.Learnt,
+  read-plain-reads.Asked,
+  read-plain-reads.Learnt,
+  leaf-reads.Asked,
+  leaf-reads.Learnt,
+  raw-below t,
+  raw.Post,
+) (value-at t) value.Post
+value-returns-4 t c =
+    λ readers x l s.
+    let b = rw (c .before .before .before .before .before .place .given .1) at (c .before .before .before .before .before .before .before .start .ensures readers x l s (c .before .before .before .before .before .before .before .before .before .before .before .pre .1 .0 .place)) in
+    rw (b .is (c .before .before .before .before .before .before .before .before .before .before .before .args .shared) (c .before .before .before .before .before .before .before .before .before .before .before .args .depth - 1) (c .before .before .before .before .before .before .before .before .before .before .before .args .parent) (omega (arith, b .deep))) (c .before .before .raw .ensures readers (b .type) l (b .stands))

@@ -1,0 +1,52 @@
+use mathlib.Core.Path.{_≡_, refl, sym, ap, _∙_}
+use lib.ListN.{length}
+use borrow.Author.Needs.{needs}
+use Rattle.walk.proofs.count_below.Statement.{statement}
+use Rattle.walk.proofs.count_below.Tie as tie
+use Rattle.walk.proofs.count_below.Reads as reads
+use Rattle.walk.proofs.count_below.Lts as lts
+use Rattle.heads.proofs.nest.count.Reads as count-reads
+use Rattle.leaves.proofs.run.turns.Reads as turns-reads
+
+enum-told : tie.Need-enum-told
+enum-told c = search needs
+
+enum-known-below : tie.Need-enum-known-below
+enum-known-below c = search needs
+
+turns-requires : tie.Need-turns-requires
+turns-requires c κs =
+    rw (c .before .below .given .1) at (c .before .before .before .pre)
+
+enum-known-below-2 : tie.Need-enum-known-below-2
+enum-known-below-2 c = search needs
+
+count-requires : tie.Need-count-requires
+count-requires c κs = search needs
+
+returns : tie.Need-returns
+returns c =
+    λ codes slots w. sym (ap length (rw (c .enum-told .given .1) at w))
+
+returns-2 : tie.Need-returns-2
+returns-2 c =
+    λ codes slots w.
+    let v = rw (c .before .before .below .given .1) at w in
+    c .turns .ensures ∙ sym (ap length (v .0))
+
+returns-3 : tie.Need-returns-3
+returns-3 c =
+    λ codes slots w. c .count .ensures codes slots (rw (c .before .before .below2 .given .1) at w)
+
+pub count-below-spec : {M : Type 1} → statement M
+count-below-spec =
+    tie.close
+    (tie.spec
+    enum-told
+    enum-known-below
+    turns-requires
+    enum-known-below-2
+    count-requires
+    returns
+    returns-2
+    returns-3)

@@ -1,0 +1,54 @@
+-- What is known where a walk begins. Assumes nothing.
+use mathlib.Core.Path.{_≡_}
+use mathlib.Core.List.{List}
+use Prim.Native.Nat.{ℕ, _+_, _*_, _≤_, _<_, _^_}
+use lib.ListN.{length}
+use Rattle.layout.specs.Target.{Target}
+use Rattle.layout.specs.Slot as L
+use Rattle.readers.specs.declared.Readers.{Readers}
+use Rattle.readers.specs.Listed.{Listed}
+use Rattle.table.specs.declared.Head.{Head}
+use Rattle.leaves.specs.Run.{LawfulRun}
+use Rattle.heads.specs.declared.slot.Slot.{Slot}
+use Rattle.heads.specs.declared.nest.Nest.{Nest}
+use Rattle.heads.specs.declared.nest.Below.{Below}
+use Rattle.heads.specs.declared.nest.Below.the-variants.{Nothing, Simple, Nested}
+use Rattle.heads.specs.Slots.{SlotIs}
+use Rattle.heads.specs.Nests.{Prelude, NestIs, BelowIs}
+use Rattle.objects.specs.Start.{Invoked}
+
+-- the codes hold the types of some readers and those that fonts and pages declare
+pub record Known (codes : List ℕ) (rd : Readers) : Type 0 where
+  pub readers : List Target
+  pub listed : Listed codes rd readers
+  pub prelude : Prelude codes
+
+pub record KnownSlot (codes : List ℕ) (slot : Slot) : Type 0 where
+  pub x : L.Slot
+  pub is : SlotIs codes slot x
+
+pub record KnownType (codes : List ℕ) (place : ℕ) : Type 0 where
+  pub type : Target
+  pub is : Invoked codes place type
+
+pub record KnownBelow (codes : List ℕ) (below : Below) : Type 0 where
+  pub slots : List L.Slot
+  pub is : BelowIs codes below slots
+
+pub record KnownNest (codes : List ℕ) (nest : Nest) : Type 0 where
+  pub slots : List L.Slot
+  pub is : NestIs codes nest slots
+
+abbrev pub LawfulBelow : Below → Type 0
+LawfulBelow Nothing = Unit {0}
+LawfulBelow (Simple run) = LawfulRun run
+LawfulBelow (Nested nest) = Unit {0}
+
+-- a raw value has its row, and all numbers fit
+pub record Ready (file words : List ℕ) (room : ℕ) (h : Head) (at : ℕ) : Type 0 where
+  pub long : 6 * room ≤ length words
+  pub few : length words < 2 ^ 32
+  pub free : h .row < room
+  pub begun : h .first ≤ at
+  pub place : at ≤ length file
+  pub short : length file < 2 ^ 32
