@@ -49,7 +49,7 @@ Lawful (Reference wanted) = kindOf (referenced wanted) ≡ wanted
 -- a value may begin at a place: the words have so many rows, and all numbers fit
 pub record Begin (file words : List ℕ) (room at used : ℕ) : Type 0 where
   pub long : 6 * room ≤ length words
-  pub few : length words < 2 ^ 32
+  pub few : room < 2 ^ 32
   pub rows : used ≤ room
   pub place : at ≤ length file
   pub short : length file < 2 ^ 32
@@ -57,7 +57,7 @@ pub record Begin (file words : List ℕ) (room at used : ℕ) : Type 0 where
 -- a value has its row
 pub record Ready (file words : List ℕ) (h : Head) : Type 0 where
   pub free : 6 * h .row + 6 ≤ length words
-  pub few : length words < 2 ^ 32
+  pub few : h .row + 1 < 2 ^ 32
   pub place : h .first ≤ length file
   pub short : length file < 2 ^ 32
 

@@ -76,7 +76,7 @@ module _ (file : List ℕ) (small : Small file) (readers : List Target) (shared 
         let d : (count (b .2) ≡ length slots) × (used + length slots ≤ b .0) = (c .0, omega (arith, c .0, c .1, v .used-is)) in
         rw qb at d
 
-  module _ (t : Target) (lawful : Lawful t) (h : Head) (at : ℕ) (w₀ : List ℕ) (long : 6 * room ≤ length w₀) (few : length w₀ < 2 ^ 32) (free : h .row < room) where
+  module _ (t : Target) (lawful : Lawful t) (h : Head) (at : ℕ) (w₀ : List ℕ) (long : 6 * room ≤ length w₀) (few : room < 2 ^ 32) (free : h .row < room) where
     abbrev pub rawOf : Outcome
     rawOf = rawAt file readers shared room (under file readers shared room below (h .row)) t (h .first) at (h .row) (h .parent) (h .detail)
 

@@ -1,1 +1,6 @@
+-- The reader list and the shared count of a file.
 pub mod Listed
+pub mod Judged
+pub mod Parts
+pub mod Turns
+pub mod Contract

@@ -1,8 +1,185 @@
 // The reader list of a file: the type of each reader, as a place in an array of codes, and the first byte of its name.
+use answers::Number;
+use types::Resolved;
+ghost use mathlib.Core.Path.{_≡_};
+ghost use Prim.Native.Nat.{_+_, _*_, _≤_, _<_};
+ghost use lib.ListN.{length};
+ghost use Rattle.answers.specs.Told.{told};
+ghost use Rattle.reading.specs.File.{readerAt, readersAt};
+ghost use Rattle.readers.specs.Judged.{judgedName};
+ghost use Rattle.readers.specs.Parts.{upTo, versionAt, endOf, namedAt, Takes};
+ghost use Rattle.readers.specs.Contract.{countedAt, listsOf, ReadsLists};
+ghost use Rattle.readers.specs.Turns.{Ends};
 
 // The types and names of the first `count` readers.
 pub struct Readers {
     pub targets: [u32; 64],
     pub starts: [u32; 64],
     pub count: u32,
+}
+
+// One reader: a refusal's number and place, or the first byte of its name, how many codes are used, and the next place.
+pub enum One {
+    Refused(u32, usize),
+    Read(usize, usize, usize),
+}
+
+// A seven-bit number that is at most `most`.
+fn up_to(file: &[u8], most: u64, at: usize) -> Number
+    ensures { λ r. ⌜ told r ≡ upTo most (now (file .entry)) at ⌝ }
+{
+    match numbers::seven::seven_at(file, at) {
+        Number::Refused(number, place) => Number::Refused(number, place),
+        Number::Read(n, next) => {
+            if n <= most {
+                return Number::Read(n, next);
+            }
+            Number::Refused(9, at)
+        }
+    }
+}
+
+// A reader's version, which is 0.
+fn version_at(file: &[u8], at: usize) -> Number
+    ensures { λ r. ⌜ told r ≡ versionAt (now (file .entry)) at ⌝ }
+{
+    match numbers::little::little4(file, at) {
+        Number::Refused(number, place) => Number::Refused(number, place),
+        Number::Read(version, next) => {
+            if version != 0 {
+                return Number::Refused(12, at);
+            }
+            Number::Read(version, next)
+        }
+    }
+}
+
+// The version of a reader whose name starts at `first` and whose codes end before `end`.
+fn versioned(file: &[u8], first: usize, end: usize, at: usize) -> One
+    ensures { λ r. ⌜ r ≡ endOf first end (versionAt (now (file .entry)) at) ⌝ }
+{
+    match version_at(file, at) {
+        Number::Refused(number, place) => One::Refused(number, place),
+        Number::Read(_, next) => One::Read(first, end, next),
+    }
+}
+
+// A reader whose name has n bytes from `first` on, which its count at `at` says.
+fn named_at(file: &[u8], codes: &mut [u8], used: usize, at: usize, first: usize, n: usize) -> One
+    requires { ⌜ (first ≤ length (now file)) × (n ≤ 1024) × (used + 1024 ≤ length (now codes)) ⌝ }
+    ensures { λ r. ⌜ Takes (namedAt (now (file .entry)) n at first) (now (file .entry)) (now (codes .entry)) (now (codes .exit)) used r ⌝ }
+{
+    if !numbers::little::has_bytes(file, first, n) {
+        return One::Refused(1, at);
+    }
+    let version = first + n;
+    match types::resolve(&file[first..version], codes, used) {
+        Resolved::NoRoom => One::Refused(1, at),
+        Resolved::Broken => One::Refused(10, first),
+        Resolved::Unknown => One::Refused(11, first),
+        Resolved::Target(end) => versioned(file, first, end, version),
+    }
+}
+
+// A reader: the count of its name's bytes, its name and its version.
+fn reader_at(file: &[u8], codes: &mut [u8], used: usize, at: usize) -> One
+    requires { ⌜ used + 1024 ≤ length (now codes) ⌝ }
+    ensures { λ r. ⌜ Takes (readerAt judgedName (now (file .entry)) at) (now (file .entry)) (now (codes .entry)) (now (codes .exit)) used r ⌝ }
+{
+    match numbers::seven::seven_at(file, at) {
+        Number::Refused(number, place) => One::Refused(number, place),
+        Number::Read(n, first) => {
+            if n == 0 {
+                return One::Refused(9, at);
+            }
+            if 1024 < n {
+                return One::Refused(9, at);
+            }
+            named_at(file, codes, used, at, first, n as usize)
+        }
+    }
+}
+
+// So many readers were read and end at a place, or a refusal's number and place.
+pub enum Many {
+    Refused(u32, usize),
+    Ended(usize),
+}
+
+// The readers in order. The codes of the first stand at place 11, those of each other behind those before it.
+fn readers_at(
+    file: &[u8],
+    codes: &mut [u8],
+    targets: &mut [u32],
+    starts: &mut [u32],
+    n: usize,
+    at: usize,
+) -> Many
+    requires { ⌜ (length (now file) ≤ 16777216) × (n ≤ 64) × (length (now codes) ≡ 7168) × (length (now targets) ≡ 64) × (length (now starts) ≡ 64) ⌝ }
+    ensures { λ r. ⌜ Ends (now (file .entry)) (now (codes .entry)) (now (codes .exit)) (now (targets .exit)) (now (starts .exit)) n at r ⌝ }
+{
+    let mut i = 0;
+    let mut used: usize = 11;
+    let mut next = at;
+    while i < n {
+        match reader_at(file, codes, used, next) {
+            One::Refused(number, place) => {
+                return Many::Refused(number, place);
+            }
+            One::Read(first, end, after) => {
+                targets[i] = used as u32;
+                starts[i] = first as u32;
+                used = end;
+                next = after;
+            }
+        }
+        i += 1;
+    }
+    Many::Ended(next)
+}
+
+// How many readers there are, the shared count and the next place, or a refusal's number and place.
+pub enum Lists {
+    Refused(u32, usize),
+    Read(u32, u32, usize),
+}
+
+// The readers and the shared count, behind the reader count.
+fn counted(
+    file: &[u8],
+    codes: &mut [u8],
+    targets: &mut [u32],
+    starts: &mut [u32],
+    n: usize,
+    at: usize,
+) -> Lists
+    requires { ⌜ (length (now file) ≤ 16777216) × (n ≤ 64) × (length (now codes) ≡ 7168) × (length (now targets) ≡ 64) × (length (now starts) ≡ 64) ⌝ }
+    ensures { λ r. ⌜ ReadsLists (countedAt (now (file .entry)) n at) (now (file .entry)) (now (codes .entry)) (now (codes .exit)) (now (targets .exit)) (now (starts .exit)) r ⌝ }
+{
+    match readers_at(file, codes, targets, starts, n, at) {
+        Many::Refused(number, place) => Lists::Refused(number, place),
+        Many::Ended(end) => match up_to(file, 256, end) {
+            Number::Refused(number, place) => Lists::Refused(number, place),
+            Number::Read(shared, next) => Lists::Read(n as u32, shared as u32, next),
+        },
+    }
+}
+
+// The reader list and the shared count at a place. The targets' codes are left in `codes` from place 11 on, and where they and the names start in `targets` and `starts`.
+pub fn read_lists(
+    file: &[u8],
+    codes: &mut [u8; 7168],
+    targets: &mut [u32; 64],
+    starts: &mut [u32; 64],
+    at: usize,
+) -> Lists
+    ensures { λ r. ⌜ ReadsLists (listsOf (now (file .entry)) at) (now (file .entry)) (now (codes .entry)) (now (codes .exit)) (now (targets .exit)) (now (starts .exit)) r ⌝ }
+{
+    if 16777216 < file.len() {
+        return Lists::Refused(9, 0);
+    }
+    match up_to(file, 64, at) {
+        Number::Refused(number, place) => Lists::Refused(number, place),
+        Number::Read(n, next) => counted(file, codes, targets, starts, n as usize, next),
+    }
 }

@@ -36,7 +36,7 @@ pub record Walked (entry exit : List ℕ) (used : ℕ) (o : Answer Seen) (r : Wa
 -- the words have the row, and its number and the one after it fit
 pub record Free (w : List ℕ) (row : ℕ) : Type 0 where
   pub there : 6 * row + 6 ≤ length w
-  pub few : length w < 2 ^ 32
+  pub few : row + 1 < 2 ^ 32
 
 -- what was read ends at or behind a place, which fits a word
 abbrev pub Ahead : {A : Type 0} → (first : ℕ) → Answer A → Type 0

@@ -47,7 +47,7 @@ LawfulBelow (Nested nest) = Unit {0}
 -- a raw value has its row, and all numbers fit
 pub record Ready (file words : List ℕ) (room : ℕ) (h : Head) (at : ℕ) : Type 0 where
   pub long : 6 * room ≤ length words
-  pub few : length words < 2 ^ 32
+  pub few : room < 2 ^ 32
   pub free : h .row < room
   pub begun : h .first ≤ at
   pub place : at ≤ length file

@@ -173,8 +173,8 @@ fn children(
     }
 }
 
-// Values one after the other, some of which need the reader list.
-fn nested(
+// Values one after the other, some of which need the reader list. Their parent is the row before the first of theirs, or none if that is row 0.
+pub fn nested(
     file: &[u8],
     codes: &[u8],
     rd: Readers,

@@ -105,7 +105,7 @@ pub value-leaf-requires : (t : ℕ) → value-lts.Need-leaf-requires (
 value-leaf-requires t c κs =
     let p = c .before .before .before .before .before .before .before .before .pre .1 in
     let s = rw (c .before .before .next .given .1) at (c .before .before .before .before .start .ensures (p .1 .readers) (p .2 .x) (p .1 .listed) (p .2 .is) (p .0 .place)) in
-    (record { there = omega (arith, s .free, p .0 .long); few = p .0 .few }, (s .ahead, omega (arith, s .inside, p .0 .short)))
+    (record { there = omega (arith, s .free, p .0 .long); few = omega (arith, s .free, p .0 .few) }, (s .ahead, omega (arith, s .inside, p .0 .short)))
 
 pub value-enum-known-place : (t : ℕ) → value-lts.Need-enum-known-place (
   start-reads.Asked,

@@ -1,0 +1,95 @@
+-- The whole reader list and the shared count. Assumes nothing.
+use mathlib.Core.Path.{_≡_, refl, sym, _∙_}
+use mathlib.Core.Bool.{Bool, true, false}
+use mathlib.Core.List.{List, append-nil}
+use Prim.Native.Nat.{ℕ, _-_, _<_, _≤_}
+use native.Mathlib.Omega.{arith}
+use lib.Dec.{leb}
+use lib.ListN.{length}
+use borrow.Author.Tests.{lt-leb}
+use Rattle.layout.specs.Target.{Target}
+use Rattle.reading.specs.Answer.{Answer, refused, read, bind, check}
+use Rattle.reading.specs.Seven.{sevenAt}
+use Rattle.reading.specs.File.{readersAt, listsAt}
+use Rattle.readers.specs.Judged.{judgedName}
+use Rattle.readers.specs.Parts.{upTo}
+use Rattle.readers.proofs.Parts.{up-to-bound}
+use Rattle.readers.specs.Turns.{Ended-at}
+use Rattle.readers.specs.Contract.{Reading, countedAt, listsOf, short-file, ListsRead}
+
+-- behind the reader count
+module _ (file : List ℕ) (n at : ℕ) where
+  pub readers-refused : {k p : ℕ} → readersAt judgedName file n at ≡ refused k p → countedAt file n at ≡ refused k p
+  unfolding countedAt bind
+  readers-refused q = rw q
+
+  module _ {codes codes′ targets starts : List ℕ} {next : ℕ} (e : Ended-at file codes codes′ targets starts n at next) where
+    all-read : readersAt judgedName file n at ≡ read (e .reached .names, e .reached .readers) next
+    unfolding readersAt bind
+    all-read =
+        let z : n - e .i ≡ 0 = omega (arith, e .all) in
+        e .reached .answer ∙ rw (z, append-nil (e .reached .names), append-nil (e .reached .readers))
+
+    pub shared-refused : {k p : ℕ} → upTo 256 file next ≡ refused k p → countedAt file n at ≡ refused k p
+    unfolding countedAt bind
+    shared-refused q = rw (all-read, q)
+
+    pub shared-read : n ≤ 64 → {s behind : ℕ} → upTo 256 file next ≡ read s behind → ListsRead (countedAt file n at) file codes codes′ targets starts n s behind
+    unfolding countedAt bind
+    shared-read few q =
+        let r = e .reached in
+        let l : length (r .readers) ≡ n = r .readers-are ∙ e .all in
+        record {
+          names = r .names;
+          readers = r .readers;
+          answer = rw (all-read, q);
+          shared-few = up-to-bound 256 file next q;
+          paired = r .names-are ∙ sym (r .readers-are);
+          listed = record {
+            counts = sym l;
+            few = omega arith;
+            stands = λ i h. r .each i (omega (arith, r .readers-are)) .stands;
+            plain = λ i h. r .each i (omega (arith, r .readers-are)) .plain;
+          };
+          kept = r .kept;
+          named = λ i h. r .each i (omega (arith, r .names-are)) .there;
+        }
+
+-- a count that is read and tested, and what is read behind it
+up-to-bind : {A : Type 0} (most : ℕ) (file : List ℕ) (at : ℕ) (k : ℕ → ℕ → Answer A) → bind (upTo most file at) k ≡ bind (sevenAt file at) (λ n e. check (leb n most) 9 at (k n e))
+unfolding upTo bind check
+up-to-bind {A} most file at k = by-count (sevenAt file at) where
+  by-test : (b : Bool) (n e : ℕ) → bind (check b 9 at (read n e)) k ≡ check b 9 at (k n e)
+  by-test true n e = refl
+  by-test false n e = refl
+
+  by-count : (x : Answer ℕ) → bind (bind x (λ n e. check (leb n most) 9 at (read n e))) k ≡ bind x (λ n e. check (leb n most) 9 at (k n e))
+  by-count (refused m p) = refl
+  by-count (read n e) = by-test (leb n most) n e
+
+module _ (file : List ℕ) (at : ℕ) where
+  pub lists-long : 16777216 < length file → listsOf file at ≡ refused 9 0
+  unfolding listsOf check
+  lists-long h = rw (lt-leb (length file) 16777216 h)
+
+  module _ (h : length file ≤ 16777216) where
+    -- what stands behind the reader count, as reading has it
+    behind : (n e : ℕ) → Reading
+    behind n e = bind (readersAt judgedName file n e) (λ l shared. bind (sevenAt file shared) (λ s next. check (leb s 256) 9 shared (read (l .0, l .1, s) next)))
+
+    lists-are : listsOf file at ≡ bind (upTo 64 file at) behind
+    unfolding listsAt behind
+    lists-are = short-file file at h ∙ sym (up-to-bind 64 file at behind)
+
+    pub lists-refused : {k p : ℕ} → upTo 64 file at ≡ refused k p → listsOf file at ≡ refused k p
+    unfolding bind
+    lists-refused q = lists-are ∙ rw q
+
+    by-readers : (x : Answer (List (List ℕ) × List Target)) → bind {B = List (List ℕ) × List Target × ℕ} x (λ l shared. bind (sevenAt file shared) (λ s next. check (leb s 256) 9 shared (read (l .0, l .1, s) next))) ≡ bind {B = List (List ℕ) × List Target × ℕ} x (λ l e. bind (upTo 256 file e) (λ s next. read (l .0, l .1, s) next))
+    unfolding bind
+    by-readers (refused k p) = refl
+    by-readers (read l e) = sym (up-to-bind 256 file e (λ s next. read (l .0, l .1, s) next))
+
+    pub lists-counted : {n e : ℕ} → upTo 64 file at ≡ read n e → listsOf file at ≡ countedAt file n e
+    unfolding bind behind countedAt
+    lists-counted {n} {e} q = lists-are ∙ rw q (by-readers (readersAt judgedName file n e))

@@ -1,0 +1,43 @@
+-- `readers::read_lists` meets its contract. Assumes nothing.
+use mathlib.Core.Path.{sym, ap, _∙_}
+use Rattle.answers.specs.Told.{told}
+use Rattle.readers.proofs.Parts.{up-to-bound}
+use Rattle.readers.proofs.Whole.{lists-long, lists-refused, lists-counted}
+use borrow.Author.Needs.{needs}
+use Rattle.readers.proofs.read_lists.Statement.{statement}
+use Rattle.readers.proofs.read_lists.Tie as tie
+
+returns : tie.Need-returns
+returns c = lists-long _ _ (c .if1 .taken)
+
+up-to-requires : tie.Need-up-to-requires
+up-to-requires c κs = search needs
+
+enum-known-number : tie.Need-enum-known-number
+enum-known-number c = search needs
+
+enum-known-n : tie.Need-enum-known-n
+enum-known-n c = search needs
+
+counted-requires : tie.Need-counted-requires
+counted-requires c κs = (c .before .before .before .before .before .before .before .if1 .left, up-to-bound _ _ _ (sym (c .before .before .before .before .before .before .up-to .ensures) ∙ ap told (c .before .before .before .before .n .given .1)), search needs, search needs, search needs)
+
+returns-2 : tie.Need-returns-2
+returns-2 c = lists-refused _ _ (c .before .before .before .before .if1 .left) (sym (c .before .before .before .up-to .ensures) ∙ ap told (c .before .number .given .1))
+
+returns-3 : tie.Need-returns-3
+returns-3 c =
+    let a = c .before .before .before .before .before .before .before .before .before .before .args in
+    rw (lists-counted (a .file .now) (a .at) (c .before .before .before .before .before .before .before .before .if1 .left) (sym (c .before .before .before .before .before .before .before .up-to .ensures) ∙ ap told (c .before .before .before .before .before .n .given .1))) (c .counted .ensures)
+
+pub read-lists-spec : {M : Type 1} → statement M
+read-lists-spec =
+    tie.close
+    (tie.spec
+    returns
+    up-to-requires
+    enum-known-number
+    enum-known-n
+    counted-requires
+    returns-2
+    returns-3)

@@ -1,0 +1,114 @@
+-- `readers::readers_at` meets its contract: before each turn the first `i` readers are in the arrays. Assumes nothing.
+use mathlib.Core.Path.{_≡_, refl}
+use Prim.Native.Nat.{_-_}
+use native.Mathlib.Omega.{arith}
+use lib.ListN.{length}
+use Rattle.readers.specs.Turns.{Reached}
+use Rattle.readers.proofs.Turns.{start, refuse, stop, turn}
+use borrow.Author.Needs.{needs}
+use Rattle.readers.proofs.readers_at.Statement.{statement}
+use Rattle.readers.proofs.readers_at.Tie as tie
+
+abbrev Inv-loop : tie.InvT-loop
+Inv-loop file codes₀ targets₀ starts₀ n at i₀ used₀ next₀ codes targets starts i used next =
+    (length codes ≡ length codes₀) × (length targets ≡ length targets₀) × (length starts ≡ length starts₀) × Reached file codes₀ codes targets starts n at i used next
+
+abbrev μ-loop : tie.MeasureT-loop
+μ-loop file codes₀ targets₀ starts₀ n at i₀ used₀ next₀ codes targets starts i used next = n - i
+
+loop-holds : tie.Need-loop-holds Inv-loop μ-loop
+loop-holds c = (refl, refl, refl, start _ _ _ _ _ _)
+
+reader-at-requires : tie.Need-reader-at-requires Inv-loop μ-loop
+reader-at-requires c κs = search needs
+
+enum-known-number : tie.Need-enum-known-number Inv-loop μ-loop
+enum-known-number c = search needs
+
+same-length : tie.Need-same-length Inv-loop μ-loop
+same-length c = search needs
+
+same-length-2 : tie.Need-same-length-2 Inv-loop μ-loop
+same-length-2 c = search needs
+
+same-length-3 : tie.Need-same-length-3 Inv-loop μ-loop
+same-length-3 c = search needs
+
+returns : tie.Need-returns Inv-loop μ-loop
+returns c = refuse (c .before .before .before .before .before .before .before .before .loop .inv .3) (c .before .before .before .before .before .before .before .loop-test .taken) (rw (c .before .number .given .1) at (c .before .before .before .before .before .reader-at .ensures))
+
+enum-known-first : tie.Need-enum-known-first Inv-loop μ-loop
+enum-known-first c = search needs
+
+cast-targets : tie.Need-cast-targets Inv-loop μ-loop
+cast-targets c = search needs
+
+mul-targets : tie.Need-mul-targets Inv-loop μ-loop
+mul-targets c = search needs
+
+slice-write-targets : tie.Need-slice-write-targets Inv-loop μ-loop
+slice-write-targets c = search needs
+
+cast-starts : tie.Need-cast-starts Inv-loop μ-loop
+cast-starts c =
+    let t = rw (c .before .first .given .1) at (c .before .before .before .before .before .reader-at .ensures) in
+    omega (arith, t .inside, c .before .before .before .before .before .before .before .before .before .before .before .before .before .pre .0)
+
+mul-starts : tie.Need-mul-starts Inv-loop μ-loop
+mul-starts c = search needs
+
+slice-write-starts : tie.Need-slice-write-starts Inv-loop μ-loop
+slice-write-starts c = search needs
+
+add-i : tie.Need-add-i Inv-loop μ-loop
+add-i c = search needs
+
+loop-less : tie.Need-loop-less Inv-loop μ-loop
+loop-less c = search needs
+
+loop-again : tie.Need-loop-again Inv-loop μ-loop
+loop-again c =
+    let h = c .before .before .before .before .before .before .before .loop-test .taken in
+    let v = c .before .before .before .before .before .before .before .before .loop .inv in
+    let p = c .before .before .before .before .before .before .before .before .before .before .before .before .before .pre in
+    (search needs, search needs, search needs, turn (v .3) (rw (c .before .first .given .1) at (c .before .before .before .before .before .reader-at .ensures)) h (omega (arith, v .1, p .1, p .3)) (omega (arith, v .2, p .1, p .4)))
+
+same-length-4 : tie.Need-same-length-4 Inv-loop μ-loop
+same-length-4 c = search needs
+
+same-length-5 : tie.Need-same-length-5 Inv-loop μ-loop
+same-length-5 c = search needs
+
+same-length-6 : tie.Need-same-length-6 Inv-loop μ-loop
+same-length-6 c = search needs
+
+returns-2 : tie.Need-returns-2 Inv-loop μ-loop
+returns-2 c = stop (c .before .loop .inv .3) (c .loop-test .left)
+
+pub readers-at-spec : {M : Type 1} → statement M
+readers-at-spec =
+    tie.close
+    (tie.spec
+    Inv-loop
+    μ-loop
+    loop-holds
+    reader-at-requires
+    enum-known-number
+    same-length
+    same-length-2
+    same-length-3
+    returns
+    enum-known-first
+    cast-targets
+    mul-targets
+    slice-write-targets
+    cast-starts
+    mul-starts
+    slice-write-starts
+    add-i
+    loop-less
+    loop-again
+    same-length-4
+    same-length-5
+    same-length-6
+    returns-2)

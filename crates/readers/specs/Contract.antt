@@ -1,0 +1,53 @@
+-- What reading the reader list and the shared count answers, and what it leaves in the codes. Assumes nothing.
+use mathlib.Core.Path.{_≡_}
+use mathlib.Core.List.{List, []}
+use Prim.Native.Nat.{ℕ, _<_, _≤_}
+use lib.Dec.{leb}
+use lib.ListN.{length, take, drop, getD}
+use borrow.Author.Tests.{le-leb}
+use Rattle.layout.specs.Target.{Target}
+use Rattle.reading.specs.Answer.{Answer, refused, read, bind, check}
+use Rattle.reading.specs.File.{readersAt, listsAt}
+use Rattle.readers.specs.declared.Readers.{Readers}
+use Rattle.readers.specs.declared.Lists.{Lists}
+use Rattle.readers.specs.declared.Lists.the-variants.{Refused, Read}
+use Rattle.readers.specs.Listed.{Listed}
+use Rattle.readers.specs.Judged.{judgedName}
+use Rattle.readers.specs.Parts.{upTo}
+
+-- what the names, the targets and the shared count are read as
+abbrev pub Reading : Type 0
+Reading = Answer (List (List ℕ) × List Target × ℕ)
+
+-- n readers and the shared count, behind the reader count
+unfoldable pub countedAt : (file : List ℕ) (n at : ℕ) → Reading
+countedAt file n at = bind (readersAt judgedName file n at) (λ l e. bind (upTo 256 file e) (λ s next. read (l .0, l .1, s) next))
+
+-- the lists of a file; 01: "longer than 16,777,216 bytes is 9 at 0"
+unfoldable pub listsOf : (file : List ℕ) (at : ℕ) → Reading
+listsOf file at = check (leb (length file) 16777216) 9 0 (listsAt judgedName file at)
+
+-- a file that the header's rules let through is not longer
+pub short-file : (file : List ℕ) (at : ℕ) → length file ≤ 16777216 → listsOf file at ≡ listsAt judgedName file at
+unfolding listsOf check
+short-file file at h = rw (le-leb (length file) 16777216 h)
+
+-- the reader list that two arrays and a count make
+abbrev pub listing : (targets starts : List ℕ) (count : ℕ) → Readers
+listing targets starts count = record { targets = targets; starts = starts; count = count }
+
+-- the lists were read: the targets stand in the codes from place 11 on, and each name stands in the file at its start
+pub record ListsRead (x : Reading) (file codes codes′ targets starts : List ℕ) (count shared next : ℕ) : Type 0 where
+  pub names : List (List ℕ)
+  pub readers : List Target
+  pub answer : x ≡ read (names, readers, shared) next
+  pub shared-few : shared ≤ 256
+  pub paired : length names ≡ length readers
+  pub listed : Listed codes′ (listing targets starts count) readers
+  pub kept : take 11 codes′ ≡ take 11 codes
+  pub named : (i : ℕ) → i < length names → take (length (getD names i [])) (drop (getD starts i 0) file) ≡ getD names i []
+
+-- the code answers what reading answers
+abbrev pub ReadsLists : (x : Reading) (file codes codes′ targets starts : List ℕ) → Lists → Type 0
+ReadsLists x file codes codes′ targets starts (Refused n p) = x ≡ refused n p
+ReadsLists x file codes codes′ targets starts (Read count shared next) = ListsRead x file codes codes′ targets starts count shared next

@@ -1,0 +1,64 @@
+-- What a reader's name is judged to be (01, "Reader names"). Assumes nothing.
+use mathlib.Core.Path.{_≡_, refl, sym, ap, _∙_}
+use mathlib.Core.List.{List}
+use Prim.Native.Nat.{ℕ}
+use native.Mathlib.Omega.{arith}
+use Rattle.layout.specs.Target.{Target}
+use Rattle.names.specs.Name.{Name, text, Formed}
+use Rattle.names.specs.Parse.{Read, broken, name, nameOf}
+use Rattle.names.specs.Laws.{text-is-read, read-is-text}
+use Rattle.types.specs.Types.{Typed, unknown as no-type, known as has-type, readerOf}
+use Rattle.reading.specs.File.{Named, unknown, known, Judges}
+
+-- 01: "A head that is not listed, or a wrong argument count: 11"
+unfoldable pub typedName : Typed → Named
+typedName no-type = unknown 11
+typedName (has-type t) = known t
+
+-- 01: "Broken: 10", which is judged before heads
+unfoldable pub readName : Read → Named
+readName (broken hs) = unknown 10
+readName (name n k) = typedName (readerOf n)
+
+-- what the bytes of a reader's name are judged to be
+unfoldable pub judgedName : List ℕ → Named
+judgedName s = readName (nameOf s)
+
+-- the bytes are the text of a name that keeps 01's grammar and names a reader of this target
+unfoldable pub named : List ℕ → Target → Type 0
+named s t = (n : Name) × Formed 8 n × (text n ≡ s) × (readerOf n ≡ has-type t)
+
+-- the target of a formed name's text, and that it has none
+pub known-name : (s : List ℕ) (n : Name) (t : Target) → Formed 8 n → s ≡ text n → readerOf n ≡ has-type t → judgedName s ≡ known t
+unfolding judgedName readName typedName
+known-name s n t f q e = rw (q, text-is-read n f, e)
+
+pub eleven-name : (s : List ℕ) (n : Name) → Formed 8 n → s ≡ text n → readerOf n ≡ no-type → judgedName s ≡ unknown 11
+unfolding judgedName readName typedName
+eleven-name s n f q e = rw (q, text-is-read n f, e)
+
+-- the text of no formed name
+pub ten-name : (s : List ℕ) → ((n : Name) → Formed 8 n → s ≡ text n → ⊥) → judgedName s ≡ unknown 10
+unfolding judgedName readName
+ten-name s none = go (nameOf s) refl where
+  go : (r : Read) → nameOf s ≡ r → readName r ≡ unknown 10
+  go (broken hs) e = refl
+  go (name n k) e = let g = read-is-text s n k e in absurd (none n (g .0) (g .1))
+
+typed-sound : (n : Name) (t : Target) (k : Typed) → readerOf n ≡ k → typedName k ≡ known t → readerOf n ≡ has-type t
+unfolding typedName
+typed-sound n t no-type e q = absurd (let z : _≡_ {A = ℕ} 0 1 = cc in omega arith)
+typed-sound n t (has-type u) e q = let z : u ≡ t = cc in e ∙ ap has-type z
+
+read-sound : (s : List ℕ) (t : Target) (r : Read) → nameOf s ≡ r → readName r ≡ known t → named s t
+unfolding readName named
+read-sound s t (broken hs) e q = absurd (let z : _≡_ {A = ℕ} 0 1 = cc in omega arith)
+read-sound s t (name n k) e q = let g = read-is-text s n k e in (n, g .0, sym (g .1), typed-sound n t (readerOf n) refl q)
+
+-- the judgement says just what is written
+pub judges : Judges named judgedName
+unfolding judgedName named
+judges = record {
+  known-sound = λ s t e. read-sound s t (nameOf s) refl e;
+  known-complete = λ s t w. known-name s (w .0) t (w .1) (sym (w .2)) (w .3);
+}
