@@ -34,9 +34,9 @@ module _ (file : List ℕ) (n at : ℕ) where
     unfolding countedAt bind
     shared-refused q = rw (all-read, q)
 
-    pub shared-read : n ≤ 64 → {s behind : ℕ} → upTo 256 file next ≡ read s behind → ListsRead (countedAt file n at) file codes codes′ targets starts n s behind
+    pub shared-read : n ≤ 64 → length codes′ ≡ 7168 → length targets ≡ 64 → length starts ≡ 64 → {s behind : ℕ} → upTo 256 file next ≡ read s behind → ListsRead (countedAt file n at) file codes codes′ targets starts n s behind
     unfolding countedAt bind
-    shared-read few q =
+    shared-read few x y z q =
         let r = e .reached in
         let l : length (r .readers) ≡ n = r .readers-are ∙ e .all in
         record {
@@ -51,6 +51,9 @@ module _ (file : List ℕ) (n at : ℕ) where
             stands = λ i h. r .each i (omega (arith, r .readers-are)) .stands;
             plain = λ i h. r .each i (omega (arith, r .readers-are)) .plain;
           };
+          codes-size = x;
+          targets-size = y;
+          starts-size = z;
           kept = r .kept;
           named = λ i h. r .each i (omega (arith, r .names-are)) .there;
         }

@@ -44,6 +44,9 @@ pub record ListsRead (x : Reading) (file codes codes′ targets starts : List �
   pub shared-few : shared ≤ 256
   pub paired : length names ≡ length readers
   pub listed : Listed codes′ (listing targets starts count) readers
+  pub codes-size : length codes′ ≡ 7168
+  pub targets-size : length targets ≡ 64
+  pub starts-size : length starts ≡ 64
   pub kept : take 11 codes′ ≡ take 11 codes
   pub named : (i : ℕ) → i < length names → take (length (getD names i [])) (drop (getD starts i 0) file) ≡ getD names i []
 

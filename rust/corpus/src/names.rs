@@ -45,7 +45,10 @@ pub const TABLE: &[(u32, &str)] = &[
     (0, "Microsoft.Xna.Framework.Content.DictionaryReader`2[[System.Nullable`1[[System.DateTime]]],[System.Collections.Generic.Dictionary`2[[System.Char],[System.TimeSpan]]]]"),
     (0, "Microsoft.Xna.Framework.Content.NullableReader`1[[Microsoft.Xna.Framework.Quaternion]]"),
     (0, "Microsoft.Xna.Framework.Content.EnumReader`1[[Coach.Door]]"),
+    (0, "Microsoft.Xna.Framework.Content.DictionaryReader`2[[System.Char],[Microsoft.Xna.Framework.Rectangle]]"),
+    (0, "Microsoft.Xna.Framework.Content.ListReader`1[[System.Collections.Generic.List`1[[System.Char]]]]"),
     // Enum's own argument is any other name, even a reader's or that of a type of 000 without a kind.
+    (0, "Microsoft.Xna.Framework.Content.EnumReader`1[[A]]"),
     (0, "Microsoft.Xna.Framework.Content.EnumReader`1[[.+_9]]"),
     (0, "Microsoft.Xna.Framework.Content.EnumReader`1[[System.Enum]]"),
     (0, "Microsoft.Xna.Framework.Content.EnumReader`1[[system.int32]]"),
@@ -136,6 +139,18 @@ pub const TABLE: &[(u32, &str)] = &[
     (11, "Microsoft.Xna.Framework.Content.ListReader`1[[System.Enum]]"),
     (11, "Microsoft.Xna.Framework.Content.ListReader`1[[Microsoft.Xna.Framework.Content.ByteReader]]"),
     (11, "Microsoft.Xna.Framework.Content.DictionaryReader`2[[System.Byte],[Unknown]]"),
+    // The parts of names that 01 shows, as readers.
+    (10, "[[A]]"),
+    (10, "[[A],[B]]"),
+    (11, "Microsoft.Xna.Framework.Content."),
+    (11, "Reader"),
+    (11, "System.Char"),
+    (11, "Microsoft.Xna.Framework.Rectangle"),
+    (11, "System.Collections.Generic.List"),
+    (11, "System.Collections.Generic.List`1[[System.Char]]"),
+    (11, "Microsoft.Xna.Framework.Graphics."),
+    (11, "Microsoft.Xna.Framework.Content.ListReader`1[[A]]"),
+    (11, "Microsoft.Xna.Framework.Content.DictionaryReader`2[[A],[B]]"),
     // Wrong argument counts.
     (11, "Microsoft.Xna.Framework.Content.ByteReader`1[[System.Byte]]"),
     (11, "Microsoft.Xna.Framework.Content.ListReader"),
@@ -179,7 +194,13 @@ pub fn nested(levels: usize) -> String {
     format!("Microsoft.Xna.Framework.Content.ListReader`1[[{opening}System.Byte{closing}]]")
 }
 
-/// The table, and names at and past the deepest level.
+/// A good name of this many bytes, most of them its tail.
+pub fn tailed(length: usize) -> String {
+    let name = "Coach.Console.PageReader,";
+    format!("{name}{}", "a".repeat(length - name.len()))
+}
+
+/// The table, names at and past the deepest level, and one as long as a name may be.
 pub fn all() -> Vec<(u32, String)> {
     let mut names: Vec<(u32, String)> = Vec::new();
     for (number, name) in TABLE {
@@ -190,5 +211,11 @@ pub fn all() -> Vec<(u32, String)> {
     names.push((10, nested(9)));
     names.push((10, nested(12)));
     names.push((10, nested(9).replace("System", "Unknown")));
+    names.push((0, tailed(1024)));
     names
+}
+
+/// Names that are empty or too long: 9.
+pub fn of_wrong_length() -> Vec<(u32, String)> {
+    vec![(9, String::new()), (9, tailed(1025))]
 }

@@ -1,0 +1,69 @@
+use mathlib.Core.Path.{_≡_, refl, sym, ap, subst, _∙_}
+use Prim.Native.Nat.{ℕ}
+use Rattle.reading.specs.File.{finished}
+use Rattle.fill.specs.Fill.{cleared}
+use Rattle.load.specs.Laws.{not-the-end, wrong-resource, all-well, loads-refused}
+use borrow.Author.Needs.{needs}
+use Rattle.load.proofs.finish.Statement.{statement}
+use Rattle.load.proofs.finish.Tie as tie
+use Rattle.load.proofs.finish.Reads as reads
+use Rattle.load.proofs.finish.Lts as lts
+use Rattle.fill.proofs.clear.Reads as clear-reads
+use Rattle.ids.proofs.RowNumber.position.Reads as position-reads
+use Rattle.resources.proofs.settle.Reads as settle-reads
+
+returns : tie.Need-returns
+returns c =
+    λ platform flags names a rest d. loads-refused _ (c .before .before .before .args .words .now) _ (not-the-end _ platform flags names _ _ a _ (c .if1 .taken))
+
+settle-requires : tie.Need-settle-requires
+settle-requires c κs = search needs
+
+enum-known-first : tie.Need-enum-known-first
+enum-known-first c = search needs
+
+cast-t14 : tie.Need-cast-t14
+cast-t14 c = search needs
+
+enum-told : tie.Need-enum-told
+enum-told c = search needs
+
+position-requires : tie.Need-position-requires
+position-requires c κs = search needs
+
+clear-requires : tie.Need-clear-requires
+clear-requires c κs = search needs
+
+same-length : tie.Need-same-length
+same-length c = search needs
+
+returns-2 : tie.Need-returns-2
+returns-2 c =
+    λ platform flags names a rest d.
+    let s = c .before .before .before .before .before .settle .ensures (a .1) rest d in
+    loads-refused _ (c .before .before .before .before .before .before .before .before .before .before .args .words .now) _ (wrong-resource _ platform flags names _ _ a _ (c .before .before .before .before .before .before .before .if1 .left) (sym (s .answers) ∙ c .before .first .given .1))
+
+same-length-2 : tie.Need-same-length-2
+same-length-2 c = search needs
+
+returns-3 : tie.Need-returns-3
+returns-3 c =
+    λ platform flags names a rest d.
+    let s = rw (c .before .before .before .before .before .enum-told .given .1) at (c .before .before .before .before .before .before .before .before .before .settle .ensures (a .1) rest d) in
+    all-well _ platform flags names _ _ a _ (c .before .before .before .before .before .before .before .before .before .before .before .if1 .left) d (s .answers) (s .leaves) (c .before .before .clear .ensures ∙ ap (cleared _) (c .before .before .before .position .ensures))
+
+pub finish-spec : {M : Type 1} → statement M
+finish-spec =
+    tie.close
+    (tie.spec
+    returns
+    settle-requires
+    enum-known-first
+    cast-t14
+    enum-told
+    position-requires
+    clear-requires
+    same-length
+    returns-2
+    same-length-2
+    returns-3)

@@ -1,0 +1,61 @@
+use mathlib.Core.Path.{_≡_, refl, sym, ap, subst, _∙_}
+use native.Mathlib.Omega.{arith}
+use Prim.Native.Nat.{_*_, _/_, _≤_, min}
+use lib.ListN.{length}
+use Rattle.reading.specs.File.{roomOf}
+use Rattle.load.specs.Laws.{load-refused, load-loaded}
+use borrow.Author.Needs.{needs}
+use Rattle.load.proofs.load.Statement.{statement}
+use Rattle.load.proofs.load.Tie as tie
+use Rattle.load.proofs.load.Reads as reads
+use Rattle.load.proofs.load.Lts as lts
+use Rattle.fill.proofs.clear.Reads as clear-reads
+use Rattle.load.proofs.load_rows.Reads as load-rows-reads
+use Rattle.load.proofs.room_of.Reads as room-of-reads
+
+room-of-requires : tie.Need-room-of-requires
+room-of-requires c κs = search needs
+
+load-rows-requires : tie.Need-load-rows-requires
+unfolding roomOf
+load-rows-requires c κs =
+    omega (arith, c .before .room-of .ensures)
+
+enum-known-number : tie.Need-enum-known-number
+enum-known-number c = search needs
+
+clear-requires : tie.Need-clear-requires
+clear-requires c κs = search needs
+
+enum-known-rows : tie.Need-enum-known-rows
+enum-known-rows c = search needs
+
+same-length : tie.Need-same-length
+same-length c = search needs
+
+returns : tie.Need-returns
+returns c =
+    let l = rw (c .before .before .before .before .before .before .before .before .before .before .before .room-of .ensures, c .before .before .before .before .before .number .given .1) at (c .before .before .before .before .before .before .before .before .before .load-rows .ensures) in
+    load-refused (c .before .before .before .before .before .before .before .before .before .before .before .before .before .before .args .file .now) (c .before .before .before .before .before .before .before .before .before .before .before .before .before .before .args .words .now) _ l (search needs) (c .before .before .clear .ensures)
+
+same-length-2 : tie.Need-same-length-2
+same-length-2 c = search needs
+
+returns-2 : tie.Need-returns-2
+returns-2 c =
+    let l = rw (c .before .before .before .before .before .before .before .room-of .ensures, c .before .rows .given .1) at (c .before .before .before .before .before .load-rows .ensures) in
+    load-loaded (c .before .before .before .before .before .before .before .before .before .before .args .file .now) (c .before .before .before .before .before .before .before .before .before .before .args .words .now) l
+
+pub load-spec : {M : Type 1} → statement M
+load-spec =
+    tie.close
+    (tie.spec
+    room-of-requires
+    load-rows-requires
+    enum-known-number
+    clear-requires
+    enum-known-rows
+    same-length
+    returns
+    same-length-2
+    returns-2)

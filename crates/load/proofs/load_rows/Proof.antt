@@ -1,0 +1,58 @@
+use mathlib.Core.Path.{_≡_, refl, sym, ap, subst, _∙_}
+use native.Mathlib.Omega.{arith}
+use Rattle.reading.specs.Reads.{small-by-index}
+use Rattle.table.specs.Leaf.{mute}
+use Rattle.load.specs.Laws.{header-read, header-refused, file-behind, loads-refused}
+use borrow.Author.Needs.{needs}
+use Rattle.load.proofs.load_rows.Statement.{statement}
+use Rattle.load.proofs.load_rows.Tie as tie
+use Rattle.load.proofs.load_rows.Reads as reads
+use Rattle.load.proofs.load_rows.Lts as lts
+use Rattle.header.proofs.header.Reads as header-reads
+use Rattle.load.proofs.lists.Reads as lists-reads
+
+header-requires : tie.Need-header-requires
+header-requires c κs = search needs
+
+enum-known-number : tie.Need-enum-known-number
+enum-known-number c = search needs
+
+enum-known-at : tie.Need-enum-known-at
+enum-known-at c = search needs
+
+lists-requires : tie.Need-lists-requires
+unfolding mute
+lists-requires c κs =
+    let file = c .before .before .before .before .before .before .before .args .file .now in
+    let small = small-by-index file (λ i h. omega (arith, c .before .before .before .before .before .before .shared-slice-known .given i)) in
+    let h = header-read file small (rw (c .before .before .at .given .1) at (c .before .before .before .before .header .ensures)) in
+    (h .short, h .inside, c .before .before .before .before .before .before .before .pre)
+
+returns : tie.Need-returns
+unfolding mute
+returns c =
+    let file = c .before .before .before .before .before .before .args .file .now in
+    loads-refused _ (c .before .before .before .before .before .before .args .words .now) _ (header-refused file (c .before .before .before .before .before .before .args .room) (rw (c .before .number .given .1) at (c .before .before .before .header .ensures)))
+
+same-length : tie.Need-same-length
+same-length c = search needs
+
+returns-2 : tie.Need-returns-2
+unfolding mute
+returns-2 c =
+    let file = c .before .before .before .before .before .before .before .before .before .before .args .file .now in
+    let small = small-by-index file (λ i h. omega (arith, c .before .before .before .before .before .before .before .before .before .shared-slice-known .given i)) in
+    let h = header-read file small (rw (c .before .before .before .before .before .at .given .1) at (c .before .before .before .before .before .before .before .header .ensures)) in
+    rw (file-behind file (c .before .before .before .before .before .before .before .before .before .before .args .room) h) (c .before .before .lists .ensures (h .h .0) (h .h .1))
+
+pub load-rows-spec : {M : Type 1} → statement M
+load-rows-spec =
+    tie.close
+    (tie.spec
+    header-requires
+    enum-known-number
+    enum-known-at
+    lists-requires
+    returns
+    same-length
+    returns-2)

@@ -1,0 +1,67 @@
+use mathlib.Core.Path.{_≡_, refl, sym, ap, subst, _∙_}
+use Prim.Native.Nat.{ℕ}
+use native.Mathlib.Omega.{arith}
+use Rattle.reading.specs.Reads.{small-by-index}
+use Rattle.load.specs.Laws.{roots, roots-are, objects-lost, objects-got, objects-loaded, loads-refused}
+use borrow.Author.Needs.{needs}
+use Rattle.load.proofs.objects.Statement.{statement}
+use Rattle.load.proofs.objects.Tie as tie
+use Rattle.load.proofs.objects.Reads as reads
+use Rattle.load.proofs.objects.Lts as lts
+use Rattle.load.proofs.finish.Reads as finish-reads
+use Rattle.walk.proofs.nested.Reads as nested-reads
+
+add-n : tie.Need-add-n
+add-n c = search needs
+
+nested-requires : tie.Need-nested-requires
+nested-requires c κs =
+    let a = c .before .before .before .before .args in
+    let small = small-by-index (a .file .now) (λ i h. omega (arith, c .before .before .before .shared-slice-known .given i)) in
+    (c .before .before .before .before .pre .0, c .before .before .before .before .pre .1, record { slots = roots (a .file .now) small (a .codes .now) (a .room) (a .shared) (a .at) (c .before .before .before .before .pre .2); is = roots-are (a .file .now) small (a .codes .now) (a .room) (a .shared) (a .at) (c .before .before .before .before .pre .2) (c .before .before .before .before .pre .1 .prelude) })
+
+enum-known-number : tie.Need-enum-known-number
+enum-known-number c = search needs
+
+enum-known-next : tie.Need-enum-known-next
+enum-known-next c = search needs
+
+finish-requires : tie.Need-finish-requires
+finish-requires c κs = search needs
+
+same-length : tie.Need-same-length
+same-length c = search needs
+
+returns : tie.Need-returns
+returns c =
+    λ platform flags names readers l.
+    let a = c .before .before .before .before .before .before .before .before .before .before .args in
+    let small = small-by-index (a .file .now) (λ i h. omega (arith, c .before .before .before .before .before .before .before .before .before .shared-slice-known .given i)) in
+    let w = c .before .before .before .before .before .nested .ensures readers (roots (a .file .now) small (a .codes .now) (a .room) (a .shared) (a .at) (c .before .before .before .before .before .before .before .before .before .before .pre .2)) l (roots-are (a .file .now) small (a .codes .now) (a .room) (a .shared) (a .at) (c .before .before .before .before .before .before .before .before .before .before .pre .2) (c .before .before .before .before .before .before .before .before .before .before .pre .1 .prelude)) in
+    loads-refused _ (a .words .now) _ (objects-lost (a .file .now) small (a .codes .now) (a .room) (a .shared) (a .at) (c .before .before .before .before .before .before .before .before .before .before .pre .2) platform flags names readers w (c .before .number .given .1))
+
+same-length-2 : tie.Need-same-length-2
+same-length-2 c = search needs
+
+returns-2 : tie.Need-returns-2
+returns-2 c =
+    λ platform flags names readers l.
+    let a = c .before .before .before .before .before .before .before .before .before .before .before .before .before .before .args in
+    let small = small-by-index (a .file .now) (λ i h. omega (arith, c .before .before .before .before .before .before .before .before .before .before .before .before .before .shared-slice-known .given i)) in
+    let w = c .before .before .before .before .before .before .before .before .before .nested .ensures readers (roots (a .file .now) small (a .codes .now) (a .room) (a .shared) (a .at) (c .before .before .before .before .before .before .before .before .before .before .before .before .before .before .pre .2)) l (roots-are (a .file .now) small (a .codes .now) (a .room) (a .shared) (a .at) (c .before .before .before .before .before .before .before .before .before .before .before .before .before .before .pre .2) (c .before .before .before .before .before .before .before .before .before .before .before .before .before .before .pre .1 .prelude)) in
+    let o = objects-got (a .file .now) small (a .codes .now) (a .room) (a .shared) (a .at) (c .before .before .before .before .before .before .before .before .before .before .before .before .before .before .pre .2) platform flags names readers (c .before .before .before .before .before .before .before .before .before .before .before .before .before .before .pre .0 .long) w (c .before .before .before .before .before .next .given .1) in
+    objects-loaded (a .file .now) small (a .codes .now) (a .room) (a .shared) (a .at) (c .before .before .before .before .before .before .before .before .before .before .before .before .before .before .pre .2) platform flags names readers (a .words .now) _ _ _ o (search needs) (rw (l .counts) at (c .before .before .finish .ensures platform flags names (o .taken) _ (o .drafted)))
+
+pub objects-spec : {M : Type 1} → statement M
+objects-spec =
+    tie.close
+    (tie.spec
+    add-n
+    nested-requires
+    enum-known-number
+    enum-known-next
+    finish-requires
+    same-length
+    returns
+    same-length-2
+    returns-2)

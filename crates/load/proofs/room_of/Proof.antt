@@ -1,0 +1,24 @@
+use native.Mathlib.Omega.{arith}
+use Prim.Native.Nat.{_/_, min}
+use Rattle.reading.specs.File.{roomOf}
+use borrow.Author.Needs.{needs}
+use Rattle.load.proofs.room_of.Statement.{statement}
+use Rattle.load.proofs.room_of.Tie as tie
+use Rattle.load.proofs.room_of.Reads as reads
+use Rattle.load.proofs.room_of.Lts as lts
+
+returns : tie.Need-returns
+unfolding roomOf
+returns c =
+    omega (arith, c .if1 .taken)
+
+cast-result : tie.Need-cast-result
+cast-result c = search needs
+
+returns-2 : tie.Need-returns-2
+unfolding roomOf
+returns-2 c =
+    omega (arith, c .if1 .left)
+
+pub room-of-spec : {M : Type 1} → statement M
+room-of-spec = tie.close (tie.spec returns cast-result returns-2)

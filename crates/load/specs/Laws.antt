@@ -1,0 +1,221 @@
+-- Laws of loading: each step of the code against what loading answers. Assumes nothing.
+use mathlib.Core.Path.{_≡_, refl, sym, ap, subst, _∙_}
+use mathlib.Core.Bool.{Bool, true, false}
+use mathlib.Core.List.{List, [], _∷_, _++_}
+use Prim.Native.Nat.{ℕ, zero, suc, _+_, _*_, _-_, _≤_, _<_, _^_}
+use native.Mathlib.Omega.{arith}
+use native.Mathlib.Numerals.{add-one}
+use lib.Dec.{eqb}
+use lib.ListN.{length, take, drop, replicate, set, length-append, take-append-drop}
+use borrow.Author.Tests.{eq-eqb, ne-eqb}
+use Rattle.layout.specs.Target.{Target, object as anything}
+use Rattle.layout.specs.Slot as L
+use Rattle.layout.specs.Slot.{each, object}
+use Rattle.layout.specs.Rows.{Row, flat}
+use Rattle.layout.specs.File.{objectsPlan, header}
+use Rattle.layout.specs.Text.{ascii}
+use Rattle.layout.specs.Number.{little}
+use Rattle.reading.specs.Answer.{Answer, refused, read, bind, check, Ok, not-read, is-read}
+use Rattle.reading.specs.Reads.{Small, reads-bounds}
+use Rattle.reading.specs.References.{length-flat}
+use Rattle.reading.specs.Walk.{Taken, Outcome, sequence, walk}
+use Rattle.reading.specs.Bounds.{sequence-bounds}
+use Rattle.reading.specs.File as File
+use Rattle.reading.specs.File.{Loaded as FileLoaded, rootKinds, judged, headerAt, listsAt, objectsAt, finished, fileAt, toLoad, loadOf, tableOf, roomOf}
+use Rattle.reading.specs.Front.{Headed, header-sound, lists-reads}
+use Rattle.table.specs.declared.Walk.{Walk}
+use Rattle.table.specs.declared.Walk.the-variants.{Done}
+use Rattle.table.specs.declared.Walk.the-variants.{Refused as Walk-refused}
+use Rattle.table.specs.Written.{written, drafts, length-drafts, length-written}
+use Rattle.table.specs.Contract.{seen, Walked}
+use Rattle.table.specs.Loop.{Got, got, lost}
+use Rattle.table.specs.Leaf.{mute}
+use Rattle.fill.specs.Fill.{cleared}
+use Rattle.leaves.specs.Plain.{Begin}
+use Rattle.readers.specs.Judged.{judgedName, named, judges}
+use Rattle.heads.specs.declared.nest.Nest.the-variants.{Each}
+use Rattle.heads.specs.declared.slot.Slot.the-variants.{Object}
+use Rattle.heads.specs.Nests.{Prelude, prelude, NestIs, object-at}
+use Rattle.resources.specs.declared.Settled.{Settled}
+use Rattle.resources.specs.declared.Settled.the-variants.{Fine, Wrong}
+use Rattle.resources.specs.Settled.{settledOf, answered, judged-is, Drafted, Settles}
+use Rattle.resources.specs.Objects.{objects-drafted}
+use Rattle.load.specs.declared.Loading.{Loading}
+use Rattle.load.specs.declared.Loading.the-variants.{Refused, Loaded}
+use Rattle.load.specs.Loads.{Loads, behindHeader, answerOf}
+
+module _ (file : List ℕ) (platform flags : ℕ) (names : List (List ℕ)) (readers shared : ℕ) (a : Taken) (next : ℕ) where
+  -- 01: "20 after the last object"
+  pub not-the-end : (next ≡ length file → ⊥) → finished file platform flags names readers shared a next ≡ refused 20 next
+  unfolding finished check
+  not-the-end h = rw (ne-eqb next (length file) h)
+
+  module _ (end : next ≡ length file) where
+    settled : (s : Settled) → settledOf (drop 1 (rootKinds (a .1))) (a .1) ≡ s
+        → finished file platform flags names readers shared a next
+        ≡ answered s (read (record { tree = record { platform = platform; flags = flags; names = names; objects = a .2 }; rows = a .1; readers = readers; shared = shared }) next)
+    unfolding finished check
+    settled s e = rw (eq-eqb next (length file) end, judged-is, e)
+
+    -- 01: "17 last"
+    pub wrong-resource : {first : ℕ} → settledOf (drop 1 (rootKinds (a .1))) (a .1) ≡ Wrong first → finished file platform flags names readers shared a next ≡ refused 17 first
+    wrong-resource {first} e = settled (Wrong first) e
+
+    cleared-rows : (rows : List Row) (rest : List ℕ) → cleared (flat rows ++ rest) (6 * length rows) ≡ flat rows ++ replicate (length rest) 0
+    unfolding cleared
+    cleared-rows rows rest =
+        let l : length (flat rows) ≡ 6 * length rows = length-flat rows in
+        let n : length (flat rows ++ rest) - 6 * length rows ≡ length rest = omega (arith, length-append (flat rows) rest) in
+        rw (n, ← l) (ap (λ (x : List ℕ). x ++ replicate (length rest) 0) (take-left (flat rows) rest))
+      where
+        take-left : (x y : List ℕ) → take (length x) (x ++ y) ≡ x
+        take-left [] y = refl
+        take-left (b ∷ x) y = ap (λ (l : List ℕ). b ∷ l) (take-left x y)
+
+    -- all is well: the rows, and zeros behind them
+    pub all-well : {used : ℕ} {entry mid exit rest : List ℕ} → Drafted entry used (a .1) rest → Fine ≡ settledOf (drop 1 (rootKinds (a .1))) (a .1) → mid ≡ flat (a .1) ++ rest → exit ≡ cleared mid (6 * used)
+        → Loads (finished file platform flags names readers shared a next) entry exit (Loaded used readers shared)
+    all-well {used} {entry} {mid} {exit} {rest} d s m c =
+        let n : used ≡ length (a .1) = d .count in
+        let l : length entry - 6 * length (a .1) ≡ length rest = omega (arith, ap length (d .stand) ∙ length-append (drafts (a .1)) rest, length-drafts (a .1)) in
+        rw (settled Fine (sym s), l, n) (refl, c ∙ rw (m, n) (cleared-rows (a .1) rest))
+
+-- only the words' length counts
+same-size : (w w′ exit : List ℕ) (r : Loading) → length w′ ≡ length w → (x : Answer FileLoaded) → Loads x w′ exit r → Loads x w exit r
+same-size w w′ exit r l (refused n p) c = c
+same-size w w′ exit r l (read a e) c = rw (← l) c
+
+-- a refusal
+pub loads-refused : (x : Answer FileLoaded) (entry exit : List ℕ) {n p : ℕ} → x ≡ refused n p → Loads x entry exit (Refused n p)
+loads-refused x entry exit e = rw e refl
+
+module _ (file : List ℕ) (small : Small file) (codes : List ℕ) (room shared at : ℕ) (few : shared ≤ 256) where
+  -- the slots of the primary and the shared objects
+  abbrev pub roots : List L.Slot
+  roots = replicate (shared + 1) (object anything)
+
+  pub roots-are : Prelude codes → NestIs codes (Each (Object 10) (shared + 1)) roots
+  roots-are p = record { slot = object anything; are = refl; is = object-at codes p }
+
+  objects-are : (readers : List Target) → sequence (λ y b v. walk file readers shared room 32 y b v 0) (each roots) at 0 ≡ objectsAt file room readers shared at
+  unfolding objectsAt objectsPlan
+  objects-are readers = ap (λ n. sequence (λ y b v. walk file readers shared room 32 y b v 0) (each (replicate n (object anything))) at 0) (add-one shared)
+
+  module _ (platform flags : ℕ) (names : List (List ℕ)) (readers : List Target) where
+    abbrev whole : Answer FileLoaded
+    whole = bind (objectsAt file room readers shared at) (λ a e. finished file platform flags names (length readers) shared a e)
+
+    pub objects-lost : {w w′ : List ℕ} {n p : ℕ} {r : Walk} → Walked w w′ 0 (seen (sequence (λ y b v. walk file readers shared room 32 y b v 0) (each roots) at 0)) r → r ≡ Walk-refused n p → whole ≡ refused n p
+    unfolding bind
+    objects-lost c e = rw (sym (objects-are readers) ∙ lost c e)
+
+    -- the objects were read, and their rows stand in the words
+    pub record Rooted (w w′ : List ℕ) (next used : ℕ) : Type 0 where
+      pub taken : Taken
+      pub is : objectsAt file room readers shared at ≡ read taken next
+      pub drafted : Drafted w′ used (taken .1) (drop (6 * used) w)
+
+    pub objects-got : {w w′ : List ℕ} {next used : ℕ} {r : Walk} → 6 * room ≤ length w → Walked w w′ 0 (seen (sequence (λ y b v. walk file readers shared room 32 y b v 0) (each roots) at 0)) r → r ≡ Done next used → Rooted w w′ next used
+    objects-got {w} {w′} {next} {used} long c e =
+        let g = got c e in
+        let q = sym (objects-are readers) ∙ g .is in
+        let b = sequence-bounds file readers shared room small 32 (each roots) at 0 0 (g .taken) next (g .is) in
+        let f : g .taken .0 ≤ room = b .fits (omega arith) in
+        let d = objects-drafted file readers shared room small few w at (g .taken) next q (omega arith) in
+        record { taken = g .taken; is = q; drafted = subst (λ x. Drafted x used (g .taken .1) (drop (6 * used) w)) (sym (g .words)) (subst (λ n. Drafted (written w 0 (g .taken .1)) n (g .taken .1) (drop (6 * n) w)) (g .rows-used) d) }
+
+    pub objects-loaded : (w w′ exit : List ℕ) {next used : ℕ} (r : Loading) (o : Rooted w w′ next used) → length w′ ≡ length w → Loads (finished file platform flags names (length readers) shared (o .taken) next) w′ exit r → Loads whole w exit r
+    unfolding bind
+    objects-loaded w w′ exit {next} {used} r o l c = rw (o .is) (same-size w w′ exit r l (finished file platform flags names (length readers) shared (o .taken) next) c)
+
+-- the codes keep the types that fonts and pages declare
+pub kept-prelude : (codes : List ℕ) → take 11 codes ≡ prelude → Prelude codes
+kept-prelude codes e = record { rest = drop 11 codes; begins = sym (take-append-drop 11 codes) ∙ ap (λ (x : List ℕ). x ++ drop 11 codes) e }
+
+-- where the lists end
+pub lists-inside : (file : List ℕ) → Small file → (at : ℕ) → at ≤ length file → {l : List (List ℕ) × List Target × ℕ} {e : ℕ} → listsAt judgedName file at ≡ read l e → e ≤ length file
+lists-inside file s at h q = reads-bounds (lists-reads named judgedName judges file) s at h q .1
+
+header-length : (platform flags n : ℕ) → length (header platform flags n) ≡ 10
+unfolding header ascii little
+header-length platform flags n = refl
+
+-- the header was read
+pub record HeaderRead (file : List ℕ) (at : ℕ) : Type 0 where
+  pub h : ℕ × ℕ
+  pub is : headerAt file ≡ read h at
+  pub short : length file ≤ 16777216
+  pub inside : at ≤ length file
+
+pub header-read : (file : List ℕ) → Small file → {at : ℕ} → read tt at ≡ mute (headerAt file) → HeaderRead file at
+unfolding mute
+header-read file s {at} e = go (headerAt file) refl (header-sound file s) e where
+  go : (x : Answer (ℕ × ℕ)) → headerAt file ≡ x → Ok (λ h e. (e ≡ 10) × Headed file (h .0) (h .1)) x → read tt at ≡ mute x → HeaderRead file at
+  go x q not-read e = absurd (let z : _≡_ {A = ℕ} 0 1 = cc in omega arith)
+  go x q (is-read {a = h} {e = f} v) e =
+      let z : f ≡ at = cc in
+      record { h = h; is = q ∙ ap (read h) z; short = v .1 .short; inside = omega (arith, z, v .0, ap length (v .1 .parts) ∙ length-append (header (h .0) (h .1) (length file)) (drop 10 file), header-length (h .0) (h .1) (length file)) }
+
+-- the file, by its header
+pub header-refused : (file : List ℕ) (room : ℕ) {n p : ℕ} → refused n p ≡ mute (headerAt file) → fileAt judgedName file room ≡ refused n p
+unfolding fileAt bind mute
+header-refused file room {n} {p} e = go (headerAt file) refl e where
+  go : (x : Answer (ℕ × ℕ)) → headerAt file ≡ x → refused n p ≡ mute x → fileAt judgedName file room ≡ refused n p
+  go (refused m q) h e =
+      let e₁ : n ≡ m = cc in
+      let e₂ : p ≡ q = cc in
+      rw (h, e₁, e₂)
+  go (read h f) q e = absurd (let z : _≡_ {A = ℕ} 0 1 = cc in omega arith)
+
+pub file-behind : (file : List ℕ) (room : ℕ) {at : ℕ} (h : HeaderRead file at) → fileAt judgedName file room ≡ behindHeader file room (h .h .0) (h .h .1) at
+unfolding fileAt behindHeader bind
+file-behind file room h = rw (h .is)
+
+-- the lists, by what reading them answers
+pub lists-refused : (file : List ℕ) (room platform flags at : ℕ) {n p : ℕ} → listsAt judgedName file at ≡ refused n p → behindHeader file room platform flags at ≡ refused n p
+unfolding behindHeader bind
+lists-refused file room platform flags at e = rw e
+
+pub behind-lists : (file : List ℕ) (room platform flags at : ℕ) {names : List (List ℕ)} {readers : List Target} {shared first : ℕ} → listsAt judgedName file at ≡ read (names, readers, shared) first
+    → behindHeader file room platform flags at ≡ bind (objectsAt file room readers shared first) (λ a e. finished file platform flags names (length readers) shared a e)
+unfolding behindHeader bind
+behind-lists file room platform flags at e = rw e
+
+-- the stores that make the start of the codes
+pub prelude-stored : (l : List ℕ) → 11 ≤ length l → take 11 (set (set (set (set (set (set (set (set (set (set (set l 0 32) 1 82) 2 30) 3 82) 4 12) 5 82) 6 24) 7 13) 8 80) 9 12) 10 14) ≡ prelude
+unfolding prelude
+prelude-stored [] h = absurd (omega arith)
+prelude-stored (a0 ∷ []) h = absurd (omega arith)
+prelude-stored (a0 ∷ a1 ∷ []) h = absurd (omega arith)
+prelude-stored (a0 ∷ a1 ∷ a2 ∷ []) h = absurd (omega arith)
+prelude-stored (a0 ∷ a1 ∷ a2 ∷ a3 ∷ []) h = absurd (omega arith)
+prelude-stored (a0 ∷ a1 ∷ a2 ∷ a3 ∷ a4 ∷ []) h = absurd (omega arith)
+prelude-stored (a0 ∷ a1 ∷ a2 ∷ a3 ∷ a4 ∷ a5 ∷ []) h = absurd (omega arith)
+prelude-stored (a0 ∷ a1 ∷ a2 ∷ a3 ∷ a4 ∷ a5 ∷ a6 ∷ []) h = absurd (omega arith)
+prelude-stored (a0 ∷ a1 ∷ a2 ∷ a3 ∷ a4 ∷ a5 ∷ a6 ∷ a7 ∷ []) h = absurd (omega arith)
+prelude-stored (a0 ∷ a1 ∷ a2 ∷ a3 ∷ a4 ∷ a5 ∷ a6 ∷ a7 ∷ a8 ∷ []) h = absurd (omega arith)
+prelude-stored (a0 ∷ a1 ∷ a2 ∷ a3 ∷ a4 ∷ a5 ∷ a6 ∷ a7 ∷ a8 ∷ a9 ∷ []) h = absurd (omega arith)
+prelude-stored (a0 ∷ a1 ∷ a2 ∷ a3 ∷ a4 ∷ a5 ∷ a6 ∷ a7 ∷ a8 ∷ a9 ∷ a10 ∷ l) h = refl
+
+-- all words cleared
+none-kept : (mid : List ℕ) (n : ℕ) → length mid ≡ n → cleared mid 0 ≡ replicate n 0
+unfolding cleared
+none-kept mid n e = let z : length mid - 0 ≡ n = omega (arith, e) in rw z
+
+-- the whole: what is answered, and what the words hold at the end
+module _ (file entry : List ℕ) where
+  pub load-refused : (mid : List ℕ) {exit : List ℕ} {n p : ℕ} → Loads (fileAt judgedName file (roomOf (length entry))) entry mid (Refused n p) → length mid ≡ length entry → exit ≡ cleared mid 0
+      → (Refused n p ≡ answerOf (loadOf judgedName file (length entry))) × (exit ≡ tableOf (loadOf judgedName file (length entry)) (length entry))
+  unfolding loadOf toLoad tableOf cleared
+  load-refused mid {exit} {n} {p} l m e = go (fileAt judgedName file (roomOf (length entry))) l where
+    go : (x : Answer FileLoaded) → Loads x entry mid (Refused n p) → (Refused n p ≡ answerOf (toLoad x)) × (exit ≡ tableOf (toLoad x) (length entry))
+    go (refused a b) l = (l, e ∙ none-kept mid (length entry) m)
+    go (read a f) l = absurd (let q : Refused n p ≡ Loaded (length (a .rows)) (a .readers) (a .shared) = l .0 in let z : _≡_ {A = ℕ} 0 1 = cc in omega arith)
+
+  pub load-loaded : {exit : List ℕ} {rows readers shared : ℕ} → Loads (fileAt judgedName file (roomOf (length entry))) entry exit (Loaded rows readers shared)
+      → (Loaded rows readers shared ≡ answerOf (loadOf judgedName file (length entry))) × (exit ≡ tableOf (loadOf judgedName file (length entry)) (length entry))
+  unfolding loadOf toLoad tableOf
+  load-loaded {exit} {rows} {readers} {shared} l = go (fileAt judgedName file (roomOf (length entry))) l where
+    go : (x : Answer FileLoaded) → Loads x entry exit (Loaded rows readers shared) → (Loaded rows readers shared ≡ answerOf (toLoad x)) × (exit ≡ tableOf (toLoad x) (length entry))
+    go (refused a b) l = absurd (let z : _≡_ {A = ℕ} 0 1 = cc in omega arith)
+    go (read a f) l = l

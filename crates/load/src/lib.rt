@@ -1,0 +1,176 @@
+// Loading a file into a lent row table.
+use answers::Number;
+use heads::nest::Nest;
+use heads::slot::Slot;
+use ids::RowNumber;
+use readers::Lists;
+use readers::Readers;
+use resources::Settled;
+use table::Walk;
+ghost use mathlib.Core.Path.{_≡_};
+ghost use mathlib.Core.List.{List};
+ghost use Prim.Native.Nat.{ℕ, _*_, _≤_};
+ghost use lib.ListN.{length, take};
+ghost use Rattle.layout.specs.Target.{Target};
+ghost use Rattle.reading.specs.Answer.{bind};
+ghost use Rattle.reading.specs.Walk.{Taken};
+ghost use Rattle.reading.specs.File.{finished, objectsAt, fileAt, roomOf, loadOf, tableOf};
+ghost use Rattle.readers.specs.Judged.{judgedName};
+ghost use Rattle.readers.specs.Listed.{Listed};
+ghost use Rattle.resources.specs.Settled.{Drafted};
+ghost use Rattle.leaves.specs.Plain.{Begin};
+ghost use Rattle.heads.specs.Nests.{prelude};
+ghost use Rattle.walk.specs.Known.{Known};
+ghost use Rattle.load.specs.Loads.{Loads, behindHeader, answerOf};
+
+// A refusal's number and place; or the number of rows used, the number of readers and the shared count.
+pub enum Loading {
+    Refused {
+        number: u32,
+        place: usize,
+    },
+    Loaded {
+        rows: u32,
+        readers: u32,
+        shared: u32,
+    },
+}
+
+// 20 after the last object, 17 last; then zeros behind the rows.
+fn finish(
+    file: &[u8],
+    words: &mut [u32],
+    readers: u32,
+    shared: u32,
+    next: usize,
+    used: u32,
+) -> Loading
+    ensures { λ r. ⌜ ((platform flags : ℕ) (names : List (List ℕ)) (a : Taken) (rest : List ℕ) → Drafted (now (words .entry)) used (a .1) rest → Loads (finished (now (file .entry)) platform flags names readers shared a next) (now (words .entry)) (now (words .exit)) r) ⌝ }
+{
+    if next != file.len() {
+        return Loading::Refused {
+            number: 20,
+            place: next,
+        };
+    }
+    match resources::settle(words, used) {
+        Settled::Wrong(first) => Loading::Refused {
+            number: 17,
+            place: first as usize,
+        },
+        Settled::Fine => {
+            fill::clear(words, RowNumber(used).position());
+            Loading::Loaded {
+                rows: used,
+                readers,
+                shared,
+            }
+        }
+    }
+}
+
+// The primary and the shared objects, and the end of the file.
+fn objects(
+    file: &[u8],
+    codes: &[u8],
+    rd: Readers,
+    words: &mut [u32],
+    room: u32,
+    shared: u32,
+    at: usize,
+) -> Loading
+    requires { ⌜ Begin (now file) (now words) room at 0 × Known (now codes) rd × (shared ≤ 256) ⌝ }
+    ensures { λ r. ⌜ ((platform flags : ℕ) (names : List (List ℕ)) (readers : List Target) → Listed (now (codes .entry)) rd readers → Loads (bind (objectsAt (now (file .entry)) room readers shared at) (λ a e. finished (now (file .entry)) platform flags names (length readers) shared a e)) (now (words .entry)) (now (words .exit)) r) ⌝ }
+{
+    let n = shared + 1;
+    let nest = Nest::Each(Slot::Object(10), n);
+    match walk::nested(file, codes, rd, words, room, shared, nest, at, 0, 32) {
+        Walk::Refused { number, place } => Loading::Refused { number, place },
+        Walk::Done { next, used } => finish(file, words, rd.count, shared, next, used),
+    }
+}
+
+// The types that fonts and pages declare, and Object, at the start of the codes.
+fn put_prelude(codes: &mut [u8])
+    requires { ⌜ 11 ≤ length (now codes) ⌝ }
+    ensures { λ _. ⌜ take 11 (now (codes .exit)) ≡ prelude ⌝ }
+{
+    codes[0] = 32;
+    codes[1] = 82;
+    codes[2] = 30;
+    codes[3] = 82;
+    codes[4] = 12;
+    codes[5] = 82;
+    codes[6] = 24;
+    codes[7] = 13;
+    codes[8] = 80;
+    codes[9] = 12;
+    codes[10] = 14;
+}
+
+// What stands behind the header.
+fn lists(file: &[u8], words: &mut [u32], room: u32, at: usize) -> Loading
+    requires { ⌜ (length (now file) ≤ 16777216) × (at ≤ length (now file)) × (6 * room ≤ length (now words)) ⌝ }
+    ensures { λ r. ⌜ ((platform flags : ℕ) → Loads (behindHeader (now (file .entry)) room platform flags at) (now (words .entry)) (now (words .exit)) r) ⌝ }
+{
+    let mut codes = [0u8; 7168];
+    let mut targets = [0u32; 64];
+    let mut starts = [0u32; 64];
+    put_prelude(&mut codes);
+    match readers::read_lists(file, &mut codes, &mut targets, &mut starts, at) {
+        Lists::Refused(number, place) => Loading::Refused { number, place },
+        Lists::Read(count, shared, next) => {
+            let rd = Readers {
+                targets,
+                starts,
+                count,
+            };
+            objects(file, &codes, rd, words, room, shared, next)
+        }
+    }
+}
+
+// The file, where the words have room for so many rows.
+fn load_rows(file: &[u8], words: &mut [u32], room: u32) -> Loading
+    requires { ⌜ 6 * room ≤ length (now words) ⌝ }
+    ensures { λ r. ⌜ Loads (fileAt judgedName (now (file .entry)) room) (now (words .entry)) (now (words .exit)) r ⌝ }
+{
+    match header::header(file) {
+        Number::Refused(number, place) => Loading::Refused { number, place },
+        Number::Read(_, at) => lists(file, words, room, at),
+    }
+}
+
+// The number of whole rows in so many words, at most 65,536.
+fn room_of(words: usize) -> u32
+    ensures { λ r. ⌜ r ≡ roomOf words ⌝ }
+{
+    let rows = words / 6;
+    if 65536 < rows {
+        return 65536;
+    }
+    rows as u32
+}
+
+// Loads a file into the words: its rows, then zeros; only zeros after a refusal.
+pub fn load(file: &[u8], words: &mut [u32]) -> Loading
+    ensures { λ r. ⌜ r ≡ answerOf (loadOf judgedName (now (file .entry)) (length (now (words .entry)))) ⌝ }
+    ensures { λ _. ⌜ now (words .exit) ≡ tableOf (loadOf judgedName (now (file .entry)) (length (now (words .entry)))) (length (now (words .entry))) ⌝ }
+{
+    let room = room_of(words.len());
+    match load_rows(file, words, room) {
+        Loading::Refused { number, place } => {
+            fill::clear(words, 0);
+            Loading::Refused { number, place }
+        }
+        Loading::Loaded {
+            rows,
+            readers,
+            shared,
+        } => Loading::Loaded {
+            rows,
+            readers,
+            shared,
+        },
+    }
+}

@@ -1,0 +1,2 @@
+-- Reader names, one on a line, and their refusals.
+pub mod Lines

@@ -1,0 +1,92 @@
+// Judges the reader names in four files: for each file its name, then for each line 0 or the refusal.
+ghost use mathlib.Core.Path.{_≡_};
+ghost use Prim.Native.Nat.{_≤_};
+ghost use lib.ListN.{length};
+ghost use Rattle.io.specs.Counts.{Counts};
+ghost use Rattle.reader_names.specs.Lines.{refusal, lineSize, Judges};
+use types::Resolved;
+
+// A name's refusal, or 0.
+fn judge(name: &[u8]) -> u8
+    ensures { λ r. ⌜ r ≡ refusal (now (name .entry)) ⌝ }
+{
+    if name.len() == 0 {
+        return 9;
+    }
+    let mut codes = [0u8; 1024];
+    match types::resolve(name, &mut codes, 0) {
+        Resolved::Target(_) => 0,
+        Resolved::Broken => 10,
+        Resolved::Unknown => 11,
+        Resolved::NoRoom => 9,
+    }
+}
+
+// How many bytes the first line has.
+fn line_size(s: &[u8]) -> usize
+    ensures { λ r. ⌜ r ≡ lineSize (now (s .entry)) ⌝ }
+{
+    let mut i = 0;
+    while i < s.len() {
+        if s[i] == b'\n' {
+            return i;
+        }
+        i += 1;
+    }
+    i
+}
+
+// Leaves the number of each line in `numbers`, and answers how many lines there are.
+fn judge_lines(s: &[u8], numbers: &mut [u8]) -> usize
+    requires { ⌜ length (now s) ≤ 65536 ⌝ }
+    requires { ⌜ length (now numbers) ≡ 65536 ⌝ }
+    ensures { λ r. ⌜ Judges (now (s .entry)) (now (numbers .entry)) (now (numbers .exit)) r ⌝ }
+    ensures { λ r. ⌜ Counts r (now (numbers .exit)) ⌝ }
+{
+    let mut count = 0;
+    let mut at = 0;
+    while at < s.len() {
+        let size = line_size(&s[at..]);
+        let end = at + size;
+        numbers[count] = judge(&s[at..end]);
+        count += 1;
+        at = end + 1;
+    }
+    count
+}
+
+fn wide(x: u8) -> u64 {
+    x as u64
+}
+
+fn print_numbers(numbers: &[u8]) {
+    let mut i = 0;
+    while i < numbers.len() {
+        io::print_decimal(1, wide(numbers[i]));
+        io::write_all(1, b"\n");
+        i += 1;
+    }
+}
+
+fn judge_file(path: &[u8]) {
+    let file = os::open_read(path);
+    if file < 0 {
+        os::fail(path);
+        return;
+    }
+    let mut space = io::large_buffer();
+    let n = io::read_full(file, &mut space);
+    libc::close(file);
+    let mut numbers = io::large_buffer();
+    let count = judge_lines(&space[..n], &mut numbers);
+    io::write_all(1, path);
+    io::write_all(1, b"\n");
+    print_numbers(&numbers[..count]);
+}
+
+fn main() {
+    judge_file(b"good");
+    judge_file(b"broken");
+    judge_file(b"unknown");
+    judge_file(b"wrong_length");
+}
