@@ -32,8 +32,9 @@ pub fn close(
         Walk::Refused { number, place } => Walk::Refused { number, place },
         Walk::Done { next, used } => {
             if keeps_rule(file, words, kind, h.row) {
-                let first = h.first as u32;
-                let length = (next - h.first) as u32;
+                let start = h.first;
+                let first = start as u32;
+                let length = (next - start) as u32;
                 table::put_row(
                     words,
                     RowNumber(h.row),

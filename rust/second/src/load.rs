@@ -15,7 +15,8 @@ use crate::walk::{Spot, Walk};
 const MOST_READERS: u32 = 64;
 const MOST_SHARED: u32 = 256;
 const LONGEST_NAME: u32 = 1024;
-const BUILDER_ROWS: usize = 1024;
+/// The rows that the asset builder and the programs have room for.
+pub const BUILDER_ROWS: usize = 1024;
 
 /// What an accepted file holds.
 #[derive(Clone, Copy, Debug, PartialEq, Eq)]

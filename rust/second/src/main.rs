@@ -1,19 +1,14 @@
 //! The programs `rows` and `shorten` over the second loader.
 
-use second::{load, rewrite, Loaded, Refusal, WORDS_PER_ROW};
+use second::{printed_rows, refusal_line, rewrite, INPUT_TOO_LONG, LONGEST_INPUT, WORDS_PER_ROW};
 use std::io::{self, Read, Write};
 use std::process::ExitCode;
 
-const LONGEST_INPUT: usize = 32_768;
 const ROOM: usize = 1024;
-const INPUT_TOO_LONG: Refusal = Refusal {
-    number: 9,
-    place: 0,
-};
 
 fn main() -> ExitCode {
     let output = match std::env::args().nth(1).as_deref() {
-        Some("rows") => read_input().map(|input| rows(&input)),
+        Some("rows") => read_input().map(|input| printed_rows(&input).into_bytes()),
         Some("shorten") => read_input().map(|input| shorten(&input)),
         _ => {
             eprintln!("usage: second rows | second shorten, with the file on standard input");
@@ -37,35 +32,6 @@ fn read_input() -> io::Result<Vec<u8>> {
     Ok(input)
 }
 
-fn rows(input: &[u8]) -> Vec<u8> {
-    let mut words = vec![0; ROOM * WORDS_PER_ROW];
-    let answer = if input.len() > LONGEST_INPUT {
-        Err(INPUT_TOO_LONG)
-    } else {
-        load(input, &mut words)
-    };
-    match answer {
-        Ok(loaded) => row_lines(&loaded, &words),
-        Err(refusal) => refusal_line(refusal),
-    }
-}
-
-fn row_lines(loaded: &Loaded, words: &[u32]) -> Vec<u8> {
-    let mut lines = format!(
-        "rows {} readers {} shared {}\n",
-        loaded.rows, loaded.readers, loaded.shared
-    );
-    let used = words.chunks_exact(WORDS_PER_ROW).take(loaded.rows);
-    for (number, row) in used.enumerate() {
-        lines += &number.to_string();
-        for word in row {
-            lines += &format!(" {word}");
-        }
-        lines += "\n";
-    }
-    lines.into_bytes()
-}
-
 fn shorten(input: &[u8]) -> Vec<u8> {
     let mut words = vec![0; ROOM * WORDS_PER_ROW];
     // A rewritten file is never longer than its input.
@@ -77,10 +43,6 @@ fn shorten(input: &[u8]) -> Vec<u8> {
     };
     match answer {
         Ok(length) => out[..length].to_vec(),
-        Err(refusal) => refusal_line(refusal),
+        Err(refusal) => refusal_line(refusal).into_bytes(),
     }
-}
-
-fn refusal_line(refusal: Refusal) -> Vec<u8> {
-    format!("refused {} at {}\n", refusal.number, refusal.place).into_bytes()
 }

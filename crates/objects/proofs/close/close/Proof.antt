@@ -22,19 +22,19 @@ keeps-rule-requires c κs = search needs
 
 cast-first : tie.Need-cast-first
 cast-first c =
-    omega (arith, (rw (c .before .before .before .before .before .walked2 .given .1) at (c .before .before .before .before .before .before .before .before .before .pre)) .0, (rw (c .before .before .before .before .before .walked2 .given .1) at (c .before .before .before .before .before .before .before .before .before .pre)) .1)
+    omega (arith, (rw (c .before .before .before .before .walked2 .given .1) at (c .before .before .before .before .before .before .before .before .pre)) .0, (rw (c .before .before .before .before .walked2 .given .1) at (c .before .before .before .before .before .before .before .before .pre)) .1)
 
 sub-length : tie.Need-sub-length
 sub-length c =
-    omega (arith, (rw (c .before .before .before .before .before .before .walked2 .given .1) at (c .before .before .before .before .before .before .before .before .before .before .pre)) .0)
+    omega (arith, (rw (c .before .before .before .before .walked2 .given .1) at (c .before .before .before .before .before .before .before .before .pre)) .0)
 
 cast-length : tie.Need-cast-length
 cast-length c =
-    omega (arith, (rw (c .before .before .before .before .before .before .walked2 .given .1) at (c .before .before .before .before .before .before .before .before .before .before .pre)) .1)
+    omega (arith, (rw (c .before .before .before .before .walked2 .given .1) at (c .before .before .before .before .before .before .before .before .pre)) .1)
 
 cast-put-row : tie.Need-cast-put-row
 cast-put-row c =
-    omega (arith, (rw (c .before .before .before .before .before .before .before .walked2 .given .1) at (c .before .before .before .before .before .before .before .before .before .before .before .pre)) .2)
+    omega (arith, (rw (c .before .before .before .before .before .walked2 .given .1) at (c .before .before .before .before .before .before .before .before .before .pre)) .2)
 
 put-row-requires : tie.Need-put-row-requires
 put-row-requires c κs = search needs
@@ -44,8 +44,8 @@ same-length c = search needs
 
 returns : tie.Need-returns
 returns c =
-    let k = sym (c .before .before .before .before .before .before .before .keeps-rule .ensures) ∙ c .before .before .before .before .before .before .if1 .taken in
-    rw (c .before .before .before .before .before .before .before .before .before .before .walked2 .given .1, k) (refl, c .before .before .put-row .ensures)
+    let k = sym (c .before .before .before .before .before .keeps-rule .ensures) ∙ c .before .before .before .before .if1 .taken in
+    rw (c .before .before .before .before .before .before .before .before .walked2 .given .1, k) (refl, c .before .before .put-row .ensures)
 
 returns-2 : tie.Need-returns-2
 returns-2 c =

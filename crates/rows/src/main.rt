@@ -1,0 +1,126 @@
+// Loads the file on standard input, and prints its rows or its refusal.
+use ids::RowNumber;
+use load::Loading;
+
+// The bytes behind the first `at` of the buffer, and where they end; nothing where they do not fit.
+fn put(out: &mut [u8], at: usize, s: &[u8]) -> usize {
+    let n = s.len();
+    if out.len() < n {
+        return at;
+    }
+    if out.len() - n < at {
+        return at;
+    }
+    fill::copy(out, at, s, 0, n);
+    at + n
+}
+
+fn put_number(out: &mut [u8], at: usize, n: u64) -> usize {
+    let mut digits = [0u8; 20];
+    let size = io::decimal(n, &mut digits);
+    put(out, at, &digits[..size])
+}
+
+// Writes the first `at` bytes of the buffer to standard output.
+fn flush(out: &[u8], at: usize) {
+    if out.len() < at {
+        return;
+    }
+    io::write_all(1, &out[..at]);
+}
+
+// Writes the buffer when fewer than 5,536 of its 65,536 bytes are free; a row line has at most 77.
+fn flush_nearly_full(out: &[u8], at: usize) -> usize {
+    if at <= 60000 {
+        return at;
+    }
+    flush(out, at);
+    0
+}
+
+fn wide(x: u32) -> u64 {
+    x as u64
+}
+
+// A word of a row, or 0 behind the table.
+fn word(words: &[u32], row: u32, k: usize) -> u64 {
+    let start = RowNumber(row).position();
+    if words.len() < start {
+        return 0;
+    }
+    if words.len() - start <= k {
+        return 0;
+    }
+    wide(words[start + k])
+}
+
+// A row's number and its six words.
+fn put_row(out: &mut [u8], at: usize, words: &[u32], row: u32) -> usize {
+    let mut next = put_number(out, at, row as u64);
+    let mut k = 0;
+    while k < 6 {
+        next = put(out, next, b" ");
+        next = put_number(out, next, word(words, row, k));
+        k += 1;
+    }
+    put(out, next, b"\n")
+}
+
+// Each row on its line, and the rest of the buffer written.
+fn print_rows(out: &mut [u8], at: usize, words: &[u32], rows: u32) {
+    let mut next = at;
+    let mut row = 0;
+    while row < rows {
+        next = put_row(out, next, words, row);
+        next = flush_nearly_full(out, next);
+        row += 1;
+    }
+    flush(out, next);
+}
+
+// How many rows, readers and shared objects there are.
+fn put_counts(out: &mut [u8], rows: u32, readers: u32, shared: u32) -> usize {
+    let mut at = put(out, 0, b"rows ");
+    at = put_number(out, at, rows as u64);
+    at = put(out, at, b" readers ");
+    at = put_number(out, at, readers as u64);
+    at = put(out, at, b" shared ");
+    at = put_number(out, at, shared as u64);
+    put(out, at, b"\n")
+}
+
+fn print_refusal(out: &mut [u8], number: u32, place: usize) {
+    let mut at = put(out, 0, b"refused ");
+    at = put_number(out, at, number as u64);
+    at = put(out, at, b" at ");
+    at = put_number(out, at, place as u64);
+    at = put(out, at, b"\n");
+    flush(out, at);
+}
+
+// Loads the file with room for 1,024 rows, and prints the answer.
+fn print_file(file: &[u8], out: &mut [u8]) {
+    let mut words = [0u32; 6144];
+    match load::load(file, &mut words) {
+        Loading::Refused { number, place } => print_refusal(out, number, place),
+        Loading::Loaded {
+            rows,
+            readers,
+            shared,
+        } => {
+            let at = put_counts(out, rows, readers, shared);
+            print_rows(out, at, &words, rows);
+        }
+    }
+}
+
+fn main() {
+    let mut space = io::large_buffer();
+    let mut out = io::large_buffer();
+    let n = io::read_full(0, &mut space);
+    if 32768 < n {
+        print_refusal(&mut out, 9, 0);
+        return;
+    }
+    print_file(&space[..n], &mut out);
+}

@@ -1,0 +1,48 @@
+//! What the program `rows` prints.
+
+use crate::load::{load, Loaded, BUILDER_ROWS};
+use crate::refusal::Refusal;
+use crate::row::WORDS_PER_ROW;
+
+/// The longest input that the programs take.
+pub const LONGEST_INPUT: usize = 32_768;
+/// The answer to a longer input.
+pub const INPUT_TOO_LONG: Refusal = Refusal {
+    number: 9,
+    place: 0,
+};
+
+/// What `rows` prints for an input.
+pub fn printed_rows(input: &[u8]) -> String {
+    let mut words = vec![0; BUILDER_ROWS * WORDS_PER_ROW];
+    let answer = if input.len() > LONGEST_INPUT {
+        Err(INPUT_TOO_LONG)
+    } else {
+        load(input, &mut words)
+    };
+    match answer {
+        Ok(loaded) => row_lines(&loaded, &words),
+        Err(refusal) => refusal_line(refusal),
+    }
+}
+
+fn row_lines(loaded: &Loaded, words: &[u32]) -> String {
+    let mut lines = format!(
+        "rows {} readers {} shared {}\n",
+        loaded.rows, loaded.readers, loaded.shared
+    );
+    let used = words.chunks_exact(WORDS_PER_ROW).take(loaded.rows);
+    for (number, row) in used.enumerate() {
+        lines += &number.to_string();
+        for word in row {
+            lines += &format!(" {word}");
+        }
+        lines += "\n";
+    }
+    lines
+}
+
+/// The line of a refusal.
+pub fn refusal_line(refusal: Refusal) -> String {
+    format!("refused {} at {}\n", refusal.number, refusal.place)
+}
