@@ -37,7 +37,7 @@ fn count_below(below: Below) -> usize
 }
 
 // The value in a slot, with the depth left.
-pub fn value(
+fn value(
     file: &[u8],
     codes: &[u8],
     rd: Readers,

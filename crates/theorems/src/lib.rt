@@ -1,0 +1,1 @@
+// What is promised of loading, as statements that read from top to bottom: specs/Exact.antt.
