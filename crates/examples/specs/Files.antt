@@ -1,4 +1,4 @@
--- 01, "Examples": P1, P2 and P5 to P10, and a padded form of B, as one list of files, numbers of words and answers, by computation of what loading answers. Assumes nothing.
+-- 01, "Examples": P1 to P10 but for the rewritten form in P4, as one list of files, numbers of words and answers in their order, by computation of what loading answers. Assumes nothing.
 use mathlib.Core.Path.{_≡_, refl}
 use mathlib.Core.Bool.{Bool, true, false}
 use mathlib.Core.List.{List, [], _∷_, _++_}
