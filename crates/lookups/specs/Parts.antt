@@ -1,0 +1,32 @@
+-- The part of a file that a row names (01, "Looking up"). Assumes nothing.
+use mathlib.Core.Bool.{Bool, true, false}
+use mathlib.Core.List.{List}
+use Prim.Native.Nat.{ℕ, _+_, _*_}
+use lib.Dec.{ltb, leb}
+use lib.ListN.{length, getD}
+use Rattle.reading.specs.File.{roomOf}
+use Rattle.lookups.specs.declared.Span.{Span}
+use Rattle.lookups.specs.declared.Span.the-variants.{Refused, Found}
+
+-- refused with a number and the row number unless a test holds
+unfoldable pub orRefused : Bool → (number row : ℕ) → Span → Span
+orRefused true number row found = found
+orRefused false number row found = Refused number row
+
+-- 01, "The row table": "Six make a row: kind; first byte; length"
+unfoldable pub kindOf : (words : List ℕ) (row : ℕ) → ℕ
+kindOf words row = getD words (6 * row) 0
+
+unfoldable pub firstOf : (words : List ℕ) (row : ℕ) → ℕ
+firstOf words row = getD words (6 * row + 1) 0
+
+unfoldable pub lengthOf : (words : List ℕ) (row : ℕ) → ℕ
+lengthOf words row = getD words (6 * row + 2) 0
+
+-- 01: "It refuses with 23 and an empty part if the row number is not below the room, or the row has length 0 or runs past the file"
+unfoldable pub partOf : (file words : List ℕ) (row : ℕ) → Span
+partOf file words row =
+    orRefused (ltb row (roomOf (length words))) 23 row
+    (orRefused (ltb 0 (lengthOf words row)) 23 row
+    (orRefused (leb (firstOf words row + lengthOf words row) (length file)) 23 row
+    (Found (firstOf words row) (lengthOf words row))))

@@ -1,0 +1,31 @@
+-- The bytes of a text (01, "Looking up"). Assumes nothing.
+use mathlib.Core.List.{List}
+use Prim.Native.Nat.{ℕ, _+_, _-_}
+use lib.Dec.{eqb}
+use lib.ListN.{length, take, drop}
+use Rattle.reading.specs.Answer.{Answer, refused, read, bind}
+use Rattle.reading.specs.Seven.{sevenAt}
+use Rattle.lookups.specs.declared.Span.{Span}
+use Rattle.lookups.specs.declared.Span.the-variants.{Refused, Found}
+use Rattle.lookups.specs.Parts.{orRefused, kindOf, partOf}
+
+-- a text's count, which stands behind the type id, and where it ends
+unfoldable pub countAt : List ℕ → Answer ℕ
+countAt bytes = bind (sevenAt bytes 0) (λ id at. sevenAt bytes at)
+
+-- 01: "24 unless .. the count equals what follows"; `size` is the part's length, `first` its first byte
+unfoldable pub behind : (first size row : ℕ) → Answer ℕ → Span
+behind first size row (refused number place) = Refused 24 row
+behind first size row (read count start) = orRefused (eqb count (size - start)) 24 row (Found (first + start) count)
+
+-- 01: "A text lookup gives the bytes after the type id and count, 24 unless kind 13"
+unfoldable pub textIn : (bytes : List ℕ) (first kind row : ℕ) → Span
+textIn bytes first kind row = orRefused (eqb kind 13) 24 row (behind first (length bytes) row (countAt bytes))
+
+-- 01: "For these 23 precedes 24"
+unfoldable pub inPart : Span → (ℕ → ℕ → Span) → Span
+inPart (Refused number row) found = Refused number row
+inPart (Found first size) found = found first size
+
+unfoldable pub textOf : (file words : List ℕ) (row : ℕ) → Span
+textOf file words row = inPart (partOf file words row) (λ first size. textIn (take size (drop first file)) first (kindOf words row) row)

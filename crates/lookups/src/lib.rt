@@ -1,0 +1,186 @@
+// Looking up the values of rows (01, "Looking up").
+use answers::Number;
+use ids::RowNumber;
+ghost use mathlib.Core.Path.{_≡_};
+ghost use Prim.Native.Nat.{_+_, _-_, _≤_, _<_, _^_};
+ghost use lib.ListN.{length, getD};
+ghost use Rattle.reading.specs.File.{roomOf};
+ghost use Rattle.answers.specs.Told.{told};
+ghost use Rattle.lookups.specs.Parts.{partOf};
+ghost use Rattle.lookups.specs.Texts.{countAt, textIn, textOf};
+ghost use Rattle.lookups.specs.Signs.{twos, Within, signedFrom, signedIn, signedOf};
+
+// A refusal's number and the row number; or the first byte of a part of the file, and its length.
+pub enum Span {
+    Refused(u32, u32),
+    Found(usize, usize),
+}
+
+// The number of whole rows in the words, at most 65,536.
+fn room(words: &[u32]) -> u32
+    ensures { λ r. ⌜ r ≡ roomOf (length (now (words .entry))) ⌝ }
+{
+    let rows = words.len() / 6;
+    if rows < 65536 {
+        return rows as u32;
+    }
+    65536
+}
+
+// The word at a place, 0 where there is none.
+fn word(words: &[u32], at: usize) -> u32
+    ensures { λ r. ⌜ r ≡ getD (now (words .entry)) at 0 ⌝ }
+{
+    if at < words.len() {
+        return words[at];
+    }
+    0
+}
+
+// The part of the file that a row names.
+pub fn part(file: &[u8], words: &[u32], row: RowNumber) -> Span
+    ensures { λ r. ⌜ r ≡ partOf (now (file .entry)) (now (words .entry)) (row .0) ⌝ }
+{
+    let number = row.0;
+    if room(words) <= number {
+        return Span::Refused(23, number);
+    }
+    let at = RowNumber(number).position();
+    let first = word(words, at + 1) as usize;
+    let length = word(words, at + 2) as usize;
+    if length == 0 {
+        return Span::Refused(23, number);
+    }
+    let end = first + length;
+    if file.len() < end {
+        return Span::Refused(23, number);
+    }
+    Span::Found(first, length)
+}
+
+// The count of a text in its part, behind the type id.
+fn count_at(bytes: &[u8]) -> Number
+    ensures { λ r. ⌜ told r ≡ countAt (now (bytes .entry)) ⌝ }
+{
+    match numbers::seven::seven_at(bytes, 0) {
+        Number::Refused(number, place) => Number::Refused(number, place),
+        Number::Read(_, at) => numbers::seven::seven_at(bytes, at),
+    }
+}
+
+// The text in a part whose first byte is `first`, and whose row has a kind and a number.
+fn text_in(bytes: &[u8], first: usize, kind: u32, row: u32) -> Span
+    requires { ⌜ first + length (now bytes) < 2 ^ 64 ⌝ }
+    ensures { λ r. ⌜ r ≡ textIn (now (bytes .entry)) first kind row ⌝ }
+{
+    if kind != 13 {
+        return Span::Refused(24, row);
+    }
+    match count_at(bytes) {
+        Number::Refused(_, _) => Span::Refused(24, row),
+        Number::Read(count, start) => {
+            let n = count as usize;
+            let left = bytes.len() - start;
+            if n != left {
+                return Span::Refused(24, row);
+            }
+            Span::Found(first + start, n)
+        }
+    }
+}
+
+// The bytes of a text behind its type id and count.
+pub fn text(file: &[u8], words: &[u32], row: RowNumber) -> Span
+    ensures { λ r. ⌜ r ≡ textOf (now (file .entry)) (now (words .entry)) (row .0) ⌝ }
+{
+    let number = row.0;
+    match part(file, words, RowNumber(number)) {
+        Span::Refused(refusal, at) => Span::Refused(refusal, at),
+        Span::Found(first, length) => {
+            let end = first + length;
+            let kind = word(words, RowNumber(number).position());
+            text_in(&file[first..end], first, kind, number)
+        }
+    }
+}
+
+// A refusal's number and the row number; or a signed number.
+pub enum Whole {
+    Refused(u32, u32),
+    Number(i64),
+}
+
+// A number in two's complement, where `top` is the largest number of as many bytes.
+fn twos_complement(value: u64, top: u64) -> i64
+    requires { ⌜ value ≤ top ⌝ }
+    ensures { λ r. ⌜ r ≡ twos top value ⌝ }
+{
+    if value <= top / 2 {
+        return value as i64;
+    }
+    let back = top - value;
+    -1 - back as i64
+}
+
+// The signed number that was read, or 24.
+fn signed_from(read: Number, top: u64, row: u32) -> Whole
+    requires { ⌜ Within top (told read) ⌝ }
+    ensures { λ r. ⌜ r ≡ signedFrom top row (told read) ⌝ }
+{
+    match read {
+        Number::Refused(_, _) => Whole::Refused(24, row),
+        Number::Read(value, _) => Whole::Number(twos_complement(value, top)),
+    }
+}
+
+// Where the last `size` bytes start, or 0 where there are fewer.
+fn back(bytes: &[u8], size: usize) -> usize
+    ensures { λ r. ⌜ r ≡ length (now (bytes .entry)) - size ⌝ }
+{
+    if bytes.len() < size {
+        return 0;
+    }
+    bytes.len() - size
+}
+
+// The signed number in the last bytes of a part, whose row has a kind and a number.
+fn signed_in(bytes: &[u8], kind: u32, row: u32) -> Whole
+    ensures { λ r. ⌜ r ≡ signedIn (now (bytes .entry)) kind row ⌝ }
+{
+    if kind == 2 {
+        let one = numbers::little::little1(bytes, back(bytes, 1));
+        return signed_from(one, 0xFF, row);
+    }
+    if kind == 3 {
+        let two = numbers::little::little2(bytes, back(bytes, 2));
+        return signed_from(two, 0xFFFF, row);
+    }
+    if kind == 5 {
+        let four = numbers::little::little4(bytes, back(bytes, 4));
+        return signed_from(four, 0xFFFF_FFFF, row);
+    }
+    if kind == 7 {
+        let eight = numbers::little::little8(bytes, back(bytes, 8));
+        return signed_from(eight, 0xFFFF_FFFF_FFFF_FFFF, row);
+    }
+    if kind == 20 {
+        let span = numbers::little::little8(bytes, back(bytes, 8));
+        return signed_from(span, 0xFFFF_FFFF_FFFF_FFFF, row);
+    }
+    Whole::Refused(24, row)
+}
+
+// The signed number in the last bytes of a row's part.
+pub fn signed(file: &[u8], words: &[u32], row: RowNumber) -> Whole
+    ensures { λ r. ⌜ r ≡ signedOf (now (file .entry)) (now (words .entry)) (row .0) ⌝ }
+{
+    let number = row.0;
+    match part(file, words, RowNumber(number)) {
+        Span::Refused(refusal, at) => Whole::Refused(refusal, at),
+        Span::Found(first, length) => {
+            let end = first + length;
+            let kind = word(words, RowNumber(number).position());
+            signed_in(&file[first..end], kind, number)
+        }
+    }
+}
