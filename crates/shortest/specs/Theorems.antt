@@ -1,0 +1,52 @@
+-- What is promised of rewriting, over the layout alone. Assumes nothing.
+use mathlib.Core.Path.{_≡_, refl, sym, ap, _∙_}
+use mathlib.Core.List.{List, [], _∷_, _++_}
+use Prim.Native.Nat.{ℕ, _+_, _≤_, _<_}
+use native.Mathlib.Omega.{arith}
+use lib.ListN.{length, take, length-append}
+use Rattle.layout.specs.Target.{Target}
+use Rattle.layout.specs.Tree.{Trees, count, size}
+use Rattle.layout.specs.File.{FileTree, sharedOf, header, FileLays, fileRows}
+use Rattle.reading.specs.File.{Named, Judges, Load, accepted, roomOf, loadOf}
+use Rattle.reading.specs.Accepts.{loadedOf, file-complete}
+use Rattle.reading.specs.Theorems.{Fitting, rowsIn, rows-are}
+use Rattle.numbers.specs.Shortest.{Shortens}
+use Rattle.shortest.specs.File.{shortBody, shortFile, length-file, length-header, header-is, file-short}
+use Rattle.shortest.specs.Rewrites.{padding, rewrites-padding}
+use Rattle.shortest.specs.Lists.{filePlaces, file-rewrites}
+use Rattle.shortest.specs.Rewrite.{Rewritten, refusal, written, fitted, byLoad, rewriteOf}
+
+module _ (named : List ℕ → Target → Type 0) (nameOf : List ℕ → Named) (judges : Judges named nameOf) where
+  -- the bytes written are the shortest of the file tree that fits
+  pub rewrite-is : (file : List ℕ) (words out : ℕ) (f : Fitting named file words) → rewriteOf nameOf file words out ≡ fitted (shortFile (f .tree)) out
+  unfolding rewriteOf byLoad
+  rewrite-is file words out f = rw (file-complete named nameOf judges file (roomOf words) (f .tree) (f .lays) (f .room))
+
+  module _ (file : List ℕ) (words : ℕ) (f : Fitting named file words) where
+    -- they are laid down for the same file tree, "no bytes of that file tree are shorter, and bytes of equal length are equal"
+    pub least : (bs : List ℕ) → FileLays named (f .tree) bs → Shortens (FileLays named (f .tree)) (shortFile (f .tree)) bs
+    least bs w = file-short named (f .tree) bs w
+
+    -- so the rewritten file fits the same room
+    abbrev pub again : Fitting named (shortFile (f .tree)) words
+    again = record { tree = f .tree; lays = least file (f .lays) .form; room = f .room }
+
+    -- it is accepted, with the same trees
+    pub accepted-again : loadOf nameOf (shortFile (f .tree)) words
+        ≡ accepted (rowsIn named again) (length (f .tree .names)) (count (sharedOf (f .tree .objects)))
+    accepted-again = rows-are named nameOf judges (shortFile (f .tree)) words again
+
+    -- rewriting twice is rewriting once
+    pub twice : (out : ℕ) → rewriteOf nameOf (shortFile (f .tree)) words out ≡ rewriteOf nameOf file words out
+    twice out = rewrite-is (shortFile (f .tree)) words out again ∙ sym (rewrite-is file words out f)
+
+    -- a file already shortest comes out byte for byte
+    pub stays : length file ≡ length (shortFile (f .tree)) → shortFile (f .tree) ≡ file
+    stays e = least file (f .lays) .same (sym e)
+
+    -- "length of the input = length of the output + the padding total"
+    pub padding-is : length file ≡ length (shortFile (f .tree)) + padding file (filePlaces file (length (f .tree .names)) (rowsIn named f))
+    padding-is =
+        let r = rewrites-padding file (file-rewrites file named (f .tree) (f .lays)) in
+        let ten : length (take 10 file) ≡ 10 = ap length (header-is named (f .tree) file (f .lays)) ∙ length-header (f .tree .platform) (f .tree .flags) (length file) in
+        omega (arith, length-file (f .tree), length-append (take 10 file) (shortBody (f .tree)))
