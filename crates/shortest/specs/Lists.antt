@@ -12,20 +12,19 @@ use Rattle.layout.specs.Tree.{count}
 use Rattle.layout.specs.Resource.{Resource}
 use Rattle.layout.specs.Rows.{Row}
 use Rattle.layout.specs.File.{FileTree, sharedOf, header, objectsPlan, Entry, Entries, FileLays, fileRows}
-use Rattle.reading.specs.Answer.{Answer, refused, read}
+use Rattle.reading.specs.Answer.{Answer}
 use Rattle.reading.specs.Reads.{seam}
 use Rattle.reading.specs.Seven.{sevenAt}
 use Rattle.reading.specs.Little.{length-little}
 use Rattle.numbers.specs.Shortest.{shortest}
 use Rattle.shortest.specs.Short.{short}
 use Rattle.shortest.specs.File.{shortEntry, shortEntries, shortLists, shortBody, length-header}
-use Rattle.shortest.specs.Places.{past, rowsPlaces, Shortened, copied, number, joined, number-is, split, lays-shortened}
+use Rattle.shortest.specs.Places.{numberOf, past, rowsPlaces, Shortened, copied, number, joined, number-is, split, lays-shortened}
 use Rattle.shortest.specs.Rewrites.{part, Rewrites, whole-rewrites}
 
 -- where a reader ends: its name's length, the name, and four bytes of a version
 unfoldable pub behindEntry : Answer ℕ → (at : ℕ) → ℕ
-behindEntry (refused refusal place) at = at
-behindEntry (read n next) at = next + n + 4
+behindEntry x at = past x at + numberOf x + 4
 
 module _ (file : List ℕ) where
   -- the places of the lengths of n names, and where the readers end
@@ -46,7 +45,7 @@ module _ (file : List ℕ) where
   module _ (named : List ℕ → Target → Type 0) where
     entry-shortened : (name : List ℕ) (t : Target) (bs others : List ℕ) (at : ℕ) → Entry named name t bs → drop at file ≡ bs ++ others
         → Shortened file at (at + length bs) (at ∷ []) (shortEntry name) × (behindEntry (sevenAt file at) at ≡ at + length bs)
-    unfolding shortEntry behindEntry
+    unfolding shortEntry behindEntry past numberOf
     entry-shortened name t bs others at w d =
         let behind = name ++ little 4 0 in
         let c = split file at bs (w .number) behind others (w .parts) d in

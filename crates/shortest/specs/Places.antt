@@ -20,7 +20,11 @@ use Rattle.reading.specs.Rules.{null-id}
 use Rattle.numbers.specs.Shortest.{shortest}
 use Rattle.shortest.specs.Short.{numbered, idBytes, body, short, Form, plain, text, raw-form, form-numbered, leaf-body, reference-numbered}
 
--- where a number that starts at `at` ends
+-- a number that was read, and where it ends if it starts at `at`
+unfoldable pub numberOf : Answer ℕ → ℕ
+numberOf (refused number place) = 0
+numberOf (read n next) = n
+
 unfoldable pub past : Answer ℕ → (at : ℕ) → ℕ
 past (refused number place) at = at
 past (read n next) at = next

@@ -1,0 +1,28 @@
+use native.Mathlib.Omega.{arith}
+use Rattle.reading.specs.Reads.{small-by-index}
+use Rattle.rewrite.specs.Padded.{count-padding, no-count-padding}
+use borrow.Author.Needs.{needs}
+use Rattle.rewrite.proofs.count_padding.Statement.{statement}
+use Rattle.rewrite.proofs.count_padding.Tie as tie
+use Rattle.rewrite.proofs.count_padding.Reads as reads
+use Rattle.rewrite.proofs.count_padding.Lts as lts
+use Rattle.rewrite.proofs.measure.Reads as measure-reads
+
+-- src/lib.rt:89:13
+measure-requires : tie.Need-measure-requires
+measure-requires c κs = search needs
+
+-- src/lib.rt:90:9
+returns : tie.Need-returns
+returns c =
+    let s = c .before .before .before .args .file .now in
+    count-padding s (small-by-index s (λ i h. omega (arith, c .before .before .shared-slice-known .given i))) (c .before .before .before .args .kind) (c .before .before .before .args .at) (c .measure .result) (c .before .if1 .taken) (c .measure .ensures)
+
+-- src/lib.rt:85:1
+returns-2 : tie.Need-returns-2
+returns-2 c =
+    let s = c .before .before .args .file .now in
+    no-count-padding s (small-by-index s (λ i h. omega (arith, c .before .shared-slice-known .given i))) (c .before .before .args .kind) (c .before .before .args .at) (c .if1 .left)
+
+pub count-padding-spec : {M : Type 1} → statement M
+count-padding-spec = tie.close (tie.spec measure-requires returns returns-2)

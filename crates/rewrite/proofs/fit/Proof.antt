@@ -1,0 +1,61 @@
+use mathlib.Core.Path.{_≡_, refl, sym, ap, _∙_}
+use native.Mathlib.Omega.{arith}
+use Rattle.rewrite.specs.Contract.{needed-is, too-small, fits-in}
+use borrow.Author.Needs.{needs}
+use Rattle.rewrite.proofs.fit.Statement.{statement}
+use Rattle.rewrite.proofs.fit.Tie as tie
+use Rattle.rewrite.proofs.fit.Reads as reads
+use Rattle.rewrite.proofs.fit.Lts as lts
+use Rattle.fill.proofs.clear.Reads as clear-reads
+use Rattle.rewrite.proofs.padding.Reads as padding-reads
+use Rattle.rewrite.proofs.write.Reads as write-reads
+
+-- src/lib.rt:328:9
+padding-requires : tie.Need-padding-requires
+padding-requires c κs = c .before .before .before .before .pre .small
+
+-- src/lib.rt:329:18
+sub-needed : tie.Need-sub-needed
+sub-needed c = omega (arith, needed-is (c .before .before .before .before .before .args .file .now) (c .before .before .before .before .before .args .words .now) (c .before .before .before .before .before .args .readers) (c .before .before .before .before .before .args .rows) (c .before .before .before .before .before .pre))
+
+-- src/lib.rt:331:9
+clear-requires : tie.Need-clear-requires
+clear-requires c κs = search needs
+
+-- src/lib.rt:332:9
+same-length : tie.Need-same-length
+same-length c = search needs
+
+-- src/lib.rt:332:9
+returns : tie.Need-returns
+returns c = record { holds = λ w. too-small (c .before .before .before .before .before .before .before .before .before .before .args .file .now) (c .before .before .before .before .before .before .before .before .before .before .args .words .now) (c .before .before .before .before .before .before .before .before .before .before .args .readers) (c .before .before .before .before .before .before .before .before .before .before .args .rows) w (c .before .before .before .before .before .before .before .before .before .before .args .out .now) (c .before .before .before .before .before .padding .result) (c .before .before .before .before .before .padding .ensures) (c .before .before .before .before .if1 .taken) (c .before .before .clear .ensures) }
+
+-- src/lib.rt:337:5
+write-requires : tie.Need-write-requires
+write-requires c κs = c .before .before .before .before .before .before .before .before .pre .small
+
+-- src/lib.rt:324:1
+same-length-2 : tie.Need-same-length-2
+same-length-2 c = search needs
+
+-- src/lib.rt:324:1
+same-length-3 : tie.Need-same-length-3
+same-length-3 c = search needs
+
+-- src/lib.rt:324:1
+returns-2 : tie.Need-returns-2
+returns-2 c = record { holds = λ w. fits-in (c .before .before .before .before .before .before .before .before .before .before .before .args .file .now) (c .before .before .before .before .before .before .before .before .before .before .before .args .words .now) (c .before .before .before .before .before .before .before .before .before .before .before .args .readers) (c .before .before .before .before .before .before .before .before .before .before .before .args .rows) w (c .before .before .before .before .before .before .before .before .before .before .before .args .out .now) (c .before .before .before .before .before .before .padding .result) (c .before .before .before .before .before .before .padding .ensures) (c .before .before .before .before .before .if1 .left) (c .before .before .write .ensures) }
+
+pub fit-spec : {M : Type 1} → statement M
+fit-spec =
+    tie.close
+    (tie.spec
+    padding-requires
+    sub-needed
+    clear-requires
+    same-length
+    returns
+    write-requires
+    same-length-2
+    same-length-3
+    returns-2)

@@ -1,0 +1,73 @@
+use mathlib.Core.Path.{_≡_, refl, sym, _∙_}
+use native.Mathlib.Omega.{arith}
+use Rattle.reading.specs.Reads.{small-by-index}
+use Rattle.rewrite.specs.Padded.{found, file-padding}
+use borrow.Author.Needs.{needs}
+use Rattle.rewrite.proofs.padding.Statement.{statement}
+use Rattle.rewrite.proofs.padding.Tie as tie
+use Rattle.rewrite.proofs.padding.Reads as reads
+use Rattle.rewrite.proofs.padding.Lts as lts
+use Rattle.rewrite.proofs.entries_padding.Reads as entries-padding-reads
+use Rattle.rewrite.proofs.measure.Reads as measure-reads
+use Rattle.rewrite.proofs.rows_padding.Reads as rows-padding-reads
+
+-- src/lib.rt:155:9
+measure-requires : tie.Need-measure-requires
+measure-requires c κs = search needs
+
+-- src/lib.rt:156:9
+entries-padding-requires : tie.Need-entries-padding-requires
+entries-padding-requires c κs =
+    let s = c .before .before .before .args .file .now in
+    let f = found s (small-by-index s (λ i h. omega (arith, c .before .before .shared-slice-known .given i))) 10 (c .measure .result) (c .measure .ensures) in
+    (c .before .before .before .pre, omega (arith, f .end-small, c .before .before .before .pre))
+
+-- src/lib.rt:157:9
+measure-requires-2 : tie.Need-measure-requires-2
+measure-requires-2 c κs = search needs
+
+-- src/lib.rt:158:5
+add-result : tie.Need-add-result
+add-result c =
+    let s = c .before .before .before .before .before .before .before .args .file .now in
+    let f = found s (small-by-index s (λ i h. omega (arith, c .before .before .before .before .before .before .shared-slice-known .given i))) 10 (c .before .before .before .before .measure .result) (c .before .before .before .before .measure .ensures) in
+    omega (arith, f .padding-small, c .before .before .before .before .before .before .before .pre, c .before .before .before .entries-padding .ensures .1, c .before .before .before .before .before .before .before .fits .readers .fits)
+
+-- src/lib.rt:158:5
+add-result-2 : tie.Need-add-result-2
+add-result-2 c =
+    let s = c .before .before .before .before .before .before .before .before .args .file .now in
+    let f = found s (small-by-index s (λ i h. omega (arith, c .before .before .before .before .before .before .before .shared-slice-known .given i))) 10 (c .before .before .before .before .before .measure .result) (c .before .before .before .before .before .measure .ensures) in
+    let g = found s (small-by-index s (λ i h. omega (arith, c .before .before .before .before .before .before .before .shared-slice-known .given i))) (c .before .before .before .before .entries-padding .result .at) (c .before .before .before .measure2 .result) (c .before .before .before .measure2 .ensures) in
+    omega (arith, f .padding-small, g .padding-small, c .before .before .before .before .before .before .before .before .pre, c .before .before .before .before .entries-padding .ensures .1, c .before .before .before .before .before .before .before .before .fits .readers .fits)
+
+-- src/lib.rt:158:56
+rows-padding-requires : tie.Need-rows-padding-requires
+rows-padding-requires c κs = search needs
+
+-- src/lib.rt:158:5
+add-result-3 : tie.Need-add-result-3
+add-result-3 c =
+    let s = c .before .before .before .before .before .before .before .before .before .args .file .now in
+    let f = found s (small-by-index s (λ i h. omega (arith, c .before .before .before .before .before .before .before .before .shared-slice-known .given i))) 10 (c .before .before .before .before .before .before .measure .result) (c .before .before .before .before .before .before .measure .ensures) in
+    let g = found s (small-by-index s (λ i h. omega (arith, c .before .before .before .before .before .before .before .before .shared-slice-known .given i))) (c .before .before .before .before .before .entries-padding .result .at) (c .before .before .before .before .measure2 .result) (c .before .before .before .before .measure2 .ensures) in
+    omega (arith, f .padding-small, g .padding-small, c .before .before .before .before .before .before .before .before .before .pre, c .before .before .before .before .before .entries-padding .ensures .1, c .before .before .before .before .before .before .before .before .before .fits .readers .fits, c .rows-padding .ensures .1, c .before .before .before .before .before .before .before .before .before .fits .rows .fits)
+
+-- src/lib.rt:151:1
+returns : tie.Need-returns
+returns c =
+    let s = c .before .before .before .before .before .before .before .before .before .args .file .now in
+    file-padding s (small-by-index s (λ i h. omega (arith, c .before .before .before .before .before .before .before .before .shared-slice-known .given i))) (c .before .before .before .before .before .before .before .before .before .args .words .now) (c .before .before .before .before .before .before .before .before .before .args .readers) (c .before .before .before .before .before .before .before .before .before .args .rows) (c .before .before .before .before .before .before .measure .result) (c .before .before .before .before .measure2 .result) (c .before .before .before .before .before .entries-padding .result .padding) (c .before .before .before .before .before .entries-padding .result .at) (c .rows-padding .result) (c .before .before .before .before .before .before .measure .ensures) (c .before .before .before .before .before .entries-padding .ensures .0) (c .before .before .before .before .before .entries-padding .ensures .2) (c .before .before .before .before .measure2 .ensures) (c .rows-padding .ensures .0)
+
+pub padding-spec : {M : Type 1} → statement M
+padding-spec =
+    tie.close
+    (tie.spec
+    measure-requires
+    entries-padding-requires
+    measure-requires-2
+    add-result
+    add-result-2
+    rows-padding-requires
+    add-result-3
+    returns)

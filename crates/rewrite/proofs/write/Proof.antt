@@ -1,0 +1,92 @@
+use mathlib.Core.Path.{_≡_, refl, sym, ap, _∙_}
+use mathlib.Core.List.{List, [], _∷_, _++_}
+use native.Mathlib.Omega.{arith}
+use Rattle.reading.specs.Reads.{small-by-index}
+use Rattle.shortest.specs.Lists.{entriesPlaces, entriesEnd}
+use Rattle.rewrite.specs.Table.{tablePlaces}
+use Rattle.rewrite.specs.Padded.{found}
+use Rattle.rewrite.specs.Contract.{copy, start, finish}
+use borrow.Author.Needs.{needs}
+use Rattle.rewrite.proofs.write.Statement.{statement}
+use Rattle.rewrite.proofs.write.Tie as tie
+use Rattle.rewrite.proofs.write.Reads as reads
+use Rattle.rewrite.proofs.write.Lts as lts
+use Rattle.rewrite.proofs.measure.Reads as measure-reads
+use Rattle.rewrite.proofs.put_length.Reads as put-length-reads
+use Rattle.rewrite.proofs.write_entries.Reads as write-entries-reads
+use Rattle.rewrite.proofs.write_number.Reads as write-number-reads
+use Rattle.rewrite.proofs.write_rest.Reads as write-rest-reads
+use Rattle.rewrite.proofs.write_rows.Reads as write-rows-reads
+
+-- src/lib.rt:307:9
+measure-requires : tie.Need-measure-requires
+measure-requires c κs = search needs
+
+-- src/lib.rt:309:9
+write-number-requires : tie.Need-write-number-requires
+write-number-requires c κs = search needs
+
+-- src/lib.rt:310:9
+write-entries-requires : tie.Need-write-entries-requires
+write-entries-requires c κs =
+    let s = c .before .before .before .before .before .before .before .before .before .args .file .now in
+    let f = found s (small-by-index s (λ i h. omega (arith, c .before .before .before .before .before .before .before .before .shared-slice-known .given i))) 10 (c .before .before .before .before .before .measure .result) (c .before .before .before .before .before .measure .ensures) in
+    (c .before .before .before .before .before .before .before .before .before .pre, omega (arith, f .end-small, c .before .before .before .before .before .before .before .before .before .pre))
+
+-- src/lib.rt:312:9
+measure-requires-2 : tie.Need-measure-requires-2
+measure-requires-2 c κs = search needs
+
+-- src/lib.rt:317:9
+write-number-requires-2 : tie.Need-write-number-requires-2
+write-number-requires-2 c κs = search needs
+
+-- src/lib.rt:318:9
+write-rows-requires : tie.Need-write-rows-requires
+write-rows-requires c κs = search needs
+
+-- src/lib.rt:319:5
+write-rest-requires : tie.Need-write-rest-requires
+write-rest-requires c κs = search needs
+
+-- src/lib.rt:320:5
+put-length-requires : tie.Need-put-length-requires
+put-length-requires c κs = search needs
+
+-- src/lib.rt:296:1
+same-length : tie.Need-same-length
+same-length c = omega (arith, c .before .before .put-length .kept, c .before .before .before .before .before .before .write-rest .kept, c .before .before .before .before .before .before .before .before .before .before .write-rows .kept, c .before .before .before .before .before .before .before .before .before .before .before .before .before .before .write-number2 .kept, c .before .before .before .before .before .before .before .before .before .before .before .before .before .before .before .before .before .before .before .write-entries .kept, c .before .before .before .before .before .before .before .before .before .before .before .before .before .before .before .before .before .before .before .before .before .before .before .write-number .kept)
+
+-- src/lib.rt:296:1
+returns : tie.Need-returns
+returns c =
+    λ w n h.
+    let s = c .before .before .before .before .before .before .before .before .before .before .before .before .before .before .before .before .before .before .before .before .before .before .before .before .before .before .before .before .before .args .file .now in
+    let small = small-by-index s (λ i h. omega (arith, c .before .before .before .before .before .before .before .before .before .before .before .before .before .before .before .before .before .before .before .before .before .before .before .before .before .before .before .before .shared-slice-known .given i)) in
+    let base = c .before .before .before .before .before .before .before .before .before .before .before .before .before .before .before .before .before .before .before .before .before .before .before .before .before .before .before .before .before .args .out .now in
+    let first = c .before .before .before .before .before .before .before .before .before .before .before .before .before .before .before .before .before .before .before .before .before .before .before .before .before .measure .result .next in
+    let objects = tablePlaces s (c .before .before .before .before .before .before .before .before .before .before .before .before .before .before .before .before .before .before .before .before .before .before .before .before .before .before .before .before .before .args .words .now) (c .before .before .before .before .before .before .before .before .before .before .before .before .before .before .before .before .before .before .before .before .before .before .before .before .before .before .before .before .before .args .rows) 0 in
+    let whole = copy s (c .before .before .before .before .before .before .before .before .before .before .before .before .before .before .before .before .before .before .before .before .before .before .before .before .before .before .before .before .before .args .words .now) (c .before .before .before .before .before .before .before .before .before .before .before .before .before .before .before .before .before .before .before .before .before .before .before .before .before .before .before .before .before .args .readers) (c .before .before .before .before .before .before .before .before .before .before .before .before .before .before .before .before .before .before .before .before .before .before .before .before .before .before .before .before .before .args .rows) w in
+    let f = found s small 10 (c .before .before .before .before .before .before .before .before .before .before .before .before .before .before .before .before .before .before .before .before .before .before .before .before .before .measure .result) (c .before .before .before .before .before .before .before .before .before .before .before .before .before .before .before .before .before .before .before .before .before .before .before .before .before .measure .ensures) in
+    let g = found s small (c .before .before .before .before .before .before .before .before .before .before .before .before .before .before .before .before .before .before .before .write-entries .result .at) (c .before .before .before .before .before .before .before .before .before .before .before .before .before .before .before .before .measure2 .result) (c .before .before .before .before .before .before .before .before .before .before .before .before .before .before .before .before .measure2 .ensures) in
+    let p0 = start s (c .before .before .before .before .before .before .before .before .before .before .before .before .before .before .before .before .before .before .before .before .before .before .before .before .before .before .before .before .before .args .words .now) (c .before .before .before .before .before .before .before .before .before .before .before .before .before .before .before .before .before .before .before .before .before .before .before .before .before .before .before .before .before .args .readers) (c .before .before .before .before .before .before .before .before .before .before .before .before .before .before .before .before .before .before .before .before .before .before .before .before .before .before .before .before .before .args .rows) w base (c .before .before .before .before .before .before .before .before .before .before .before .before .before .before .before .before .before .before .before .before .before .before .before .before .before .before .before .before .before .args .needed) first n h (f .next-is) in
+    let p1 = c .before .before .before .before .before .before .before .before .before .before .before .before .before .before .before .before .before .before .before .before .before .before .before .write-number .ensures base (entriesPlaces s (c .before .before .before .before .before .before .before .before .before .before .before .before .before .before .before .before .before .before .before .before .before .before .before .before .before .before .before .before .before .args .readers) first ++ (entriesEnd s (c .before .before .before .before .before .before .before .before .before .before .before .before .before .before .before .before .before .before .before .before .before .before .before .before .before .before .before .before .before .args .readers) first ∷ objects)) whole (f .value-is) (f .next-is) p0 in
+    let p2 = c .before .before .before .before .before .before .before .before .before .before .before .before .before .before .before .before .before .before .before .write-entries .ensures .1 base (entriesEnd s (c .before .before .before .before .before .before .before .before .before .before .before .before .before .before .before .before .before .before .before .before .before .before .before .before .before .before .before .before .before .args .readers) first ∷ objects) whole p1 in
+    let p3 = c .before .before .before .before .before .before .before .before .before .before .before .before .before .before .write-number2 .ensures base objects whole (g .value-is) (g .next-is) (rw (← c .before .before .before .before .before .before .before .before .before .before .before .before .before .before .before .before .before .before .before .write-entries .ensures .0) at p2) in
+    let p4 = c .before .before .before .before .before .before .before .before .before .before .write-rows .ensures base whole p3 in
+    finish s (c .before .before .before .before .before .before .before .before .before .before .before .before .before .before .before .before .before .before .before .before .before .before .before .before .before .before .before .before .before .args .words .now) (c .before .before .before .before .before .before .before .before .before .before .before .before .before .before .before .before .before .before .before .before .before .before .before .before .before .before .before .before .before .args .readers) (c .before .before .before .before .before .before .before .before .before .before .before .before .before .before .before .before .before .before .before .before .before .before .before .before .before .before .before .before .before .args .rows) w base _ _ (c .before .before .before .before .before .before .before .before .before .before .before .before .before .before .before .before .before .before .before .before .before .before .before .before .before .before .before .before .before .args .needed) n (c .before .before .before .before .before .before .write-rest .ensures base whole p4) (c .before .before .put-length .ensures)
+
+pub write-spec : {M : Type 1} → statement M
+write-spec =
+    tie.close
+    (tie.spec
+    measure-requires
+    write-number-requires
+    write-entries-requires
+    measure-requires-2
+    write-number-requires-2
+    write-rows-requires
+    write-rest-requires
+    put-length-requires
+    same-length
+    returns)

@@ -1,0 +1,43 @@
+use mathlib.Core.Path.{_≡_, refl, sym, ap, _∙_}
+use mathlib.Core.List.{List, [], _∷_, _++_}
+use native.Mathlib.Omega.{arith}
+use Rattle.reading.specs.Reads.{small-by-index}
+use Rattle.rewrite.specs.Steps.{count-there, no-count}
+use Rattle.rewrite.specs.Padded.{found}
+use borrow.Author.Needs.{needs}
+use Rattle.rewrite.proofs.write_count.Statement.{statement}
+use Rattle.rewrite.proofs.write_count.Tie as tie
+use Rattle.rewrite.proofs.write_count.Reads as reads
+use Rattle.rewrite.proofs.write_count.Lts as lts
+use Rattle.rewrite.proofs.measure.Reads as measure-reads
+use Rattle.rewrite.proofs.write_number.Reads as write-number-reads
+
+-- src/lib.rt:204:13
+measure-requires : tie.Need-measure-requires
+measure-requires c κs = search needs
+
+-- src/lib.rt:205:9
+write-number-requires : tie.Need-write-number-requires
+write-number-requires c κs = search needs
+
+-- src/lib.rt:205:9
+same-length : tie.Need-same-length
+same-length c = search needs
+
+-- src/lib.rt:205:9
+returns : tie.Need-returns
+returns c =
+    λ base places whole p.
+    let s = c .before .before .before .before .before .before .before .before .args .file .now in
+    let f = found s (small-by-index s (λ i h. omega (arith, c .before .before .before .before .before .before .before .shared-slice-known .given i))) (c .before .before .before .before .before .before .before .before .args .at) (c .before .before .before .before .measure .result) (c .before .before .before .before .measure .ensures) in
+    c .before .before .write-number .ensures base places whole (f .value-is) (f .next-is) (rw (count-there s (c .before .before .before .before .before .before .before .before .args .kind) (c .before .before .before .before .before .before .before .before .args .at) (c .before .before .before .before .before .if1 .taken)) at p)
+
+-- src/lib.rt:200:1
+returns-2 : tie.Need-returns-2
+returns-2 c =
+    λ base places whole p.
+    rw (no-count (c .before .before .before .args .file .now) (c .before .before .before .args .kind) (c .before .before .before .args .at) (c .if1 .left)) at p
+
+pub write-count-spec : {M : Type 1} → statement M
+write-count-spec =
+    tie.close (tie.spec measure-requires write-number-requires same-length returns returns-2)

@@ -1,0 +1,36 @@
+use native.Mathlib.Omega.{arith}
+use mathlib.Core.Path.{sym, _∙_}
+use Rattle.rewrite.specs.Pending.{rest-copied}
+use borrow.Author.Needs.{needs}
+use Rattle.rewrite.proofs.write_rest.Statement.{statement}
+use Rattle.rewrite.proofs.write_rest.Tie as tie
+use Rattle.rewrite.proofs.write_rest.Reads as reads
+use Rattle.rewrite.proofs.write_rest.Lts as lts
+use Rattle.fill.proofs.copy.Reads as copy-reads
+
+-- src/lib.rt:276:9
+returns : tie.Need-returns
+returns c =
+    λ base whole p.
+    absurd (omega (arith, rest-copied (c .before .before .before .args .file .now) base (c .before .before .before .args .out .now) (c .before .before .before .args .c .from) (c .before .before .before .args .c .to) whole p .0, c .if1 .taken))
+
+-- src/lib.rt:278:13
+sub-n : tie.Need-sub-n
+sub-n c = search needs
+
+-- src/lib.rt:279:5
+copy-requires : tie.Need-copy-requires
+copy-requires c κs = search needs
+
+-- src/lib.rt:270:1
+same-length : tie.Need-same-length
+same-length c = search needs
+
+-- src/lib.rt:270:1
+returns-2 : tie.Need-returns-2
+returns-2 c =
+    λ base whole p.
+    c .before .before .copy .ensures .1 ∙ rest-copied (c .before .before .before .before .before .before .before .args .file .now) base (c .before .before .before .before .before .before .before .args .out .now) (c .before .before .before .before .before .before .before .args .c .from) (c .before .before .before .before .before .before .before .args .c .to) whole p .1
+
+pub write-rest-spec : {M : Type 1} → statement M
+write-rest-spec = tie.close (tie.spec returns sub-n copy-requires same-length returns-2)

@@ -1,0 +1,113 @@
+use mathlib.Core.Path.{_≡_, refl, sym, ap, _∙_}
+use mathlib.Core.List.{List, [], _∷_, _++_}
+use native.Mathlib.Omega.{arith}
+use Rattle.reading.specs.Reads.{small-by-index}
+use Rattle.reading.specs.Seven.{sevenAt}
+use Rattle.shortest.specs.Places.{past, countPlaces}
+use Rattle.rewrite.specs.Steps.{with-id, without-id}
+use Rattle.rewrite.specs.Padded.{found}
+use borrow.Author.Needs.{needs}
+use Rattle.rewrite.proofs.write_row.Statement.{statement}
+use Rattle.rewrite.proofs.write_row.Tie as tie
+use Rattle.rewrite.proofs.write_row.Reads as reads
+use Rattle.rewrite.proofs.write_row.Lts as lts
+use Rattle.ids.proofs.RowNumber.position.Reads as position-reads
+use Rattle.rewrite.proofs.measure.Reads as measure-reads
+use Rattle.rewrite.proofs.numbered.Reads as numbered-reads
+use Rattle.rewrite.proofs.word.Reads as word-reads
+use Rattle.rewrite.proofs.write_count.Reads as write-count-reads
+use Rattle.rewrite.proofs.write_number.Reads as write-number-reads
+
+-- src/lib.rt:214:9
+position-requires : tie.Need-position-requires
+position-requires c κs = search needs
+
+-- src/lib.rt:215:9
+word-requires : tie.Need-word-requires
+word-requires c κs = search needs
+
+-- src/lib.rt:216:29
+add-word : tie.Need-add-word
+add-word c = search needs
+
+-- src/lib.rt:216:17
+word-requires-2 : tie.Need-word-requires-2
+word-requires-2 c κs = search needs
+
+-- src/lib.rt:216:17
+cast-first : tie.Need-cast-first
+cast-first c = search needs
+
+-- src/lib.rt:217:35
+add-word-2 : tie.Need-add-word-2
+add-word-2 c = search needs
+
+-- src/lib.rt:217:23
+word-requires-3 : tie.Need-word-requires-3
+word-requires-3 c κs = search needs
+
+-- src/lib.rt:217:8
+numbered-requires : tie.Need-numbered-requires
+numbered-requires c κs = search needs
+
+-- src/lib.rt:218:13
+measure-requires : tie.Need-measure-requires
+measure-requires c κs = search needs
+
+-- src/lib.rt:220:13
+write-number-requires : tie.Need-write-number-requires
+write-number-requires c κs = search needs
+
+-- src/lib.rt:221:9
+write-count-requires : tie.Need-write-count-requires
+write-count-requires c κs = search needs
+
+-- src/lib.rt:221:9
+same-length : tie.Need-same-length
+same-length c = search needs
+
+-- src/lib.rt:221:9
+returns : tie.Need-returns
+returns c =
+    λ base places whole p.
+    let s = c .before .before .before .before .before .before .before .before .before .before .before .before .before .before .before .before .before .before .args .file .now in
+    let f = found s (small-by-index s (λ i h. omega (arith, c .before .before .before .before .before .before .before .before .before .before .before .before .before .before .before .before .before .shared-slice-known .given i))) (c .before .before .before .before .before .before .before .before .before .before .before .before .word2 .result) (c .before .before .before .before .before .before .before .before .measure .result) (c .before .before .before .before .before .before .before .before .measure .ensures) in
+    let e = with-id s (c .before .before .before .before .before .before .before .before .before .before .before .before .before .before .before .before .before .before .args .words .now) (c .before .before .before .before .before .before .before .before .before .before .before .before .before .before .before .before .before .before .args .row) (c .before .before .before .before .before .before .before .before .before .before .before .before .before .before .position .result) (c .before .before .before .before .before .before .before .before .before .before .before .before .before .word .result) (c .before .before .before .before .before .before .before .before .before .before .before .before .word2 .result) (c .before .before .before .before .before .before .before .before .before .before .before .word3 .result) (c .before .before .before .before .before .before .before .before .before .before .before .before .before .before .position .ensures) (c .before .before .before .before .before .before .before .before .before .before .before .before .before .word .ensures) (c .before .before .before .before .before .before .before .before .before .before .before .before .word2 .ensures) (c .before .before .before .before .before .before .before .before .before .before .before .word3 .ensures) (sym (c .before .before .before .before .before .before .before .before .before .if1 .taken) ∙ c .before .before .before .before .before .before .before .before .before .before .numbered .ensures) in
+    let q = c .before .before .before .before .before .before .write-number .ensures base (countPlaces s (c .before .before .before .before .before .before .before .before .before .before .before .before .before .word .result) (past (sevenAt s (c .before .before .before .before .before .before .before .before .before .before .before .before .word2 .result)) (c .before .before .before .before .before .before .before .before .before .before .before .before .word2 .result)) ++ places) whole (f .value-is) (f .next-is) (rw e at p) in
+    c .before .before .write-count .ensures base places whole (rw (← f .next-is) at q)
+
+-- src/lib.rt:223:5
+write-count-requires-2 : tie.Need-write-count-requires-2
+write-count-requires-2 c κs = search needs
+
+-- src/lib.rt:211:1
+same-length-2 : tie.Need-same-length-2
+same-length-2 c = search needs
+
+-- src/lib.rt:211:1
+returns-2 : tie.Need-returns-2
+returns-2 c =
+    λ base places whole p.
+    let e = without-id (c .before .before .before .before .before .before .before .before .before .before .before .before .before .args .file .now) (c .before .before .before .before .before .before .before .before .before .before .before .before .before .args .words .now) (c .before .before .before .before .before .before .before .before .before .before .before .before .before .args .row) (c .before .before .before .before .before .before .before .before .before .position .result) (c .before .before .before .before .before .before .before .before .word .result) (c .before .before .before .before .before .before .before .word2 .result) (c .before .before .before .before .before .before .word3 .result) (c .before .before .before .before .before .before .before .before .before .position .ensures) (c .before .before .before .before .before .before .before .before .word .ensures) (c .before .before .before .before .before .before .before .word2 .ensures) (c .before .before .before .before .before .before .word3 .ensures) (sym (c .before .before .before .before .if1 .left) ∙ c .before .before .before .before .before .numbered .ensures) in
+    c .before .before .write-count2 .ensures base places whole (rw e at p)
+
+pub write-row-spec : {M : Type 1} → statement M
+write-row-spec =
+    tie.close
+    (tie.spec
+    position-requires
+    word-requires
+    add-word
+    word-requires-2
+    cast-first
+    add-word-2
+    word-requires-3
+    numbered-requires
+    measure-requires
+    write-number-requires
+    write-count-requires
+    same-length
+    returns
+    write-count-requires-2
+    same-length-2
+    returns-2)

@@ -1,0 +1,83 @@
+-- A file that was loaded is ready to be rewritten, by what load answered and left. Assumes nothing.
+use mathlib.Core.Path.{_≡_, refl, sym, ap, subst, _∙_}
+use mathlib.Core.List.{List, _++_}
+use Prim.Native.Nat.{ℕ, _*_, _-_}
+use native.Mathlib.Omega.{arith}
+use lib.ListN.{length, take, replicate, length-replicate}
+use Rattle.layout.specs.Rows.{Row, flat}
+use Rattle.reading.specs.Answer.{Answer, refused, read}
+use Rattle.reading.specs.Reads.{Small}
+use Rattle.reading.specs.File.{Load, refusal, accepted, Loaded as FileLoaded, fileAt, toLoad, roomOf, loadOf, tableOf}
+use Rattle.reading.specs.Theorems.{Fitting, rowsIn, accepted-is}
+use Rattle.readers.specs.Judged.{judgedName, named, judges}
+use Rattle.load.specs.declared.Loading.the-variants.{Refused, Loaded}
+use Rattle.load.specs.Loads as load
+use Rattle.shortest.specs.File.{shortFile, header-is}
+use Rattle.shortest.specs.Lists.{filePlaces, file-rewrites}
+use Rattle.shortest.specs.Rewrite.{fitted, byLoad, rewriteOf, outputOf, wordsOf}
+use Rattle.shortest.specs.Rewrite as rewritten
+use Rattle.shortest.specs.Theorems.{rewrite-is}
+use Rattle.rewrite.specs.declared.Rewriting.{Rewriting}
+use Rattle.rewrite.specs.declared.Rewriting.the-variants as rewriting
+use Rattle.rewrite.specs.Table.{placesOf, table-places}
+use Rattle.rewrite.specs.Contract.{answerOf, Ready, Fits}
+
+module _ (file : List ℕ) (words : ℕ) where
+  -- a refusal is handed on, and the words are all zero
+  pub load-refused : {n p : ℕ} (out : List ℕ) → Refused n p ≡ load.answerOf (loadOf judgedName file words)
+      → (rewriting.Refused n p ≡ answerOf (rewriteOf judgedName file words (length out)))
+      × (out ≡ outputOf (rewriteOf judgedName file words (length out)) out)
+      × (tableOf (loadOf judgedName file words) words ≡ wordsOf (rewriteOf judgedName file words (length out)) (tableOf (loadOf judgedName file words) words))
+  unfolding loadOf rewriteOf toLoad byLoad tableOf outputOf wordsOf
+  load-refused {n} {p} out e = go (fileAt judgedName file (roomOf words)) e where
+    go : (x : Answer FileLoaded) → Refused n p ≡ load.answerOf (toLoad x)
+        → (rewriting.Refused n p ≡ answerOf (byLoad x (length out))) × (out ≡ outputOf (byLoad x (length out)) out)
+        × (tableOf (toLoad x) words ≡ wordsOf (byLoad x (length out)) (tableOf (toLoad x) words))
+    go (refused m q) e =
+        let e₁ : n ≡ m = cc in
+        let e₂ : p ≡ q = cc in
+        (rw (e₁, e₂), refl, sym (ap (λ (k : ℕ). replicate k 0) (length-replicate words 0)))
+    go (read a f) e = absurd (let z : _≡_ {A = ℕ} 0 1 = cc in omega arith)
+
+  accepted-table : (rs : List Row) (rd sh : ℕ) → tableOf (accepted rs rd sh) words ≡ flat rs ++ replicate (words - 6 * length rs) 0
+  unfolding tableOf
+  accepted-table rs rd sh = refl
+
+  -- the file is ready, and rewriting it answers what its tree's shortest bytes say
+  pub record Good (readers rows : ℕ) : Type 0 where
+    pub ready : Ready file (tableOf (loadOf judgedName file words) words) readers rows
+    pub rewrites-to : (out : ℕ) → rewriteOf judgedName file words out ≡ fitted (shortFile (ready .tree)) out
+
+  pub loaded : {rows readers shared : ℕ} → Small file → Loaded rows readers shared ≡ load.answerOf (loadOf judgedName file words) → Good readers rows
+  loaded {rows} {readers} {shared} small e = go (loadOf judgedName file words) refl e where
+    go : (x : Load) → loadOf judgedName file words ≡ x → Loaded rows readers shared ≡ load.answerOf x → Good readers rows
+    go (refusal n p) q e = absurd (let z : _≡_ {A = ℕ} 0 1 = cc in omega arith)
+    go (accepted rs rd sh) q e =
+        let e₁ : rows ≡ length rs = cc in
+        let e₂ : readers ≡ rd = cc in
+        let a = accepted-is named judgedName judges file words small rs rd sh q in
+        let f = a .0 in
+        let rest : List ℕ = replicate (words - 6 * length rs) 0 in
+        let t : tableOf (loadOf judgedName file words) words ≡ flat rs ++ replicate (words - 6 * length rs) 0 = ap (λ (y : Load). tableOf y words) q ∙ accepted-table rs rd sh in
+        let p : placesOf file (tableOf (loadOf judgedName file words) words) readers rows ≡ filePlaces file (length (f .tree .names)) (rowsIn named f)
+        = ap (λ (y : List ℕ). placesOf file y readers rows) t ∙ ap (placesOf file (flat rs ++ rest) readers) e₁ ∙ table-places file rs rest readers
+        ∙ ap (λ (k : ℕ). filePlaces file k rs) (e₂ ∙ a .2) ∙ ap (filePlaces file (length (f .tree .names))) (a .1) in
+        record {
+          ready = record {
+            tree = f .tree;
+            small = f .lays .short;
+            headed = header-is named (f .tree) file (f .lays);
+            rewrites = rw p (file-rewrites file named (f .tree) (f .lays));
+          };
+          rewrites-to = λ out. rewrite-is named judgedName judges file words out f;
+        }
+
+  -- what fitting the loaded file answers and leaves is what rewriting does
+  pub fitted-is : {readers rows : ℕ} {r : Rewriting} → Good readers rows → (out entry exit : List ℕ) {end : List ℕ}
+      → entry ≡ tableOf (loadOf judgedName file words) words → Fits file entry exit out end readers rows r
+      → (r ≡ answerOf (rewriteOf judgedName file words (length out)))
+      × (end ≡ outputOf (rewriteOf judgedName file words (length out)) out)
+      × (exit ≡ wordsOf (rewriteOf judgedName file words (length out)) (tableOf (loadOf judgedName file words) words))
+  fitted-is {readers} {rows} {r} g out entry exit {end} e f =
+      let f₁ : Fits file (tableOf (loadOf judgedName file words) words) exit out end readers rows r = rw e at f in
+      rw (g .rewrites-to (length out)) (f₁ .holds (g .ready))

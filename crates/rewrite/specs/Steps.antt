@@ -1,0 +1,77 @@
+-- One turn of each loop: the places of a row, of the rows from one on, and of the readers from one on. Assumes nothing.
+use mathlib.Core.Path.{_≡_, refl, sym, ap, _∙_}
+use mathlib.Core.Bool.{true, false, cond}
+use mathlib.Core.List.{List, [], _∷_, _++_}
+use Prim.Native.Nat.{ℕ, zero, suc, _+_, _*_, _-_, _<_, _≤_}
+use native.Mathlib.Omega.{arith}
+use native.Mathlib.Numerals.{add-one}
+use lib.Dec.{eqb}
+use lib.ListN.{getD}
+use borrow.Author.Tests.{eq-eqb, ne-eqb}
+use Rattle.ids.specs.Position.{firstWord}
+use Rattle.reading.specs.Seven.{sevenAt}
+use Rattle.shortest.specs.Short.{numbered}
+use Rattle.shortest.specs.Places.{numberOf, past, idPlaces, rawPlace, countPlaces}
+use Rattle.shortest.specs.Lists.{behindEntry, entriesPlaces, entriesEnd}
+use Rattle.rewrite.specs.Table.{rowPlaces, placesIn, tablePlaces}
+
+module _ (file : List ℕ) where
+  pub count-there : (kind at : ℕ) → kind ≡ 13 → countPlaces file kind at ≡ at ∷ []
+  unfolding countPlaces
+  count-there kind at e = rw (eq-eqb kind 13 e)
+
+  pub no-count : (kind at : ℕ) → (kind ≡ 13 → ⊥) → countPlaces file kind at ≡ []
+  unfolding countPlaces
+  no-count kind at e = rw (ne-eqb kind 13 e)
+
+  -- a row's places, by the words that the code has read
+  module _ (table : List ℕ) (row at kind first detail : ℕ) (a : at ≡ firstWord row) (k : kind ≡ getD table at 0) (f : first ≡ getD table (at + 1) 0) (d : detail ≡ getD table (at + 5) 0) where
+    pub with-id : true ≡ numbered kind detail → placesIn file table row ≡ first ∷ countPlaces file kind (past (sevenAt file first) first)
+    unfolding placesIn rowPlaces idPlaces rawPlace
+    with-id n = rw (← a, ← k, ← f, ← d, ← n)
+
+    pub without-id : false ≡ numbered kind detail → placesIn file table row ≡ countPlaces file kind first
+    unfolding placesIn rowPlaces idPlaces rawPlace
+    without-id n = rw (← a, ← k, ← f, ← d, ← n)
+
+  -- the rows from number i on
+  pub next-row : (table : List ℕ) (rows i : ℕ) → i < rows → tablePlaces file table (rows - i) i ≡ placesIn file table i ++ tablePlaces file table (rows - (i + 1)) (i + 1)
+  unfolding tablePlaces
+  next-row table rows i h =
+      let a : rows - i ≡ suc (rows - (i + 1)) = omega arith in
+      let b : suc i ≡ i + 1 = omega arith in
+      rw (a, b)
+
+  pub all-rows : (table : List ℕ) (rows : ℕ) → tablePlaces file table (rows - 0) 0 ≡ tablePlaces file table rows 0
+  all-rows table rows = let z : rows - 0 ≡ rows = omega arith in rw z
+
+  pub no-row : (table : List ℕ) (rows i : ℕ) → rows ≤ i → tablePlaces file table (rows - i) i ≡ []
+  unfolding tablePlaces
+  no-row table rows i h = let a : rows - i ≡ 0 = omega arith in rw a
+
+  -- the readers from one at `at` on
+  pub next-entry : (left at : ℕ) → 0 < left
+      → (entriesPlaces file left at ≡ at ∷ entriesPlaces file (left - 1) (past (sevenAt file at) at + numberOf (sevenAt file at) + 4))
+      × (entriesEnd file left at ≡ entriesEnd file (left - 1) (past (sevenAt file at) at + numberOf (sevenAt file at) + 4))
+  unfolding entriesPlaces entriesEnd behindEntry
+  next-entry zero at h = absurd (omega arith)
+  next-entry (suc left) at h = let a : suc left - 1 ≡ left = omega arith in rw a (refl, refl)
+
+  pub no-entry : (left at : ℕ) → left ≤ 0 → (entriesPlaces file left at ≡ []) × (entriesEnd file left at ≡ at)
+  unfolding entriesPlaces entriesEnd
+  no-entry zero at h = (refl, refl)
+  no-entry (suc left) at h = absurd (omega arith)
+
+-- which values start with an id
+pub has-detail : (kind detail : ℕ) → (detail ≡ 0 → ⊥) → true ≡ numbered kind detail
+unfolding numbered
+has-detail kind zero h = absurd (h refl)
+has-detail kind (suc i) h = refl
+
+pub kind-null : (kind detail : ℕ) → detail ≡ 0 → kind ≡ 0 → true ≡ numbered kind detail
+unfolding numbered
+kind-null kind detail h k = rw (h, k)
+
+pub kind-reference : (kind detail : ℕ) → detail ≡ 0 → (kind ≡ 0 → ⊥) → eqb kind 36 ≡ numbered kind detail
+unfolding numbered
+kind-reference kind detail h k = rw (h, ne-eqb kind 0 k)

@@ -1,0 +1,348 @@
+// Rewriting a file with each seven-bit number in its shortest form (01, "Seven-bit numbers").
+use answers::Number;
+use ids::RowNumber;
+use load::Loading;
+use numbers::shortest::Placed;
+ghost use mathlib.Core.Path.{_≡_};
+ghost use mathlib.Core.List.{List, [], _∷_, _++_};
+ghost use Prim.Native.Nat.{ℕ, _+_, _*_, _≤_, _<_, _^_};
+ghost use lib.ListN.{length, getD, drop};
+ghost use Rattle.layout.specs.File.{header};
+ghost use Rattle.reading.specs.Seven.{sevenAt};
+ghost use Rattle.reading.specs.File.{loadOf, tableOf};
+ghost use Rattle.readers.specs.Judged.{judgedName};
+ghost use Rattle.shortest.specs.Short.{numbered as startsWithId};
+ghost use Rattle.shortest.specs.File.{shortFile};
+ghost use Rattle.shortest.specs.Places.{numberOf, past, countPlaces};
+ghost use Rattle.shortest.specs.Rewrites.{padding as paddingOf};
+ghost use Rattle.shortest.specs.Lists.{entriesPlaces, entriesEnd};
+ghost use Rattle.shortest.specs.Rewrite.{rewriteOf, outputOf, wordsOf};
+ghost use Rattle.rewrite.specs.Table.{placesIn, tablePlaces, placesOf};
+ghost use Rattle.rewrite.specs.Measured.{measureOf};
+ghost use Rattle.rewrite.specs.Pending.{Pending, LengthPut};
+ghost use Rattle.rewrite.specs.Contract.{answerOf, Ready, Fits};
+
+// A refusal's number and place, or the length of the rewritten file.
+pub enum Rewriting {
+    Refused { number: u32, place: usize },
+    Rewritten { length: usize },
+}
+
+// A seven-bit number: its value, where it ends, and how many bytes it has beyond its shortest form.
+pub struct Measured {
+    pub value: u32,
+    pub next: usize,
+    pub padding: usize,
+}
+
+// The number at a place; where there is none, 0 that ends where it starts.
+fn measure(file: &[u8], at: usize) -> Measured
+    ensures { λ r. ⌜ r ≡ measureOf (sevenAt (now (file .entry)) at) at ⌝ }
+{
+    match numbers::seven::seven_at(file, at) {
+        Number::Refused(_, _) => Measured {
+            value: 0,
+            next: at,
+            padding: 0,
+        },
+        Number::Read(n, next) => {
+            let value = n as u32;
+            let size = numbers::shortest::shortest_len(value);
+            let padding = next - at - size;
+            Measured {
+                value,
+                next,
+                padding,
+            }
+        }
+    }
+}
+
+// The word at a place, 0 where there is none.
+fn word(words: &[u32], at: usize) -> u32
+    ensures { λ r. ⌜ r ≡ getD (now (words .entry)) at 0 ⌝ }
+{
+    if at < words.len() {
+        return words[at];
+    }
+    0
+}
+
+// Whether a value of a kind and a detail starts with a type id or a resource id.
+fn numbered(kind: u32, detail: u32) -> bool
+    ensures { λ r. ⌜ r ≡ startsWithId kind detail ⌝ }
+{
+    if detail != 0 {
+        return true;
+    }
+    if kind == 0 {
+        return true;
+    }
+    kind == 36
+}
+
+// The padding of a text's count, which stands at a place; other kinds have none.
+fn count_padding(file: &[u8], kind: u32, at: usize) -> usize
+    ensures { λ r. ⌜ (r ≡ paddingOf (now (file .entry)) (countPlaces (now (file .entry)) kind at)) × (r ≤ length (now (file .entry))) ⌝ }
+{
+    if kind == 13 {
+        let count = measure(file, at);
+        return count.padding;
+    }
+    0
+}
+
+// The padding of a row's numbers.
+fn row_padding(file: &[u8], words: &[u32], row: u32) -> usize
+    requires { ⌜ length (now file) ≤ 16777216 ⌝ }
+    ensures { λ r. ⌜ (r ≡ paddingOf (now (file .entry)) (placesIn (now (file .entry)) (now (words .entry)) row)) × (r ≤ 33554432) ⌝ }
+{
+    let at = RowNumber(row).position();
+    let kind = word(words, at);
+    let first = word(words, at + 1) as usize;
+    if numbered(kind, word(words, at + 5)) {
+        let id = measure(file, first);
+        return id.padding + count_padding(file, kind, id.next);
+    }
+    count_padding(file, kind, first)
+}
+
+// The padding of the numbers of the first rows.
+fn rows_padding(file: &[u8], words: &[u32], rows: u32) -> usize
+    requires { ⌜ length (now file) ≤ 16777216 ⌝ }
+    ensures { λ r. ⌜ (r ≡ paddingOf (now (file .entry)) (tablePlaces (now (file .entry)) (now (words .entry)) rows 0)) × (r ≤ 33554432 * rows) ⌝ }
+{
+    let mut total = 0;
+    let mut i = 0;
+    while i < rows {
+        total += row_padding(file, words, i);
+        i += 1;
+    }
+    total
+}
+
+// The padding of the lengths of names, and where the readers end.
+pub struct Tally {
+    pub padding: usize,
+    pub at: usize,
+}
+
+// The padding of the lengths of so many names, the first of which stands at a place.
+fn entries_padding(file: &[u8], readers: u32, at: usize) -> Tally
+    requires { ⌜ (length (now file) ≤ 16777216) × (at ≤ 2 ^ 33) ⌝ }
+    ensures { λ r. ⌜ (r .padding ≡ paddingOf (now (file .entry)) (entriesPlaces (now (file .entry)) readers at)) × (r .padding ≤ 16777216 * readers) × (r .at ≡ entriesEnd (now (file .entry)) readers at) ⌝ }
+{
+    let mut total = 0;
+    let mut place = at;
+    let mut left = readers;
+    while 0 < left {
+        let n = measure(file, place);
+        total += n.padding;
+        place = n.next + n.value as usize + 4;
+        left -= 1;
+    }
+    Tally {
+        padding: total,
+        at: place,
+    }
+}
+
+// The padding of all numbers of a loaded file.
+fn padding(file: &[u8], words: &[u32], rows: u32, readers: u32) -> usize
+    requires { ⌜ length (now file) ≤ 16777216 ⌝ }
+    ensures { λ r. ⌜ r ≡ paddingOf (now (file .entry)) (placesOf (now (file .entry)) (now (words .entry)) readers rows) ⌝ }
+{
+    let count = measure(file, 10);
+    let entries = entries_padding(file, readers, count.next);
+    let shared = measure(file, entries.at);
+    count.padding + entries.padding + shared.padding + rows_padding(file, words, rows)
+}
+
+// How far the file is taken, and how far the output is written.
+pub struct Cursor {
+    pub from: usize,
+    pub to: usize,
+}
+
+// Copies the file up to the number at a place, and writes the number, of this value and end, in its shortest form.
+fn write_number(
+    file: &[u8],
+    out: &mut [u8],
+    c: Cursor,
+    at: usize,
+    value: u32,
+    next: usize,
+) -> Cursor
+    ensures { λ r. ⌜ ((base places whole : List ℕ) → value ≡ numberOf (sevenAt (now (file .entry)) at) → next ≡ past (sevenAt (now (file .entry)) at) at → Pending (now (file .entry)) base (now (out .entry)) (c .from) (c .to) (at ∷ places) whole → Pending (now (file .entry)) base (now (out .exit)) (r .from) (r .to) places whole) ⌝ }
+{
+    let from = c.from;
+    let to = c.to;
+    if at < from {
+        return Cursor { from, to };
+    }
+    let n = at - from;
+    if fill::copy(out, to, file, from, n) {
+        let mid = to + n;
+        match numbers::shortest::write_shortest(out, mid, value) {
+            Placed::Next(end) => {
+                return Cursor {
+                    from: next,
+                    to: end,
+                };
+            }
+            Placed::NoRoom => {}
+        }
+    }
+    Cursor { from, to }
+}
+
+// The same for a text's count, which stands at a place; other kinds have none.
+fn write_count(file: &[u8], out: &mut [u8], c: Cursor, kind: u32, at: usize) -> Cursor
+    ensures { λ r. ⌜ ((base places whole : List ℕ) → Pending (now (file .entry)) base (now (out .entry)) (c .from) (c .to) (countPlaces (now (file .entry)) kind at ++ places) whole → Pending (now (file .entry)) base (now (out .exit)) (r .from) (r .to) places whole) ⌝ }
+{
+    if kind == 13 {
+        let count = measure(file, at);
+        return write_number(file, out, c, at, count.value, count.next);
+    }
+    c
+}
+
+// The same for a row's numbers.
+fn write_row(file: &[u8], words: &[u32], out: &mut [u8], c: Cursor, row: u32) -> Cursor
+    ensures { λ r. ⌜ ((base places whole : List ℕ) → Pending (now (file .entry)) base (now (out .entry)) (c .from) (c .to) (placesIn (now (file .entry)) (now (words .entry)) row ++ places) whole → Pending (now (file .entry)) base (now (out .exit)) (r .from) (r .to) places whole) ⌝ }
+{
+    let at = RowNumber(row).position();
+    let kind = word(words, at);
+    let first = word(words, at + 1) as usize;
+    if numbered(kind, word(words, at + 5)) {
+        let id = measure(file, first);
+        let next = id.next;
+        let behind = write_number(file, out, c, first, id.value, next);
+        return write_count(file, out, behind, kind, next);
+    }
+    write_count(file, out, c, kind, first)
+}
+
+// The same for the numbers of the first rows.
+fn write_rows(file: &[u8], words: &[u32], out: &mut [u8], c: Cursor, rows: u32) -> Cursor
+    ensures { λ r. ⌜ ((base whole : List ℕ) → Pending (now (file .entry)) base (now (out .entry)) (c .from) (c .to) (tablePlaces (now (file .entry)) (now (words .entry)) rows 0) whole → Pending (now (file .entry)) base (now (out .exit)) (r .from) (r .to) [] whole) ⌝ }
+{
+    let mut done = c;
+    let mut i = 0;
+    while i < rows {
+        done = write_row(file, words, out, done, i);
+        i += 1;
+    }
+    done
+}
+
+// How far the file is taken and the output is written behind the readers, and where they end.
+pub struct Behind {
+    pub from: usize,
+    pub to: usize,
+    pub at: usize,
+}
+
+// The same for the lengths of so many names, the first of which stands at a place.
+fn write_entries(file: &[u8], out: &mut [u8], c: Cursor, readers: u32, at: usize) -> Behind
+    requires { ⌜ (length (now file) ≤ 16777216) × (at ≤ 2 ^ 33) ⌝ }
+    ensures { λ r. ⌜ (r .at ≡ entriesEnd (now (file .entry)) readers at) × ((base places whole : List ℕ) → Pending (now (file .entry)) base (now (out .entry)) (c .from) (c .to) (entriesPlaces (now (file .entry)) readers at ++ places) whole → Pending (now (file .entry)) base (now (out .exit)) (r .from) (r .to) places whole) ⌝ }
+{
+    let mut done = c;
+    let mut place = at;
+    let mut left = readers;
+    while 0 < left {
+        let n = measure(file, place);
+        let next = n.next;
+        let value = n.value;
+        done = write_number(file, out, done, place, value, next);
+        place = next + value as usize + 4;
+        left -= 1;
+    }
+    Behind {
+        from: done.from,
+        to: done.to,
+        at: place,
+    }
+}
+
+// Copies what is left of the file.
+fn write_rest(file: &[u8], out: &mut [u8], c: Cursor)
+    ensures { λ _. ⌜ ((base whole : List ℕ) → Pending (now (file .entry)) base (now (out .entry)) (c .from) (c .to) [] whole → now (out .exit) ≡ whole ++ drop (length whole) base) ⌝ }
+{
+    let from = c.from;
+    let to = c.to;
+    if file.len() < from {
+        return;
+    }
+    let n = file.len() - from;
+    fill::copy(out, to, file, from, n);
+}
+
+// Writes the file's length into the header.
+fn put_length(out: &mut [u8], length: usize)
+    ensures { λ _. ⌜ LengthPut length (now (out .entry)) (now (out .exit)) ⌝ }
+{
+    if out.len() < 10 {
+        return;
+    }
+    out[6] = (length % 256) as u8;
+    out[7] = (length / 256 % 256) as u8;
+    out[8] = (length / 65536 % 256) as u8;
+    out[9] = (length / 16777216 % 256) as u8;
+}
+
+// Writes the whole file, which has the length needed.
+fn write(file: &[u8], words: &[u32], out: &mut [u8], rows: u32, readers: u32, needed: usize)
+    requires { ⌜ length (now file) ≤ 16777216 ⌝ }
+    ensures { λ _. ⌜ ((w : Ready (now (file .entry)) (now (words .entry)) readers rows) → needed ≡ length (shortFile (w .tree)) → needed ≤ length (now (out .entry)) → now (out .exit) ≡ shortFile (w .tree) ++ drop needed (now (out .entry))) ⌝ }
+{
+    let count = measure(file, 10);
+    let first = count.next;
+    let start = write_number(file, out, Cursor { from: 0, to: 0 }, 10, count.value, first);
+    let behind = write_entries(file, out, start, readers, first);
+    let place = behind.at;
+    let shared = measure(file, place);
+    let read = Cursor {
+        from: behind.from,
+        to: behind.to,
+    };
+    let lists = write_number(file, out, read, place, shared.value, shared.next);
+    let objects = write_rows(file, words, out, lists, rows);
+    write_rest(file, out, objects);
+    put_length(out, needed);
+}
+
+// A file that was loaded: measures it, and writes it if there is room.
+fn fit(file: &[u8], words: &mut [u32], out: &mut [u8], rows: u32, readers: u32) -> Rewriting
+    requires { ⌜ Ready (now file) (now words) readers rows ⌝ }
+    ensures { λ r. ⌜ Fits (now (file .entry)) (now (words .entry)) (now (words .exit)) (now (out .entry)) (now (out .exit)) readers rows r ⌝ }
+{
+    let padded = padding(file, words, rows, readers);
+    let needed = file.len() - padded;
+    if out.len() < needed {
+        fill::clear(words, 0);
+        return Rewriting::Refused {
+            number: 21,
+            place: needed,
+        };
+    }
+    write(file, words, out, rows, readers, needed);
+    Rewriting::Rewritten { length: needed }
+}
+
+// Loads a file into the words, and writes it with its numbers in their shortest forms into the output.
+pub fn rewrite(file: &[u8], words: &mut [u32], out: &mut [u8]) -> Rewriting
+    ensures { λ r. ⌜ r ≡ answerOf (rewriteOf judgedName (now (file .entry)) (length (now (words .entry))) (length (now (out .entry)))) ⌝ }
+    ensures { λ _. ⌜ now (out .exit) ≡ outputOf (rewriteOf judgedName (now (file .entry)) (length (now (words .entry))) (length (now (out .entry)))) (now (out .entry)) ⌝ }
+    ensures { λ _. ⌜ now (words .exit) ≡ wordsOf (rewriteOf judgedName (now (file .entry)) (length (now (words .entry))) (length (now (out .entry)))) (tableOf (loadOf judgedName (now (file .entry)) (length (now (words .entry)))) (length (now (words .entry)))) ⌝ }
+{
+    match load::load(file, words) {
+        Loading::Refused { number, place } => Rewriting::Refused { number, place },
+        Loading::Loaded {
+            rows,
+            readers,
+            shared: _,
+        } => fit(file, words, out, rows, readers),
+    }
+}
