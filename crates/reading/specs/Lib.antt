@@ -18,4 +18,5 @@ pub mod File
 pub mod Front
 pub mod References
 pub mod Accepts
+pub mod Refusals
 pub mod Theorems
