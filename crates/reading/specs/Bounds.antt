@@ -8,7 +8,7 @@ use lib.ListN.{length, drop, length-append, length-drop}
 use Rattle.layout.specs.Target.{Target}
 use Rattle.layout.specs.Tree.{Trees, none, tree, count, size}
 use Rattle.layout.specs.Slot.{Slot, raw, object, reference, leaf, Plan, stop, put}
-use Rattle.layout.specs.Layout.{Raw, Value, Lays}
+use Rattle.layout.specs.Layout.{Value, Lays}
 use Rattle.layout.specs.Resource.{Within}
 use Rattle.layout.specs.Rows.{Row, Below, rawRows, valueRows, rowsOf}
 use Rattle.reading.specs.Answer.{Answer, refused, read, Ok, not-read, is-read}
@@ -16,30 +16,27 @@ use Rattle.reading.specs.Reads.{Small}
 use Rattle.reading.specs.Walk.{Taken, Outcome, sequence, walk}
 use Rattle.reading.specs.Sound.{Read, ReadValue, walk-sound, walks-sound}
 
--- there is a row for each value
 module _ (readers : List Target) (refers : Target → ℕ → Type 0) where
-  raw-length : (below : Plan → List ℕ → Type 0) (rows : Below below) (cs : Trees) → ((plan : Plan) (b : List ℕ) (v : below plan b) (a n q : ℕ) → length (rows plan b v a n q) ≡ size cs)
-      → (t : Target) (kind : ℕ) (own bs : List ℕ) (w : Raw below t kind own cs bs) (first z at n q id : ℕ) → length (rawRows below rows t kind own cs bs w first z at n q id) ≡ suc (size cs)
-  unfolding rawRows
-  raw-length below rows cs h t kind own bs w first z at n q id = ap suc (h (w .plan) (w .children) (w .laid) (at + length (w .head)) (suc n) (suc n))
+  value-length : (below : Plan → List ℕ → Type 0) (rows : Below below) (cs : Trees) → ((plan : Plan) (b : List ℕ) (v : below plan b) (at n parent : ℕ) → length (rows plan b v at n parent) ≡ size cs)
+      → (x : Slot) (kind id : ℕ) (own bs : List ℕ) (w : Value readers refers below x kind id own cs bs) (at n parent : ℕ)
+      → length (valueRows readers refers below rows x kind id own cs bs w at n parent) ≡ suc (size cs)
+  unfolding Value valueRows rawRows size
+  value-length below rows cs h (raw t) kind id own bs w at n parent = let g = w .1 in ap suc (h (g .plan) (g .children) (g .laid) (at + length (g .head)) (suc n) (suc n))
+  value-length below rows cs h (object t) kind id own bs (inl w) at n parent = rw (w .childless)
+  value-length below rows cs h (object t) kind id own bs (inr w) at n parent =
+      let g = w .laid in ap suc (h (g .plan) (g .children) (g .laid) (at + length (w .number) + length (g .head)) (suc n) (suc n))
+  value-length below rows cs h (reference t) kind id own bs w at n parent = rw (w .childless)
+  value-length below rows cs h (leaf x) kind id own bs w at n parent = rw (w .1)
 
-  value-length : (below : Plan → List ℕ → Type 0) (rows : Below below) (cs : Trees) → ((plan : Plan) (b : List ℕ) (v : below plan b) (a n q : ℕ) → length (rows plan b v a n q) ≡ size cs)
-      → (x : Slot) (kind id : ℕ) (own bs : List ℕ) (w : Value readers refers below x kind id own cs bs) (at n q : ℕ) → length (valueRows readers refers below rows x kind id own cs bs w at n q) ≡ suc (size cs)
-  unfolding Value valueRows size
-  value-length below rows cs h (raw t) kind id own bs w at n q = raw-length below rows cs h t kind own bs (w .1) at (length bs) at n q 0
-  value-length below rows cs h (object t) kind id own bs (inl w) at n q = rw (w .childless)
-  value-length below rows cs h (object t) kind id own bs (inr w) at n q = raw-length below rows cs h (w .target) kind own (w .value) (w .laid) at (length bs) (at + length (w .number)) n q id
-  value-length below rows cs h (reference t) kind id own bs w at n q = rw (w .childless)
-  value-length below rows cs h (leaf x) kind id own bs w at n q = rw (w .1)
-
-  pub rows-length : (plan : Plan) (ts : Trees) (bs : List ℕ) (w : Lays readers refers plan ts bs) (at n q : ℕ) → length (rowsOf readers refers plan ts bs w at n q) ≡ size ts
+  -- there is a row for each value; 01: "each tree in it is one row"
+  pub rows-length : (plan : Plan) (ts : Trees) (bs : List ℕ) (w : Lays readers refers plan ts bs) (at n parent : ℕ) → length (rowsOf readers refers plan ts bs w at n parent) ≡ size ts
   unfolding Lays rowsOf size
-  rows-length stop none bs w at n q = refl
-  rows-length (put x go) none bs w at n q = absurd w
-  rows-length stop (tree k i own cs rest) bs w at n q = absurd w
-  rows-length (put x go) (tree k i own cs rest) bs w at n q =
-      let v = value-length (λ plan b. Lays readers refers plan cs b) (λ plan b v a n p. rowsOf readers refers plan cs b v a n p) cs (λ plan b v a n q. rows-length plan cs b v a n q) x k i own (w .0) (w .3) at n q in
-      let r = rows-length (go own) rest (w .1) (w .4) (at + length (w .0)) (n + suc (size cs)) q in
+  rows-length stop none bs w at n parent = refl
+  rows-length (put x go) none bs w at n parent = absurd w
+  rows-length stop (tree k i own cs rest) bs w at n parent = absurd w
+  rows-length (put x go) (tree k i own cs rest) bs w at n parent =
+      let v = value-length (λ plan b. Lays readers refers plan cs b) (λ plan b v a n p. rowsOf readers refers plan cs b v a n p) cs (λ plan b v a n q. rows-length plan cs b v a n q) x k i own (w .0) (w .3) at n parent in
+      let r = rows-length (go own) rest (w .1) (w .4) (at + length (w .0)) (n + suc (size cs)) parent in
       rw (length-append, v, r)
 
 -- what was read ends at or behind its start and inside the file, and took as many rows as it says, within the room

@@ -5,7 +5,7 @@ use mathlib.Core.List.{List, [], _∷_, _++_}
 use mathlib.Core.Logic.{inl, inr}
 use Prim.Native.Nat.{ℕ, zero, suc, _+_, _*_}
 use native.Mathlib.Omega.{arith}
-use lib.ListN.{length, length-append}
+use lib.ListN.{length}
 use Rattle.layout.specs.Target.{Target, kindOf}
 use Rattle.layout.specs.Tree.{Trees, none, tree, count, size}
 use Rattle.layout.specs.Slot.{Slot, raw, object, reference, leaf, Plan, stop, put, each}
@@ -13,6 +13,7 @@ use Rattle.layout.specs.Layout.{Raw, Value, Lays}
 use Rattle.layout.specs.Rows.{Wants, nothing, resource, Row, row, words, flat, Below, rawRows, valueRows, rowsOf}
 use Rattle.reading.specs.Answer.{Answer, check, Ok, ok-check}
 use Rattle.reading.specs.Resource.{kinds, suits}
+pub use Rattle.reading.specs.Bounds.{rows-length}
 use Rattle.reading.specs.File.{judged, rootKind, rootKinds}
 
 -- what each row wants is kept
@@ -148,7 +149,7 @@ unfolding flat words
 length-flat [] = refl
 length-flat (row kind first z children parent id wants ∷ rows) = omega (arith, length-flat rows)
 
--- the rows with no parent, and how many rows there are
+-- the rows with no parent
 pub roots-append : (a b : List Row) → rootKinds (a ++ b) ≡ rootKinds a ++ rootKinds b
 unfolding rootKinds rootKind
 roots-append [] b = refl
@@ -194,28 +195,6 @@ module _ (readers : List Target) (refers : Target → ℕ → Type 0) where
         value-roots (λ plan b. Lays readers refers plan cs b) (λ plan b v a n p. rowsOf readers refers plan cs b v a n p) (λ plan b v a n q. no-roots plan cs b v a n q) x k i own cs (w .0) (w .3) at n 0,
         roots-are (go own) rest (w .1) (w .4) (at + length (w .0)) (n + suc (size cs)),
       )
-
-  value-length : (below : Plan → List ℕ → Type 0) (rows : Below below) (cs : Trees) → ((plan : Plan) (b : List ℕ) (v : below plan b) (at n parent : ℕ) → length (rows plan b v at n parent) ≡ size cs)
-      → (x : Slot) (kind id : ℕ) (own bs : List ℕ) (w : Value readers refers below x kind id own cs bs) (at n parent : ℕ)
-      → length (valueRows readers refers below rows x kind id own cs bs w at n parent) ≡ suc (size cs)
-  unfolding Value valueRows rawRows size
-  value-length below rows cs h (raw t) kind id own bs w at n parent = let g = w .1 in ap suc (h (g .plan) (g .children) (g .laid) (at + length (g .head)) (suc n) (suc n))
-  value-length below rows cs h (object t) kind id own bs (inl w) at n parent = rw (w .childless)
-  value-length below rows cs h (object t) kind id own bs (inr w) at n parent =
-      let g = w .laid in ap suc (h (g .plan) (g .children) (g .laid) (at + length (w .number) + length (g .head)) (suc n) (suc n))
-  value-length below rows cs h (reference t) kind id own bs w at n parent = rw (w .childless)
-  value-length below rows cs h (leaf x) kind id own bs w at n parent = rw (w .1)
-
-  -- 01: "each tree in it is one row"
-  pub rows-length : (plan : Plan) (ts : Trees) (bs : List ℕ) (w : Lays readers refers plan ts bs) (at n parent : ℕ) → length (rowsOf readers refers plan ts bs w at n parent) ≡ size ts
-  unfolding Lays rowsOf size
-  rows-length stop none bs w at n parent = refl
-  rows-length (put x go) none bs w at n parent = absurd w
-  rows-length stop (tree k i own cs rest) bs w at n parent = absurd w
-  rows-length (put x go) (tree k i own cs rest) bs w at n parent =
-      let v = value-length (λ plan b. Lays readers refers plan cs b) (λ plan b v a n p. rowsOf readers refers plan cs b v a n p) cs (λ plan b v a n q. rows-length plan cs b v a n q) x k i own (w .0) (w .3) at n parent in
-      let r = rows-length (go own) rest (w .1) (w .4) (at + length (w .0)) (n + suc (size cs)) parent in
-      rw (length-append, v, r)
 
   -- slots and trees are as many
   pub slots-count : (slots : List Slot) (ts : Trees) (bs : List ℕ) → Lays readers refers (each slots) ts bs → count ts ≡ length slots
