@@ -1,6 +1,7 @@
 -- What a reader's name is judged to be (01, "Reader names"). Assumes nothing.
 use mathlib.Core.Path.{_≡_, refl, sym, ap, _∙_}
 use mathlib.Core.List.{List}
+use mathlib.Core.Logic.{_⊎_, inl, inr}
 use Prim.Native.Nat.{ℕ}
 use native.Mathlib.Omega.{arith}
 use Rattle.layout.specs.Target.{Target}
@@ -9,6 +10,7 @@ use Rattle.names.specs.Parse.{Read, broken, name, nameOf}
 use Rattle.names.specs.Laws.{text-is-read, read-is-text}
 use Rattle.types.specs.Types.{Typed, unknown as no-type, known as has-type, readerOf}
 use Rattle.reading.specs.File.{Named, unknown, known, Judges}
+use Rattle.reading.specs.Refusals.{TenOrEleven}
 
 -- 01: "A head that is not listed, or a wrong argument count: 11"
 unfoldable pub typedName : Typed → Named
@@ -62,3 +64,14 @@ judges = record {
   known-sound = λ s t e. read-sound s t (nameOf s) refl e;
   known-complete = λ s t w. known-name s (w .0) t (w .1) (sym (w .2)) (w .3);
 }
+
+-- a name that is not known is refused with 10 or 11
+pub ten-or-eleven : TenOrEleven judgedName
+unfolding judgedName readName typedName
+ten-or-eleven s number e = go (nameOf s) e where
+  typed : (k : Typed) → typedName k ≡ unknown number → (number ≡ 10) ⊎ (number ≡ 11)
+  typed no-type q = inr cc
+  typed (has-type t) q = absurd (let z : _≡_ {A = ℕ} 0 1 = cc in omega arith)
+  go : (r : Read) → readName r ≡ unknown number → (number ≡ 10) ⊎ (number ≡ 11)
+  go (broken hs) q = inl cc
+  go (name n k) q = typed (readerOf n) q
