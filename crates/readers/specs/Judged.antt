@@ -72,6 +72,7 @@ ten-or-eleven s number e = go (nameOf s) e where
   typed : (k : Typed) → typedName k ≡ unknown number → (number ≡ 10) ⊎ (number ≡ 11)
   typed no-type q = inr cc
   typed (has-type t) q = absurd (let z : _≡_ {A = ℕ} 0 1 = cc in omega arith)
+
   go : (r : Read) → readName r ≡ unknown number → (number ≡ 10) ⊎ (number ≡ 11)
   go (broken hs) q = inl cc
   go (name n k) q = typed (readerOf n) q
