@@ -12,8 +12,7 @@ pub extern "C" fn xnb_load(file: &[u8]) -> u64
 {
     let mut words = [0u32; 6144];
     match load::load(file, &mut words) {
-        Loading::Refused { number, place } => number as u64 * 4294967296
-            + place as u64 % 4294967296,
+        Loading::Refused { number, place } => number as u64 * 4294967296 + place as u64,
         Loading::Loaded {
             rows,
             readers: _,

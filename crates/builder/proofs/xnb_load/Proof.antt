@@ -4,7 +4,7 @@ use lib.ListN.{length, replicate, length-replicate}
 use Rattle.reading.specs.File.{loadOf}
 use Rattle.readers.specs.Judged.{judgedName}
 use Rattle.load.specs.Loads.{answerOf}
-use Rattle.builder.specs.Packed.{packed-refused, packed-rows}
+use Rattle.builder.specs.Packed.{refused-is, packed-fits, packed-refused, packed-rows}
 use borrow.Author.Needs.{needs}
 use Rattle.builder.proofs.xnb_load.Statement.{statement}
 use Rattle.builder.proofs.xnb_load.Tie as tie
@@ -28,7 +28,8 @@ mul-result : tie.Need-mul-result
 mul-result c = search needs
 
 add-result : tie.Need-add-result
-add-result c = search needs
+add-result c =
+    record { fits = packed-fits _ 6144 (refused-is _ (c .before .number .given .1) (c .before .before .before .before .load .ensures .0)) }
 
 enum-known-rows : tie.Need-enum-known-rows
 enum-known-rows c = search needs
@@ -37,8 +38,7 @@ cast-result-2 : tie.Need-cast-result-2
 cast-result-2 c = search needs
 
 returns : tie.Need-returns
-returns c =
-    packed-refused _ (sym (c .before .number .given .1) ∙ c .before .before .before .before .load .ensures .0 ∙ ap (λ n. answerOf (loadOf judgedName (c .before .before .before .before .before .before .before .args .file .now) n)) (length-replicate {A = ℕ} 6144 0))
+returns c = packed-refused _ (refused-is _ (c .before .number .given .1) (c .before .before .before .before .load .ensures .0))
 
 returns-2 : tie.Need-returns-2
 returns-2 c =
