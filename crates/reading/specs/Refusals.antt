@@ -264,7 +264,7 @@ module _ (nameOf : List ℕ → Named) (numbers : TenOrEleven nameOf) (file : Li
     entry-inside at h =
         tells-bind (seven-inside file most fits at h) (λ n first k. tells-check _ 9 at _ (fault file most fits 9 refl refl h) (λ t.
         tells-bind (some-inside file most fits n at first h k) (λ name end g. tells-bind (judge-inside name (nameOf name) first end refl k g) (λ t version v.
-        tells-bind (little-inside file most fits 4 version version v v) (λ zero next e. tells-check _ 12 version _ (fault file most fits 12 refl refl v) (λ t. of-read e))))))
+        tells-bind (little-inside file most fits 4 version version v v) (λ number next e. tells-check _ 12 version _ (fault file most fits 12 refl refl v) (λ t. of-read e))))))
 
     readers-inside : (n at : ℕ) → at ≤ length file → Inside file most fits (readersAt nameOf file n at)
     unfolding readersAt
@@ -299,7 +299,7 @@ module _ (nameOf : List ℕ → Named) (numbers : TenOrEleven nameOf) (file : Li
           rw (← a, ← b) f
       go (read a e) (of-read h) q = absurd (let z : _≡_ {A = ℕ} 0 1 = cc in omega arith)
 
-    -- a refusal's number is one of 01's
+    -- a refusal has a number from 1 to 22, as in 01's table
     pub refusal-number : (1 ≤ number) × (number ≤ 22)
     refusal-number = let f = faulty 16777216 (λ h. h) in (f .some-number, f .last-number)
 
