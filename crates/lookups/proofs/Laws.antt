@@ -13,8 +13,8 @@ use Rattle.reading.specs.Reads.{Small}
 use Rattle.reading.specs.Seven.{sevenAt, seven-next}
 use Rattle.reading.specs.File.{roomOf}
 use Rattle.lookups.specs.declared.Span.the-variants.{Refused, Found}
-use Rattle.lookups.specs.Parts.{orRefused, kindOf, firstOf, lengthOf, partOf}
-use Rattle.lookups.specs.Texts.{countAt, behind, textIn, inPart, textOf}
+use Rattle.lookups.specs.Parts.{orRefused, kindOf, firstOf, lengthOf, partOf, inPart}
+use Rattle.lookups.specs.Texts.{countAt, behind, textIn, textOf}
 
 pub no-row : (file words : List ℕ) (row : ℕ) {r : ℕ} → r ≡ roomOf (length words) → r ≤ row → Refused 23 row ≡ partOf file words row
 unfolding partOf orRefused

@@ -1,2 +1,4 @@
 pub mod Laws
 pub mod Signs
+pub mod Spans
+pub mod Times

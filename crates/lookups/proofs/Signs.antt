@@ -1,6 +1,6 @@
 -- What the tests of a signed lookup say. Assumes nothing.
 use mathlib.Core.Path.{_≡_, refl, sym, ap, _∙_}
-use mathlib.Core.Bool.{Bool, true, false}
+use mathlib.Core.Bool.{Bool, true, false, cond}
 use mathlib.Core.List.{List}
 use Prim.Native.Nat.{ℕ, zero, suc, _+_, _*_, _-_, _^_, _/_, _≤_, _<_}
 use native.Mathlib.Omega.{arith}
@@ -16,15 +16,15 @@ use Rattle.reading.specs.Reads.{Small}
 use Rattle.reading.specs.Little.{littleAt, little-next}
 use Rattle.lookups.specs.declared.Span.the-variants as span
 use Rattle.lookups.specs.declared.Whole.the-variants.{Refused, Number}
-use Rattle.lookups.specs.Parts.{kindOf, partOf}
-use Rattle.lookups.specs.Signs.{pick, twos, Within, signedFrom, lastBytes, signedIn, signedPart, signedOf}
+use Rattle.lookups.specs.Parts.{kindOf, partOf, inPart}
+use Rattle.lookups.specs.Signs.{twos, Within, signedFrom, lastBytes, signedIn, signedOf}
 
 pub low : (top value : ℕ) → value ≤ top / 2 → twos top value ≡ pos value
-unfolding twos pick
+unfolding twos
 low top value h = rw (le-leb value (top / 2) h)
 
 pub high : (top value : ℕ) → top / 2 < value → twos top value ≡ negsuc (top - value)
-unfolding twos pick
+unfolding twos
 high top value h = rw (lt-leb value (top / 2) h)
 
 minus : (n : ℕ) → negsuc 0 -ℤ pos n ≡ negsuc n
@@ -50,9 +50,9 @@ high-is top value t h =
     toZ-ofZ {w = w64} (back-fits (top - value) b) ∙ back-is (top - value) b ∙ sym (high top value h)
 
 twos-fits : (top value : ℕ) → top < 18446744073709551616 → SFits w64 (twos top value)
-unfolding twos pick
+unfolding twos
 twos-fits top value t = go (leb value (top / 2)) refl where
-  go : (b : Bool) → leb value (top / 2) ≡ b → SFits w64 (pick b (pos value) (negsuc (top - value)))
+  go : (b : Bool) → leb value (top / 2) ≡ b → SFits w64 (cond b (pos value) (negsuc (top - value)))
   go true e = let h = leb-true value (top / 2) e in record { sfits = omega arith }
   go false e = let h = leb-false value (top / 2) e in record { sfits = omega arith }
 
@@ -77,37 +77,37 @@ last-of bytes k row a e = rw (e, a)
 
 module _ (bytes : List ℕ) (kind row : ℕ) where
   pub kind2 : kind ≡ 2 → lastBytes bytes 1 row ≡ signedIn bytes kind row
-  unfolding signedIn pick
+  unfolding signedIn
   kind2 e = rw (eq-eqb kind 2 e)
 
   pub kind3 : kind ≡ 3 → lastBytes bytes 2 row ≡ signedIn bytes kind row
-  unfolding signedIn pick
+  unfolding signedIn
   kind3 e = rw e
 
   pub kind5 : kind ≡ 5 → lastBytes bytes 4 row ≡ signedIn bytes kind row
-  unfolding signedIn pick
+  unfolding signedIn
   kind5 e = rw e
 
   pub kind7 : kind ≡ 7 → lastBytes bytes 8 row ≡ signedIn bytes kind row
-  unfolding signedIn pick
+  unfolding signedIn
   kind7 e = rw e
 
   pub kind20 : kind ≡ 20 → lastBytes bytes 8 row ≡ signedIn bytes kind row
-  unfolding signedIn pick
+  unfolding signedIn
   kind20 e = rw e
 
   pub no-kind : (kind ≡ 2 → ⊥) → (kind ≡ 3 → ⊥) → (kind ≡ 5 → ⊥) → (kind ≡ 7 → ⊥) → (kind ≡ 20 → ⊥) → Refused 24 row ≡ signedIn bytes kind row
-  unfolding signedIn pick
+  unfolding signedIn
   no-kind a b d e f = rw (ne-eqb kind 2 a, ne-eqb kind 3 b, ne-eqb kind 5 d, ne-eqb kind 7 e, ne-eqb kind 20 f)
 
 module _ (file words : List ℕ) (row : ℕ) where
   pub signed-refused : {number at : ℕ} → span.Refused number at ≡ partOf file words row → Refused number at ≡ signedOf file words row
-  unfolding signedOf signedPart
+  unfolding signedOf inPart
   signed-refused e = rw (← e)
 
   pub signed-found : {first size at kind : ℕ} → span.Found first size ≡ partOf file words row → at ≡ 6 * row → kind ≡ getD words at 0
       → signedIn (take (first + size - first) (drop first file)) kind row ≡ signedOf file words row
-  unfolding signedOf signedPart kindOf
+  unfolding signedOf inPart kindOf
   signed-found {first} {size} e a k =
       let z : first + size - first ≡ size = omega arith in
       rw (← e, ← a, ← k, z)

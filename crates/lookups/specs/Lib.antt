@@ -1,4 +1,5 @@
 pub mod Parts
 pub mod Texts
 pub mod Signs
+pub mod Times
 pub mod Examples

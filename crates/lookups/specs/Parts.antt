@@ -1,9 +1,9 @@
 -- The part of a file that a row names (01, "Looking up"). Assumes nothing.
 use mathlib.Core.Bool.{Bool, true, false}
-use mathlib.Core.List.{List}
-use Prim.Native.Nat.{ℕ, _+_, _*_}
+use mathlib.Core.List.{List, []}
+use Prim.Native.Nat.{ℕ, _+_, _*_, _≤_}
 use lib.Dec.{ltb, leb}
-use lib.ListN.{length, getD}
+use lib.ListN.{length, getD, take, drop}
 use Rattle.reading.specs.File.{roomOf}
 use Rattle.lookups.specs.declared.Span.{Span}
 use Rattle.lookups.specs.declared.Span.the-variants.{Refused, Found}
@@ -30,3 +30,17 @@ partOf file words row =
     (orRefused (ltb 0 (lengthOf words row)) 23 row
     (orRefused (leb (firstOf words row + lengthOf words row) (length file)) 23 row
     (Found (firstOf words row) (lengthOf words row))))
+
+-- what is answered for a refusal, and what for a part
+unfoldable pub inPart : {A : Type 0} → (refuse : ℕ → ℕ → A) → Span → (found : ℕ → ℕ → A) → A
+inPart refuse (Refused number row) found = refuse number row
+inPart refuse (Found first size) found = found first size
+
+-- a part that lies in a file of so many bytes
+abbrev pub Lies : (size : ℕ) → Span → Type 0
+Lies size (Refused number row) = Unit {0}
+Lies size (Found first count) = first + count ≤ size
+
+-- 01: "a refusal's part is empty"
+unfoldable pub spanned : (file : List ℕ) → Span → List ℕ
+spanned file span = inPart (λ number row. []) span (λ first size. take size (drop first file))

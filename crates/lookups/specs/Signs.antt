@@ -1,5 +1,5 @@
 -- Signed numbers (01, "Looking up"). Assumes nothing.
-use mathlib.Core.Bool.{Bool, true, false}
+use mathlib.Core.Bool.{cond}
 use mathlib.Core.List.{List}
 use Prim.Native.Nat.{ℕ, _-_, _/_, _≤_, _^_}
 use lib.Dec.{leb, eqb}
@@ -7,19 +7,13 @@ use lib.IntN.{ℤ, pos, negsuc}
 use lib.ListN.{length, take, drop}
 use Rattle.reading.specs.Answer.{Answer, refused, read}
 use Rattle.reading.specs.Little.{littleAt}
-use Rattle.lookups.specs.declared.Span.{Span}
-use Rattle.lookups.specs.declared.Span.the-variants as span
 use Rattle.lookups.specs.declared.Whole.{Whole}
 use Rattle.lookups.specs.declared.Whole.the-variants.{Refused, Number}
-use Rattle.lookups.specs.Parts.{kindOf, partOf}
-
-unfoldable pub pick : {A : Type 0} → Bool → A → A → A
-pick true a b = a
-pick false a b = b
+use Rattle.lookups.specs.Parts.{kindOf, partOf, inPart}
 
 -- a number in two's complement, where `top` is the largest number of as many bytes; negsuc n is -(n + 1)
 unfoldable pub twos : (top value : ℕ) → ℤ
-twos top value = pick (leb value (top / 2)) (pos value) (negsuc (top - value))
+twos top value = cond (leb value (top / 2)) (pos value) (negsuc (top - value))
 
 -- what was read is at most `top`
 abbrev pub Within : (top : ℕ) → Answer ℕ → Type 0
@@ -38,16 +32,12 @@ lastBytes bytes size row = signedFrom (256 ^ size - 1) row (littleAt bytes size 
 -- 01: "A signed lookup (kinds 2, 3, 5, 7, 20) .. 24 for another kind", with the kinds' sizes
 unfoldable pub signedIn : (bytes : List ℕ) (kind row : ℕ) → Whole
 signedIn bytes kind row =
-    pick (eqb kind 2) (lastBytes bytes 1 row)
-    (pick (eqb kind 3) (lastBytes bytes 2 row)
-    (pick (eqb kind 5) (lastBytes bytes 4 row)
-    (pick (eqb kind 7) (lastBytes bytes 8 row)
-    (pick (eqb kind 20) (lastBytes bytes 8 row) (Refused 24 row)))))
+    cond (eqb kind 2) (lastBytes bytes 1 row)
+    (cond (eqb kind 3) (lastBytes bytes 2 row)
+    (cond (eqb kind 5) (lastBytes bytes 4 row)
+    (cond (eqb kind 7) (lastBytes bytes 8 row)
+    (cond (eqb kind 20) (lastBytes bytes 8 row) (Refused 24 row)))))
 
 -- 01: "For these 23 precedes 24"
-unfoldable pub signedPart : Span → (ℕ → ℕ → Whole) → Whole
-signedPart (span.Refused number row) found = Refused number row
-signedPart (span.Found first size) found = found first size
-
 unfoldable pub signedOf : (file words : List ℕ) (row : ℕ) → Whole
-signedOf file words row = signedPart (partOf file words row) (λ first size. signedIn (take size (drop first file)) (kindOf words row) row)
+signedOf file words row = inPart Refused (partOf file words row) (λ first size. signedIn (take size (drop first file)) (kindOf words row) row)

@@ -7,7 +7,7 @@ use Rattle.reading.specs.Answer.{Answer, refused, read, bind}
 use Rattle.reading.specs.Seven.{sevenAt}
 use Rattle.lookups.specs.declared.Span.{Span}
 use Rattle.lookups.specs.declared.Span.the-variants.{Refused, Found}
-use Rattle.lookups.specs.Parts.{orRefused, kindOf, partOf}
+use Rattle.lookups.specs.Parts.{orRefused, kindOf, partOf, inPart}
 
 -- a text's count, which stands behind the type id, and where it ends
 unfoldable pub countAt : List ℕ → Answer ℕ
@@ -23,9 +23,5 @@ unfoldable pub textIn : (bytes : List ℕ) (first kind row : ℕ) → Span
 textIn bytes first kind row = orRefused (eqb kind 13) 24 row (behind first (length bytes) row (countAt bytes))
 
 -- 01: "For these 23 precedes 24"
-unfoldable pub inPart : Span → (ℕ → ℕ → Span) → Span
-inPart (Refused number row) found = Refused number row
-inPart (Found first size) found = found first size
-
 unfoldable pub textOf : (file words : List ℕ) (row : ℕ) → Span
-textOf file words row = inPart (partOf file words row) (λ first size. textIn (take size (drop first file)) first (kindOf words row) row)
+textOf file words row = inPart Refused (partOf file words row) (λ first size. textIn (take size (drop first file)) first (kindOf words row) row)

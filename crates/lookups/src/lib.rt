@@ -6,9 +6,10 @@ ghost use Prim.Native.Nat.{_+_, _-_, _≤_, _<_, _^_};
 ghost use lib.ListN.{length, getD};
 ghost use Rattle.reading.specs.File.{roomOf};
 ghost use Rattle.answers.specs.Told.{told};
-ghost use Rattle.lookups.specs.Parts.{partOf};
+ghost use Rattle.lookups.specs.Parts.{partOf, Lies, spanned};
 ghost use Rattle.lookups.specs.Texts.{countAt, textIn, textOf};
 ghost use Rattle.lookups.specs.Signs.{twos, Within, signedFrom, signedIn, signedOf};
+ghost use Rattle.lookups.specs.Times.{timeOf};
 
 // A refusal's number and the row number; or the first byte of a part of the file, and its length.
 pub enum Span {
@@ -58,6 +59,27 @@ pub fn part(file: &[u8], words: &[u32], row: RowNumber) -> Span
     Span::Found(first, length)
 }
 
+// The bytes of a span, none where it is a refusal.
+fn bytes_of(file: &[u8], span: Span) -> &[u8]
+    requires { ⌜ Lies (length (now file)) span ⌝ }
+    ensures { λ r. ⌜ now r ≡ spanned (now (file .entry)) span ⌝ }
+{
+    match span {
+        Span::Refused(_, _) => &file[0..0],
+        Span::Found(first, length) => {
+            let end = first + length;
+            &file[first..end]
+        }
+    }
+}
+
+// The bytes of the part that a row names, none on a refusal.
+pub fn part_bytes<'a>(file: &'a [u8], words: &[u32], row: RowNumber) -> &'a [u8]
+    ensures { λ r. ⌜ now r ≡ spanned (now (file .entry)) (partOf (now (file .entry)) (now (words .entry)) (row .0)) ⌝ }
+{
+    bytes_of(file, part(file, words, row))
+}
+
 // The count of a text in its part, behind the type id.
 fn count_at(bytes: &[u8]) -> Number
     ensures { λ r. ⌜ told r ≡ countAt (now (bytes .entry)) ⌝ }
@@ -102,6 +124,13 @@ pub fn text(file: &[u8], words: &[u32], row: RowNumber) -> Span
             text_in(&file[first..end], first, kind, number)
         }
     }
+}
+
+// The bytes of a text, none on a refusal.
+pub fn text_bytes<'a>(file: &'a [u8], words: &[u32], row: RowNumber) -> &'a [u8]
+    ensures { λ r. ⌜ now r ≡ spanned (now (file .entry)) (textOf (now (file .entry)) (now (words .entry)) (row .0)) ⌝ }
+{
+    bytes_of(file, text(file, words, row))
 }
 
 // A refusal's number and the row number; or a signed number.
@@ -181,6 +210,29 @@ pub fn signed(file: &[u8], words: &[u32], row: RowNumber) -> Whole
             let end = first + length;
             let kind = word(words, RowNumber(number).position());
             signed_in(&file[first..end], kind, number)
+        }
+    }
+}
+
+// A refusal's number and the row number; or a time.
+pub enum Moment {
+    Refused(u32, u32),
+    At(ticks::Time),
+}
+
+// The time in a row's part, whose kind is TimeSpan.
+pub fn time(file: &[u8], words: &[u32], row: RowNumber) -> Moment
+    ensures { λ r. ⌜ r ≡ timeOf (now (file .entry)) (now (words .entry)) (row .0) ⌝ }
+{
+    let number = row.0;
+    match signed(file, words, RowNumber(number)) {
+        Whole::Refused(refusal, at) => Moment::Refused(refusal, at),
+        Whole::Number(count) => {
+            let kind = word(words, RowNumber(number).position());
+            if kind != 20 {
+                return Moment::Refused(24, number);
+            }
+            Moment::At(ticks::split_ticks(count))
         }
     }
 }

@@ -1,0 +1,27 @@
+-- What the tests of a time lookup say. Assumes nothing.
+use mathlib.Core.Path.{_≡_}
+use mathlib.Core.List.{List}
+use Prim.Native.Nat.{ℕ, _*_}
+use lib.IntN.{ℤ}
+use lib.ListN.{getD}
+use borrow.Author.Tests.{eq-eqb, ne-eqb}
+use Rattle.ticks.specs.Split.{splitOf}
+use Rattle.lookups.specs.declared.Whole.the-variants as whole
+use Rattle.lookups.specs.declared.Moment.the-variants.{Refused, At}
+use Rattle.lookups.specs.Parts.{kindOf}
+use Rattle.lookups.specs.Signs.{signedOf}
+use Rattle.lookups.specs.Times.{asTime, timeOf}
+
+module _ (file words : List ℕ) (row : ℕ) where
+  pub time-refused : {number at : ℕ} → whole.Refused number at ≡ signedOf file words row → Refused number at ≡ timeOf file words row
+  unfolding timeOf asTime
+  time-refused e = rw (← e)
+
+  module _ {t : ℤ} {at kind : ℕ} (e : whole.Number t ≡ signedOf file words row) (a : at ≡ 6 * row) (k : kind ≡ getD words at 0) where
+    pub no-time : (kind ≡ 20 → ⊥) → Refused 24 row ≡ timeOf file words row
+    unfolding timeOf asTime kindOf
+    no-time h = rw (← e, ← a, ← k, ne-eqb kind 20 h)
+
+    pub a-time : kind ≡ 20 → At (splitOf t) ≡ timeOf file words row
+    unfolding timeOf asTime kindOf
+    a-time h = rw (← e, ← a, ← k, eq-eqb kind 20 h)
