@@ -1,9 +1,19 @@
-// The entry for an asset builder in another language: file bytes in, one number out.
+// The entries for an asset builder in another language: each takes slices and numbers, and answers one number.
+use ids::RowNumber;
 use load::Loading;
+use lookups::Moment;
+use lookups::Span;
+use lookups::Whole;
 ghost use mathlib.Core.Path.{_≡_};
-ghost use Rattle.reading.specs.File.{loadOf};
+ghost use lib.ListN.{length};
+ghost use Rattle.reading.specs.File.{loadOf, tableOf};
 ghost use Rattle.readers.specs.Judged.{judgedName};
+ghost use Rattle.lookups.specs.Parts.{partOf};
+ghost use Rattle.lookups.specs.Texts.{textOf};
+ghost use Rattle.lookups.specs.Signs.{signedOf};
+ghost use Rattle.lookups.specs.Times.{timeOf};
 ghost use Rattle.builder.specs.Packed.{packed};
+ghost use Rattle.builder.specs.Told.{loadTold, spanTold, signedTold, timeTold};
 
 // Loads a file with room for 1,024 rows: the refusal's number times 2 to the 32 plus its place, or the number of rows.
 #[no_mangle]
@@ -11,12 +21,126 @@ pub extern "C" fn xnb_load(file: &[u8]) -> u64
     ensures { λ r. ⌜ r ≡ packed (loadOf judgedName (now (file .entry)) 6144) ⌝ }
 {
     let mut words = [0u32; 6144];
-    match load::load(file, &mut words) {
-        Loading::Refused { number, place } => number as u64 * 4294967296 + place as u64,
+    let mut readers = 0u32;
+    let mut shared = 0u32;
+    xnb_load_rows(file, &mut words, &mut readers, &mut shared)
+}
+
+// Loads a file into the words: the answer is packed as above, and the number of readers and the shared count are 0 on a refusal.
+#[no_mangle]
+pub extern "C" fn xnb_load_rows(
+    file: &[u8],
+    words: &mut [u32],
+    readers: &mut u32,
+    shared: &mut u32,
+) -> u64
+    ensures { λ r. ⌜ (r, now (readers .exit), now (shared .exit)) ≡ loadTold (loadOf judgedName (now (file .entry)) (length (now (words .entry)))) ⌝ }
+    ensures { λ _. ⌜ now (words .exit) ≡ tableOf (loadOf judgedName (now (file .entry)) (length (now (words .entry)))) (length (now (words .entry))) ⌝ }
+{
+    match load::load(file, words) {
+        Loading::Refused { number, place } => {
+            *readers = 0;
+            *shared = 0;
+            number as u64 * 4294967296 + place as u64 % 4294967296
+        }
         Loading::Loaded {
             rows,
-            readers: _,
-            shared: _,
-        } => rows as u64,
+            readers: readers_count,
+            shared: shared_count,
+        } => {
+            *readers = readers_count;
+            *shared = shared_count;
+            rows as u64
+        }
+    }
+}
+
+// Writes a span's first byte and length, 0 on a refusal: the answer is the refusal's number, or 0.
+fn tell_span(span: Span, first: &mut usize, length: &mut usize) -> u32
+    ensures { λ r. ⌜ (r, now (first .exit), now (length .exit)) ≡ spanTold span ⌝ }
+{
+    match span {
+        Span::Refused(number, _) => {
+            *first = 0;
+            *length = 0;
+            number
+        }
+        Span::Found(start, size) => {
+            *first = start;
+            *length = size;
+            0
+        }
+    }
+}
+
+// The part of the file that a row names.
+#[no_mangle]
+pub extern "C" fn xnb_part(
+    file: &[u8],
+    words: &[u32],
+    row: u32,
+    first: &mut usize,
+    length: &mut usize,
+) -> u32
+    ensures { λ r. ⌜ (r, now (first .exit), now (length .exit)) ≡ spanTold (partOf (now (file .entry)) (now (words .entry)) row) ⌝ }
+{
+    tell_span(lookups::part(file, words, RowNumber(row)), first, length)
+}
+
+// The bytes of a text.
+#[no_mangle]
+pub extern "C" fn xnb_text(
+    file: &[u8],
+    words: &[u32],
+    row: u32,
+    first: &mut usize,
+    length: &mut usize,
+) -> u32
+    ensures { λ r. ⌜ (r, now (first .exit), now (length .exit)) ≡ spanTold (textOf (now (file .entry)) (now (words .entry)) row) ⌝ }
+{
+    tell_span(lookups::text(file, words, RowNumber(row)), first, length)
+}
+
+// The signed number of a row, 0 on a refusal: the answer is the refusal's number, or 0.
+#[no_mangle]
+pub extern "C" fn xnb_signed(file: &[u8], words: &[u32], row: u32, value: &mut i64) -> u32
+    ensures { λ r. ⌜ (r, now (value .exit)) ≡ signedTold (signedOf (now (file .entry)) (now (words .entry)) row) ⌝ }
+{
+    match lookups::signed(file, words, RowNumber(row)) {
+        Whole::Refused(number, _) => {
+            *value = 0;
+            number
+        }
+        Whole::Number(found) => {
+            *value = found;
+            0
+        }
+    }
+}
+
+// The time of a row in seconds and ticks, 0 on a refusal: the answer is the refusal's number, or 0.
+#[no_mangle]
+pub extern "C" fn xnb_time(
+    file: &[u8],
+    words: &[u32],
+    row: u32,
+    seconds: &mut i64,
+    ticks: &mut u32,
+) -> u32
+    ensures { λ r. ⌜ (r, now (seconds .exit), now (ticks .exit)) ≡ timeTold (timeOf (now (file .entry)) (now (words .entry)) row) ⌝ }
+{
+    match lookups::time(file, words, RowNumber(row)) {
+        Moment::Refused(number, _) => {
+            *seconds = 0;
+            *ticks = 0;
+            number
+        }
+        Moment::At(time) => {
+            let whole = time.seconds;
+            let rest = time.ticks;
+            *seconds = whole;
+            *ticks = rest;
+            0
+        }
     }
 }

@@ -1,0 +1,50 @@
+/* The entries for an asset builder. Link libbuilder.a, which `rt staticlib builder` writes.
+
+   No pointer may be NULL. One with a length of 0 may point anywhere else. What an entry writes to may overlap nothing
+   else that it is given.
+
+   A packed answer is the refusal's number (0 if there is none) times 2 to the 32, plus the refusal's place, or the number
+   of rows. Any other answer is the refusal's number, or 0. */
+#ifndef XNB_H
+#define XNB_H
+
+#include <stddef.h>
+#include <stdint.h>
+
+#ifdef __cplusplus
+extern "C" {
+#endif
+
+/* Loads an XNB file with room for 1,024 rows. The answer is packed. */
+uint64_t xnb_load(const uint8_t *file, size_t file_length);
+
+/* Loads an XNB file into the words: six make a row, and every word not in a used row is zero. Writes the number of readers
+   and the shared count, or 0 on a refusal. The answer is packed. */
+uint64_t xnb_load_rows(const uint8_t *file, size_t file_length, uint32_t *words, size_t words_length,
+                       uint32_t *readers, uint32_t *shared);
+
+/* The lookups below take the file and the words that it was loaded into, and a row number, which counts from 0. They
+   refuse with 23 a row that names no part of the file, and all but xnb_part with 24 a row that is not of the kind asked
+   for. On a refusal they write 0. */
+
+/* Writes where the part of a row begins in the file, and its length. */
+uint32_t xnb_part(const uint8_t *file, size_t file_length, const uint32_t *words, size_t words_length,
+                  uint32_t row, size_t *first, size_t *length);
+
+/* Writes where the bytes of a text, kind 13, begin in the file, and how many they are. */
+uint32_t xnb_text(const uint8_t *file, size_t file_length, const uint32_t *words, size_t words_length,
+                  uint32_t row, size_t *first, size_t *length);
+
+/* Writes the signed number of a row of kind 2, 3, 5, 7 or 20. */
+uint32_t xnb_signed(const uint8_t *file, size_t file_length, const uint32_t *words, size_t words_length,
+                    uint32_t row, int64_t *value);
+
+/* Writes the time of a row of kind 20: whole seconds, rounded down, and 0 to 9,999,999 ticks. */
+uint32_t xnb_time(const uint8_t *file, size_t file_length, const uint32_t *words, size_t words_length,
+                  uint32_t row, int64_t *seconds, uint32_t *ticks);
+
+#ifdef __cplusplus
+}
+#endif
+
+#endif
