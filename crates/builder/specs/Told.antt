@@ -2,7 +2,6 @@
 use Prim.Native.Nat.{ℕ}
 use lib.IntN.{ℤ, pos}
 use Rattle.reading.specs.File.{Load, refusal, accepted}
-use Rattle.ticks.specs.declared.Time.{Time}
 use Rattle.lookups.specs.declared.Span.{Span}
 use Rattle.lookups.specs.declared.Span.the-variants as span
 use Rattle.lookups.specs.declared.Whole.{Whole}

@@ -13,8 +13,8 @@ use Rattle.reading.specs.Reads.{Small}
 use Rattle.reading.specs.Seven.{sevenAt, seven-next}
 use Rattle.reading.specs.File.{roomOf}
 use Rattle.lookups.specs.declared.Span.the-variants.{Refused, Found}
-use Rattle.lookups.specs.Parts.{orRefused, kindOf, firstOf, lengthOf, partOf, inPart}
-use Rattle.lookups.specs.Texts.{countAt, behind, textIn, textOf}
+use Rattle.lookups.specs.Parts.{orRefused, kindOf, firstOf, lengthOf, partOf, inPart, lookup}
+use Rattle.lookups.specs.Texts.{countAt, behind, textIn}
 
 pub no-row : (file words : List ℕ) (row : ℕ) {r : ℕ} → r ≡ roomOf (length words) → r ≤ row → Refused 23 row ≡ partOf file words row
 unfolding partOf orRefused
@@ -99,16 +99,17 @@ module _ (bytes : List ℕ) (first kind row : ℕ) where
   whole-text k {n} {start} e h = rw (eq-eqb kind 13 k, e, eq-eqb n (length bytes - start) h)
 
 module _ (file words : List ℕ) (row : ℕ) where
-  pub text-refused : {number at : ℕ} → Refused number at ≡ partOf file words row → Refused number at ≡ textOf file words row
-  unfolding textOf inPart
-  text-refused e = rw (← e)
+  module _ {A : Type 0} (refuse : ℕ → ℕ → A) (found : (bytes : List ℕ) (first kind : ℕ) → A) where
+    pub lookup-refused : {number at : ℕ} → Refused number at ≡ partOf file words row → refuse number at ≡ lookup refuse found file words row
+    unfolding lookup inPart
+    lookup-refused e = rw (← e)
 
-  pub text-found : {first size at kind : ℕ} → Found first size ≡ partOf file words row → at ≡ 6 * row → kind ≡ getD words at 0
-      → textIn (take (first + size - first) (drop first file)) first kind row ≡ textOf file words row
-  unfolding textOf inPart kindOf
-  text-found {first} {size} e a k =
-      let z : first + size - first ≡ size = omega arith in
-      rw (← e, ← a, ← k, z)
+    pub lookup-found : {first size at kind : ℕ} → Found first size ≡ partOf file words row → at ≡ 6 * row → kind ≡ getD words at 0
+        → found (take (first + size - first) (drop first file)) first kind ≡ lookup refuse found file words row
+    unfolding lookup inPart kindOf
+    lookup-found {first} {size} e a k =
+        let z : first + size - first ≡ size = omega arith in
+        rw (← e, ← a, ← k, z)
 
   pub part-length : {first size : ℕ} → Found first size ≡ partOf file words row → length (take (first + size - first) (drop first file)) ≡ size
   part-length {first} {size} e =

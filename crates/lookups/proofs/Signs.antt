@@ -2,22 +2,20 @@
 use mathlib.Core.Path.{_≡_, refl, sym, ap, _∙_}
 use mathlib.Core.Bool.{Bool, true, false, cond}
 use mathlib.Core.List.{List}
-use Prim.Native.Nat.{ℕ, zero, suc, _+_, _*_, _-_, _^_, _/_, _≤_, _<_}
+use Prim.Native.Nat.{ℕ, zero, suc, _-_, _^_, _/_, _≤_, _<_}
 use native.Mathlib.Omega.{arith}
 use lib.Dec.{leb}
 use lib.IntN.{ℤ, pos, negsuc, _-ℤ_}
 use mir.Val.{SFits, toZ, ofZ}
 use mir.Syntax.{w64}
 use mir.Facts.{toZ-ofZ, toZ-pos}
-use lib.ListN.{length, getD, take, drop}
+use lib.ListN.{length}
 use borrow.Author.Tests.{le-leb, lt-leb, leb-true, leb-false, eq-eqb, ne-eqb}
 use Rattle.reading.specs.Answer.{Answer, refused, read}
 use Rattle.reading.specs.Reads.{Small}
 use Rattle.reading.specs.Little.{littleAt, little-next}
-use Rattle.lookups.specs.declared.Span.the-variants as span
 use Rattle.lookups.specs.declared.Whole.the-variants.{Refused, Number}
-use Rattle.lookups.specs.Parts.{kindOf, partOf, inPart}
-use Rattle.lookups.specs.Signs.{twos, Within, signedFrom, lastBytes, signedIn, signedOf}
+use Rattle.lookups.specs.Signs.{twos, Within, signedFrom, lastBytes, signedIn}
 
 pub low : (top value : ℕ) → value ≤ top / 2 → twos top value ≡ pos value
 unfolding twos
@@ -99,15 +97,3 @@ module _ (bytes : List ℕ) (kind row : ℕ) where
   pub no-kind : (kind ≡ 2 → ⊥) → (kind ≡ 3 → ⊥) → (kind ≡ 5 → ⊥) → (kind ≡ 7 → ⊥) → (kind ≡ 20 → ⊥) → Refused 24 row ≡ signedIn bytes kind row
   unfolding signedIn
   no-kind a b d e f = rw (ne-eqb kind 2 a, ne-eqb kind 3 b, ne-eqb kind 5 d, ne-eqb kind 7 e, ne-eqb kind 20 f)
-
-module _ (file words : List ℕ) (row : ℕ) where
-  pub signed-refused : {number at : ℕ} → span.Refused number at ≡ partOf file words row → Refused number at ≡ signedOf file words row
-  unfolding signedOf inPart
-  signed-refused e = rw (← e)
-
-  pub signed-found : {first size at kind : ℕ} → span.Found first size ≡ partOf file words row → at ≡ 6 * row → kind ≡ getD words at 0
-      → signedIn (take (first + size - first) (drop first file)) kind row ≡ signedOf file words row
-  unfolding signedOf inPart kindOf
-  signed-found {first} {size} e a k =
-      let z : first + size - first ≡ size = omega arith in
-      rw (← e, ← a, ← k, z)

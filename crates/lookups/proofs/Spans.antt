@@ -1,5 +1,5 @@
 -- The spans that are found lie in the file, and their bytes. Assumes nothing.
-use mathlib.Core.Path.{_≡_, refl, sym, subst}
+use mathlib.Core.Path.{_≡_, refl, subst}
 use mathlib.Core.Bool.{Bool, true, false}
 use mathlib.Core.List.{List, []}
 use Prim.Native.Nat.{ℕ, _+_, _-_, _≤_}
@@ -12,7 +12,7 @@ use Rattle.reading.specs.Answer.{Answer, refused, read}
 use Rattle.reading.specs.Reads.{Small, small-drop, small-left}
 use Rattle.lookups.specs.declared.Span.{Span}
 use Rattle.lookups.specs.declared.Span.the-variants.{Refused, Found}
-use Rattle.lookups.specs.Parts.{orRefused, kindOf, partOf, inPart, Lies, spanned}
+use Rattle.lookups.specs.Parts.{orRefused, kindOf, partOf, inPart, lookup, Lies, spanned}
 use Rattle.lookups.specs.Texts.{countAt, behind, textIn, textOf}
 use Rattle.lookups.proofs.Laws.{inside, count-next}
 
@@ -52,7 +52,7 @@ module _ (file words : List ℕ) (row : ℕ) where
   part-lies (Found first size) e = inside file words row e
 
   text-inside : Small file → {f z : ℕ} → Found f z ≡ textOf file words row → f + z ≤ length file
-  unfolding textOf inPart
+  unfolding textOf lookup inPart
   text-inside small {f} {z} = go (partOf file words row) refl where
     go : (p : Span) → p ≡ partOf file words row → Found f z ≡ inPart Refused p (λ first size. textIn (take size (drop first file)) first (kindOf words row) row) → f + z ≤ length file
     go (Refused number at) q e = absurd (let w : _≡_ {A = ℕ} 0 1 = cc in omega arith)

@@ -11,7 +11,7 @@ use Rattle.lookups.specs.declared.Span.the-variants as span
 use Rattle.ticks.specs.Split.{splitOf}
 use Rattle.lookups.specs.declared.Whole.the-variants as whole
 use Rattle.lookups.specs.declared.Moment.the-variants as moment
-use Rattle.lookups.specs.Parts.{orRefused, kindOf, firstOf, lengthOf, partOf, inPart, spanned}
+use Rattle.lookups.specs.Parts.{orRefused, kindOf, firstOf, lengthOf, partOf, inPart, lookup, spanned}
 use Rattle.lookups.specs.Texts.{countAt, behind, textIn, textOf}
 use Rattle.lookups.specs.Signs.{twos, signedFrom, lastBytes, signedIn, signedOf}
 use Rattle.lookups.specs.Times.{asTime, timeOf}
@@ -27,7 +27,7 @@ parts = (refl, refl, refl)
 pub texts : (textOf (1 ∷ 2 ∷ 0x48 ∷ 0x69 ∷ []) (13 ∷ 0 ∷ 4 ∷ 0 ∷ 0 ∷ 1 ∷ []) 0 ≡ span.Found 2 2)
     × (textOf (1 ∷ 0x82 ∷ 0 ∷ 0x48 ∷ 0x69 ∷ []) (13 ∷ 0 ∷ 5 ∷ 0 ∷ 0 ∷ 1 ∷ []) 0 ≡ span.Found 3 2)
     × (textOf (1 ∷ 1 ∷ 0x48 ∷ 0x69 ∷ []) (13 ∷ 0 ∷ 4 ∷ 0 ∷ 0 ∷ 1 ∷ []) 0 ≡ span.Refused 24 0)
-unfolding textOf inPart textIn behind countAt partOf orRefused kindOf firstOf lengthOf roomOf sevenAt groups group bind check
+unfolding textOf lookup inPart textIn behind countAt partOf orRefused kindOf firstOf lengthOf roomOf sevenAt groups group bind check
 texts = (refl, refl, refl)
 
 -- an SByte behind a type id, two Int16, and an Int16 of one byte
@@ -35,19 +35,19 @@ pub numbers : (signedOf (1 ∷ 0xFF ∷ []) (2 ∷ 0 ∷ 2 ∷ 0 ∷ 0 ∷ 1 ∷
     × (signedOf (0x00 ∷ 0x80 ∷ []) (3 ∷ 0 ∷ 2 ∷ 0 ∷ 1 ∷ 0 ∷ []) 0 ≡ whole.Number (negsuc 32767))
     × (signedOf (0xFF ∷ 0x7F ∷ []) (3 ∷ 0 ∷ 2 ∷ 0 ∷ 1 ∷ 0 ∷ []) 0 ≡ whole.Number (pos 32767))
     × (signedOf (0xFF ∷ []) (3 ∷ 0 ∷ 1 ∷ 0 ∷ 1 ∷ 0 ∷ []) 0 ≡ whole.Refused 24 0)
-unfolding signedOf inPart signedIn lastBytes signedFrom twos partOf orRefused kindOf firstOf lengthOf roomOf littleAt some valueOf bind check
+unfolding signedOf lookup inPart signedIn lastBytes signedFrom twos partOf orRefused kindOf firstOf lengthOf roomOf littleAt some valueOf bind check
 numbers = (refl, refl, refl, refl)
 
 -- the bytes of a part, of one that runs past the file, and of a text
 pub bytes : (spanned (1 ∷ 2 ∷ 3 ∷ []) (partOf (1 ∷ 2 ∷ 3 ∷ []) (1 ∷ 1 ∷ 2 ∷ 0 ∷ 0 ∷ 0 ∷ []) 0) ≡ 2 ∷ 3 ∷ [])
     × (spanned (1 ∷ 2 ∷ 3 ∷ []) (partOf (1 ∷ 2 ∷ 3 ∷ []) (1 ∷ 1 ∷ 3 ∷ 0 ∷ 0 ∷ 0 ∷ []) 0) ≡ [])
     × (spanned (1 ∷ 2 ∷ 0x48 ∷ 0x69 ∷ []) (textOf (1 ∷ 2 ∷ 0x48 ∷ 0x69 ∷ []) (13 ∷ 0 ∷ 4 ∷ 0 ∷ 0 ∷ 1 ∷ []) 0) ≡ 0x48 ∷ 0x69 ∷ [])
-unfolding spanned textOf inPart textIn behind countAt partOf orRefused kindOf firstOf lengthOf roomOf sevenAt groups group bind check
+unfolding spanned textOf lookup inPart textIn behind countAt partOf orRefused kindOf firstOf lengthOf roomOf sevenAt groups group bind check
 bytes = (refl, refl, refl)
 
 -- 01, P12: "ticks -1 are -1 s and 9,999,999"; the same bytes of an Int64; and a row of no bytes, whose kind is no time's either
 pub times : (timeOf (0xFF ∷ 0xFF ∷ 0xFF ∷ 0xFF ∷ 0xFF ∷ 0xFF ∷ 0xFF ∷ 0xFF ∷ []) (20 ∷ 0 ∷ 8 ∷ 0 ∷ 1 ∷ 0 ∷ []) 0 ≡ moment.At (record { seconds = negsuc 0; ticks = 9999999 }))
     × (timeOf (0xFF ∷ 0xFF ∷ 0xFF ∷ 0xFF ∷ 0xFF ∷ 0xFF ∷ 0xFF ∷ 0xFF ∷ []) (7 ∷ 0 ∷ 8 ∷ 0 ∷ 1 ∷ 0 ∷ []) 0 ≡ moment.Refused 24 0)
     × (timeOf (0xFF ∷ []) (7 ∷ 0 ∷ 0 ∷ 0 ∷ 1 ∷ 0 ∷ []) 0 ≡ moment.Refused 23 0)
-unfolding timeOf asTime splitOf signedOf inPart signedIn lastBytes signedFrom twos partOf orRefused kindOf firstOf lengthOf roomOf littleAt some valueOf bind check
+unfolding timeOf asTime splitOf signedOf lookup inPart signedIn lastBytes signedFrom twos partOf orRefused kindOf firstOf lengthOf roomOf littleAt some valueOf bind check
 times = (refl, refl, refl)

@@ -1,5 +1,5 @@
 -- The part of a file that a row names (01, "Looking up"). Assumes nothing.
-use mathlib.Core.Bool.{Bool, true, false}
+use mathlib.Core.Bool.{Bool, cond}
 use mathlib.Core.List.{List, []}
 use Prim.Native.Nat.{ℕ, _+_, _*_, _≤_}
 use lib.Dec.{ltb, leb}
@@ -10,8 +10,7 @@ use Rattle.lookups.specs.declared.Span.the-variants.{Refused, Found}
 
 -- refused with a number and the row number unless a test holds
 unfoldable pub orRefused : Bool → (number row : ℕ) → Span → Span
-orRefused true number row found = found
-orRefused false number row found = Refused number row
+orRefused test number row found = cond test found (Refused number row)
 
 -- 01, "The row table": "Six make a row: kind; first byte; length"
 unfoldable pub kindOf : (words : List ℕ) (row : ℕ) → ℕ
@@ -35,6 +34,10 @@ partOf file words row =
 unfoldable pub inPart : {A : Type 0} → (refuse : ℕ → ℕ → A) → Span → (found : ℕ → ℕ → A) → A
 inPart refuse (Refused number row) found = refuse number row
 inPart refuse (Found first size) found = found first size
+
+-- 01: "For these 23 precedes 24": the refusal of a row's part, or what its bytes, its first byte and the row's kind give
+unfoldable pub lookup : {A : Type 0} → (refuse : ℕ → ℕ → A) → (found : (bytes : List ℕ) (first kind : ℕ) → A) → (file words : List ℕ) (row : ℕ) → A
+lookup refuse found file words row = inPart refuse (partOf file words row) (λ first size. found (take size (drop first file)) first (kindOf words row))
 
 -- a part that lies in a file of so many bytes
 abbrev pub Lies : (size : ℕ) → Span → Type 0

@@ -4,12 +4,12 @@ use mathlib.Core.List.{List}
 use Prim.Native.Nat.{ℕ, _-_, _/_, _≤_, _^_}
 use lib.Dec.{leb, eqb}
 use lib.IntN.{ℤ, pos, negsuc}
-use lib.ListN.{length, take, drop}
+use lib.ListN.{length}
 use Rattle.reading.specs.Answer.{Answer, refused, read}
 use Rattle.reading.specs.Little.{littleAt}
 use Rattle.lookups.specs.declared.Whole.{Whole}
 use Rattle.lookups.specs.declared.Whole.the-variants.{Refused, Number}
-use Rattle.lookups.specs.Parts.{kindOf, partOf, inPart}
+use Rattle.lookups.specs.Parts.{lookup}
 
 -- a number in two's complement, where `top` is the largest number of as many bytes; negsuc n is -(n + 1)
 unfoldable pub twos : (top value : ℕ) → ℤ
@@ -38,6 +38,5 @@ signedIn bytes kind row =
     (cond (eqb kind 7) (lastBytes bytes 8 row)
     (cond (eqb kind 20) (lastBytes bytes 8 row) (Refused 24 row)))))
 
--- 01: "For these 23 precedes 24"
 unfoldable pub signedOf : (file words : List ℕ) (row : ℕ) → Whole
-signedOf file words row = inPart Refused (partOf file words row) (λ first size. signedIn (take size (drop first file)) (kindOf words row) row)
+signedOf file words row = lookup Refused (λ bytes first kind. signedIn bytes kind row) file words row

@@ -2,12 +2,12 @@
 use mathlib.Core.List.{List}
 use Prim.Native.Nat.{ℕ, _+_, _-_}
 use lib.Dec.{eqb}
-use lib.ListN.{length, take, drop}
+use lib.ListN.{length}
 use Rattle.reading.specs.Answer.{Answer, refused, read, bind}
 use Rattle.reading.specs.Seven.{sevenAt}
 use Rattle.lookups.specs.declared.Span.{Span}
 use Rattle.lookups.specs.declared.Span.the-variants.{Refused, Found}
-use Rattle.lookups.specs.Parts.{orRefused, kindOf, partOf, inPart}
+use Rattle.lookups.specs.Parts.{orRefused, lookup}
 
 -- a text's count, which stands behind the type id, and where it ends
 unfoldable pub countAt : List ℕ → Answer ℕ
@@ -22,6 +22,5 @@ behind first size row (read count start) = orRefused (eqb count (size - start)) 
 unfoldable pub textIn : (bytes : List ℕ) (first kind row : ℕ) → Span
 textIn bytes first kind row = orRefused (eqb kind 13) 24 row (behind first (length bytes) row (countAt bytes))
 
--- 01: "For these 23 precedes 24"
 unfoldable pub textOf : (file words : List ℕ) (row : ℕ) → Span
-textOf file words row = inPart Refused (partOf file words row) (λ first size. textIn (take size (drop first file)) first (kindOf words row) row)
+textOf file words row = lookup Refused (λ bytes first kind. textIn bytes first kind row) file words row

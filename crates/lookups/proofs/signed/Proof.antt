@@ -1,7 +1,8 @@
 use mathlib.Core.Path.{sym, _∙_}
 use native.Mathlib.Omega.{arith}
-use Rattle.lookups.proofs.Laws.{inside}
-use Rattle.lookups.proofs.Signs.{signed-refused, signed-found}
+use Rattle.lookups.specs.declared.Whole.the-variants.{Refused}
+use Rattle.lookups.specs.Signs.{signedIn, signedOf}
+use Rattle.lookups.proofs.Laws.{inside, lookup-refused, lookup-found}
 use borrow.Author.Needs.{needs}
 use Rattle.lookups.proofs.signed.Statement.{statement}
 use Rattle.lookups.proofs.signed.Tie as tie
@@ -43,12 +44,16 @@ signed-in-requires : tie.Need-signed-in-requires
 signed-in-requires c κs = search needs
 
 returns : tie.Need-returns
+unfolding signedOf
 returns c =
-    signed-refused (c .before .before .before .before .before .before .args .file .now) (c .before .before .before .before .before .before .args .words .now) (c .before .before .before .before .before .before .args .row .0) (sym (c .before .refusal .given .1) ∙ c .before .before .before .part .ensures)
+    let a = c .before .before .before .before .before .before .args in
+    lookup-refused (a .file .now) (a .words .now) (a .row .0) Refused (λ bytes first kind. signedIn bytes kind (a .row .0)) (sym (c .before .refusal .given .1) ∙ c .before .before .before .part .ensures)
 
 returns-2 : tie.Need-returns-2
+unfolding signedOf
 returns-2 c =
-    c .signed-in .ensures ∙ signed-found (c .before .before .before .before .before .before .before .before .before .before .args .file .now) (c .before .before .before .before .before .before .before .before .before .before .args .words .now) (c .before .before .before .before .before .before .before .before .before .before .args .row .0) (sym (c .before .before .before .before .before .first .given .1) ∙ c .before .before .before .before .before .before .before .part .ensures) (c .before .before .before .position .ensures) (c .before .before .word .ensures)
+    let a = c .before .before .before .before .before .before .before .before .before .before .args in
+    c .signed-in .ensures ∙ lookup-found (a .file .now) (a .words .now) (a .row .0) Refused (λ bytes first kind. signedIn bytes kind (a .row .0)) (sym (c .before .before .before .before .before .first .given .1) ∙ c .before .before .before .before .before .before .before .part .ensures) (c .before .before .before .position .ensures) (c .before .before .word .ensures)
 
 pub signed-spec : {M : Type 1} → statement M
 signed-spec =

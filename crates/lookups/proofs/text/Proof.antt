@@ -1,6 +1,8 @@
 use mathlib.Core.Path.{sym, _∙_}
 use native.Mathlib.Omega.{arith}
-use Rattle.lookups.proofs.Laws.{inside, text-refused, text-found, part-length}
+use Rattle.lookups.specs.declared.Span.the-variants.{Refused}
+use Rattle.lookups.specs.Texts.{textIn, textOf}
+use Rattle.lookups.proofs.Laws.{inside, lookup-refused, lookup-found, part-length}
 use borrow.Author.Needs.{needs}
 use Rattle.lookups.proofs.text.Statement.{statement}
 use Rattle.lookups.proofs.text.Tie as tie
@@ -47,12 +49,16 @@ text-in-requires c κs =
     omega (arith, h, l)
 
 returns : tie.Need-returns
+unfolding textOf
 returns c =
-    text-refused (c .before .before .before .before .before .before .args .file .now) (c .before .before .before .before .before .before .args .words .now) (c .before .before .before .before .before .before .args .row .0) (sym (c .before .refusal .given .1) ∙ c .before .before .before .part .ensures)
+    let a = c .before .before .before .before .before .before .args in
+    lookup-refused (a .file .now) (a .words .now) (a .row .0) Refused (λ bytes first kind. textIn bytes first kind (a .row .0)) (sym (c .before .refusal .given .1) ∙ c .before .before .before .part .ensures)
 
 returns-2 : tie.Need-returns-2
+unfolding textOf
 returns-2 c =
-    c .text-in .ensures ∙ text-found (c .before .before .before .before .before .before .before .before .before .before .args .file .now) (c .before .before .before .before .before .before .before .before .before .before .args .words .now) (c .before .before .before .before .before .before .before .before .before .before .args .row .0) (sym (c .before .before .before .before .before .first .given .1) ∙ c .before .before .before .before .before .before .before .part .ensures) (c .before .before .before .position .ensures) (c .before .before .word .ensures)
+    let a = c .before .before .before .before .before .before .before .before .before .before .args in
+    c .text-in .ensures ∙ lookup-found (a .file .now) (a .words .now) (a .row .0) Refused (λ bytes first kind. textIn bytes first kind (a .row .0)) (sym (c .before .before .before .before .before .first .given .1) ∙ c .before .before .before .before .before .before .before .part .ensures) (c .before .before .before .position .ensures) (c .before .before .word .ensures)
 
 pub text-spec : {M : Type 1} → statement M
 text-spec =
