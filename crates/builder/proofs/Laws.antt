@@ -1,13 +1,22 @@
 -- What the C entries tell, by what their calls answered. Assumes nothing.
 use mathlib.Core.Path.{_≡_, refl}
-use Prim.Native.Nat.{ℕ, _+_, _*_, _%_}
+use mathlib.Core.List.{List}
+use Prim.Native.Nat.{ℕ, _+_, _*_, _<_}
 use native.Mathlib.Omega.{arith}
 use lib.IntN.{ℤ, pos}
 use lib.ListN.{length}
 use mir.Val.{SFits, toZ, ofZ}
 use mir.Syntax.{w64}
 use mir.Facts.{toZ-ofZ}
-use Rattle.reading.specs.File.{Load, refusal, accepted}
+use Rattle.reading.specs.Reads.{Small}
+use Rattle.reading.specs.File.{Load, refusal, accepted, loadOf}
+use Rattle.reading.specs.Refusals.{refusal-place}
+use Rattle.readers.specs.Judged.{judgedName, named, judges, ten-or-eleven}
+use Rattle.shortest.specs.Rewrite as rewritten
+use Rattle.shortest.specs.Rewrite.{Rewritten, rewriteOf}
+use Rattle.shortest.specs.Theorems.{rewrite-refusal}
+use Rattle.rewrite.specs.declared.Rewriting.the-variants as rewriting
+use Rattle.rewrite.specs.Contract as rewrite
 use Rattle.load.specs.declared.Loading.the-variants.{Refused, Loaded}
 use Rattle.load.specs.Loads.{answerOf}
 use Rattle.ticks.specs.declared.Time.{Time}
@@ -17,16 +26,23 @@ use Rattle.lookups.specs.declared.Whole.{Whole}
 use Rattle.lookups.specs.declared.Whole.the-variants as whole
 use Rattle.lookups.specs.declared.Moment.{Moment}
 use Rattle.lookups.specs.declared.Moment.the-variants as moment
-use Rattle.builder.specs.Packed.{packed}
+use Rattle.builder.specs.Packed.{code, packed, rewritePacked}
 use Rattle.builder.specs.Told.{loadTold, spanTold, signedTold, timeTold}
 
-pub load-refused : (x : Load) {n p : ℕ} → Refused n p ≡ answerOf x → _≡_ {A = ℕ × ℕ × ℕ} (n * 4294967296 + p % 4294967296, 0, 0) (loadTold x)
-unfolding loadTold packed
-load-refused (refusal m q) {n} {p} e =
-    let e₁ : n ≡ m = cc in
-    let e₂ : p ≡ q = cc in
+-- an answer that refuses is a refusal
+refusal-of : (x : Load) {n p : ℕ} → Refused n p ≡ answerOf x → x ≡ refusal n p
+refusal-of (refusal m q) {n} {p} e =
+    let e₁ : m ≡ n = cc in
+    let e₂ : q ≡ p = cc in
     rw (e₁, e₂)
-load-refused (accepted rows readers shared) e = absurd (let z : _≡_ {A = ℕ} 0 1 = cc in omega arith)
+refusal-of (accepted rows readers shared) e = absurd (let z : _≡_ {A = ℕ} 0 1 = cc in omega arith)
+
+pub load-place : (file : List ℕ) (words : ℕ) {n p : ℕ} → Refused n p ≡ answerOf (loadOf judgedName file words) → p < 4294967296
+load-place file words {n} {p} e = omega (arith, refusal-place judgedName ten-or-eleven file words n p (refusal-of (loadOf judgedName file words) e) .1)
+
+pub load-refused : (x : Load) {n p c : ℕ} → Refused n p ≡ answerOf x → c ≡ code n p → _≡_ {A = ℕ × ℕ × ℕ} (c, 0, 0) (loadTold x)
+unfolding loadTold packed
+load-refused x e q = rw (refusal-of x e, q)
 
 pub load-accepted : (x : Load) {n r s : ℕ} → Loaded n r s ≡ answerOf x → _≡_ {A = ℕ × ℕ × ℕ} (n, r, s) (loadTold x)
 unfolding loadTold packed
@@ -36,6 +52,27 @@ load-accepted (accepted rows readers shared) {n} {r} {s} e =
     let e₂ : r ≡ readers = cc in
     let e₃ : s ≡ shared = cc in
     rw (e₁, e₂, e₃)
+
+-- the same of a rewrite
+rewritten-of : (x : Rewritten) {n p : ℕ} → rewriting.Refused n p ≡ rewrite.answerOf x → x ≡ rewritten.refusal n p
+rewritten-of (rewritten.refusal m q) {n} {p} e =
+    let e₁ : m ≡ n = cc in
+    let e₂ : q ≡ p = cc in
+    rw (e₁, e₂)
+rewritten-of (rewritten.written bytes) e = absurd (let z : _≡_ {A = ℕ} 0 1 = cc in omega arith)
+
+pub rewrite-place : (file : List ℕ) → Small file → (words out : ℕ) {n p : ℕ} → rewriting.Refused n p ≡ rewrite.answerOf (rewriteOf judgedName file words out) → p < 4294967296
+rewrite-place file small words out {n} {p} e =
+    omega (arith, rewrite-refusal named judgedName judges ten-or-eleven file small words out n p (rewritten-of (rewriteOf judgedName file words out) e) .1)
+
+pub rewrite-refused : (x : Rewritten) {n p c : ℕ} → rewriting.Refused n p ≡ rewrite.answerOf x → c ≡ code n p → c ≡ rewritePacked x
+unfolding rewritePacked
+rewrite-refused x e q = rw (rewritten-of x e, q)
+
+pub rewrite-length : (x : Rewritten) {n : ℕ} → rewriting.Rewritten n ≡ rewrite.answerOf x → n ≡ rewritePacked x
+unfolding rewritePacked
+rewrite-length (rewritten.refusal m q) e = absurd (let z : _≡_ {A = ℕ} 0 1 = cc in omega arith)
+rewrite-length (rewritten.written bytes) {n} e = let q : n ≡ length bytes = cc in q
 
 -- the answer of both entries that load is the packed one
 pub load-packed : (x : Load) → loadTold x .0 ≡ packed x

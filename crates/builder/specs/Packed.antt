@@ -1,9 +1,19 @@
 -- The one number that an asset builder is told (01, "Looking up": "refusal (or 0) times 2 to the 32, plus place (or row count)"). Assumes nothing.
-use Prim.Native.Nat.{ℕ, _+_, _*_, _%_}
+use Prim.Native.Nat.{ℕ, _+_, _*_}
 use lib.ListN.{length}
 use Rattle.reading.specs.File.{Load, refusal, accepted}
+use Rattle.shortest.specs.Rewrite.{Rewritten, written}
+use Rattle.shortest.specs.Rewrite as rewrite
 
--- a place is inside the file, which has at most 16,777,216 bytes or is refused at 0; so its remainder is the place
+-- a refusal; its place is at most 16,777,216, so it fits the 32 bits below the number
+unfoldable pub code : (number place : ℕ) → ℕ
+code number place = number * 4294967296 + place
+
 unfoldable pub packed : Load → ℕ
-packed (refusal number place) = number * 4294967296 + place % 4294967296
+packed (refusal number place) = code number place
 packed (accepted rows readers shared) = length rows
+
+-- of a rewrite: a refusal in the same way, or the length of the rewritten file
+unfoldable pub rewritePacked : Rewritten → ℕ
+rewritePacked (rewrite.refusal number place) = code number place
+rewritePacked (written bytes) = length bytes

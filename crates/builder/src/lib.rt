@@ -4,7 +4,9 @@ use load::Loading;
 use lookups::Moment;
 use lookups::Span;
 use lookups::Whole;
+use rewrite::Rewriting;
 ghost use mathlib.Core.Path.{_≡_};
+ghost use Prim.Native.Nat.{_<_};
 ghost use lib.ListN.{length};
 ghost use Rattle.reading.specs.File.{loadOf, tableOf};
 ghost use Rattle.readers.specs.Judged.{judgedName};
@@ -12,8 +14,17 @@ ghost use Rattle.lookups.specs.Parts.{partOf};
 ghost use Rattle.lookups.specs.Texts.{textOf};
 ghost use Rattle.lookups.specs.Signs.{signedOf};
 ghost use Rattle.lookups.specs.Times.{timeOf};
-ghost use Rattle.builder.specs.Packed.{packed};
+ghost use Rattle.shortest.specs.Rewrite.{rewriteOf, outputOf, wordsOf};
+ghost use Rattle.builder.specs.Packed.{code, packed, rewritePacked};
 ghost use Rattle.builder.specs.Told.{loadTold, spanTold, signedTold, timeTold};
+
+// A refusal's number and place as one number.
+fn refused(number: u32, place: usize) -> u64
+    requires { ⌜ place < 4294967296 ⌝ }
+    ensures { λ r. ⌜ r ≡ code number place ⌝ }
+{
+    number as u64 * 4294967296 + place as u64
+}
 
 // Loads a file with room for 1,024 rows: the refusal's number times 2 to the 32 plus its place, or the number of rows.
 #[no_mangle]
@@ -41,7 +52,7 @@ pub extern "C" fn xnb_load_rows(
         Loading::Refused { number, place } => {
             *readers = 0;
             *shared = 0;
-            number as u64 * 4294967296 + place as u64 % 4294967296
+            refused(number, place)
         }
         Loading::Loaded {
             rows,
@@ -52,6 +63,19 @@ pub extern "C" fn xnb_load_rows(
             *shared = shared_count;
             rows as u64
         }
+    }
+}
+
+// Rewrites a file into the output: a refusal is packed as above, else the answer is the length of the rewritten file.
+#[no_mangle]
+pub extern "C" fn xnb_rewrite(file: &[u8], words: &mut [u32], out: &mut [u8]) -> u64
+    ensures { λ r. ⌜ r ≡ rewritePacked (rewriteOf judgedName (now (file .entry)) (length (now (words .entry))) (length (now (out .entry)))) ⌝ }
+    ensures { λ _. ⌜ now (out .exit) ≡ outputOf (rewriteOf judgedName (now (file .entry)) (length (now (words .entry))) (length (now (out .entry)))) (now (out .entry)) ⌝ }
+    ensures { λ _. ⌜ now (words .exit) ≡ wordsOf (rewriteOf judgedName (now (file .entry)) (length (now (words .entry))) (length (now (out .entry)))) (tableOf (loadOf judgedName (now (file .entry)) (length (now (words .entry)))) (length (now (words .entry)))) ⌝ }
+{
+    match rewrite::rewrite(file, words, out) {
+        Rewriting::Refused { number, place } => refused(number, place),
+        Rewriting::Rewritten { length } => length as u64,
     }
 }
 

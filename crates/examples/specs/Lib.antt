@@ -1,2 +1,2 @@
-pub mod Leaves
-pub mod Files
+-- The worked examples of 01, by computation of the definitions.
+pub mod Examples

@@ -89,20 +89,11 @@ fn put_counts(out: &mut [u8], rows: u32, readers: u32, shared: u32) -> usize {
     put(out, at, b"\n")
 }
 
-fn print_refusal(out: &mut [u8], number: u32, place: usize) {
-    let mut at = put(out, 0, b"refused ");
-    at = put_number(out, at, number as u64);
-    at = put(out, at, b" at ");
-    at = put_number(out, at, place as u64);
-    at = put(out, at, b"\n");
-    flush(out, at);
-}
-
 // Loads the file with room for 1,024 rows, and prints the answer.
 fn print_file(file: &[u8], out: &mut [u8]) {
     let mut words = [0u32; 6144];
     match load::load(file, &mut words) {
-        Loading::Refused { number, place } => print_refusal(out, number, place),
+        Loading::Refused { number, place } => refusal_line::print(number, place),
         Loading::Loaded {
             rows,
             readers,
@@ -119,7 +110,7 @@ fn main() {
     let mut out = io::large_buffer();
     let n = io::read_full(0, &mut space);
     if 32768 < n {
-        print_refusal(&mut out, 9, 0);
+        refusal_line::print(9, 0);
         return;
     }
     print_file(&space[..n], &mut out);

@@ -12,14 +12,6 @@ fn print_number(place: usize, value: u64, size: usize, shortest: usize) {
     io::write_all(1, b"\n");
 }
 
-fn print_refusal(number: u32, place: usize) {
-    io::write_all(1, b"refused ");
-    io::print_decimal(1, number as u64);
-    io::write_all(1, b" at ");
-    io::print_decimal(1, place as u64);
-    io::write_all(1, b"\n");
-}
-
 // One number after the other, to the end or to the first refusal.
 fn list(s: &[u8]) {
     let mut at = 0;
@@ -31,7 +23,7 @@ fn list(s: &[u8]) {
                 at = next;
             }
             Number::Refused(number, place) => {
-                print_refusal(number, place);
+                refusal_line::print(number, place);
                 return;
             }
         }

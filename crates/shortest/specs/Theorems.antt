@@ -1,5 +1,6 @@
 -- What is promised of rewriting, over the layout alone. Assumes nothing.
 use mathlib.Core.Path.{_≡_, refl, sym, ap, _∙_}
+use mathlib.Core.Bool.{Bool, true, false, cond}
 use mathlib.Core.List.{List, [], _∷_, _++_}
 use Prim.Native.Nat.{ℕ, _+_, _≤_, _<_}
 use native.Mathlib.Omega.{arith}
@@ -7,9 +8,14 @@ use lib.ListN.{length, take, length-append}
 use Rattle.layout.specs.Target.{Target}
 use Rattle.layout.specs.Tree.{Trees, count, size}
 use Rattle.layout.specs.File.{FileTree, sharedOf, header, FileLays, fileRows}
-use Rattle.reading.specs.File.{Named, Judges, Load, accepted, roomOf, loadOf}
+use lib.Dec.{leb}
+use Rattle.reading.specs.Answer.{Answer, refused, read}
+use Rattle.reading.specs.Reads.{Small}
+use Rattle.reading.specs.File as load
+use Rattle.reading.specs.File.{Named, Judges, Loaded, Load, accepted, fileAt, toLoad, roomOf, loadOf}
+use Rattle.reading.specs.Refusals.{TenOrEleven, refusal-number, refusal-place}
 use Rattle.reading.specs.Accepts.{loadedOf, file-complete}
-use Rattle.reading.specs.Theorems.{Fitting, rowsIn, rows-are}
+use Rattle.reading.specs.Theorems.{Fitting, rowsIn, rows-are, accepted-is}
 use Rattle.numbers.specs.Shortest.{Shortens}
 use Rattle.shortest.specs.File.{shortBody, shortFile, length-file, length-header, header-is, file-short}
 use Rattle.shortest.specs.Rewrites.{padding, rewrites-padding}
@@ -50,3 +56,31 @@ module _ (named : List ℕ → Target → Type 0) (nameOf : List ℕ → Named) 
         let r = rewrites-padding file (file-rewrites file named (f .tree) (f .lays)) in
         let ten : length (take 10 file) ≡ 10 = ap length (header-is named (f .tree) file (f .lays)) ∙ length-header (f .tree .platform) (f .tree .flags) (length file) in
         omega (arith, length-file (f .tree), length-append (take 10 file) (shortBody (f .tree)))
+
+  -- ---- Refusals
+
+  fitted-refusal : (bytes : List ℕ) (out : ℕ) {n p : ℕ} → fitted bytes out ≡ refusal n p → (n ≡ 21) × (p ≡ length bytes)
+  unfolding fitted
+  fitted-refusal bytes out {n} {p} e = go (leb (length bytes) out) e where
+    go : (t : Bool) → cond t (written bytes) (refusal 21 (length bytes)) ≡ refusal n p → (n ≡ 21) × (p ≡ length bytes)
+    go true e = absurd (let z : _≡_ {A = ℕ} 0 1 = cc in omega arith)
+    go false e = (cc, cc)
+
+  -- a refusal's number and place are small: the place is in the file, or the bytes needed, which are no more than the file's
+  pub rewrite-refusal : TenOrEleven nameOf → (file : List ℕ) → Small file → (words out n p : ℕ) → rewriteOf nameOf file words out ≡ refusal n p → (n ≤ 22) × (p ≤ 16777216)
+  unfolding rewriteOf byLoad loadOf toLoad
+  rewrite-refusal numbers file small words out n p e = go (fileAt nameOf file (roomOf words)) refl e where
+    go : (x : Answer Loaded) → fileAt nameOf file (roomOf words) ≡ x → byLoad x out ≡ refusal n p → (n ≤ 22) × (p ≤ 16777216)
+    go (refused m q) f e =
+        let l : loadOf nameOf file words ≡ load.refusal m q = ap toLoad f in
+        let a = refusal-number nameOf numbers file words m q l in
+        let b = refusal-place nameOf numbers file words m q l in
+        let e₁ : m ≡ n = cc in
+        let e₂ : q ≡ p = cc in
+        (omega (arith, a .1), omega (arith, b .1))
+    go (read a next) f e =
+        let l : loadOf nameOf file words ≡ accepted (a .rows) (a .readers) (a .shared) = ap toLoad f in
+        let g = accepted-is named nameOf judges file words small (a .rows) (a .readers) (a .shared) l .0 in
+        let r : fitted (shortFile (g .tree)) out ≡ refusal n p = sym (rewrite-is file words out g) ∙ ap (λ (y : Answer Loaded). byLoad y out) f ∙ e in
+        let t = fitted-refusal (shortFile (g .tree)) out r in
+        (omega (arith, t .0), omega (arith, t .1, least file words g file (g .lays) .no-longer, g .lays .short))

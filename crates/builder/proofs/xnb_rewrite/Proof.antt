@@ -1,0 +1,73 @@
+use mathlib.Core.Path.{sym, _∙_}
+use native.Mathlib.Omega.{arith}
+use lib.ListN.{length}
+use Rattle.reading.specs.Reads.{small-by-index}
+use Rattle.builder.proofs.Laws.{rewrite-place, rewrite-refused, rewrite-length}
+use borrow.Author.Needs.{needs}
+use Rattle.builder.proofs.xnb_rewrite.Statement.{statement}
+use Rattle.builder.proofs.xnb_rewrite.Tie as tie
+use Rattle.builder.proofs.xnb_rewrite.Reads as reads
+use Rattle.builder.proofs.xnb_rewrite.Lts as lts
+use Rattle.builder.proofs.refused.Reads as refused-reads
+use Rattle.rewrite.proofs.rewrite.Reads as rewrite-reads
+
+-- src/lib.rt:76:11
+rewrite-requires : tie.Need-rewrite-requires
+rewrite-requires c κs = search needs
+
+-- src/lib.rt:77:30
+enum-known-number : tie.Need-enum-known-number
+enum-known-number c = search needs
+
+-- src/lib.rt:77:49
+refused-requires : tie.Need-refused-requires
+refused-requires c κs =
+    let s = c .before .before .before .before .before .before .before .before .before .before .before .before .before .args .file .now in
+    rewrite-place s (small-by-index s (λ i h. omega (arith, c .before .before .before .before .before .before .before .before .before .before .before .before .shared-slice-known .given i))) (length (c .before .before .before .before .before .before .before .before .before .before .before .before .before .args .words .now)) (length (c .before .before .before .before .before .before .before .before .before .before .before .before .before .args .out .now)) (sym (c .before .number .given .1) ∙ c .before .before .before .before .before .before .before .rewrite .ensures .0)
+
+-- src/lib.rt:78:32
+enum-known-length : tie.Need-enum-known-length
+enum-known-length c = search needs
+
+-- src/lib.rt:70:1
+same-length : tie.Need-same-length
+same-length c = search needs
+
+-- src/lib.rt:70:1
+same-length-2 : tie.Need-same-length-2
+same-length-2 c = search needs
+
+-- src/lib.rt:70:1
+returns : tie.Need-returns
+returns c =
+    let e = c .before .before .before .before .before .before .before .before .rewrite .ensures in
+    (rewrite-refused _ (sym (c .before .before .number .given .1) ∙ e .0) (c .refused .ensures), e .1)
+
+-- src/lib.rt:70:1
+same-length-3 : tie.Need-same-length-3
+same-length-3 c = search needs
+
+-- src/lib.rt:70:1
+same-length-4 : tie.Need-same-length-4
+same-length-4 c = search needs
+
+-- src/lib.rt:70:1
+returns-2 : tie.Need-returns-2
+returns-2 c =
+    let e = c .before .before .before .before .before .before .before .rewrite .ensures in
+    (rewrite-length _ (sym (c .before .length .given .1) ∙ e .0), e .1)
+
+pub xnb-rewrite-spec : {M : Type 1} → statement M
+xnb-rewrite-spec =
+    tie.close
+    (tie.spec
+    rewrite-requires
+    enum-known-number
+    refused-requires
+    enum-known-length
+    same-length
+    same-length-2
+    returns
+    same-length-3
+    same-length-4
+    returns-2)

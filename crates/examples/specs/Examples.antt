@@ -1,0 +1,116 @@
+-- 01, "Examples (P: to be proved)": P1 to P13 and the three of Char in their order, as one list under one statement, by computation of the definitions. Assumes nothing.
+use mathlib.Core.Path.{_≡_, refl}
+use mathlib.Core.List.{List, [], _∷_, _++_}
+use Prim.Native.Nat.{ℕ, max}
+use lib.IntN.{ℤ, negsuc}
+use lib.ListN.{take}
+use Rattle.layout.specs.Target.{kindOf, isValue}
+use Rattle.layout.specs.Tree.{Trees, count, kindAt, childrenAt}
+use Rattle.layout.specs.Slot.{each, slotOf, rawOrObject, pairs, leaves, fontSlots, pageSlots}
+use Rattle.layout.specs.Number.{little}
+use Rattle.layout.specs.Text.{ascii}
+use Rattle.layout.specs.Image.{levels, levelBytes, pixelBytes, blockBytes, digits}
+use Rattle.layout.specs.Fixed.{sizes}
+use Rattle.layout.specs.File.{sharedOf, header, objectsPlan}
+use Rattle.layout.specs.Rows.{Row, row, nothing}
+use Rattle.reading.specs.Answer.{Answer, read, refused, bind, check, within}
+use Rattle.reading.specs.Reads.{some, field}
+use Rattle.reading.specs.Seven.{group, groups, sevenAt}
+use Rattle.reading.specs.Little.{valueOf, littleAt}
+use Rattle.reading.specs.Rules.{decided, same, serves, invoked, reader as reader-of}
+use Rattle.reading.specs.Utf8.{utf8s, chars, charSize, follow, size, charAt, euro, surrogate, of-four}
+use Rattle.reading.specs.Fixed.{rule, isBoolean, isDateTime, isDecimal, fixedAt}
+use Rattle.reading.specs.Font.{fontOk, fontIf, fontTest}
+use Rattle.reading.specs.Resource.{suit, suits}
+use Rattle.reading.specs.Walk.{ownOf, before, sequence, rawAt, byReader, objectAt, valueAt, walk}
+use Rattle.reading.specs.Heads.{headAt, fixedHeadAt, whole as whole-value, textAt, countAt, imageAt, leafAt, always}
+use Rattle.reading.specs.File.{isPlatform, headerAt, judge, rootKind, rootKinds, judged, readerAt, readersAt, listsAt, objectsAt, finished, fileAt, Load, refusal, accepted, toLoad, roomOf, loadOf, tableOf}
+use Rattle.names.specs.Name.{between, headByte, tailByte, headings}
+use Rattle.names.specs.Kind.{lookup, alike, listed, reader, readers, target as target-entry, targets}
+use Rattle.names.specs.Parse.{span, starts, tailSize, tailOf, closed, opening, onOnly, onSecond, onFirst, afterHead, headed, nameIn, whole, nameOf}
+use Rattle.types.specs.Types.{fixedKind, plain, nullableOf, wrapped, paired, typeOf, enumOf, arrayOf, readerOf}
+use Rattle.readers.specs.Judged.{typedName, readName, judgedName}
+use Rattle.numbers.specs.Shortest.{fewest, shortest}
+use Rattle.shortest.specs.Short.{numbered, idBytes, body, short}
+use Rattle.shortest.specs.File.{shortEntry, shortEntries, shortLists, shortBody, shortFile}
+use Rattle.shortest.specs.Rewrite.{Rewritten, written, fitted, byLoad, rewriteOf}
+use Rattle.ticks.specs.declared.Time.{Time}
+use Rattle.ticks.specs.Split.{splitOf}
+use Rattle.ticks.specs.Laws.{p12}
+use Rattle.images.specs.Laws.{p13}
+
+-- what an example gives, and what it says of it
+pub data Example : Type 0 where
+  -- a file and the number of words lent
+  loads : (file : List ℕ) (words : ℕ) → Load → Example
+  -- and the number of bytes lent for the output
+  rewrites : (file : List ℕ) (words out : ℕ) → Rewritten → Example
+  -- the bytes of a seven-bit number, and of a character
+  number : (bytes : List ℕ) → Answer ℕ → Example
+  character : (bytes : List ℕ) → Answer ℕ → Example
+  -- a time in ticks
+  time : (ticks : ℤ) → Time → Example
+  -- the sides of an image and the most levels, and the sizes of levels of a format
+  levelled : (width height most : ℕ) → Example
+  sized : (format width height n : ℕ) → List ℕ → Example
+
+-- each example is what the definitions say
+unfoldable pub Hold : List Example → Type 0
+Hold [] = Unit {0}
+Hold (loads file words answer ∷ rest) = (loadOf judgedName file words ≡ answer) × Hold rest
+Hold (rewrites file words out answer ∷ rest) = (rewriteOf judgedName file words out ≡ answer) × Hold rest
+Hold (number bytes answer ∷ rest) = (sevenAt bytes 0 ≡ answer) × Hold rest
+Hold (character bytes answer ∷ rest) = (charAt bytes 0 ≡ answer) × Hold rest
+Hold (time ticks answer ∷ rest) = (splitOf ticks ≡ answer) × Hold rest
+Hold (levelled w h most ∷ rest) = (digits 32 (max w h) ≡ most) × Hold rest
+Hold (sized format w h n answer ∷ rest) = (levels format w h n ≡ answer) × Hold rest
+
+-- 01, file A: no readers, and null as the primary
+unfoldable pub A : List ℕ
+A = 0x58 ∷ 0x4E ∷ 0x42 ∷ 0x77 ∷ 5 ∷ 0 ∷ 0x0D ∷ 0 ∷ 0 ∷ 0 ∷ 0 ∷ 0 ∷ 0 ∷ []
+
+-- a header with these flags and this length
+unfoldable pub start : (flags n : ℕ) → List ℕ
+start flags n = 0x58 ∷ 0x4E ∷ 0x42 ∷ 0x77 ∷ 5 ∷ flags ∷ n ∷ 0 ∷ 0 ∷ 0 ∷ []
+
+-- one reader, of texts, no shared objects, and these bytes of a text, in a file of this length
+unfoldable pub texted : (n : ℕ) → List ℕ → List ℕ
+texted n text = start 0 n ++ 1 ∷ 0x2C ∷ (ascii "Microsoft.Xna.Framework.Content.StringReader" ++ (0 ∷ 0 ∷ 0 ∷ 0 ∷ 0 ∷ 1 ∷ text))
+
+-- 01, file B, and B "with its text count as 82 00 and length 42 hex"
+unfoldable pub B : List ℕ
+B = texted 0x41 (2 ∷ 0x48 ∷ 0x69 ∷ [])
+
+unfoldable pub paddedB : List ℕ
+paddedB = texted 0x42 (0x82 ∷ 0 ∷ 0x48 ∷ 0x69 ∷ [])
+
+unfoldable pub listed-examples : List Example
+listed-examples =
+    loads A 6 (accepted (row 0 12 1 0 0 0 nothing ∷ []) 0 0)
+    ∷ loads A 5 (refusal 19 12)
+    ∷ loads B 6144 (accepted (row 13 61 4 0 0 1 nothing ∷ []) 1 0)
+    ∷ loads paddedB 6 (accepted (row 13 61 5 0 0 1 nothing ∷ []) 1 0)
+    ∷ rewrites paddedB 6 65 (written B)
+    ∷ loads (take 12 A) 6 (refusal 7 6)
+    ∷ loads (take 9 A) 6 (refusal 1 0)
+    ∷ loads (start 0x81 0x0D ++ (0 ∷ 0 ∷ 0 ∷ [])) 6 (refusal 5 5)
+    ∷ loads (start 2 0x0D ++ (0 ∷ 0 ∷ 0 ∷ [])) 6 (refusal 6 5)
+    ∷ loads (start 0 0x0D ++ (0 ∷ 0 ∷ 1 ∷ [])) 6 (refusal 13 12)
+    ∷ loads (start 0 0x0D ++ (0 ∷ 1 ∷ 0 ∷ [])) 12 (refusal 1 13)
+    ∷ loads (start 0 0x0E ++ (0 ∷ 0 ∷ 0 ∷ 0 ∷ [])) 6 (refusal 20 13)
+    ∷ number (0x82 ∷ 0x01 ∷ []) (read 130 2)
+    ∷ number (0xFF ∷ 0xFF ∷ 0xFF ∷ 0xFF ∷ 0x0F ∷ []) (read 4294967295 5)
+    ∷ number (0xFF ∷ 0xFF ∷ 0xFF ∷ 0xFF ∷ 0x10 ∷ []) (refused 8 0)
+    ∷ time (negsuc 0) (record { seconds = negsuc 0; ticks = 9999999 })
+    ∷ time (negsuc 9223372036854775807) (record { seconds = negsuc 922337203685; ticks = 5224192 })
+    ∷ levelled 5 3 3
+    ∷ sized 0 5 3 3 (60 ∷ 8 ∷ 4 ∷ [])
+    ∷ sized 4 5 3 3 (16 ∷ 8 ∷ 8 ∷ [])
+    ∷ character (0xE2 ∷ 0x82 ∷ 0xAC ∷ []) (read 0x20AC 3)
+    ∷ character (0xED ∷ 0xA0 ∷ 0x80 ∷ []) (refused 15 0)
+    ∷ character (0xF0 ∷ 0x9F ∷ 0x98 ∷ 0x80 ∷ []) (refused 15 0)
+    ∷ []
+
+pub examples : Hold listed-examples
+unfolding Hold listed-examples A B paddedB start texted rewriteOf byLoad fitted shortFile shortBody shortLists shortEntries shortEntry short body idBytes numbered shortest fewest header follow size isPlatform headerAt judge rootKind rootKinds judged readerAt readersAt listsAt objectsAt finished fileAt toLoad roomOf loadOf headAt fixedHeadAt whole-value textAt countAt imageAt leafAt always ownOf before sequence rawAt byReader objectAt valueAt walk suit suits fontOk fontIf fontTest rule isBoolean isDateTime isDecimal fixedAt utf8s chars charSize decided same serves invoked reader-of valueOf littleAt group groups sevenAt some field bind check within sharedOf objectsPlan sizes levels levelBytes pixelBytes blockBytes digits ascii little each slotOf rawOrObject pairs leaves fontSlots pageSlots count kindAt childrenAt kindOf isValue between headByte tailByte headings lookup alike listed reader readers target-entry targets span starts tailSize tailOf closed opening onOnly onSecond onFirst afterHead headed nameIn whole nameOf fixedKind plain nullableOf wrapped paired typeOf enumOf arrayOf readerOf typedName readName judgedName
+examples = (refl, (refl, (refl, (refl, (refl, (refl, (refl, (refl, (refl, (refl, (refl, (refl, (refl, (refl, (refl, (p12 .0, (p12 .1, (p13 .0, (p13 .1, (p13 .2, (euro, (surrogate, (of-four, tt)))))))))))))))))))))))
