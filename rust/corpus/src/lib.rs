@@ -4,6 +4,7 @@
 //! It shares no code and no table with any loader.
 
 pub mod damaged;
+pub mod folder;
 pub mod lawful;
 pub mod names;
 pub mod readers;

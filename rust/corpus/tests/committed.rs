@@ -1,12 +1,8 @@
 //! The files kept in the repository are those that the program writes, and they show every case.
 
+use corpus::folder::folder;
 use corpus::{samples, Sample};
 use std::collections::BTreeSet;
-use std::path::{Path, PathBuf};
-
-fn folder() -> PathBuf {
-    Path::new(env!("CARGO_MANIFEST_DIR")).join("../../corpus")
-}
 
 fn kept() -> Vec<Sample> {
     samples().into_iter().filter(|sample| sample.kept).collect()

@@ -1,7 +1,7 @@
 //! The program `reader_names` is run on all names of the table, and must write the table's numbers.
 
+use corpus::folder::root;
 use corpus::names::{all, of_wrong_length};
-use std::path::Path;
 
 /// The files that the program judges, in this order, and the number of every name in each.
 const FILES: [(&str, u32); 4] = [
@@ -20,8 +20,7 @@ fn lines(number: u32) -> Vec<String> {
 }
 
 fn kept(name: &str) -> Vec<u8> {
-    let folder = Path::new(env!("CARGO_MANIFEST_DIR")).join("../../crates/reader_names");
-    std::fs::read(folder.join(name)).expect(name)
+    std::fs::read(root().join("crates/reader_names").join(name)).expect(name)
 }
 
 #[test]

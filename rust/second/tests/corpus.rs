@@ -1,13 +1,8 @@
 //! Every sample of the corpus through the second loader.
 
-use std::path::{Path, PathBuf};
 use std::process::{Command, Output, Stdio};
 
 const PROGRAM: &str = env!("CARGO_BIN_EXE_second");
-
-fn folder() -> PathBuf {
-    Path::new(env!("CARGO_MANIFEST_DIR")).join("../../corpus")
-}
 
 /// Runs the program with bytes on its standard input.
 fn run(task: &str, input: &[u8]) -> Output {
@@ -30,17 +25,9 @@ fn rows(input: &[u8]) -> String {
 
 #[test]
 fn kept_files_give_their_rows() {
-    let mut count = 0;
-    for entry in std::fs::read_dir(folder()).expect("the corpus is there") {
-        let path = entry.expect("a file").path();
-        if path.extension().is_some_and(|it| it == "xnb") {
-            let input = std::fs::read(&path).expect("a sample");
-            let expected = std::fs::read_to_string(path.with_extension("rows")).expect("its rows");
-            assert_eq!(rows(&input), expected, "{}", path.display());
-            count += 1;
-        }
+    for file in corpus::folder::kept_files() {
+        assert_eq!(rows(&file.bytes), file.rows, "{}", file.name);
     }
-    assert!(count >= 150, "only {count} samples");
 }
 
 #[test]

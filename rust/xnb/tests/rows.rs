@@ -1,6 +1,6 @@
 //! The proved program `rows` against what the second loader prints.
 
-use linked::{corpus_files, root};
+use corpus::folder::{kept_files, root};
 use second::{printed_rows, LONGEST_INPUT};
 use std::io::{ErrorKind, Write};
 use std::process::{Command, Stdio};
@@ -29,7 +29,7 @@ fn rows(input: &[u8]) -> String {
 
 #[test]
 fn corpus_files_give_their_rows() {
-    let files = corpus_files();
+    let files = kept_files();
     for file in &files {
         let printed = rows(&file.bytes);
         assert_eq!(printed, file.rows, "{}", file.name);

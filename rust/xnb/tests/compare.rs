@@ -1,6 +1,6 @@
 //! The linked loader against the second loader.
 
-use linked::{corpus_files, xnb_load};
+use corpus::folder::kept_files;
 use second::{builder_answer, LONGEST_INPUT};
 
 /// How many files are tried; FUZZ_FILES in the environment asks for another number.
@@ -16,7 +16,7 @@ fn told(answer: u64) -> String {
 
 /// Stops at a file that the two loaders answer differently.
 fn compare(name: &str, file: &[u8]) {
-    let linked = xnb_load(file);
+    let linked = xnb::raw::load(file);
     let second = builder_answer(file);
     assert!(
         linked == second,
@@ -40,13 +40,13 @@ fn printed_answer(rows: &str) -> u64 {
 
 #[test]
 fn corpus_files_give_their_answer() {
-    let files = corpus_files();
+    let files = kept_files();
     for file in &files {
         compare(&file.name, &file.bytes);
         // The program refuses a longer input by itself; the loader takes it.
         if file.bytes.len() <= LONGEST_INPUT {
             let expected = printed_answer(&file.rows);
-            assert_eq!(xnb_load(&file.bytes), expected, "{}", file.name);
+            assert_eq!(xnb::raw::load(&file.bytes), expected, "{}", file.name);
         }
     }
     println!("{} files", files.len());
@@ -72,6 +72,6 @@ fn limits_give_the_second_loaders_answer() {
 
 #[test]
 fn the_empty_file_is_refused() {
-    assert_eq!(xnb_load(&[]), 1 << 32);
+    assert_eq!(xnb::raw::load(&[]), 1 << 32);
     compare("the empty end of a file", &b"XNB"[3..]);
 }

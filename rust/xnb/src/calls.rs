@@ -1,0 +1,86 @@
+//! The entries with refusals as errors.
+
+use crate::raw;
+use crate::refusal::Refused;
+use crate::row::full_words;
+
+/// What an accepted file holds.
+#[derive(Clone, Copy, Debug, PartialEq, Eq)]
+pub struct Loaded {
+    pub rows: usize,
+    pub readers: usize,
+    pub shared: usize,
+}
+
+/// Whole seconds, rounded down, and the ticks above them, 10,000,000 to a second.
+#[derive(Clone, Copy, Debug, PartialEq, Eq)]
+pub struct Time {
+    pub seconds: i64,
+    pub ticks: u32,
+}
+
+/// The number of rows of a file that has at most 1,024.
+pub fn count_rows(file: &[u8]) -> Result<usize, Refused> {
+    unpacked(raw::load(file))
+}
+
+/// Loads a file into lent words, six to a row; words past its rows are zero, and all after a refusal.
+pub fn load(file: &[u8], words: &mut [u32]) -> Result<Loaded, Refused> {
+    let (answer, readers, shared) = raw::load_rows(file, words);
+    Ok(Loaded {
+        rows: unpacked(answer)?,
+        readers: readers as usize,
+        shared: shared as usize,
+    })
+}
+
+/// Writes the shortest form of a file to the start of the output and answers its length.
+///
+/// The words are left as by a load of the file; the output is untouched after a refusal.
+pub fn rewrite(file: &[u8], words: &mut [u32], out: &mut [u8]) -> Result<usize, Refused> {
+    unpacked(raw::rewrite(file, words, out))
+}
+
+/// The shortest form of a file.
+pub fn shorten(file: &[u8]) -> Result<Vec<u8>, Refused> {
+    // It is never longer than the file.
+    let mut out = vec![0; file.len()];
+    let length = rewrite(file, &mut full_words(file), &mut out)?;
+    out.truncate(length);
+    Ok(out)
+}
+
+/// The part of the file that a row names.
+pub fn part<'f>(file: &'f [u8], words: &[u32], row: u32) -> Result<&'f [u8], Refused> {
+    let (refusal, first, length) = raw::part(file, words, row);
+    Refused::check(refusal, row)?;
+    Ok(&file[first..first + length])
+}
+
+/// The bytes of a text.
+pub fn text<'f>(file: &'f [u8], words: &[u32], row: u32) -> Result<&'f [u8], Refused> {
+    let (refusal, first, length) = raw::text(file, words, row);
+    Refused::check(refusal, row)?;
+    Ok(&file[first..first + length])
+}
+
+/// A number of kind SByte, Int16, Int32, Int64 or TimeSpan.
+pub fn signed(file: &[u8], words: &[u32], row: u32) -> Result<i64, Refused> {
+    let (refusal, value) = raw::signed(file, words, row);
+    Refused::check(refusal, row)?;
+    Ok(value)
+}
+
+/// The time of a TimeSpan.
+pub fn time(file: &[u8], words: &[u32], row: u32) -> Result<Time, Refused> {
+    let (refusal, seconds, ticks) = raw::time(file, words, row);
+    Refused::check(refusal, row)?;
+    Ok(Time { seconds, ticks })
+}
+
+/// An answer that holds a refusal above a place, or a number.
+fn unpacked(answer: u64) -> Result<usize, Refused> {
+    let low = answer as u32;
+    Refused::check((answer >> 32) as u32, low)?;
+    Ok(low as usize)
+}

@@ -1,0 +1,23 @@
+//! The proved XNB loader from Rust: loading, rewriting and looking up, without unsafe code.
+//!
+//! ```
+//! let file = b"XNBw\x05\x00\x0D\x00\x00\x00\x00\x00\x00";
+//! let table = xnb::Table::load(file)?;
+//! let row = table.row(0).expect("the primary object");
+//! assert_eq!(row.kind, xnb::Kind::Null);
+//! assert_eq!(table.part(0)?, [0]);
+//! # Ok::<(), xnb::Refused>(())
+//! ```
+
+mod calls;
+mod kind;
+pub mod raw;
+mod refusal;
+mod row;
+mod table;
+
+pub use calls::{count_rows, load, part, rewrite, shorten, signed, text, time, Loaded, Time};
+pub use kind::Kind;
+pub use refusal::{Refusal, Refused};
+pub use row::{Detail, Row, MOST_ROWS, WORDS_PER_ROW};
+pub use table::Table;

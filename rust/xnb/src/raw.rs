@@ -1,0 +1,153 @@
+//! The entries of the static library as they answer, over slices.
+//!
+//! The first number of each answer is as `crates/builder/xnb.h` tells it; what the entry writes
+//! through its other pointers follows. Those numbers start as all ones, so that one which the
+//! entry did not write shows.
+
+mod entries {
+    extern "C" {
+        pub fn xnb_load(file: *const u8, file_length: usize) -> u64;
+        pub fn xnb_load_rows(
+            file: *const u8,
+            file_length: usize,
+            words: *mut u32,
+            words_length: usize,
+            readers: *mut u32,
+            shared: *mut u32,
+        ) -> u64;
+        pub fn xnb_rewrite(
+            file: *const u8,
+            file_length: usize,
+            words: *mut u32,
+            words_length: usize,
+            out: *mut u8,
+            out_length: usize,
+        ) -> u64;
+        pub fn xnb_part(
+            file: *const u8,
+            file_length: usize,
+            words: *const u32,
+            words_length: usize,
+            row: u32,
+            first: *mut usize,
+            length: *mut usize,
+        ) -> u32;
+        pub fn xnb_text(
+            file: *const u8,
+            file_length: usize,
+            words: *const u32,
+            words_length: usize,
+            row: u32,
+            first: *mut usize,
+            length: *mut usize,
+        ) -> u32;
+        pub fn xnb_signed(
+            file: *const u8,
+            file_length: usize,
+            words: *const u32,
+            words_length: usize,
+            row: u32,
+            value: *mut i64,
+        ) -> u32;
+        pub fn xnb_time(
+            file: *const u8,
+            file_length: usize,
+            words: *const u32,
+            words_length: usize,
+            row: u32,
+            seconds: *mut i64,
+            ticks: *mut u32,
+        ) -> u32;
+    }
+}
+
+// SAFETY of every call below: each pointer and length are those of one slice, or the pointer is
+// that of a number of this function; the entry reads and writes nothing else and keeps no pointer.
+
+/// The asset builder's number.
+pub fn load(file: &[u8]) -> u64 {
+    unsafe { entries::xnb_load(file.as_ptr(), file.len()) }
+}
+
+/// The packed answer, the reader count and the shared count.
+pub fn load_rows(file: &[u8], words: &mut [u32]) -> (u64, u32, u32) {
+    let (mut readers, mut shared) = (u32::MAX, u32::MAX);
+    let answer = unsafe {
+        entries::xnb_load_rows(
+            file.as_ptr(),
+            file.len(),
+            words.as_mut_ptr(),
+            words.len(),
+            &mut readers,
+            &mut shared,
+        )
+    };
+    (answer, readers, shared)
+}
+
+/// The packed answer; its lower half is the new length, or the place.
+pub fn rewrite(file: &[u8], words: &mut [u32], out: &mut [u8]) -> u64 {
+    unsafe {
+        entries::xnb_rewrite(
+            file.as_ptr(),
+            file.len(),
+            words.as_mut_ptr(),
+            words.len(),
+            out.as_mut_ptr(),
+            out.len(),
+        )
+    }
+}
+
+/// An entry that answers with two numbers behind the refusal.
+type Lookup<A, B> =
+    unsafe extern "C" fn(*const u8, usize, *const u32, usize, u32, *mut A, *mut B) -> u32;
+
+/// The refusal or 0, and the two numbers that the entry writes over those given.
+fn look_up<A, B>(
+    entry: Lookup<A, B>,
+    file: &[u8],
+    words: &[u32],
+    row: u32,
+    (mut one, mut two): (A, B),
+) -> (u32, A, B) {
+    let (bytes, rows) = (file.as_ptr(), words.as_ptr());
+    let refusal = unsafe {
+        entry(
+            bytes,
+            file.len(),
+            rows,
+            words.len(),
+            row,
+            &mut one,
+            &mut two,
+        )
+    };
+    (refusal, one, two)
+}
+
+/// The refusal or 0, and the first byte and the length of the row's part.
+pub fn part(file: &[u8], words: &[u32], row: u32) -> (u32, usize, usize) {
+    let unwritten = (usize::MAX, usize::MAX);
+    look_up(entries::xnb_part, file, words, row, unwritten)
+}
+
+/// The refusal or 0, and the first byte and the length of the text.
+pub fn text(file: &[u8], words: &[u32], row: u32) -> (u32, usize, usize) {
+    let unwritten = (usize::MAX, usize::MAX);
+    look_up(entries::xnb_text, file, words, row, unwritten)
+}
+
+/// The refusal or 0, and the number.
+pub fn signed(file: &[u8], words: &[u32], row: u32) -> (u32, i64) {
+    let mut value = -1;
+    let (bytes, rows) = (file.as_ptr(), words.as_ptr());
+    let refusal =
+        unsafe { entries::xnb_signed(bytes, file.len(), rows, words.len(), row, &mut value) };
+    (refusal, value)
+}
+
+/// The refusal or 0, and the seconds and ticks.
+pub fn time(file: &[u8], words: &[u32], row: u32) -> (u32, i64, u32) {
+    look_up(entries::xnb_time, file, words, row, (-1, u32::MAX))
+}

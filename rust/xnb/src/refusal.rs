@@ -1,0 +1,152 @@
+//! Refusals of document 01.
+
+use std::fmt::{self, Display, Formatter};
+
+/// The rule that a file or a question breaks, by its number.
+#[derive(Clone, Copy, Debug, PartialEq, Eq, PartialOrd, Ord, Hash)]
+pub enum Refusal {
+    PastEnd = 1,
+    NotXnb = 2,
+    Platform = 3,
+    FormatVersion = 4,
+    Compressed = 5,
+    Flags = 6,
+    FileLength = 7,
+    BrokenNumber = 8,
+    TooLarge = 9,
+    NameGrammar = 10,
+    NameHead = 11,
+    ReaderVersion = 12,
+    NoReader = 13,
+    NotDeclared = 14,
+    BadValue = 15,
+    NoResource = 16,
+    ResourceType = 17,
+    TooDeep = 18,
+    NoRowLeft = 19,
+    LeftOver = 20,
+    OutputTooSmall = 21,
+    FontRule = 22,
+    NoSuchRow = 23,
+    OtherKind = 24,
+}
+
+use Refusal::*;
+
+/// Each refusal with its rule in words, in order of number.
+const RULES: [(Refusal, &str); 24] = [
+    (PastEnd, "a field runs past the end of the file"),
+    (NotXnb, "the file does not begin with XNB"),
+    (Platform, "the platform is not w, m or x"),
+    (FormatVersion, "the format version is not 5"),
+    (Compressed, "the file is compressed"),
+    (Flags, "a flag other than the profile is set"),
+    (FileLength, "the header's length is not the file's length"),
+    (BrokenNumber, "a seven-bit number has a wrong fifth byte"),
+    (
+        TooLarge,
+        "the file, a count or a name's length is over its limit, or a name is empty",
+    ),
+    (NameGrammar, "a reader's name is not well formed"),
+    (
+        NameHead,
+        "a reader's name has an unknown type or wrong arguments",
+    ),
+    (ReaderVersion, "a reader's version is not 0"),
+    (
+        NoReader,
+        "a type id is past the reader list, or its reader is never invoked",
+    ),
+    (NotDeclared, "an object is not of the declared type"),
+    (BadValue, "a value breaks the rule of its kind"),
+    (NoResource, "a resource id is above the shared count"),
+    (ResourceType, "a resource is of the wrong type"),
+    (TooDeep, "a value is deeper than 32"),
+    (NoRowLeft, "no row is left for a value"),
+    (LeftOver, "bytes are left over behind the last object"),
+    (
+        OutputTooSmall,
+        "the output is too small for the rewritten file",
+    ),
+    (
+        FontRule,
+        "a font lacks an object, or its lists differ in count, or its characters do not rise",
+    ),
+    (NoSuchRow, "there is no such row"),
+    (OtherKind, "the row is not of the kind asked for"),
+];
+
+impl Refusal {
+    /// The number in 01's table.
+    pub fn number(self) -> u32 {
+        self as u32
+    }
+
+    pub fn of_number(number: u32) -> Option<Refusal> {
+        let position = (number as usize).checked_sub(1)?;
+        RULES.get(position).map(|(refusal, _)| *refusal)
+    }
+
+    /// The rule in words.
+    pub fn rule(self) -> &'static str {
+        RULES[self as usize - 1].1
+    }
+}
+
+/// A refusal and its place: a byte of the file, the bytes that a rewrite needs, or a row number.
+#[derive(Clone, Copy, Debug, PartialEq, Eq)]
+pub struct Refused {
+    pub refusal: Refusal,
+    pub place: u32,
+}
+
+impl Refused {
+    /// Nothing for 0, else the refusal of this number.
+    pub(crate) fn check(number: u32, place: u32) -> Result<(), Refused> {
+        if number == 0 {
+            return Ok(());
+        }
+        let refusal = Refusal::of_number(number).expect("the library answers with 01's numbers");
+        Err(Refused { refusal, place })
+    }
+}
+
+impl Display for Refused {
+    fn fmt(&self, out: &mut Formatter) -> fmt::Result {
+        let place = self.place;
+        write!(out, "{}, ", self.refusal.rule())?;
+        match self.refusal {
+            OutputTooSmall => write!(out, "which takes {place} bytes"),
+            NoSuchRow | OtherKind => write!(out, "row {place}"),
+            _ => write!(out, "at byte {place}"),
+        }
+    }
+}
+
+impl std::error::Error for Refused {}
+
+#[cfg(test)]
+mod tests {
+    use super::*;
+
+    #[test]
+    fn numbers_and_refusals_match() {
+        for number in 1..=24 {
+            let refusal = Refusal::of_number(number).expect("a refusal");
+            assert_eq!(refusal.number(), number);
+            assert!(!refusal.rule().is_empty());
+        }
+        assert_eq!(Refusal::of_number(0), None);
+        assert_eq!(Refusal::of_number(25), None);
+    }
+
+    #[test]
+    fn a_refusal_is_told_in_words() {
+        let told = |refusal, place| Refused { refusal, place }.to_string();
+        let length = "the header's length is not the file's length, at byte 6";
+        assert_eq!(told(FileLength, 6), length);
+        let output = "the output is too small for the rewritten file, which takes 65 bytes";
+        assert_eq!(told(OutputTooSmall, 65), output);
+        assert_eq!(told(NoSuchRow, 9), "there is no such row, row 9");
+    }
+}

@@ -1,0 +1,58 @@
+//! Rows of the table.
+
+use crate::kind::Kind;
+
+pub const WORDS_PER_ROW: usize = 6;
+/// A table has never room for more rows.
+pub const MOST_ROWS: usize = 65_536;
+
+/// One value of the file.
+#[derive(Clone, Copy, Debug, PartialEq, Eq)]
+pub struct Row {
+    pub kind: Kind,
+    /// The place of its first byte in the file.
+    pub first: usize,
+    /// Its number of bytes.
+    pub length: usize,
+    /// Its number of children.
+    pub children: usize,
+    /// The row number of the value that it belongs to.
+    pub parent: Option<u32>,
+    pub detail: Detail,
+}
+
+/// What an object or a reference points to.
+#[derive(Clone, Copy, Debug, PartialEq, Eq)]
+pub enum Detail {
+    Nothing,
+    /// The reader of an object, counted from 1.
+    TypeId(u32),
+    /// The shared object of a reference, counted from 1.
+    ResourceId(u32),
+}
+
+impl Row {
+    /// The row in six words, or nothing if their kind is unknown.
+    pub fn of_words(words: [u32; WORDS_PER_ROW]) -> Option<Row> {
+        let [kind, first, length, children, parent, detail] = words;
+        let kind = Kind::of_number(kind)?;
+        let detail = match (kind, detail) {
+            (_, 0) => Detail::Nothing,
+            (Kind::SharedReference, id) => Detail::ResourceId(id),
+            (_, id) => Detail::TypeId(id),
+        };
+        Some(Row {
+            kind,
+            first: first as usize,
+            length: length as usize,
+            children: children as usize,
+            parent: parent.checked_sub(1),
+            detail,
+        })
+    }
+}
+
+/// Words with room for every row of a file: each value has a byte of its own.
+pub(crate) fn full_words(file: &[u8]) -> Vec<u32> {
+    vec![0; WORDS_PER_ROW * file.len().min(MOST_ROWS)]
+}

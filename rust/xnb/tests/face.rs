@@ -1,0 +1,133 @@
+//! The safe calls over files whose values are known.
+
+use corpus::lawful::{file_a, file_b, page_to, PAGE_READERS};
+use corpus::readers::{list_of, INT32, SBYTE, STRING, TIME_SPAN};
+use corpus::values::*;
+use corpus::writer::write;
+use xnb::{Detail, Kind, Refusal, Refused, Table, Time};
+
+fn refused<T>(refusal: Refusal, place: u32) -> Result<T, Refused> {
+    Err(Refused { refusal, place })
+}
+
+/// A list of a text and three numbers.
+fn list_file() -> Vec<u8> {
+    let names = [
+        list_of("System.Object"),
+        STRING.to_string(),
+        SBYTE.to_string(),
+        INT32.to_string(),
+        TIME_SPAN.to_string(),
+    ];
+    let elements = vec![
+        padded(3, object(2, text("größer"))),
+        object(3, sbyte(-1)),
+        object(4, int32(-70_000)),
+        object(5, time_span(-1)),
+    ];
+    write(&file(&names, object(1, list(elements)), vec![])).bytes
+}
+
+#[test]
+fn values_are_looked_up() {
+    let file = list_file();
+    let table = Table::load(&file).expect("a lawful file");
+    assert_eq!(table.loaded().rows, 5);
+    assert_eq!(table.loaded().readers, 5);
+    assert_eq!(table.words().len(), 30);
+    assert_eq!(table.text(1), Ok("größer"));
+    assert_eq!(table.signed(2), Ok(-1));
+    assert_eq!(table.signed(3), Ok(-70_000));
+    let (seconds, ticks) = (-1, 9_999_999);
+    assert_eq!(table.time(4), Ok(Time { seconds, ticks }));
+    assert_eq!(table.part(2), Ok(&[3, 0xFF][..]));
+    assert_eq!(table.text(0), refused(Refusal::OtherKind, 0));
+    assert_eq!(table.time(3), refused(Refusal::OtherKind, 3));
+    assert_eq!(table.part(5), refused(Refusal::NoSuchRow, 5));
+    assert_eq!(table.signed(u32::MAX), refused(Refusal::NoSuchRow, u32::MAX));
+}
+
+#[test]
+fn rows_are_typed() {
+    let file = list_file();
+    let table = Table::load(&file).expect("a lawful file");
+    let kinds: Vec<Kind> = table.rows().map(|row| row.kind).collect();
+    use Kind::*;
+    assert_eq!(kinds, [List, String, SByte, Int32, TimeSpan]);
+    let row = table.row(2).expect("a row");
+    assert_eq!(row.parent, Some(0));
+    assert_eq!(row.detail, Detail::TypeId(3));
+    assert_eq!((row.children, row.length), (0, 2));
+    assert_eq!(&file[row.first..row.first + row.length], [3, 0xFF]);
+    assert_eq!(table.row(5), None);
+}
+
+#[test]
+fn children_and_objects_are_found() {
+    let pages = vec![object(1, page_to("b", 0, 2)), null()];
+    let file = write(&file(&PAGE_READERS, object(1, page_to("a", 0, 1)), pages)).bytes;
+    let table = Table::load(&file).expect("a lawful file");
+    assert_eq!(table.objects().collect::<Vec<_>>(), [0, 5, 10]);
+    assert_eq!(table.children(5).collect::<Vec<_>>(), [6, 7, 8, 9]);
+    assert_eq!(table.children(10).count(), 0);
+    assert_eq!(table.children(99).count(), 0);
+    let reference = table.row(9).expect("a row");
+    assert_eq!(reference.kind, Kind::SharedReference);
+    assert_eq!(reference.detail, Detail::ResourceId(2));
+}
+
+#[test]
+fn words_may_be_lent() {
+    let file = list_file();
+    let mut words = [7; 40];
+    let table = Table::load_into(&file, &mut words[..]).expect("room enough");
+    assert_eq!(table.words(), Table::load(&file).expect("lawful").words());
+    assert_eq!(words[30..], [0; 10]);
+    let too_few = Table::load_into(&file, [7; 29]).map(|table| table.loaded());
+    let last = Table::load(&file).expect("lawful").row(4).expect("a row");
+    assert_eq!(too_few, refused(Refusal::NoRowLeft, last.first as u32));
+}
+
+#[test]
+fn files_are_shortened() {
+    let b = write(&file_b()).bytes;
+    let mut padded_b = file_b();
+    padded_b.objects = vec![object(1, padded(2, text("Hi")))];
+    let padded_b = write(&padded_b).bytes;
+    assert_eq!(xnb::shorten(&padded_b), Ok(b.clone()));
+    assert_eq!(xnb::shorten(&b), Ok(b.clone()));
+    let mut out = [0xEE; 64];
+    let too_small = xnb::rewrite(&padded_b, &mut [7; 6], &mut out);
+    assert_eq!(too_small, refused(Refusal::OutputTooSmall, 65));
+    assert_eq!(out, [0xEE; 64]);
+}
+
+#[test]
+fn refusals_are_told() {
+    let mut file = write(&file_a()).bytes;
+    assert_eq!(xnb::count_rows(&file), Ok(1));
+    file.pop();
+    assert_eq!(xnb::count_rows(&file), refused(Refusal::FileLength, 6));
+    let answer = Table::load(&file).expect_err("a wrong length");
+    let words = "the header's length is not the file's length, at byte 6";
+    assert_eq!(answer.to_string(), words);
+    assert_eq!(xnb::shorten(&file), Err(answer));
+    assert_eq!(xnb::shorten(&[]), refused(Refusal::PastEnd, 0));
+}
+
+/// As many rows as a table may have, and one more.
+#[test]
+fn a_table_of_its_own_words_has_all_the_room() {
+    let bytes = |count| {
+        let elements = vec![byte(1); count];
+        let names = [list_of("System.Byte")];
+        write(&file(&names, object(1, list(elements)), vec![])).bytes
+    };
+    let most = bytes(65_535);
+    let table = Table::load(&most).expect("room enough");
+    assert_eq!(table.rows().count(), 65_536);
+    let more = bytes(65_536);
+    let last = more.len() as u32 - 1;
+    let answer = Table::load(&more).map(|table| table.loaded());
+    assert_eq!(answer, refused(Refusal::NoRowLeft, last));
+}
