@@ -72,7 +72,9 @@ impl<'f, W: AsRef<[u32]>> Table<'f, W> {
 
     /// The primary object's row number, then those of the shared objects.
     pub fn objects(&self) -> impl Iterator<Item = u32> + '_ {
-        let top = (0..).zip(self.rows()).filter(|(_, row)| row.parent.is_none());
+        let top = (0..)
+            .zip(self.rows())
+            .filter(|(_, row)| row.parent.is_none());
         top.map(|(number, _)| number)
     }
 

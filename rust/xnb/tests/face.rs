@@ -44,7 +44,10 @@ fn values_are_looked_up() {
     assert_eq!(table.text(0), refused(Refusal::OtherKind, 0));
     assert_eq!(table.time(3), refused(Refusal::OtherKind, 3));
     assert_eq!(table.part(5), refused(Refusal::NoSuchRow, 5));
-    assert_eq!(table.signed(u32::MAX), refused(Refusal::NoSuchRow, u32::MAX));
+    assert_eq!(
+        table.signed(u32::MAX),
+        refused(Refusal::NoSuchRow, u32::MAX)
+    );
 }
 
 #[test]
