@@ -330,12 +330,15 @@ fn bad_text(random: &mut Random, written: &Written, field: Field) -> Option<Dama
         return damage(seven_in_any_form(random, count), 1);
     }
     let mut text = written.bytes[field.end..field.data_end].to_vec();
-    if random.chance(50) {
-        text.extend_from_slice(random.pick(&NO_TEXT));
+    let bad = random.pick(&NO_TEXT);
+    if random.chance(30) {
+        text.extend_from_slice(bad);
     } else {
-        let bad = random.pick(&NO_TEXT);
+        let starts = |place: &usize| text.get(*place).is_none_or(|byte| byte & 0xC0 != 0x80);
+        let places: Vec<usize> = (0..=text.len()).filter(starts).collect();
+        let place = random.pick(&places);
         // An ASCII byte behind it keeps the next character from making it whole.
-        text.splice(0..0, bad.iter().copied().chain([b'!']));
+        text.splice(place..place, bad.iter().copied().chain([b'!']));
     }
     let mut bytes = seven_in_any_form(random, text.len() as u32);
     bytes.extend_from_slice(&text);

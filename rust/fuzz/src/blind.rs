@@ -6,8 +6,10 @@ use corpus::writer::{set_length, seven_bytes, Field, Role, Seven, Written};
 /// Damages a written file once to a few times; the header's length is mostly set right again.
 pub fn damaged(random: &mut Random, written: &Written) -> Vec<u8> {
     let mut bytes = written.bytes.clone();
-    if random.chance(60) {
-        bytes = with_damaged_field(random, written);
+    match random.below(10) {
+        0..=4 => bytes = with_damaged_field(random, written),
+        5 => bytes = with_exchanged_fields(random, written),
+        _ => {}
     }
     for _ in 0..random.below(3) {
         let start = if random.chance(70) {
@@ -23,6 +25,16 @@ pub fn damaged(random: &mut Random, written: &Written) -> Vec<u8> {
     bytes
 }
 
+/// Any bytes behind a right header.
+pub fn noise(random: &mut Random) -> Vec<u8> {
+    let mut bytes = b"XNBw\x05\x00\0\0\0\0".to_vec();
+    let count = random.below(60);
+    let limit = random.pick(&[2, 4, 16, 256]);
+    bytes.extend((0..count).map(|_| random.below(limit) as u8));
+    set_length(&mut bytes, 0);
+    bytes
+}
+
 /// Where the reader list ends.
 fn values_start(written: &Written) -> usize {
     let is_shared_count = |field: &&Field| field.role == Role::SharedCount;
@@ -30,7 +42,24 @@ fn values_start(written: &Written) -> usize {
     shared_count.map_or(0, |field| field.start)
 }
 
-/// The file with one field replaced, or two of one role exchanged.
+/// The file with two fields of one role exchanged.
+fn with_exchanged_fields(random: &mut Random, written: &Written) -> Vec<u8> {
+    let one = random.pick(&written.fields);
+    let other = same_role(random, written, one);
+    let (first, second) = if one.start < other.start {
+        (one, other)
+    } else {
+        (other, one)
+    };
+    let old = &written.bytes;
+    let mut bytes = replaced(old, second, &old[first.start..first.end]);
+    if first.start < second.start {
+        bytes = replaced(&bytes, first, &old[second.start..second.end]);
+    }
+    bytes
+}
+
+/// The file with one field replaced.
 fn with_damaged_field(random: &mut Random, written: &Written) -> Vec<u8> {
     let field = random.pick(&written.fields);
     let own = written.bytes[field.start..field.end].to_vec();
@@ -69,11 +98,15 @@ fn seven(random: &mut Random, limit: usize) -> Vec<u8> {
     seven_bytes(Seven { value, width })
 }
 
-/// The bytes of any field with the same role.
-fn same_role_bytes(random: &mut Random, written: &Written, field: Field) -> Vec<u8> {
+/// Any field with the same role.
+fn same_role(random: &mut Random, written: &Written, field: Field) -> Field {
     let same = |other: &&Field| other.role == field.role;
     let fields: Vec<&Field> = written.fields.iter().filter(same).collect();
-    let other = random.pick(&fields);
+    *random.pick(&fields)
+}
+
+fn same_role_bytes(random: &mut Random, written: &Written, field: Field) -> Vec<u8> {
+    let other = same_role(random, written, field);
     written.bytes[other.start..other.end].to_vec()
 }
 

@@ -7,7 +7,7 @@ mod aimed;
 mod blind;
 pub mod limits;
 mod maker;
-mod random;
+pub mod random;
 mod shape;
 
 use corpus::writer::{write, Row, Written};
@@ -39,15 +39,20 @@ pub enum Known {
     },
 }
 
-/// The case of a seed: a lawful file, one with a known fault or one damaged at random.
+/// The case of a seed: a lawful file, one with a known fault, one damaged at random, or noise.
 pub fn case(seed: u64) -> Case {
     let mut random = Random::new(seed);
-    match random.below(10) {
-        0..=2 => {
+    match random.below(100) {
+        0..=29 => {
             let written = write(&make(&mut random, Planted::Nothing).file);
             lawful_case(&mut random, written)
         }
-        3..=6 => aimed::aimed_case(&mut random),
+        30..=69 => aimed::aimed_case(&mut random),
+        70 => Case {
+            bytes: blind::noise(&mut random),
+            words: some_words(&mut random, 20),
+            known: None,
+        },
         _ => {
             let planted = some_fault(&mut random);
             let written = write(&make(&mut random, planted).file);

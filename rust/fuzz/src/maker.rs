@@ -370,11 +370,13 @@ impl Maker<'_> {
         char_bytes(self.any_char().to_string().as_bytes())
     }
 
+    /// A text, mixed or almost all ASCII.
     fn text(&mut self) -> Value {
         let count = self.random.pick(&[0, 1, 3, 9, 9, 60, 150]);
+        let odd = self.random.pick(&[6, 6, 40, 1000]);
         let mut characters = String::new();
         for _ in 0..count {
-            let character = match self.random.below(6) {
+            let character = match self.random.below(odd) {
                 0 => self.any_char(),
                 1 => char::from_u32(self.random.between(0x1_0000, 0x10_FFFF)).unwrap_or('y'),
                 _ => self.random.between(0x20, 0x7E) as u8 as char,
@@ -395,7 +397,7 @@ impl Maker<'_> {
         if depth >= DEEPEST || self.rows_left <= 0 {
             return 0;
         }
-        self.random.pick(&[0, 1, 1, 2, 3, 5])
+        self.random.pick(&[0, 1, 1, 2, 2, 3, 3, 5, 5, 40])
     }
 
     fn elements(&mut self, target: &Shape, depth: u32) -> Vec<Value> {

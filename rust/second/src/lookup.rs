@@ -4,6 +4,7 @@ use crate::kinds::{INT16, INT32, INT64, SBYTE, STRING, TIME_SPAN};
 use crate::refusal::{refuse, Refusal, NO_SUCH_ROW, OTHER_KIND};
 use crate::row::{room, WORDS_PER_ROW};
 use crate::seven::read_seven;
+use crate::ticks::{split_ticks, Time};
 
 /// The part of the file that a row names.
 pub fn part<'f>(file: &'f [u8], words: &[u32], row: usize) -> Result<&'f [u8], Refusal> {
@@ -57,6 +58,15 @@ pub fn signed(file: &[u8], words: &[u32], row: usize) -> Result<i64, Refusal> {
         return refuse(OTHER_KIND, row);
     }
     Ok(sign_extended(&part[part.len() - size..]))
+}
+
+/// The time of a TimeSpan.
+pub fn time(file: &[u8], words: &[u32], row: usize) -> Result<Time, Refusal> {
+    let ticks = signed(file, words, row)?;
+    if kind_of(words, row) != TIME_SPAN {
+        return refuse(OTHER_KIND, row);
+    }
+    Ok(split_ticks(ticks))
 }
 
 /// A little-endian number whose top bit is its sign.

@@ -3,7 +3,7 @@
 use corpus::readers::{list_of, BYTE, INT16, INT32, INT64, SBYTE, STRING, TIME_SPAN};
 use corpus::values::*;
 use corpus::writer::write;
-use second::{load, part, signed, text as text_of, Refusal};
+use second::{load, part, signed, text as text_of, time, Refusal, Time};
 
 fn refused<T>(number: u32, row: usize) -> Result<T, Refusal> {
     Err(Refusal { number, place: row })
@@ -108,4 +108,18 @@ fn signed_numbers() {
     assert_eq!(signed(&bytes, &row(7, 7), 0), refused(24, 0));
     assert_eq!(signed(&bytes, &row(20, 7), 0), refused(24, 0));
     assert_eq!(signed(&bytes, &row(2, 8), 0), Ok(-128));
+}
+
+#[test]
+fn times() {
+    let (file, words) = loaded();
+    let (seconds, ticks) = (0, 77);
+    assert_eq!(time(&file, &words, 6), Ok(Time { seconds, ticks }));
+    assert_eq!(time(&file, &words, 5), refused(24, 5));
+    assert_eq!(time(&file, &words, 7), refused(24, 7));
+    assert_eq!(time(&file, &words, 9), refused(23, 9));
+    let row = [20, 0, 8, 0, 0, 0];
+    let (seconds, ticks) = (-1, 9_999_999);
+    assert_eq!(time(&[0xFF; 8], &row, 0), Ok(Time { seconds, ticks }));
+    assert_eq!(time(&[0xFF; 8], &[20, 0, 7, 0, 0, 0], 0), refused(24, 0));
 }

@@ -1,77 +1,108 @@
-//! The linked loader against the second loader.
+//! The static library against the second loader, every word of every lent buffer compared.
+
+mod sides;
 
 use corpus::folder::kept_files;
-use second::{builder_answer, LONGEST_INPUT};
+use fuzz::random::Random;
+use sides::{lookups, other_words, some_rows, Call, Counts, Sides};
 
 /// How many files are tried; FUZZ_FILES in the environment asks for another number.
 fn files() -> u64 {
     let asked = std::env::var("FUZZ_FILES").ok();
-    asked.and_then(|it| it.parse().ok()).unwrap_or(20_000)
+    asked.and_then(|it| it.parse().ok()).unwrap_or(120_000)
 }
 
-/// An answer as a refusal's number and a place or row count.
-fn told(answer: u64) -> String {
-    format!("{} and {}", answer >> 32, answer & 0xFFFF_FFFF)
-}
-
-/// Stops at a file that the two loaders answer differently.
-fn compare(name: &str, file: &[u8]) {
-    let linked = xnb::raw::load(file);
-    let second = builder_answer(file);
-    assert!(
-        linked == second,
-        "{name}: xnb_load answers {}, the second loader {}",
-        told(linked),
-        told(second)
-    );
-}
-
-/// The answer that belongs to what `rows` prints.
-fn printed_answer(rows: &str) -> u64 {
-    let line = rows.lines().next().expect("a line");
-    let words: Vec<&str> = line.split(' ').collect();
-    let number = |place: usize| words[place].parse::<u64>().expect("a number");
-    match words[0] {
-        "rows" => number(1),
-        "refused" => (number(1) << 32) + number(3),
-        _ => panic!("not a line of rows: {line}"),
+/// Loads, rewrites and looks up in one file, with words for so many rows and with other numbers.
+fn compare(sides: &mut Sides, name: &str, file: &[u8], words: usize) {
+    let rows = sides.load(name, file, words).unwrap_or(3);
+    let random = &mut sides.random;
+    let fewer = random.below(6 * rows + 1);
+    let just = 6 * rows + random.below(12);
+    for words in [fewer, just] {
+        let _ = sides.load(name, file, words);
     }
+    sides.rewrites(name, file, words);
+
+    let mut table = vec![0; words];
+    let _ = second::load(file, &mut table);
+    let numbers = some_rows(&mut sides.random, table.len(), rows);
+    lookups(sides, name, file, &table, &numbers);
+    let other = other_words(&mut sides.random, file, &table[..words.min(6 * rows)]);
+    let numbers = some_rows(&mut sides.random, other.len(), other.len() / 6);
+    lookups(sides, name, file, &other, &numbers);
+}
+
+/// The cases of the seeds that leave this rest.
+fn generated(rest: u64, threads: u64) -> Counts {
+    let mut sides = Sides::new(rest);
+    for seed in (rest..files()).step_by(threads as usize) {
+        let case = fuzz::case(seed);
+        sides.random = Random::new(!seed);
+        compare(&mut sides, &format!("seed {seed}"), &case.bytes, case.words);
+    }
+    sides.counts
 }
 
 #[test]
-fn corpus_files_give_their_answer() {
-    let files = kept_files();
-    for file in &files {
-        compare(&file.name, &file.bytes);
-        // The program refuses a longer input by itself; the loader takes it.
-        if file.bytes.len() <= LONGEST_INPUT {
-            let expected = printed_answer(&file.rows);
-            assert_eq!(xnb::raw::load(&file.bytes), expected, "{}", file.name);
+fn generated_files_give_the_second_loaders_answers() {
+    const THREADS: u64 = 2;
+    let mut counts = Counts::default();
+    std::thread::scope(|scope| {
+        let parts = [0, 1].map(|rest| scope.spawn(move || generated(rest, THREADS)));
+        for part in parts {
+            counts.add(&part.join().expect("no difference"));
         }
+    });
+    println!("{} files\n{counts}", files());
+    if files() >= 100_000 {
+        counts.check();
     }
-    println!("{} files", files.len());
 }
 
 #[test]
-fn generated_files_give_the_second_loaders_answer() {
-    for seed in 0..files() {
-        compare(&format!("seed {seed}"), &fuzz::case(seed).bytes);
-    }
-    println!("{} files", files());
-}
-
-#[test]
-fn limits_give_the_second_loaders_answer() {
+fn limits_give_the_second_loaders_answers() {
     let limits = fuzz::limits::cases();
     assert!(limits.len() > 500, "only {} limits", limits.len());
+    let mut sides = Sides::new(1);
     for limit in &limits {
-        compare(&limit.name, &limit.case.bytes);
+        compare(&mut sides, &limit.name, &limit.case.bytes, limit.case.words);
     }
-    println!("{} files", limits.len());
+    println!("{} files\n{}", limits.len(), sides.counts);
 }
 
 #[test]
-fn the_empty_file_is_refused() {
+fn corpus_files_give_the_second_loaders_answers() {
+    let mut sides = Sides::new(2);
+    for file in kept_files() {
+        for words in [0, 5, 6, 100, 6 * 1024] {
+            compare(&mut sides, &file.name, &file.bytes, words);
+        }
+    }
+    println!("{}", sides.counts);
+}
+
+/// A table has room for 65,536 rows however many words are lent.
+#[test]
+fn lookups_stop_at_the_most_rows() {
+    let mut sides = Sides::new(3);
+    let file = [7; 8];
+    let row = [3, 1, 4, 0, 0, 0];
+    for rows in [65_535, 65_536, 65_537, 70_000] {
+        let words = row.repeat(rows);
+        let around = rows as u32 - 1..rows as u32 + 2;
+        let numbers: Vec<u32> = around.chain(65_534..65_538).collect();
+        lookups(&mut sides, "many rows", &file, &words, &numbers);
+    }
+    assert!(sides.counts.of(Call::Part, 0) > 0 && sides.counts.of(Call::Part, 23) > 0);
+}
+
+#[test]
+fn empty_slices_are_taken() {
+    let mut sides = Sides::new(4);
+    for words in [0, 1, 6] {
+        compare(&mut sides, "the empty file", &[], words);
+        compare(&mut sides, "the empty end of a file", &b"XNB"[3..], words);
+    }
     assert_eq!(xnb::raw::load(&[]), 1 << 32);
-    compare("the empty end of a file", &b"XNB"[3..]);
+    assert_eq!(xnb::raw::part(&[], &[], 0), (23, 0, 0));
 }

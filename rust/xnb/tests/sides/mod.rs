@@ -1,0 +1,272 @@
+//! Both loaders over the same input: their answers and the buffers that they leave must be equal.
+
+use fuzz::random::Random;
+use second::Refusal;
+use std::fmt::{self, Debug, Display, Formatter};
+use xnb::raw;
+
+/// What was called.
+#[derive(Clone, Copy)]
+pub enum Call {
+    Load,
+    Rewrite,
+    Part,
+    Text,
+    Signed,
+    Time,
+}
+
+use Call::*;
+
+const CALLS: [(Call, &str); 6] = [
+    (Load, "load"),
+    (Rewrite, "rewrite"),
+    (Part, "part"),
+    (Text, "text"),
+    (Signed, "signed"),
+    (Time, "time"),
+];
+
+/// How often each call gave each refusal number, 0 for acceptance.
+#[derive(Default)]
+pub struct Counts([[u32; 25]; CALLS.len()]);
+
+impl Counts {
+    pub fn of(&self, call: Call, number: usize) -> u32 {
+        self.0[call as usize][number]
+    }
+
+    fn count<T>(&mut self, call: Call, answer: &Result<T, Refusal>) {
+        self.0[call as usize][number_of(answer)] += 1;
+    }
+
+    pub fn add(&mut self, other: &Counts) {
+        let sums = self.0.iter_mut().flatten();
+        for (sum, count) in sums.zip(other.0.iter().flatten()) {
+            *sum += count;
+        }
+    }
+
+    /// Every answer that a call can give has occurred often.
+    pub fn check(&self) {
+        for (call, name) in CALLS {
+            let numbers: Vec<usize> = match call {
+                Load => (0..=20).chain([22]).collect(),
+                Rewrite => (0..=22).collect(),
+                Part => vec![0, 23],
+                Text | Signed | Time => vec![0, 23, 24],
+            };
+            for number in numbers {
+                let count = self.of(call, number);
+                assert!(count >= 50, "{name} gives {number} {count} times");
+            }
+        }
+    }
+}
+
+impl Display for Counts {
+    fn fmt(&self, out: &mut Formatter) -> fmt::Result {
+        write!(out, "refusal")?;
+        for (_, name) in CALLS {
+            write!(out, "{name:>10}")?;
+        }
+        for number in 0..25 {
+            write!(out, "\n{number:7}")?;
+            for (call, _) in CALLS {
+                write!(out, "{:10}", self.of(call, number))?;
+            }
+        }
+        Ok(())
+    }
+}
+
+/// A buffer of garbage; its middle is lent and its margins must stay.
+struct Lent<T> {
+    all: Vec<T>,
+    garbage: T,
+}
+
+const MARGIN: usize = 8;
+
+impl<T: Copy + PartialEq + Debug> Lent<T> {
+    fn new(garbage: T, count: usize) -> Lent<T> {
+        let all = vec![garbage; count + 2 * MARGIN];
+        Lent { all, garbage }
+    }
+
+    fn middle(&mut self) -> &mut [T] {
+        let end = self.all.len() - MARGIN;
+        &mut self.all[MARGIN..end]
+    }
+
+    /// Stops unless the middle is what the other loader left and the margins are garbage.
+    fn check(&mut self, name: &str, expected: &[T]) {
+        assert!(self.middle() == expected, "{name}: the buffers differ");
+        let end = self.all.len() - MARGIN;
+        let margins = self.all[..MARGIN].iter().chain(&self.all[end..]);
+        assert!(margins.copied().all(|it| it == self.garbage), "{name}");
+    }
+}
+
+/// A refusal or a number in the form that the library answers.
+fn packed(answer: Result<usize, Refusal>) -> u64 {
+    match answer {
+        Ok(number) => number as u64,
+        Err(refusal) => (u64::from(refusal.number) << 32) + refusal.place as u64,
+    }
+}
+
+fn number_of<T>(answer: &Result<T, Refusal>) -> usize {
+    match answer {
+        Ok(_) => 0,
+        Err(refusal) => refusal.number as usize,
+    }
+}
+
+/// Comparisons with one source of garbage, and what they have met.
+pub struct Sides {
+    pub random: Random,
+    pub counts: Counts,
+}
+
+impl Sides {
+    pub fn new(seed: u64) -> Sides {
+        Sides {
+            random: Random::new(seed),
+            counts: Counts::default(),
+        }
+    }
+
+    /// Loads with so many words lent; answers the number of rows.
+    pub fn load(&mut self, name: &str, file: &[u8], words: usize) -> Option<usize> {
+        let mut linked = Lent::new(self.random.number() as u32, words);
+        let mut second = vec![self.random.number() as u32; words];
+        let answer = raw::load_rows(file, linked.middle());
+        let expected = second::load(file, &mut second);
+        let (readers, shared) = expected.map_or((0, 0), |it| (it.readers, it.shared));
+        let packed = packed(expected.map(|it| it.rows));
+        let expected_numbers = (packed, readers as u32, shared as u32);
+        assert_eq!(answer, expected_numbers, "{name}: load with {words} words");
+        linked.check(name, &second);
+        if words == 6 * 1024 {
+            assert_eq!(raw::load(file), packed, "{name}: the builder's number");
+        }
+        self.counts.count(Load, &expected);
+        expected.ok().map(|it| it.rows)
+    }
+
+    /// Rewrites to outputs of different lengths, just the needed one among them.
+    pub fn rewrites(&mut self, name: &str, file: &[u8], words: usize) {
+        let any = self.random.below(file.len() + 40);
+        let needed = self.rewrite(name, file, words, any);
+        if let Some(needed) = needed {
+            let less = self.random.below(needed);
+            for out in [needed, needed - 1, needed + 9, less] {
+                self.rewrite(name, file, words, out);
+            }
+            let fewer = self.random.below(words + 1);
+            self.rewrite(name, file, fewer, needed);
+        }
+    }
+
+    /// Rewrites once; answers the bytes needed, unless the file is refused.
+    fn rewrite(&mut self, name: &str, file: &[u8], words: usize, out: usize) -> Option<usize> {
+        let mut linked = Lent::new(self.random.number() as u32, words);
+        let mut second = vec![self.random.number() as u32; words];
+        let garbage = self.random.byte();
+        let mut linked_out = Lent::new(garbage, out);
+        let mut second_out = vec![garbage; out];
+        let answer = raw::rewrite(file, linked.middle(), linked_out.middle());
+        let expected = second::rewrite(file, &mut second, &mut second_out);
+        let told = format!("{name}: rewrite with {words} words to {out} bytes");
+        assert_eq!(answer, packed(expected), "{told}");
+        linked.check(&told, &second);
+        linked_out.check(&told, &second_out);
+        self.counts.count(Rewrite, &expected);
+        match expected {
+            Ok(length) => Some(length),
+            Err(refusal) if refusal.number == 21 => Some(refusal.place),
+            Err(_) => None,
+        }
+    }
+}
+
+/// The four lookups of each row number.
+pub fn lookups(sides: &mut Sides, name: &str, file: &[u8], words: &[u32], rows: &[u32]) {
+    for &row in rows {
+        let number = row as usize;
+        let told = format!("{name}: row {row} of {} words", words.len());
+
+        let part = second::part(file, words, number);
+        assert_eq!(
+            raw::part(file, words, row),
+            span(file, part),
+            "part, {told}"
+        );
+        sides.counts.count(Part, &part);
+
+        let text = second::text(file, words, number);
+        assert_eq!(
+            raw::text(file, words, row),
+            span(file, text),
+            "text, {told}"
+        );
+        sides.counts.count(Text, &text);
+
+        let signed = second::signed(file, words, number);
+        let expected = (number_of(&signed) as u32, signed.unwrap_or(0));
+        assert_eq!(raw::signed(file, words, row), expected, "signed, {told}");
+        sides.counts.count(Signed, &signed);
+
+        let time = second::time(file, words, number);
+        let (seconds, ticks) = time.map_or((0, 0), |it| (it.seconds, it.ticks));
+        let expected = (number_of(&time) as u32, seconds, ticks);
+        assert_eq!(raw::time(file, words, row), expected, "time, {told}");
+        sides.counts.count(Time, &time);
+    }
+}
+
+/// A part as the library answers it: refusal, first byte and length.
+fn span(file: &[u8], answer: Result<&[u8], Refusal>) -> (u32, usize, usize) {
+    match answer {
+        Ok(part) => (0, part.as_ptr().addr() - file.as_ptr().addr(), part.len()),
+        Err(refusal) => (refusal.number, 0, 0),
+    }
+}
+
+/// Row numbers among those in use, around the room and far past it.
+pub fn some_rows(random: &mut Random, words: usize, used: usize) -> Vec<u32> {
+    let room = (words / 6).min(65_536) as u32;
+    let mut rows: Vec<u32> = (room.saturating_sub(2)..room + 3).collect();
+    // Six times the first number here is 2 in 32 bits.
+    rows.extend([715_827_883, 1 << 31, u32::MAX - 1, u32::MAX]);
+    rows.extend((0..8).map(|_| random.below(used + 1) as u32));
+    rows
+}
+
+/// Words that do not belong to the file: a table with changed words, or any words.
+pub fn other_words(random: &mut Random, file: &[u8], table: &[u32]) -> Vec<u32> {
+    let mut words = table.to_vec();
+    if words.is_empty() || random.chance(30) {
+        let count = random.below(60);
+        words = (0..count).map(|_| random.number() as u32).collect();
+    }
+    for row in words.chunks_exact_mut(6) {
+        if random.chance(60) {
+            row[0] = random.pick(&[13, 13, 13, 2, 3, 5, 7, 20, 20, 12, 36, 37, 269]);
+        }
+        let end = file.len() as u32;
+        if random.chance(40) {
+            let near = random.below(file.len() + 3) as u32;
+            row[1] = random.pick(&[near, near, row[1].wrapping_add(1), end, u32::MAX]);
+        }
+        if random.chance(40) {
+            let rest = end.wrapping_sub(row[1]);
+            let short = random.below(12) as u32;
+            let overflow = 0u32.wrapping_sub(row[1]);
+            let near = [rest, rest.wrapping_add(1), row[2].wrapping_add(1)];
+            row[2] = random.pick(&[short, short, near[0], near[1], near[2], overflow]);
+        }
+    }
+    words
+}
