@@ -1,0 +1,168 @@
+//! Files to be measured.
+
+use corpus::readers::{
+    dictionary_of, list_of, list_target, nullable_target, INT32, PAGE, STRING, TEXTURE2D,
+};
+use corpus::values::*;
+use corpus::writer::{write, File, Value};
+
+pub struct Input {
+    pub group: &'static str,
+    pub name: String,
+    pub bytes: Vec<u8>,
+    pub rows: usize,
+}
+
+fn input(group: &'static str, name: impl Into<String>, file: File) -> Input {
+    let written = write(&file);
+    Input {
+        group,
+        name: name.into(),
+        bytes: written.bytes,
+        rows: written.rows.len(),
+    }
+}
+
+/// A file of one object by the first reader.
+fn alone<N: AsRef<str>>(readers: &[N], raw: Value) -> File {
+    file(readers, object(1, raw), vec![])
+}
+
+/// A file with one text of about a megabyte that repeats these characters.
+pub fn long_text(name: &str, characters: &str) -> Input {
+    let text = text(&characters.repeat((1 << 20) / characters.len()));
+    input("texts", name, alone(&[STRING], text))
+}
+
+pub fn long_texts() -> Vec<Input> {
+    vec![
+        long_text("1 MB of ASCII", "The quick brown fox jumps. "),
+        long_text("1 MB, two of 25 not ASCII", "Straße der Übungen, lang "),
+        long_text("1 MB of two bytes each", "äöüß"),
+        long_text("1 MB of three bytes each", "€日本語"),
+        long_text("1 MB of four bytes each", "😀🦀"),
+    ]
+}
+
+pub fn images() -> Vec<Input> {
+    let image = |name, levels| {
+        input(
+            "images",
+            name,
+            alone(&[TEXTURE2D], texture(0, 1024, 1024, levels)),
+        )
+    };
+    vec![
+        image("1,024 by 1,024, one level", 1),
+        image("1,024 by 1,024, 11 levels", 11),
+    ]
+}
+
+/// Files of many values, with about so many rows.
+pub fn many_values(rows: usize) -> Vec<Input> {
+    let list_file = |group, name: &str, readers: &[String], count: usize, element: Value| {
+        let elements = list(vec![element; count]);
+        input(group, format!("{count} {name}"), alone(readers, elements))
+    };
+    let plain = |target: &str| [list_of(target)];
+    let boxes = |reader: &str| [list_of("System.Object"), reader.to_string()];
+    let page = page(
+        object(3, text("A title")),
+        rectangle([0; 4]),
+        reference(0),
+        reference(0),
+    );
+    let mut pages = boxes(PAGE).to_vec();
+    pages.push(STRING.to_string());
+    let number = nullable_target("System.Int32");
+    vec![
+        list_file(
+            "texts",
+            "short texts",
+            &boxes(STRING),
+            rows,
+            object(2, text("door opens")),
+        ),
+        list_file("numbers", "Int32", &plain("System.Int32"), rows, int32(9)),
+        list_file(
+            "numbers",
+            "Vector3",
+            &plain("Microsoft.Xna.Framework.Vector3"),
+            rows,
+            vector3([1.0, 2.0, 3.0]),
+        ),
+        list_file(
+            "numbers",
+            "Boolean",
+            &plain("System.Boolean"),
+            rows,
+            boolean(true),
+        ),
+        list_file(
+            "numbers",
+            "Char",
+            &plain("System.Char"),
+            rows,
+            character('x'),
+        ),
+        list_file(
+            "small objects",
+            "boxed Int32",
+            &boxes(INT32),
+            rows,
+            object(2, int32(9)),
+        ),
+        list_file(
+            "small objects",
+            "nulls",
+            &plain("System.Object"),
+            rows,
+            null(),
+        ),
+        list_file(
+            "small objects",
+            "nullables",
+            &plain(&number),
+            rows / 2,
+            something(int32(4)),
+        ),
+        list_file("small objects", "pages", &pages, rows / 5, object(2, page)),
+        list_file(
+            "nesting",
+            "lists in lists to depth 32",
+            &plain("System.Object"),
+            rows / 31,
+            nested(30, null()),
+        ),
+    ]
+}
+
+/// A value in so many lists.
+fn nested(depth: usize, value: Value) -> Value {
+    (0..depth).fold(value, |inner, _| object(1, list(vec![inner])))
+}
+
+pub fn reader_lists() -> Vec<Input> {
+    let table = dictionary_of(
+        "System.Int32",
+        &list_target("Microsoft.Xna.Framework.Rectangle"),
+    );
+    let readers = vec![table; 64];
+    vec![
+        input(
+            "readers",
+            "64 readers, null",
+            file(&readers, null(), vec![]),
+        ),
+        input("readers", "no reader, null", corpus::lawful::file_a()),
+    ]
+}
+
+/// The same file with every number of its values in five bytes.
+pub fn padded_objects(rows: usize) -> Input {
+    let readers = [list_of("System.Object"), INT32.to_string()];
+    let elements = list(vec![object(2, int32(9)); rows]);
+    let mut file = alone(&readers, elements);
+    corpus::lawful::pad_file(5, &mut file);
+    input("small objects", format!("{rows} boxed Int32, padded"), file)
+}
