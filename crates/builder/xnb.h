@@ -23,6 +23,13 @@ uint64_t xnb_load(const uint8_t *file, size_t file_length);
 uint64_t xnb_load_rows(const uint8_t *file, size_t file_length, uint32_t *words, size_t words_length,
                        uint32_t *readers, uint32_t *shared);
 
+/* Writes the file, with each seven-bit number in its shortest form and the header's length set, to the start of `out`, and
+   leaves in the words what loading the file leaves. The answer is packed, with the length of the rewritten file in place of
+   the number of rows. On a refusal `out` is unchanged and the words are zero; 21 says that `out` is too short, and its place
+   is the number of bytes needed, which is never more than the file has. */
+uint64_t xnb_rewrite(const uint8_t *file, size_t file_length, uint32_t *words, size_t words_length,
+                     uint8_t *out, size_t out_length);
+
 /* The lookups below take the file and the words that it was loaded into, and a row number, which counts from 0. They
    refuse with 23 a row that names no part of the file, and all but xnb_part with 24 a row that is not of the kind asked
    for. On a refusal they write 0. */
