@@ -21,20 +21,12 @@ fn put_number(out: &mut [u8], at: usize, n: u64) -> usize {
     put(out, at, &digits[..size])
 }
 
-// Writes the first `at` bytes of the buffer to standard output.
-fn flush(out: &[u8], at: usize) {
-    if out.len() < at {
-        return;
-    }
-    io::write_all(1, &out[..at]);
-}
-
 // Writes the buffer when fewer than 5,536 of its 65,536 bytes are free; a row line has at most 77.
 fn flush_nearly_full(out: &[u8], at: usize) -> usize {
     if at <= 60000 {
         return at;
     }
-    flush(out, at);
+    printing::write_start(out, at);
     0
 }
 
@@ -75,7 +67,7 @@ fn print_rows(out: &mut [u8], at: usize, words: &[u32], rows: u32) {
         next = flush_nearly_full(out, next);
         row += 1;
     }
-    flush(out, next);
+    printing::write_start(out, next);
 }
 
 // How many rows, readers and shared objects there are.
@@ -93,7 +85,7 @@ fn put_counts(out: &mut [u8], rows: u32, readers: u32, shared: u32) -> usize {
 fn print_file(file: &[u8], out: &mut [u8]) {
     let mut words = [0u32; 6144];
     match load::load(file, &mut words) {
-        Loading::Refused { number, place } => refusal_line::print(number, place),
+        Loading::Refused { number, place } => printing::print_refusal(number, place),
         Loading::Loaded {
             rows,
             readers,
@@ -110,7 +102,7 @@ fn main() {
     let mut out = io::large_buffer();
     let n = io::read_full(0, &mut space);
     if 32768 < n {
-        refusal_line::print(9, 0);
+        printing::print_refusal(9, 0);
         return;
     }
     print_file(&space[..n], &mut out);

@@ -23,7 +23,7 @@ fn list(s: &[u8]) {
                 at = next;
             }
             Number::Refused(number, place) => {
-                refusal_line::print(number, place);
+                printing::print_refusal(number, place);
                 return;
             }
         }

@@ -29,8 +29,8 @@ loop-less c = search needs
 loop-again : tie.Need-loop-again Inv-loop μ-loop
 loop-again c = search needs
 
-flush-requires : tie.Need-flush-requires Inv-loop μ-loop
-flush-requires c κs = search needs
+write-start-requires : tie.Need-write-start-requires Inv-loop μ-loop
+write-start-requires c κs = search needs
 
 same-length : tie.Need-same-length Inv-loop μ-loop
 same-length c = search needs
@@ -50,6 +50,6 @@ print-rows-spec =
     add-row
     loop-less
     loop-again
-    flush-requires
+    write-start-requires
     same-length
     returns)

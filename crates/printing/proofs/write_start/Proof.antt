@@ -2,8 +2,8 @@ use mathlib.Core.Path.{sym}
 use native.Mathlib.Omega.{arith}
 use lib.Seq.{length-take-le}
 use borrow.Author.Needs.{needs}
-use Rattle.rows.proofs.flush.Statement.{statement}
-use Rattle.rows.proofs.flush.Tie as tie
+use Rattle.printing.proofs.write_start.Statement.{statement}
+use Rattle.printing.proofs.write_start.Tie as tie
 
 returns : tie.Need-returns
 returns c = search needs
@@ -11,7 +11,7 @@ returns c = search needs
 slice-aggregate-write-all : tie.Need-slice-aggregate-write-all
 slice-aggregate-write-all c =
     let args = c .before .before .before .args in
-    sym (length-take-le _ (args .out .now) (c .before .if1 .left))
+    sym (length-take-le _ (args .buffer .now) (c .before .if1 .left))
 
 write-all-requires : tie.Need-write-all-requires
 write-all-requires c κs = search needs
@@ -19,5 +19,5 @@ write-all-requires c κs = search needs
 returns-2 : tie.Need-returns-2
 returns-2 c = search needs
 
-pub flush-spec : {M : Type 1} → statement M
-flush-spec = tie.close (tie.spec returns slice-aggregate-write-all write-all-requires returns-2)
+pub write-start-spec : {M : Type 1} → statement M
+write-start-spec = tie.close (tie.spec returns slice-aggregate-write-all write-all-requires returns-2)
