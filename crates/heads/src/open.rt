@@ -51,7 +51,7 @@ fn each_of(slot: Slot, n: u32) -> Below
     ensures { λ r. ⌜ ((codes : List ℕ) (x : L.Slot) → SlotIs codes slot x → BelowIs codes r (replicate n x)) ⌝ }
 {
     match slot {
-        Slot::Simple(value) => Below::Simple(Run::Same(value, n as usize)),
+        Slot::Simple(value) => Below::Simple(Run::Same(value, n)),
         Slot::Raw(a) => Below::Nested(Nest::Each(Slot::Raw(a), n)),
         Slot::Object(a) => Below::Nested(Nest::Each(Slot::Object(a), n)),
     }
@@ -67,7 +67,7 @@ fn pairs_of(key: Slot, value: Slot, n: u32) -> Below
     let Slot::Simple(v) = value else {
         return Below::Nested(Nest::Pairs(key, value, n));
     };
-    Below::Simple(Run::Turns(k, v, n as usize))
+    Below::Simple(Run::Turns(k, v, n))
 }
 
 // A nullable of the type at `a`: its first byte, and perhaps the value.
@@ -144,10 +144,13 @@ fn image_levels(file: &[u8], format: u32, width: u32, height: u32, at: usize) ->
     let most = images::longest_chain(width, height) as u64;
     match ranged(file, 1, most, at) {
         Number::Refused(number, place) => Opened::Refused(number, place),
-        Number::Read(n, next) => Opened::Head(
-            next,
-            Below::Simple(Run::Levels(format, width, height, n as usize)),
-        ),
+        Number::Read(n, next) => {
+            let levels = n as u32;
+            Opened::Head(
+                next,
+                Below::Simple(Run::Levels(format, width, height, levels)),
+            )
+        }
     }
 }
 

@@ -4,27 +4,28 @@ use mathlib.Core.Bool.{Bool, true, false, cond}
 use mathlib.Core.List.{List, [], _∷_}
 use Prim.Native.Nat.{ℕ, zero, suc, _+_, _*_, _-_, _≤_, _<_, _^_}
 use native.Mathlib.Omega.{arith}
-use lib.Dec.{leb, eqb}
+use lib.Dec.{leb, ltb, eqb}
 use lib.ListN.{length, getD, take, drop}
-use borrow.Author.Tests.{lt-ltb, le-ltb, le-leb, lt-leb}
+use borrow.Author.Tests.{lt-ltb, le-ltb, ltb-true, le-leb, lt-leb}
 use Rattle.layout.specs.Target.{Target, fixed, char, texture2D, page, kindOf, spriteFont}
 use Rattle.layout.specs.Tree.{none, tree, count}
 use Rattle.layout.specs.Fixed.{sizes}
 use Rattle.layout.specs.Slot.{Slot, raw, reference, leaf, level, Plan, stop}
 use Rattle.layout.specs.Rows.{row, Wants, nothing, resource}
 use Rattle.reading.specs.Answer.{Answer, refused, read, bind, check}
-use Rattle.reading.specs.Seven.{sevenAt}
-use Rattle.reading.specs.Utf8.{charAt}
+use Rattle.reading.specs.Seven.{sevenAt, seven-next}
+use Rattle.reading.specs.Utf8.{charAt, char-reads}
 use Rattle.reading.specs.Reads.{Small, Reads, reads-bounds}
-use Rattle.reading.specs.Fixed.{fixedAt, sized}
+use Rattle.reading.specs.Fixed.{fixedAt, sized, fixed-reads}
 use Rattle.reading.specs.Rules.{same, decided}
 use Rattle.reading.specs.Font.{fontOk, fontIf}
-use Rattle.reading.specs.Heads.{headAt, leafAt, whole, ownAt, fixedHeadAt}
+use Rattle.reading.specs.Heads.{headAt, leafAt, whole, ownAt, fixedHeadAt, leaf-reads as level-reads}
 use Rattle.reading.specs.Walk.{Outcome, done, sequence, rawAt, valueAt, walk}
 use Rattle.table.specs.declared.Head.{Head}
 use Rattle.table.specs.declared.Walk.{Walk}
-use Rattle.table.specs.Contract.{Seen, seen, Ahead, Walked}
-use Rattle.table.specs.Leaf.{leafOf, mute, leaf-mute}
+use Rattle.table.specs.Contract.{Seen, seen, Free, Ahead, Walked}
+use Rattle.table.specs.Loop.{refusing}
+use Rattle.table.specs.Leaf.{leafOf, leafAnswer, leafWords, leaf-walked}
 use Rattle.leaves.specs.declared.plain.Plain.{Plain}
 use Rattle.leaves.specs.declared.plain.Plain.the-variants.{Fixed, Char, Level, Reference}
 
@@ -54,27 +55,53 @@ pub record Begin (file words : List ℕ) (room at used : ℕ) : Type 0 where
   pub place : at ≤ length file
   pub short : length file < 2 ^ 32
 
--- a value has its row
-pub record Ready (file words : List ℕ) (h : Head) : Type 0 where
-  pub free : 6 * h .row + 6 ≤ length words
-  pub few : h .row + 1 < 2 ^ 32
-  pub place : h .first ≤ length file
-  pub short : length file < 2 ^ 32
-
 abbrev pub headOf : (used at parent id : ℕ) → Head
 headOf used at parent id = record { row = used; first = at; parent = parent; detail = id }
 
--- a reference: its resource id, which the row names
-unfoldable pub referenceOf : List ℕ → (shared wanted : ℕ) → Head → Answer Seen
-referenceOf file shared wanted h =
-    bind (sevenAt file (h .first)) (λ id next. check (leb id shared) 16 (h .first)
-    (read (suc (h .row), row 36 (h .first) (next - h .first) 0 (h .parent) id (resource wanted) ∷ []) next))
+-- the bytes of the value at a place, and the number that they hold or how many they are
+unfoldable pub plainAt : List ℕ → (shared : ℕ) → Plain → (at : ℕ) → Answer ℕ
+plainAt file shared (Fixed kind size) at = sized (fixedAt file kind size at)
+plainAt file shared Char at = charAt file at
+plainAt file shared (Level size) at = sized (leafAt file (level size) at)
+plainAt file shared (Reference wanted) at = bind (sevenAt file at) (λ id next. check (leb id shared) 16 at (read id next))
 
-unfoldable pub plainOf : List ℕ → (shared : ℕ) → Plain → Head → Answer Seen
-plainOf file shared (Fixed kind size) h = leafOf h kind nothing (fixedAt file kind size (h .first))
-plainOf file shared Char h = leafOf h 12 nothing (charAt file (h .first))
-plainOf file shared (Level size) h = leafOf h 35 nothing (leafAt file (level size) (h .first))
-plainOf file shared (Reference wanted) h = referenceOf file shared wanted h
+-- 18, then 19, then the bytes
+unfoldable pub plainValue : List ℕ → (room shared : ℕ) → Plain → (at used depth : ℕ) → Answer ℕ
+plainValue file room shared p at used zero = refused 18 at
+plainValue file room shared p at used (suc d) = check (ltb used room) 19 at (plainAt file shared p at)
+
+-- a reference's row names its resource
+abbrev pub named : Head → Answer ℕ → Head
+named h (refused n p) = h
+named h (read id next) = headOf (h .row) (h .first) (h .parent) id
+
+-- the words once its bytes are read, or refused
+abbrev pub plainWords : List ℕ → Plain → Head → Answer ℕ → List ℕ
+plainWords w (Fixed kind size) h x = leafWords w h kind 0 x
+plainWords w Char h x = leafWords w h 12 0 x
+plainWords w (Level size) h x = leafWords w h 35 0 x
+plainWords w (Reference wanted) h x = leafWords w (named h x) 36 wanted x
+
+pub kept : (w : List ℕ) (p : Plain) (h : Head) (n q : ℕ) → plainWords w p h (refused n q) ≡ w
+kept w (Fixed kind size) h n q = refl
+kept w Char h n q = refl
+kept w (Level size) h n q = refl
+kept w (Reference wanted) h n q = refl
+
+-- the value's row
+abbrev pub plainSeen : Plain → Head → Answer ℕ → Answer Seen
+plainSeen (Fixed kind size) h x = leafOf h kind nothing x
+plainSeen Char h x = leafOf h 12 nothing x
+plainSeen (Level size) h x = leafOf h 35 nothing x
+plainSeen (Reference wanted) h x = leafOf (named h x) 36 (resource wanted) x
+
+-- where the words have the row and the numbers fit
+plain-written : (w : List ℕ) (p : Plain) (h : Head) (x : Answer ℕ) → Free w (h .row) → Ahead (h .first) x → Walked w (plainWords w p h x) (h .row) (plainSeen p h x) (leafAnswer (h .row) x)
+plain-written w (Fixed kind size) h x f a = leaf-walked w h kind nothing x f a
+plain-written w Char h x f a = leaf-walked w h 12 nothing x f a
+plain-written w (Level size) h x f a = leaf-walked w h 35 nothing x f a
+plain-written w (Reference wanted) h (refused n p) f a = leaf-walked {A = ℕ} w h 36 (resource wanted) (refused n p) f a
+plain-written w (Reference wanted) h (read id next) f a = leaf-walked w (headOf (h .row) (h .first) (h .parent) id) 36 (resource wanted) (read id next) f a
 
 fixed-none : (k : ℕ) → same (fixed k) spriteFont ≡ false
 unfolding same decided
@@ -93,6 +120,12 @@ fixed-head file k z l at =
 char-head : (file : List ℕ) (at : ℕ) → headAt file char at ≡ whole file (ownAt file (charAt file) at)
 unfolding headAt
 char-head file at = refl
+
+-- how many bytes were read matters to no row
+sized-leaf : (h : Head) (kind : ℕ) (x : Answer (List ℕ)) → leafOf h kind nothing x ≡ leafOf h kind nothing (sized x)
+unfolding sized
+sized-leaf h kind (refused n p) = refl
+sized-leaf h kind (read own e) = refl
 
 -- nothing stands below a value without children
 abbrev pub Stops : (Plan → ℕ → ℕ → Outcome) → Type 0
@@ -121,80 +154,97 @@ module _ (file : List ℕ) (readers : List Target) (shared room : ℕ) (below : 
 
   reference-seen : (r : Answer ℕ) (wanted at used parent : ℕ)
       → seen (bind r (λ id next. check (leb id shared) 16 at (done next (suc used) (row 36 at (next - at) 0 parent id (resource wanted) ∷ []) (tree 36 id [] none none))))
-      ≡ bind r (λ id next. check (leb id shared) 16 at (read (suc used, row 36 at (next - at) 0 parent id (resource wanted) ∷ []) next))
+      ≡ plainSeen (Reference wanted) (headOf used at parent 0) (bind r (λ id next. check (leb id shared) 16 at (read id next)))
   unfolding bind seen check
   reference-seen (refused n p) wanted at used parent = refl
   reference-seen (read id e) wanted at used parent = go (leb id shared) where
     go : (t : Bool) → seen (check t 16 at (done e (suc used) (row 36 at (e - at) 0 parent id (resource wanted) ∷ []) (tree 36 id [] none none)))
-        ≡ check t 16 at (read (suc used, row 36 at (e - at) 0 parent id (resource wanted) ∷ []) e)
+        ≡ plainSeen (Reference wanted) (headOf used at parent 0) (check t 16 at (read id e))
     go true = refl
     go false = refl
 
   -- what a value in such a slot answers, whatever the reader list is
-  pub plain-seen : (p : Plain) → Lawful p → (at used parent : ℕ)
-      → seen (valueAt file readers shared room below (plainSlot p) at used parent) ≡ plainOf file shared p (headOf used at parent 0)
-  unfolding valueAt plainOf referenceOf kindOf
+  plain-seen : (p : Plain) → Lawful p → (at used parent : ℕ)
+      → seen (valueAt file readers shared room below (plainSlot p) at used parent) ≡ plainSeen p (headOf used at parent 0) (plainAt file shared p at)
+  unfolding valueAt plainAt kindOf
   plain-seen (Fixed kind size) l at used parent =
-      raw-leaf (fixed kind) (fixed-none kind) (fixedAt file kind size at) at at used parent 0 (fixed-head file kind size l at)
+      raw-leaf (fixed kind) (fixed-none kind) (fixedAt file kind size at) at at used parent 0 (fixed-head file kind size l at) ∙ sized-leaf (headOf used at parent 0) kind (fixedAt file kind size at)
   plain-seen Char l at used parent =
       raw-leaf char char-none (ownAt file (charAt file) at) at at used parent 0 (char-head file at) ∙ char-own at (headOf used at parent 0) 12
-  plain-seen (Level size) l at used parent = leaf-seen (leafAt file (level size) at) at used parent
+  plain-seen (Level size) l at used parent = leaf-seen (leafAt file (level size) at) at used parent ∙ sized-leaf (headOf used at parent 0) 35 (leafAt file (level size) at)
   plain-seen (Reference wanted) l at used parent = rw l (reference-seen (sevenAt file at) wanted at used parent)
 
--- how many bytes were read matters to no row
-pub sized-mute : (x : Answer (List ℕ)) → mute (sized x) ≡ mute x
-unfolding mute sized
-sized-mute (refused n p) = refl
-sized-mute (read own e) = refl
-
 -- what is read from inside a file ends inside it
-pub ahead-read : {file : List ℕ} {A : Type 0} {F : A → List ℕ → Type 0} {r : ℕ → Answer A} → Reads file F r → Small file
+ahead-read : {file : List ℕ} {A : Type 0} {F : A → List ℕ → Type 0} {r : ℕ → Answer A} → Reads file F r → Small file
     → (at : ℕ) → at ≤ length file → length file < 2 ^ 32 → Ahead at (r at)
 ahead-read {file} {A} {F} {r} x s at h f = go (r at) refl where
   go : (o : Answer A) → r at ≡ o → Ahead at o
   go (refused n p) e = tt
   go (read a e′) e = let b = reads-bounds x s at h e in (b .0, omega arith)
 
-pub ahead-sized : (at : ℕ) (x : Answer (List ℕ)) → Ahead at x → Ahead at (sized x)
+ahead-sized : (at : ℕ) (x : Answer (List ℕ)) → Ahead at x → Ahead at (sized x)
 unfolding sized
 ahead-sized at (refused n p) h = h
 ahead-sized at (read own e) h = h
 
+plain-ahead : (file : List ℕ) → Small file → (shared : ℕ) (p : Plain) → Lawful p → (at : ℕ) → at ≤ length file → length file < 2 ^ 32 → Ahead at (plainAt file shared p at)
+unfolding plainAt bind check
+plain-ahead file s shared (Fixed kind size) l at h f = rw (l .0) (ahead-sized at (fixedAt file kind (getD sizes kind 0) at) (ahead-read (fixed-reads file kind (omega arith)) s at h f))
+plain-ahead file s shared Char l at h f = ahead-read (char-reads file) s at h f
+plain-ahead file s shared (Level size) l at h f = ahead-sized at (leafAt file (level size) at) (ahead-read (level-reads file (level size)) s at h f)
+plain-ahead file s shared (Reference wanted) l at h f = go (sevenAt file at) refl where
+  told : (b : Bool) (id next : ℕ) → (at ≤ next) × (next < 2 ^ 32) → Ahead at (check b 16 at (read id next))
+  told true id next a = a
+  told false id next a = tt
+
+  go : (x : Answer ℕ) → sevenAt file at ≡ x → Ahead at (bind x (λ id next. check (leb id shared) 16 at (read id next)))
+  go (refused n p) e = tt
+  go (read id next) e = told (leb id shared) id next (omega (arith, seven-next file s at e))
+
 -- a resource id was read
-module _ (file : List ℕ) (shared wanted : ℕ) (h : Head) where
-  pub reference-refused : {n p : ℕ} → sevenAt file (h .first) ≡ refused n p → refused n p ≡ referenceOf file shared wanted h
-  unfolding referenceOf bind
+module _ (file : List ℕ) (shared wanted at : ℕ) where
+  pub reference-refused : {n p : ℕ} → sevenAt file at ≡ refused n p → plainAt file shared (Reference wanted) at ≡ refused n p
+  unfolding plainAt bind
   reference-refused e = rw e
 
-  pub reference-beyond : {id next : ℕ} → sevenAt file (h .first) ≡ read id next → shared < id → refused 16 (h .first) ≡ referenceOf file shared wanted h
-  unfolding referenceOf bind check
+  pub reference-beyond : {id next : ℕ} → sevenAt file at ≡ read id next → shared < id → plainAt file shared (Reference wanted) at ≡ refused 16 at
+  unfolding plainAt bind check
   reference-beyond {id} e b = rw (e, lt-leb id shared b)
 
-  pub reference-within : {id next : ℕ} → sevenAt file (h .first) ≡ read id next → id ≤ shared
-      → leafOf (headOf (h .row) (h .first) (h .parent) id) 36 (resource wanted) (read id next) ≡ referenceOf file shared wanted h
-  unfolding referenceOf bind check
+  pub reference-within : {id next : ℕ} → sevenAt file at ≡ read id next → id ≤ shared → plainAt file shared (Reference wanted) at ≡ read id next
+  unfolding plainAt bind check
   reference-within {id} e b = rw (e, le-leb id shared b)
 
 -- a value in such a slot, with the depth left
-module _ (file : List ℕ) (readers : List Target) (shared room : ℕ) (p : Plain) (at used parent : ℕ) where
-  pub walk-deep : (depth : ℕ) (x : Slot) → depth ≡ 0 → walk file readers shared room depth x at used parent ≡ refused 18 at
-  unfolding walk
-  walk-deep depth x e = rw e
+module _ (file : List ℕ) (room shared : ℕ) (p : Plain) (at used : ℕ) where
+  pub value-deep : (depth : ℕ) → depth ≡ 0 → plainValue file room shared p at used depth ≡ refused 18 at
+  unfolding plainValue check
+  value-deep depth e = rw e
 
-  pub walk-full : (depth : ℕ) (x : Slot) → (depth ≡ 0 → ⊥) → room ≤ used → walk file readers shared room depth x at used parent ≡ refused 19 at
-  unfolding walk check
-  walk-full zero x ne h = absurd (ne refl)
-  walk-full (suc d) x ne h = rw (le-ltb used room h)
+  pub value-full : (depth : ℕ) → (depth ≡ 0 → ⊥) → room ≤ used → plainValue file room shared p at used depth ≡ refused 19 at
+  unfolding plainValue check
+  value-full zero ne h = absurd (ne refl)
+  value-full (suc d) ne h = rw (le-ltb used room h)
 
-  pub plain-walk : (depth : ℕ) → (depth ≡ 0 → ⊥) → used < room → Lawful p
-      → plainOf file shared p (headOf used at parent 0) ≡ seen (walk file readers shared room depth (plainSlot p) at used parent)
-  unfolding walk check sequence
-  plain-walk zero ne h l = absurd (ne refl)
-  plain-walk (suc d) ne h l =
-      rw (lt-ltb used room h)
-      (sym (plain-seen file readers shared room (λ plan a u. sequence (λ y b v. walk file readers shared room d y b v (suc used)) plan a u) (λ next u. refl) p l at used parent))
+  pub value-there : (depth : ℕ) → (depth ≡ 0 → ⊥) → used < room → plainValue file room shared p at used depth ≡ plainAt file shared p at
+  unfolding plainValue check
+  value-there zero ne h = absurd (ne refl)
+  value-there (suc d) ne h = rw (lt-ltb used room h)
 
--- a leaf's promise, by another reader that ends alike
-pub walked-as : {A B : Type 0} {entry exit : List ℕ} {u : ℕ} {r : Walk} (h : Head) (kind : ℕ) (wants : Wants) (x : Answer A) (y : Answer B)
-    → mute x ≡ mute y → Walked entry exit u (leafOf h kind wants x) r → Walked entry exit u (leafOf h kind wants y) r
-walked-as h kind wants x y e w = rw (leaf-mute h kind wants x y e) at w
+  -- what the walk answers, where the value may begin
+  module _ (w : List ℕ) (small : Small file) (begin : Begin file w room at used) (l : Lawful p) (readers : List Target) where
+    by-room : (d parent : ℕ) (t : Bool) → ltb used room ≡ t
+        → Walked w (plainWords w p (headOf used at parent 0) (plainValue file room shared p at used (suc d))) used (seen (walk file readers shared room (suc d) (plainSlot p) at used parent)) (leafAnswer used (plainValue file room shared p at used (suc d)))
+    unfolding plainValue walk check sequence
+    by-room d parent false e = rw e (refusing refl)
+    by-room d parent true e =
+        let v = plain-seen file readers shared room (λ plan a u. sequence (λ y b v. walk file readers shared room d y b v (suc used)) plan a u) (λ next u. refl) p l at used parent in
+        let u : used < room = ltb-true used room e in
+        let f : Free w used = record { there = omega (arith, begin .long); few = omega (arith, begin .few) } in
+        rw (e, v) (plain-written w p (headOf used at parent 0) (plainAt file shared p at) f (plain-ahead file small shared p l at (begin .place) (begin .short)))
+
+    pub plain-walked : (depth parent : ℕ)
+        → Walked w (plainWords w p (headOf used at parent 0) (plainValue file room shared p at used depth)) used (seen (walk file readers shared room depth (plainSlot p) at used parent)) (leafAnswer used (plainValue file room shared p at used depth))
+    unfolding plainValue walk
+    plain-walked zero parent = refusing refl
+    plain-walked (suc d) parent = by-room d parent (ltb used room) refl

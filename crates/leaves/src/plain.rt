@@ -5,14 +5,9 @@ use ids::ResourceId;
 use table::Head;
 use table::Walk;
 ghost use mathlib.Core.Path.{_≡_};
-ghost use mathlib.Core.List.{List};
-ghost use Prim.Native.Nat.{_≤_};
 ghost use lib.Dec.{ltb};
-ghost use lib.ListN.{length};
-ghost use Rattle.layout.specs.Target.{Target};
-ghost use Rattle.reading.specs.Walk.{walk};
-ghost use Rattle.table.specs.Contract.{seen, Walked};
-ghost use Rattle.leaves.specs.Plain.{Lawful, Begin, Ready, plainSlot, plainOf, referenceOf};
+ghost use Rattle.table.specs.Leaf.{leafAnswer};
+ghost use Rattle.leaves.specs.Plain.{headOf, plainAt, plainValue, plainWords};
 
 // How such a value stands: raw of a kind of fixed size, with the size; a raw character; an image level of a size; a reference that wants a kind.
 pub enum Plain {
@@ -34,8 +29,8 @@ fn beyond(id: ResourceId, shared: u32) -> bool
 
 // A shared reference.
 fn reference(file: &[u8], words: &mut [u32], shared: u32, wanted: u32, h: Head) -> Walk
-    requires { ⌜ Ready (now file) (now words) h ⌝ }
-    ensures { λ r. ⌜ Walked (now (words .entry)) (now (words .exit)) (h .row) (referenceOf (now (file .entry)) shared wanted h) r ⌝ }
+    ensures { λ r. ⌜ r ≡ leafAnswer (h .row) (plainAt (now (file .entry)) shared (Plain.Reference wanted) (h .first)) ⌝ }
+    ensures { λ _. ⌜ now (words .exit) ≡ plainWords (now (words .entry)) (Plain.Reference wanted) h (plainAt (now (file .entry)) shared (Plain.Reference wanted) (h .first)) ⌝ }
 {
     let at = h.first;
     match numbers::seven::seven_at(file, at) {
@@ -61,8 +56,8 @@ fn reference(file: &[u8], words: &mut [u32], shared: u32, wanted: u32, h: Head) 
 
 // The value, once it may have a row.
 fn plain_value(file: &[u8], words: &mut [u32], shared: u32, slot: Plain, h: Head) -> Walk
-    requires { ⌜ Ready (now file) (now words) h × Lawful slot ⌝ }
-    ensures { λ r. ⌜ Walked (now (words .entry)) (now (words .exit)) (h .row) (plainOf (now (file .entry)) shared slot h) r ⌝ }
+    ensures { λ r. ⌜ r ≡ leafAnswer (h .row) (plainAt (now (file .entry)) shared slot (h .first)) ⌝ }
+    ensures { λ _. ⌜ now (words .exit) ≡ plainWords (now (words .entry)) slot h (plainAt (now (file .entry)) shared slot (h .first)) ⌝ }
 {
     let at = h.first;
     match slot {
@@ -91,8 +86,8 @@ pub fn read_plain(
     depth: u32,
     parent: u32,
 ) -> Walk
-    requires { ⌜ Begin (now file) (now words) room at used × Lawful slot ⌝ }
-    ensures { λ r. ⌜ ((readers : List Target) → Walked (now (words .entry)) (now (words .exit)) used (seen (walk (now (file .entry)) readers shared room depth (plainSlot slot) at used parent)) r) ⌝ }
+    ensures { λ r. ⌜ r ≡ leafAnswer used (plainValue (now (file .entry)) room shared slot at used depth) ⌝ }
+    ensures { λ _. ⌜ now (words .exit) ≡ plainWords (now (words .entry)) slot (headOf used at parent 0) (plainValue (now (file .entry)) room shared slot at used depth) ⌝ }
 {
     if depth == 0 {
         return Walk::Refused {

@@ -2,39 +2,32 @@
 use crate::plain::Plain;
 use table::Walk;
 ghost use mathlib.Core.Path.{_≡_};
-ghost use mathlib.Core.List.{List};
 ghost use Prim.Native.Nat.{_<_};
 ghost use lib.ListN.{length};
-ghost use Rattle.layout.specs.Target.{Target};
-ghost use Rattle.layout.specs.Slot.{each};
-ghost use Rattle.reading.specs.Walk.{sequence, walk};
-ghost use Rattle.table.specs.Contract.{seen, Walked};
-ghost use Rattle.leaves.specs.Plain.{Begin};
-ghost use Rattle.leaves.specs.Run.{runSlots, LawfulRun, Turn};
+ghost use Rattle.leaves.specs.Run.{runSlots, turnOf, runOf};
 
 // The same value n times; two in turn, n times; or the n levels of an image.
 pub enum Run {
-    Same(Plain, usize),
-    Turns(Plain, Plain, usize),
-    Levels(u32, u32, u32, usize),
+    Same(Plain, u32),
+    Turns(Plain, Plain, u32),
+    Levels(u32, u32, u32, u32),
 }
 
 // How many values there are.
 pub fn turns(run: Run) -> usize
-    requires { ⌜ LawfulRun run ⌝ }
     ensures { λ r. ⌜ r ≡ length (runSlots run) ⌝ }
 {
     match run {
-        Run::Same(_, n) => n,
-        Run::Turns(_, _, n) => 2 * n,
-        Run::Levels(_, _, _, n) => n,
+        Run::Same(_, n) => n as usize,
+        Run::Turns(_, _, n) => 2 * n as usize,
+        Run::Levels(_, _, _, n) => n as usize,
     }
 }
 
 // How value i stands.
 fn turn(run: Run, i: usize) -> Plain
-    requires { ⌜ LawfulRun run × (i < length (runSlots run)) ⌝ }
-    ensures { λ r. ⌜ Turn run i r ⌝ }
+    requires { ⌜ i < length (runSlots run) ⌝ }
+    ensures { λ r. ⌜ r ≡ turnOf run i ⌝ }
 {
     match run {
         Run::Same(value, _) => value,
@@ -65,8 +58,8 @@ pub fn read_run(
     depth: u32,
     parent: u32,
 ) -> Walk
-    requires { ⌜ Begin (now file) (now words) room at used × LawfulRun run ⌝ }
-    ensures { λ r. ⌜ ((readers : List Target) → Walked (now (words .entry)) (now (words .exit)) used (seen (sequence (λ x a u. walk (now (file .entry)) readers shared room depth x a u parent) (each (runSlots run)) at used)) r) ⌝ }
+    ensures { λ r. ⌜ r ≡ runOf (now (file .entry)) room shared run depth parent at used (now (words .entry)) .0 ⌝ }
+    ensures { λ _. ⌜ now (words .exit) ≡ runOf (now (file .entry)) room shared run depth parent at used (now (words .entry)) .1 ⌝ }
 {
     let n = turns(run);
     let mut next = at;

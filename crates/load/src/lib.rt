@@ -1,4 +1,6 @@
 // Loading a file into a lent row table.
+mod walk;
+
 use answers::Number;
 use heads::nest::Nest;
 use heads::slot::Slot;
@@ -20,7 +22,7 @@ ghost use Rattle.readers.specs.Listed.{Listed};
 ghost use Rattle.resources.specs.Settled.{Drafted};
 ghost use Rattle.leaves.specs.Plain.{Begin};
 ghost use Rattle.heads.specs.Nests.{prelude};
-ghost use Rattle.walk.specs.Known.{Known};
+ghost use Rattle.load.specs.Known.{Known};
 ghost use Rattle.load.specs.Loads.{Loads, behindHeader, answerOf};
 
 // A refusal's number and place; or the number of rows used, the number of readers and the shared count.

@@ -30,8 +30,9 @@ use Rattle.fonts.specs.Bridge.{font-judged, other-kind}
 use Rattle.table.specs.declared.Head.{Head}
 use Rattle.table.specs.declared.Walk.{Walk}
 use Rattle.table.specs.declared.Walk.the-variants.{Done, Refused}
-use Rattle.table.specs.Written.{written, putRow, rowOf, written-under, length-written}
+use Rattle.table.specs.Written.{written, putRow, written-under, length-written}
 use Rattle.table.specs.Contract.{Seen, seen, Walked, Free, put-free}
+use Rattle.table.specs.Leaf.{inWord, in-word, valueRow, value-row}
 use Rattle.table.specs.Loop.{Got, got, lost, refusing, reading}
 use Rattle.heads.specs.Below.{font-head}
 use Rattle.objects.specs.Start.{under}
@@ -40,19 +41,19 @@ use Rattle.objects.specs.Start.{under}
 unfoldable pub keeps : (file words : List ℕ) (kind number : ℕ) → Bool
 keeps file words kind number = cond (eqb kind 33) (fontWords file words number) true
 
+-- a refusal below is the value's; else its rule, then its row
+abbrev pub closeAnswer : (file w : List ℕ) → Head → (kind at : ℕ) → Walk → Walk
+closeAnswer file w h kind at (Refused m p) = Refused m p
+closeAnswer file w h kind at (Done next used) = cond (keeps file w kind (h .row)) (Done next used) (Refused 22 at)
+
+abbrev pub closeWords : (file w : List ℕ) → Head → (kind children : ℕ) → Walk → List ℕ
+closeWords file w h kind n (Refused m p) = w
+closeWords file w h kind n (Done next used) = cond (keeps file w kind (h .row)) (putRow w (h .row) (valueRow h kind (inWord n) next)) w
+
 -- the value's length and its number of children fit a word
 abbrev pub Closable : Head → (children : ℕ) → Walk → Type 0
 Closable h n (Refused m p) = Unit {0}
 Closable h n (Done next used) = (h .first ≤ next) × (next < 2 ^ 32) × (n < 2 ^ 32)
-
-abbrev pub Closing : Bool → (w w′ : List ℕ) → Head → (kind children at next used : ℕ) → Walk → Type 0
-Closing true w w′ h kind n at next used r = (r ≡ Done next used) × (w′ ≡ putRow w (h .row) (rowOf kind (h .first) (next - h .first) n (h .parent) (h .detail)))
-Closing false w w′ h kind n at next used r = r ≡ Refused 22 at
-
--- a refusal below is the value's; else its rule, then its row
-abbrev pub Closes : (file w w′ : List ℕ) → Head → (kind children at : ℕ) → Walk → Walk → Type 0
-Closes file w w′ h kind n at (Refused m p) r = r ≡ Refused m p
-Closes file w w′ h kind n at (Done next used) r = Closing (keeps file w kind (h .row)) w w′ h kind n at next used r
 
 -- as many children as slots, and a row for each
 laid-count : (readers : List Target) (refers : Target → ℕ → Type 0) (slots : List L.Slot) (ts : Trees) (bs : List ℕ) → Lays readers refers (each slots) ts bs → (count ts ≡ length slots) × (count ts ≤ size ts)
@@ -103,23 +104,25 @@ module _ (file : List ℕ) (small : Small file) (readers : List Target) (shared 
           let l : length w₁ ≡ length w₀ = ap length words ∙ length-written w₀ (suc (h .row)) (a .1) in
           rw s (font-judged file small readers shared room below next (h .row) a e q′ w₀ w₁ words (omega (arith, k .counted, k .fits (omega arith))))
 
-      kept : (w₁ w₂ : List ℕ) (n e u : ℕ) (r : Walk) → n ≡ length slots → (g : Got w₀ w₁ (suc (h .row)) seq e u) → (b : Bool) → fontOk point t (g .taken .2) ≡ b → Closing b w₁ w₂ h (kindOf t) n at e u r → Walked w₀ w₂ (h .row) (seen rawOf) r
+      kept : (w₁ : List ℕ) (n e u : ℕ) → Closable h n (Done e u) → n ≡ length slots → (g : Got w₀ w₁ (suc (h .row)) seq e u) → (b : Bool) → fontOk point t (g .taken .2) ≡ b
+          → Walked w₀ (cond b (putRow w₁ (h .row) (valueRow h (kindOf t) (inWord n) e)) w₁) (h .row) (seen rawOf) (cond b (Done e u) (Refused 22 at))
       unfolding rawAt bind check
-      kept w₁ w₂ n e u r z g false f c = rw c (refusing (rw (opened, plan, g .is, f)))
-      kept w₁ w₂ n e u r z g true f c =
+      kept w₁ n e u c z g false f = refusing (rw (opened, plan, g .is, f))
+      kept w₁ n e u c z g true f =
           let a = g .taken in
           let k : count (a .2) ≡ n = counted slots next (suc (h .row)) (suc (h .row)) a e (g .is) .0 ∙ sym z in
           let x : Row = row (kindOf t) (h .first) (e - h .first) n (h .parent) (h .detail) nothing in
           let l : length w₁ ≡ length w₀ = ap length (g .words) ∙ length-written w₀ (suc (h .row)) (a .1) in
           let there : Free w₁ (h .row) = record { there = omega arith; few = omega arith } in
-          let words : w₂ ≡ written w₀ (h .row) (x ∷ a .1) = c .1 ∙ put-free w₁ (h .row) x there ∙ ap (λ w. written w (h .row) (x ∷ [])) (g .words) ∙ written-under w₀ (h .row) x (a .1) in
-          rw (c .0) (reading (a .0, x ∷ a .1, tree (kindOf t) (h .detail) (o .0) (a .2) none) (rw (opened, plan, g .is, f, k)) (sym (g .rows-used)) words)
+          let fits : valueRow h (kindOf t) (inWord n) e ≡ x = rw (in-word n (c .2)) (value-row h (kindOf t) n e (c .0) (c .1)) in
+          let words = ap (putRow w₁ (h .row)) fits ∙ put-free w₁ (h .row) x there ∙ ap (λ w. written w (h .row) (x ∷ [])) (g .words) ∙ written-under w₀ (h .row) x (a .1) in
+          reading (a .0, x ∷ a .1, tree (kindOf t) (h .detail) (o .0) (a .2) none) (rw (opened, plan, g .is, f, k)) (sym (g .rows-used)) words
 
       -- the children were walked and the value ended
-      pub raw-closed : (w₁ w₂ : List ℕ) (kind n : ℕ) (walked r : Walk) → kind ≡ kindOf t → n ≡ length slots → Walked w₀ w₁ (suc (h .row)) (seen seq) walked → Closes file w₁ w₂ h kind n at walked r → Walked w₀ w₂ (h .row) (seen rawOf) r
+      pub raw-closed : (w₁ : List ℕ) (n : ℕ) (walked : Walk) → Closable h n walked → n ≡ length slots → Walked w₀ w₁ (suc (h .row)) (seen seq) walked
+          → Walked w₀ (closeWords file w₁ h (kindOf t) n walked) (h .row) (seen rawOf) (closeAnswer file w₁ h (kindOf t) at walked)
       unfolding rawAt bind keeps
-      raw-closed w₁ w₂ kind n (Refused m p) r k z c d = rw d (refusing (rw (opened, plan, lost c refl)))
-      raw-closed w₁ w₂ kind n (Done e u) r k z c d =
-          let g = got c refl in
-          let f = rule (g .taken) e w₁ (g .is) (g .words) (eqb (kindOf t) 33) refl in
-          kept w₁ w₂ n e u r z g (keeps file w₁ (kindOf t) (h .row)) f (rw k at d)
+      raw-closed w₁ n (Refused m p) c z d = refusing (rw (opened, plan, lost d refl))
+      raw-closed w₁ n (Done e u) c z d =
+          let g = got d refl in
+          kept w₁ n e u c z g (keeps file w₁ (kindOf t) (h .row)) (rule (g .taken) e w₁ (g .is) (g .words) (eqb (kindOf t) 33) refl)

@@ -3,7 +3,7 @@ use ids::RowNumber;
 use table::Head;
 use table::Walk;
 ghost use mathlib.Core.Path.{_≡_};
-ghost use Rattle.objects.specs.Close.{keeps, Closable, Closes};
+ghost use Rattle.objects.specs.Close.{keeps, closeAnswer, closeWords};
 
 // A value of a kind keeps its rule, where its children's rows are in the words.
 fn keeps_rule(file: &[u8], words: &[u32], kind: u32, row: u32) -> bool
@@ -25,23 +25,23 @@ pub fn close(
     at: usize,
     walked: Walk,
 ) -> Walk
-    requires { ⌜ Closable h children walked ⌝ }
-    ensures { λ r. ⌜ Closes (now (file .entry)) (now (words .entry)) (now (words .exit)) h kind children at walked r ⌝ }
+    ensures { λ r. ⌜ r ≡ closeAnswer (now (file .entry)) (now (words .entry)) h kind at walked ⌝ }
+    ensures { λ _. ⌜ now (words .exit) ≡ closeWords (now (file .entry)) (now (words .entry)) h kind children walked ⌝ }
 {
     match walked {
         Walk::Refused { number, place } => Walk::Refused { number, place },
         Walk::Done { next, used } => {
             if keeps_rule(file, words, kind, h.row) {
                 let start = h.first;
-                let first = start as u32;
-                let length = (next - start) as u32;
+                let first = table::word(start);
+                let length = table::span(start, next);
                 table::put_row(
                     words,
                     RowNumber(h.row),
                     kind,
                     first,
                     length,
-                    children as u32,
+                    table::word(children),
                     h.parent,
                     h.detail,
                 );

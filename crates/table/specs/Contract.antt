@@ -48,7 +48,6 @@ unfolding putRow
 put-free w u r f = rw (le-leb (6 * u + 6) (length w) (f .there))
 
 -- a row without children was put
-pub put-leaf : {w w′ : List ℕ} {u mark : ℕ} (kind first z parent detail : ℕ) (wants : Wants) → marks wants ≡ mark → Free w u
-    → w′ ≡ putRow w u (rowOf kind first z mark parent detail) → w′ ≡ written w u (row kind first z 0 parent detail wants ∷ [])
-put-leaf {w} {w′} {u} {mark} kind first z parent detail wants m f e =
-    e ∙ put-free w u (rowOf kind first z mark parent detail) f ∙ rw (← m) (marked w u kind first z parent detail wants)
+pub put-leaf : (w : List ℕ) (u kind first z parent detail : ℕ) (wants : Wants) → Free w u
+    → putRow w u (rowOf kind first z (marks wants) parent detail) ≡ written w u (row kind first z 0 parent detail wants ∷ [])
+put-leaf w u kind first z parent detail wants f = put-free w u (rowOf kind first z (marks wants) parent detail) f ∙ marked w u kind first z parent detail wants

@@ -1,12 +1,43 @@
--- A value without children. Assumes nothing.
-use mathlib.Core.Path.{_≡_, refl}
-use mathlib.Core.List.{[], _∷_}
-use Prim.Native.Nat.{ℕ, suc, _-_}
+-- The row of a value, and a value without children. Assumes nothing.
+use mathlib.Core.Path.{_≡_, refl, _∙_}
+use mathlib.Core.List.{List, [], _∷_}
+use Prim.Native.Nat.{ℕ, suc, _+_, _-_, _%_, _≤_, _<_, _^_}
 use native.Mathlib.Omega.{arith}
+use native.Mathlib.Numerals.{add-one}
 use Rattle.layout.specs.Rows.{Row, row, Wants}
 use Rattle.reading.specs.Answer.{Answer, refused, read}
 use Rattle.table.specs.declared.Head.{Head}
-use Rattle.table.specs.Contract.{Seen}
+use Rattle.table.specs.declared.Walk.{Walk}
+use Rattle.table.specs.declared.Walk.the-variants.{Done, Refused}
+use Rattle.table.specs.Written.{putRow, rowOf, marks}
+use Rattle.table.specs.Contract.{Seen, Free, Ahead, Walked, put-leaf}
+
+-- a number as a word holds it
+unfoldable pub inWord : ℕ → ℕ
+inWord n = n % 2 ^ 32
+
+pub in-word : (n : ℕ) → n < 2 ^ 32 → inWord n ≡ n
+unfolding inWord
+in-word n h = omega arith
+
+-- the row of a value that ends before `next`
+abbrev pub valueRow : Head → (kind children next : ℕ) → Row
+valueRow h kind children next = rowOf kind (inWord (h .first)) (inWord (next - h .first)) children (h .parent) (h .detail)
+
+-- a value that ends at or behind its first byte, where the numbers fit
+pub value-row : (h : Head) (kind children next : ℕ) → h .first ≤ next → next < 2 ^ 32
+    → valueRow h kind children next ≡ rowOf kind (h .first) (next - h .first) children (h .parent) (h .detail)
+value-row h kind children next a f = rw (in-word (h .first) (omega arith), in-word (next - h .first) (omega arith))
+
+-- what is answered once the bytes of a value without children are read, or refused
+abbrev pub leafAnswer : {A : Type 0} → (u : ℕ) → Answer A → Walk
+leafAnswer u (refused n p) = Refused n p
+leafAnswer u (read a next) = Done next (inWord (u + 1))
+
+-- and what the words then hold: its row, if they have it
+abbrev pub leafWords : {A : Type 0} → List ℕ → Head → (kind mark : ℕ) → Answer A → List ℕ
+leafWords w h kind mark (refused n p) = w
+leafWords w h kind mark (read a next) = putRow w (h .row) (valueRow h kind mark next)
 
 -- the row of a value without children that ends at `next`
 abbrev pub leafRow : Head → (kind : ℕ) → Wants → (next : ℕ) → Row
@@ -22,13 +53,10 @@ unfoldable pub mute : {A : Type 0} → Answer A → Answer (Unit {0})
 mute (refused n p) = refused n p
 mute (read a e) = read tt e
 
--- a row without children depends on nothing else
-pub leaf-mute : {A B : Type 0} (h : Head) (kind : ℕ) (wants : Wants) (x : Answer A) (y : Answer B) → mute x ≡ mute y → leafOf h kind wants x ≡ leafOf h kind wants y
-unfolding mute
-leaf-mute h kind wants (refused n p) (refused m q) e =
-    let e₁ : n ≡ m = cc in
-    let e₂ : p ≡ q = cc in
-    rw (e₁, e₂)
-leaf-mute h kind wants (refused n p) (read b f) e = absurd (let z : _≡_ {A = ℕ} 0 1 = cc in omega arith)
-leaf-mute h kind wants (read a e′) (refused m q) e = absurd (let z : _≡_ {A = ℕ} 0 1 = cc in omega arith)
-leaf-mute h kind wants (read a e′) (read b f) e = let q : e′ ≡ f = cc in rw q
+-- where the words have the row and the numbers fit
+pub leaf-walked : {A : Type 0} (w : List ℕ) (h : Head) (kind : ℕ) (wants : Wants) (x : Answer A) → Free w (h .row) → Ahead (h .first) x
+    → Walked w (leafWords w h kind (marks wants) x) (h .row) (leafOf h kind wants x) (leafAnswer (h .row) x)
+leaf-walked w h kind wants (refused n p) f a = record { answers = refl; writes = refl }
+leaf-walked w h kind wants (read v next) f a =
+    let u : inWord (h .row + 1) ≡ suc (h .row) = in-word (h .row + 1) (f .few) ∙ add-one (h .row) in
+    record { answers = rw u; writes = rw (value-row h kind (marks wants) next (a .0) (a .1)) (put-leaf w (h .row) kind (h .first) (next - h .first) (h .parent) (h .detail) wants f) }

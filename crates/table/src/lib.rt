@@ -2,10 +2,9 @@
 use answers::Number;
 use ids::RowNumber;
 ghost use mathlib.Core.Path.{_≡_};
-ghost use Rattle.table.specs.Written.{putRow, rowOf, marks};
-ghost use Rattle.layout.specs.Rows.{Wants};
-ghost use Rattle.table.specs.Contract.{Free, Ahead, Walked};
-ghost use Rattle.table.specs.Leaf.{leafOf};
+ghost use Prim.Native.Nat.{_-_};
+ghost use Rattle.table.specs.Written.{putRow, rowOf};
+ghost use Rattle.table.specs.Leaf.{inWord, valueRow, leafAnswer, leafWords};
 ghost use Rattle.answers.specs.Told.{told};
 
 // What is known of a value before its bytes are read: its row's number, its first byte, its parent's row number plus 1, and its type id or resource id.
@@ -50,17 +49,34 @@ pub fn put_row(
     words[at + 5] = detail;
 }
 
+// A number as a word holds it: its remainder by 2 to the 32.
+pub fn word(n: usize) -> u32
+    ensures { λ r. ⌜ r ≡ inWord n ⌝ }
+{
+    (n % 4294967296) as u32
+}
+
+// The number of bytes from `first` to before `next`, 0 where there are none, as a word holds it.
+pub fn span(first: usize, next: usize) -> u32
+    ensures { λ r. ⌜ r ≡ inWord (next - first) ⌝ }
+{
+    if next < first {
+        return 0;
+    }
+    word(next - first)
+}
+
 // A value without children, once its bytes are read; `mark` is the kind that a reference wants, else 0.
 pub fn leaf(words: &mut [u32], h: Head, kind: u32, mark: u32, read: Number) -> Walk
-    requires { ⌜ Free (now words) (h .row) × Ahead (h .first) (told read) ⌝ }
-    ensures { λ r. ⌜ ((wants : Wants) → marks wants ≡ mark → Walked (now (words .entry)) (now (words .exit)) (h .row) (leafOf h kind wants (told read)) r) ⌝ }
+    ensures { λ r. ⌜ r ≡ leafAnswer (h .row) (told read) ⌝ }
+    ensures { λ _. ⌜ now (words .exit) ≡ leafWords (now (words .entry)) h kind mark (told read) ⌝ }
 {
     match read {
         Number::Refused(number, place) => Walk::Refused { number, place },
         Number::Read(_, next) => {
-            let first = h.first as u32;
-            let length = (next - h.first) as u32;
-            let used = h.row + 1;
+            let first = word(h.first);
+            let length = span(h.first, next);
+            let used = std::num::wrapping_add_u32(h.row, 1);
             put_row(
                 words,
                 RowNumber(h.row),

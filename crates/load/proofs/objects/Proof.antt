@@ -9,7 +9,7 @@ use Rattle.load.proofs.objects.Tie as tie
 use Rattle.load.proofs.objects.Reads as reads
 use Rattle.load.proofs.objects.Lts as lts
 use Rattle.load.proofs.finish.Reads as finish-reads
-use Rattle.walk.proofs.nested.Reads as nested-reads
+use Rattle.load.proofs.walk.nested.Reads as nested-reads
 
 add-n : tie.Need-add-n
 add-n c = search needs

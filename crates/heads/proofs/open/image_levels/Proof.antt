@@ -1,7 +1,8 @@
 use mathlib.Core.Path.{sym, ap, _∙_}
+use native.Mathlib.Omega.{arith}
 use Rattle.answers.specs.Told.{told}
 use Rattle.heads.specs.Opens.{levelsAt}
-use Rattle.heads.specs.Images.{opens-refused, levels-open}
+use Rattle.heads.specs.Images.{chain-bound, ranged-bounds, opens-refused, levels-open}
 use borrow.Author.Needs.{needs}
 use Rattle.heads.proofs.open.image_levels.Statement.{statement}
 use Rattle.heads.proofs.open.image_levels.Tie as tie
@@ -20,6 +21,13 @@ enum-known-number c = search needs
 
 enum-known-n : tie.Need-enum-known-n
 enum-known-n c = search needs
+
+cast-levels : tie.Need-cast-levels
+cast-levels c =
+    let a = c .before .before .before .before .before .before .args in
+    let p = c .before .before .before .before .before .before .pre in
+    let field = sym (c .before .before .before .ranged .ensures) ∙ ap told (c .before .n .given .1) in
+    omega (arith, ranged-bounds (a .file .now) 1 _ (a .at) field, c .before .before .before .before .longest-chain .ensures, chain-bound (a .width) (a .height) (p .2) (p .4))
 
 returns : tie.Need-returns
 unfolding levelsAt
@@ -44,5 +52,6 @@ image-levels-spec =
     ranged-requires
     enum-known-number
     enum-known-n
+    cast-levels
     returns
     returns-2)

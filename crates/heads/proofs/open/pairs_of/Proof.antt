@@ -36,7 +36,7 @@ returns-3 c =
     λ codes x y k v.
     let p = rw (c .before .before .before .before .key .given .1) at k in
     let q = rw (c .before .value .given .1) at v in
-    (rw (p .0, q .0), (p .1, q .1, omega arith))
+    (rw (p .0, q .0), (p .1, q .1))
 
 pub pairs-of-spec : {M : Type 1} → statement M
 pairs-of-spec = tie.close (tie.spec enum-known-key returns enum-known-value returns-2 returns-3)

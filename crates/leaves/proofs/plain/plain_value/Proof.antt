@@ -1,24 +1,12 @@
-use mathlib.Core.Path.{refl, ap, _∙_}
-use Prim.Native.Nat.{_<_}
-use native.Mathlib.Omega.{arith}
-use Rattle.answers.specs.Told.{told}
-use Rattle.layout.specs.Rows.{nothing}
-use Rattle.reading.specs.Reads.{Small, small-by-index}
-use Rattle.reading.specs.Utf8.{charAt, char-reads}
-use Rattle.reading.specs.Fixed.{fixedAt, fixed-reads}
-use Rattle.reading.specs.Heads.{leafAt, leaf-reads as level-reads}
-use Rattle.layout.specs.Slot.{level}
-use lib.ListN.{getD}
-use Rattle.layout.specs.Fixed.{sizes}
-use Rattle.table.specs.Leaf.{mute}
-use Rattle.leaves.specs.declared.plain.Plain.the-variants.{Fixed}
-use Rattle.leaves.specs.Plain.{Lawful, plainOf, sized-mute, ahead-read, ahead-sized, walked-as}
+use Rattle.leaves.specs.Plain.{plainAt}
 use borrow.Author.Needs.{needs}
 use Rattle.leaves.proofs.plain.plain_value.Statement.{statement}
 use Rattle.leaves.proofs.plain.plain_value.Tie as tie
-
-small : (c : tie.After-shared-slice-known) → Small (c .before .args .file .now)
-small c = small-by-index (c .before .args .file .now) (λ i h. omega (arith, c .shared-slice-known .given i))
+use Rattle.leaves.proofs.plain.reference.Reads as reference-reads
+use Rattle.leaves.proofs.read.level_at.Reads as level-at-reads
+use Rattle.table.proofs.leaf.Reads as leaf-reads
+use Rattle.text.proofs.char_at.Reads as char-at-reads
+use Rattle.values.proofs.fixed_at.Reads as fixed-at-reads
 
 enum-known-slot : tie.Need-enum-known-slot
 enum-known-slot c = search needs
@@ -27,14 +15,7 @@ fixed-at-requires : tie.Need-fixed-at-requires
 fixed-at-requires c κs = search needs
 
 leaf-requires : tie.Need-leaf-requires
-leaf-requires c κs =
-    let at = c .before .before .before .before .before .before in
-    let a = at .before .args in
-    let r = at .before .pre .0 in
-    let slot = c .before .before .before .slot .given .1 in
-    let l : Lawful (Fixed (c .before .before .before .slot .given .0 .0) (c .before .before .before .slot .given .0 .1 .0)) = rw slot at (at .before .pre .1) in
-    let z : 0 < getD sizes (c .before .before .before .slot .given .0 .0) 0 = omega arith in
-    (record { there = r .free; few = r .few }, rw (c .fixed-at .ensures, l .0) (ahead-sized (a .h .first) _ (ahead-read (fixed-reads (a .file .now) _ z) (small at) (a .h .first) (r .place) (r .short))))
+leaf-requires c κs = search needs
 
 enum-told : tie.Need-enum-told
 enum-told c = search needs
@@ -43,11 +24,7 @@ char-at-requires : tie.Need-char-at-requires
 char-at-requires c κs = search needs
 
 leaf-requires-2 : tie.Need-leaf-requires-2
-leaf-requires-2 c κs =
-    let at = c .before .before .before .before .before in
-    let a = at .before .args in
-    let r = at .before .pre .0 in
-    (record { there = r .free; few = r .few }, rw (c .char-at .ensures) (ahead-read (char-reads (a .file .now)) (small at) (a .h .first) (r .place) (r .short)))
+leaf-requires-2 c κs = search needs
 
 enum-known-slot-2 : tie.Need-enum-known-slot-2
 enum-known-slot-2 c = search needs
@@ -56,11 +33,7 @@ level-at-requires : tie.Need-level-at-requires
 level-at-requires c κs = search needs
 
 leaf-requires-3 : tie.Need-leaf-requires-3
-leaf-requires-3 c κs =
-    let at = c .before .before .before .before .before .before in
-    let a = at .before .args in
-    let r = at .before .pre .0 in
-    (record { there = r .free; few = r .few }, rw (c .level-at .ensures) (ahead-sized (a .h .first) _ (ahead-read (level-reads (a .file .now) (level _)) (small at) (a .h .first) (r .place) (r .short))))
+leaf-requires-3 c κs = search needs
 
 enum-known-slot-3 : tie.Need-enum-known-slot-3
 enum-known-slot-3 c = search needs
@@ -72,37 +45,30 @@ same-length : tie.Need-same-length
 same-length c = search needs
 
 returns : tie.Need-returns
-unfolding plainOf
+unfolding plainAt
 returns c =
-    let a = c .before .before .before .before .before .before .before .before .before .before .args in
-    let slot = c .before .before .before .before .before .before .slot .given .1 in
-    rw slot (walked-as (a .h) _ nothing (told (c .before .before .before .fixed-at .result)) (fixedAt (a .file .now) (c .before .before .before .before .before .before .slot .given .0 .0) (c .before .before .before .before .before .before .slot .given .0 .1 .0) (a .h .first)) (ap mute (c .before .before .before .fixed-at .ensures) ∙ sized-mute _) (c .before .before .leaf .ensures nothing refl))
+    rw (c .before .before .before .before .before .before .slot .given .1, ← c .before .before .before .fixed-at .ensures) (c .before .before .leaf .ensures)
 
 same-length-2 : tie.Need-same-length-2
 same-length-2 c = search needs
 
 returns-2 : tie.Need-returns-2
-unfolding plainOf
+unfolding plainAt
 returns-2 c =
-    let a = c .before .before .before .before .before .before .before .before .before .args in
-    let slot = c .before .before .before .before .before .enum-told .given .1 in
-    rw slot (walked-as (a .h) 12 nothing (told (c .before .before .before .char-at .result)) (charAt (a .file .now) (a .h .first)) (ap mute (c .before .before .before .char-at .ensures)) (c .before .before .leaf2 .ensures nothing refl))
+    rw (c .before .before .before .before .before .enum-told .given .1, ← c .before .before .before .char-at .ensures) (c .before .before .leaf2 .ensures)
 
 same-length-3 : tie.Need-same-length-3
 same-length-3 c = search needs
 
 returns-3 : tie.Need-returns-3
-unfolding plainOf
+unfolding plainAt
 returns-3 c =
-    let a = c .before .before .before .before .before .before .before .before .before .before .args in
-    let slot = c .before .before .before .before .before .before .slot2 .given .1 in
-    rw slot (walked-as (a .h) 35 nothing (told (c .before .before .before .level-at .result)) (leafAt (a .file .now) (level (c .before .before .before .before .before .before .slot2 .given .0 .0)) (a .h .first)) (ap mute (c .before .before .before .level-at .ensures) ∙ sized-mute _) (c .before .before .leaf3 .ensures nothing refl))
+    rw (c .before .before .before .before .before .before .slot2 .given .1, ← c .before .before .before .level-at .ensures) (c .before .before .leaf3 .ensures)
 
 same-length-4 : tie.Need-same-length-4
 same-length-4 c = search needs
 
 returns-4 : tie.Need-returns-4
-unfolding plainOf
 returns-4 c =
     rw (c .before .before .before .before .before .slot3 .given .1) (c .before .before .reference .ensures)
 

@@ -1,20 +1,19 @@
-use Rattle.table.specs.Loop.{refusing}
-use Rattle.leaves.specs.Plain.{walk-deep, walk-full, plain-walk}
+use mathlib.Core.Path.{refl, sym}
+use Rattle.leaves.specs.Plain.{kept, value-deep, value-full, value-there}
 use borrow.Author.Needs.{needs}
 use Rattle.leaves.proofs.plain.read_plain.Statement.{statement}
 use Rattle.leaves.proofs.plain.read_plain.Tie as tie
+use Rattle.leaves.proofs.plain.plain_value.Reads as plain-value-reads
 
 returns : tie.Need-returns
 returns c =
-    λ readers.
     let a = c .before .before .before .args in
-    refusing (walk-deep (a .file .now) readers (a .shared) (a .room) (a .slot) (a .at) (a .used) (a .parent) (a .depth) _ (c .if1 .taken))
+    rw (value-deep (a .file .now) (a .room) (a .shared) (a .slot) (a .at) (a .used) (a .depth) (c .if1 .taken)) (refl, sym (kept _ (a .slot) _ 18 (a .at)))
 
 returns-2 : tie.Need-returns-2
 returns-2 c =
-    λ readers.
     let a = c .before .before .before .before .args in
-    refusing (walk-full (a .file .now) readers (a .shared) (a .room) (a .slot) (a .at) (a .used) (a .parent) (a .depth) _ (c .before .if1 .left) (c .if2 .taken))
+    rw (value-full (a .file .now) (a .room) (a .shared) (a .slot) (a .at) (a .used) (a .depth) (c .before .if1 .left) (c .if2 .taken)) (refl, sym (kept _ (a .slot) _ 19 (a .at)))
 
 plain-value-requires : tie.Need-plain-value-requires
 plain-value-requires c κs = search needs
@@ -24,11 +23,9 @@ same-length c = search needs
 
 returns-3 : tie.Need-returns-3
 returns-3 c =
-    λ readers.
     let at = c .before .before .before .before in
-    let start = at .before .before .before .before in
-    let a = start .args in
-    rw (← plain-walk (a .file .now) readers (a .shared) (a .room) (a .slot) (a .at) (a .used) (a .parent) (a .depth) (at .before .if1 .left) (at .if2 .left) (start .pre .1)) (c .before .before .plain-value .ensures)
+    let a = at .before .before .before .before .args in
+    rw (value-there (a .file .now) (a .room) (a .shared) (a .slot) (a .at) (a .used) (a .depth) (at .before .if1 .left) (at .if2 .left)) (c .before .before .plain-value .ensures)
 
 pub read-plain-spec : {M : Type 1} → statement M
 read-plain-spec = tie.close (tie.spec returns returns-2 plain-value-requires same-length returns-3)

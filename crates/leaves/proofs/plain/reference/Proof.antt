@@ -1,10 +1,8 @@
 use mathlib.Core.Path.{_≡_, refl, sym, ap, _∙_}
-use Prim.Native.Nat.{_≤_, _<_, _^_}
+use Prim.Native.Nat.{_<_, _^_}
 use native.Mathlib.Omega.{arith}
-use lib.ListN.{length}
 use borrow.Author.Tests.{ltb-true, ltb-false}
 use Rattle.answers.specs.Told.{told}
-use Rattle.layout.specs.Rows.{resource}
 use Rattle.reading.specs.Answer.{read}
 use Rattle.reading.specs.Reads.{small-by-index}
 use Rattle.reading.specs.Seven.{sevenAt, seven-next}
@@ -12,20 +10,19 @@ use Rattle.leaves.specs.Plain.{reference-refused, reference-beyond, refe
 use borrow.Author.Needs.{needs}
 use Rattle.leaves.proofs.plain.reference.Statement.{statement}
 use Rattle.leaves.proofs.plain.reference.Tie as tie
+use Rattle.leaves.proofs.plain.beyond.Reads as beyond-reads
+use Rattle.numbers.proofs.seven.seven_at.Reads as seven-at-reads
+use Rattle.table.proofs.leaf.Reads as leaf-reads
 
 -- the resource id was read
 number : (c : tie.After-known-told2)
     → sevenAt (c .before .before .before .before .before .before .args .file .now) (c .before .before .before .before .before .before .args .h .first) ≡ read (c .before .value .given .0 .0) (c .before .value .given .0 .1 .0)
 number c = sym (c .before .before .before .seven-at .ensures) ∙ ap told (c .before .value .given .1)
 
-behind : (c : tie.After-known-told2)
-    → (c .before .before .before .before .before .before .args .h .first < c .before .value .given .0 .1 .0)
-    × (c .before .value .given .0 .1 .0 ≤ length (c .before .before .before .before .before .before .args .file .now))
-    × (c .before .value .given .0 .0 < 2 ^ 32)
-behind c =
-    let start = c .before .before .before .before .before .before in
-    let s = start .args .file .now in
-    seven-next s (small-by-index s (λ i h. omega (arith, c .before .before .before .before .before .shared-slice-known .given i))) _ (number c)
+small-id : (c : tie.After-known-told2) → c .before .value .given .0 .0 < 2 ^ 32
+small-id c =
+    let s = c .before .before .before .before .before .before .args .file .now in
+    seven-next s (small-by-index s (λ i h. omega (arith, c .before .before .before .before .before .shared-slice-known .given i))) _ (number c) .2
 
 seven-at-requires : tie.Need-seven-at-requires
 seven-at-requires c κs = search needs
@@ -38,7 +35,7 @@ enum-known-value c = search needs
 
 cast-id : tie.Need-cast-id
 cast-id c =
-    omega (arith, behind c)
+    omega (arith, small-id c)
 
 beyond-requires : tie.Need-beyond-requires
 beyond-requires c κs = search needs
@@ -47,19 +44,15 @@ returns : tie.Need-returns
 returns c =
     let at = c .before .before in
     let a = at .before .before .before .before .before .before .args in
-    rw (← reference-beyond (a .file .now) (a .shared) (a .wanted) (a .h) (number at) (ltb-true _ _ (sym (c .before .beyond .ensures) ∙ c .if1 .taken))) (record { answers = refl; writes = refl })
+    rw (reference-beyond (a .file .now) (a .shared) (a .wanted) (a .h .first) (number at) (ltb-true _ _ (sym (c .before .beyond .ensures) ∙ c .if1 .taken))) (refl, refl)
 
 leaf-requires : tie.Need-leaf-requires
-leaf-requires c κs =
-    let at = c .before .before .before in
-    let start = at .before .before .before .before .before .before in
-    let r = start .pre in
-    (record { there = r .free; few = r .few }, omega (arith, behind at, r .short))
+leaf-requires c κs = search needs
 
 returns-2 : tie.Need-returns-2
 returns-2 c =
     let a = c .before .before .before .before .before .before .args in
-    rw (← reference-refused (a .file .now) (a .shared) (a .wanted) (a .h) (sym (c .before .before .before .seven-at .ensures) ∙ ap told (c .before .number .given .1))) (record { answers = refl; writes = refl })
+    rw (reference-refused (a .file .now) (a .shared) (a .wanted) (a .h .first) (sym (c .before .before .before .seven-at .ensures) ∙ ap told (c .before .number .given .1))) (refl, refl)
 
 same-length : tie.Need-same-length
 same-length c = search needs
@@ -68,8 +61,7 @@ returns-3 : tie.Need-returns-3
 returns-3 c =
     let at = c .before .before .before .before .before .before in
     let a = at .before .before .before .before .before .before .args in
-    rw (← reference-within (a .file .now) (a .shared) (a .wanted) (a .h) (number at) (ltb-false _ _ (sym (c .before .before .before .before .before .beyond .ensures) ∙ c .before .before .before .before .if1 .left)))
-    (c .before .before .leaf .ensures (resource (a .wanted)) refl)
+    rw (reference-within (a .file .now) (a .shared) (a .wanted) (a .h .first) (number at) (ltb-false _ _ (sym (c .before .before .before .before .before .beyond .ensures) ∙ c .before .before .before .before .if1 .left))) (c .before .before .leaf .ensures)
 
 pub reference-spec : {M : Type 1} → statement M
 reference-spec =

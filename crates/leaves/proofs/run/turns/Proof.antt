@@ -1,5 +1,4 @@
 use mathlib.Core.Path.{sym}
-use native.Mathlib.Omega.{arith}
 use lib.ListN.{length-replicate}
 use Rattle.leaves.specs.Run.{length-pairs, length-levels}
 use borrow.Author.Needs.{needs}
@@ -9,16 +8,23 @@ use Rattle.leaves.proofs.run.turns.Tie as tie
 enum-known-run : tie.Need-enum-known-run
 enum-known-run c = search needs
 
+cast-result : tie.Need-cast-result
+cast-result c = search needs
+
 enum-known-run-2 : tie.Need-enum-known-run-2
 enum-known-run-2 c = search needs
 
+cast-result-2 : tie.Need-cast-result-2
+cast-result-2 c = search needs
+
 mul-result : tie.Need-mul-result
-mul-result c =
-    let l = rw (c .before .run2 .given .1) at (c .before .before .before .pre) in
-    omega (arith, l .2)
+mul-result c = search needs
 
 enum-known-run-3 : tie.Need-enum-known-run-3
 enum-known-run-3 c = search needs
+
+cast-result-3 : tie.Need-cast-result-3
+cast-result-3 c = search needs
 
 returns : tie.Need-returns
 returns c =
@@ -37,9 +43,12 @@ turns-spec =
     tie.close
     (tie.spec
     enum-known-run
+    cast-result
     enum-known-run-2
+    cast-result-2
     mul-result
     enum-known-run-3
+    cast-result-3
     returns
     returns-2
     returns-3)

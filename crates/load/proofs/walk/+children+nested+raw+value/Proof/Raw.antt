@@ -20,15 +20,15 @@ use Rattle.leaves.specs.Run.{begin-on}
 use Rattle.readers.specs.Listed.{Listed}
 use Rattle.heads.specs.Nests.{NestIs}
 use Rattle.objects.specs.Close.{raw-refused, raw-closed}
-use Rattle.walk.specs.Laws.{opened-as, refused-as, lawful-below, begin-below, close-ready, after-row}
-use Rattle.walk.proofs.children.Reads as children
-use Rattle.walk.proofs.raw.Reads as raw
-use Rattle.walk.proofs.+children+nested+raw+value.Lts-raw as raw-lts
+use Rattle.load.specs.Walks.{opened-as, refused-as, begin-below, close-ready, after-row}
+use Rattle.load.proofs.walk.children.Reads as children
+use Rattle.load.proofs.walk.raw.Reads as raw
+use Rattle.load.proofs.walk.+children+nested+raw+value.Lts-raw as raw-lts
 use Rattle.heads.proofs.open.open.Reads as open-reads
 use Rattle.objects.proofs.close.close.Reads as close-reads
 use Rattle.types.proofs.kind_at.Reads as kind-at-reads
-use Rattle.walk.proofs.count_below.Reads as count-below-reads
-use Rattle.walk.proofs.+children+nested+raw+value.Proof.Measures.{children-below, raw-at}
+use Rattle.load.proofs.walk.count_below.Reads as count-below-reads
+use Rattle.load.proofs.walk.+children+nested+raw+value.Proof.Measures.{children-below, raw-at}
 
 pub raw-open-requires : (t : ℕ) → raw-lts.Need-open-requires (
   open-reads.Asked,
@@ -98,10 +98,7 @@ pub raw-count-below-requires : (t : ℕ) → raw-lts.Need-count-below-requires (
   close-reads.Asked,
   close-reads.Learnt,
 ) (raw-at t) raw.Post
-raw-count-below-requires t c κs =
-    let t = c .before .before .before .before .before .before .before .before .pre .1 .2 in
-    let o = opened-as (headAt (c .before .before .before .before .before .before .before .before .args .file .now) (t .type) (c .before .before .before .before .before .before .before .before .args .at)) (c .before .before .before .before .«open» .ensures (t .type) (t .is .stands) (t .is .plain)) (c .before .before .next .given .1) in
-    lawful-below (c .before .before .before .before .before .before .before .before .args .codes .now) (o .slots) (c .before .before .next .given .0 .1 .0) (o .stands)
+raw-count-below-requires t c κs = search needs
 
 pub raw-children-requires : (t : ℕ) → raw-lts.Need-children-requires (
   open-reads.Asked,
@@ -162,13 +159,7 @@ pub raw-close-requires : (t : ℕ) → raw-lts.Need-close-requires (
   close-reads.Asked,
   close-reads.Learnt,
 ) (raw-at t) raw.Post
-raw-close-requires t c κs =
-    let t = c .before .before .before .before .before .before .before .before .before .before .before .before .before .before .before .pre .1 .2 in
-    let file = c .before .before .before .before .before .before .before .before .before .before .before .before .before .before .before .args .file .now in
-    let small = small-by-index file (λ i h. omega (arith, c .before .before .before .before .before .before .before .before .before .before .before .before .before .before .shared-slice-known .given i)) in
-    let o = opened-as (headAt file (t .type) (c .before .before .before .before .before .before .before .before .before .before .before .before .before .before .before .args .at)) (c .before .before .before .before .before .before .before .before .before .before .before .«open» .ensures (t .type) (t .is .stands) (t .is .plain)) (c .before .before .before .before .before .before .before .before .before .next .given .1) in
-    let k = c .before .before .before .before .before .before .before .before .before .before .before .before .before .before .before .pre .1 .1 in
-    close-ready (t .type) (k .readers) (c .before .before .before .before .before .before .before .before .before .before .before .before .before .before .before .args .shared) (c .before .before .before .before .before .before .before .before .before .before .before .before .before .before .before .args .depth) (o .slots) _ _ small (c .before .before .before .before .before .before .before .before .before .before .before .before .before .before .before .pre .1 .0) (o .is) (c .before .before .before .before .before .before .count-below .ensures (c .before .before .before .before .before .before .before .before .before .before .before .before .before .before .before .args .codes .now) (o .slots) (o .stands)) (c .before .before .before .before .children .ensures (k .readers) (o .slots) (k .listed) (o .stands))
+raw-close-requires t c κs = search needs
 
 pub raw-returns : (t : ℕ) → raw-lts.Need-returns (
   open-reads.Asked,
@@ -217,8 +208,15 @@ pub raw-returns-2 : (t : ℕ) → raw-lts.Need-returns-2 (
 ) (raw-at t) raw.Post
 raw-returns-2 t c =
     λ readers t l i.
-    let file = c .before .before .before .before .before .before .before .before .before .before .before .before .before .before .before .before .before .before .args .file .now in
+    let start = c .before .before .before .before .before .before .before .before .before .before .before .before .before .before .before .before .before .before in
+    let a = start .args in
+    let file = a .file .now in
     let small = small-by-index file (λ j h. omega (arith, c .before .before .before .before .before .before .before .before .before .before .before .before .before .before .before .before .before .shared-slice-known .given j)) in
-    let r = c .before .before .before .before .before .before .before .before .before .before .before .before .before .before .before .before .before .before .pre .1 .0 in
-    let o = opened-as (headAt file t (c .before .before .before .before .before .before .before .before .before .before .before .before .before .before .before .before .before .before .args .at)) (c .before .before .before .before .before .before .before .before .before .before .before .before .before .before .«open» .ensures t (i .stands) (i .plain)) (c .before .before .before .before .before .before .before .before .before .before .before .before .next .given .1) in
-    raw-closed file small readers (c .before .before .before .before .before .before .before .before .before .before .before .before .before .before .before .before .before .before .args .shared) (c .before .before .before .before .before .before .before .before .before .before .before .before .before .before .before .before .before .before .args .room) (c .before .before .before .before .before .before .before .before .before .before .before .before .before .before .before .before .before .before .args .depth) t (i .stands .lawful) (c .before .before .before .before .before .before .before .before .before .before .before .before .before .before .before .before .before .before .args .h) (c .before .before .before .before .before .before .before .before .before .before .before .before .before .before .before .before .before .before .args .at) _ (r .long) (r .few) (r .free) (o .is) (o .slots) (o .plan) _ _ _ _ _ _ (c .before .before .before .before .kind-at .ensures ∙ kind-is (i .stands)) (c .before .before .before .before .before .before .before .before .before .count-below .ensures (c .before .before .before .before .before .before .before .before .before .before .before .before .before .before .before .before .before .before .args .codes .now) (o .slots) (o .stands)) (after-row file (c .before .before .before .before .before .before .before .before .before .before .before .before .before .before .before .before .before .before .args .room) (c .before .before .before .before .before .before .before .before .before .before .before .before .before .before .before .before .before .before .args .shared) (c .before .before .before .before .before .before .before .before .before .before .before .before .before .before .before .before .before .before .args .depth) _ _ readers (o .slots) (c .before .before .before .before .before .before .before .children .ensures readers (o .slots) l (o .stands))) (c .before .before .close .ensures)
+    let r = start .pre .1 .0 in
+    let o = opened-as (headAt file t (a .at)) (c .before .before .before .before .before .before .before .before .before .before .before .before .before .before .«open» .ensures t (i .stands) (i .plain)) (c .before .before .before .before .before .before .before .before .before .before .before .before .next .given .1) in
+    let n = c .before .before .before .before .before .before .before .before .before .count-below .ensures (a .codes .now) (o .slots) (o .stands) in
+    let below = c .before .before .before .before .before .before .before .children .ensures readers (o .slots) l (o .stands) in
+    let fits = close-ready t readers (a .shared) (a .depth) (o .slots) _ _ small r (o .is) n below in
+    let kind = c .before .before .before .before .kind-at .ensures ∙ kind-is (i .stands) in
+    let e = c .before .before .close .ensures in
+    rw (e .0, e .1, kind) (raw-closed file small readers (a .shared) (a .room) (a .depth) t (i .stands .lawful) (a .h) (a .at) _ (r .long) (r .few) (r .free) (o .is) (o .slots) (o .plan) _ _ _ fits n (after-row file (a .room) (a .shared) (a .depth) _ _ readers (o .slots) below))

@@ -12,22 +12,24 @@ use Rattle.reading.specs.Reads.{small-by-index}
 use Rattle.reading.specs.Heads.{headAt}
 use Rattle.reading.specs.Walk.{walk, sequence}
 use Rattle.reading.specs.Bounds.{walk-bounds}
-use Rattle.table.specs.Contract.{seen, Walked}
+use Rattle.table.specs.Contract.{seen, Free, Walked}
 use Rattle.table.specs.Written.{written-none}
 use Rattle.table.specs.Loop.{Reading, start, same, turn, stop, give-up, got, lost, refusing, reading}
 use Rattle.types.specs.Laws.{kind-is}
-use Rattle.leaves.specs.Run.{begin-on}
+use Rattle.reading.specs.Answer.{read}
+use Rattle.table.specs.Leaf.{leaf-walked}
+use Rattle.leaves.specs.Plain.{headOf, plain-walked}
 use Rattle.readers.specs.Listed.{Listed}
 use Rattle.heads.specs.Nests.{NestIs}
 use Rattle.objects.specs.Close.{raw-refused, raw-closed}
-use Rattle.walk.specs.Laws.{opened-as, refused-as, lawful-below, begin-below, close-ready, after-row}
-use Rattle.walk.proofs.raw.Reads as raw
-use Rattle.walk.proofs.value.Reads as value
-use Rattle.walk.proofs.+children+nested+raw+value.Lts-value as value-lts
+use Rattle.load.specs.Walks.{opened-as, refused-as, begin-below, close-ready, after-row}
+use Rattle.load.proofs.walk.raw.Reads as raw
+use Rattle.load.proofs.walk.value.Reads as value
+use Rattle.load.proofs.walk.+children+nested+raw+value.Lts-value as value-lts
 use Rattle.leaves.proofs.plain.read_plain.Reads as read-plain-reads
 use Rattle.objects.proofs.start.start.Reads as start-reads
 use Rattle.table.proofs.leaf.Reads as leaf-reads
-use Rattle.walk.proofs.+children+nested+raw+value.Proof.Measures.{raw-below, value-at}
+use Rattle.load.proofs.walk.+children+nested+raw+value.Proof.Measures.{raw-below, value-at}
 
 pub value-start-requires : (t : ℕ) → value-lts.Need-start-requires (
   start-reads.Asked,
@@ -75,10 +77,7 @@ pub value-read-plain-requires : (t : ℕ) → value-lts.Need-read-plain-requires
   raw-below t,
   raw.Post,
 ) (value-at t) value.Post
-value-read-plain-requires t c κs =
-    let p = c .before .before .before .before .before .before .before .before .pre .1 in
-    let s = rw (c .before .before .plain .given .1) at (c .before .before .before .before .start .ensures (p .1 .readers) (p .2 .x) (p .1 .listed) (p .2 .is) (p .0 .place)) in
-    (p .0, s .1)
+value-read-plain-requires t c κs = search needs
 
 pub value-enum-known-next : (t : ℕ) → value-lts.Need-enum-known-next (
   start-reads.Asked,
@@ -102,10 +101,7 @@ pub value-leaf-requires : (t : ℕ) → value-lts.Need-leaf-requires (
   raw-below t,
   raw.Post,
 ) (value-at t) value.Post
-value-leaf-requires t c κs =
-    let p = c .before .before .before .before .before .before .before .before .pre .1 in
-    let s = rw (c .before .before .next .given .1) at (c .before .before .before .before .start .ensures (p .1 .readers) (p .2 .x) (p .1 .listed) (p .2 .is) (p .0 .place)) in
-    (record { there = omega (arith, s .free, p .0 .long); few = omega (arith, s .free, p .0 .few) }, (s .ahead, omega (arith, s .inside, p .0 .short)))
+value-leaf-requires t c κs = search needs
 
 pub value-enum-known-place : (t : ℕ) → value-lts.Need-enum-known-place (
   start-reads.Asked,
@@ -188,8 +184,12 @@ pub value-returns-2 : (t : ℕ) → value-lts.Need-returns-2 (
 ) (value-at t) value.Post
 value-returns-2 t c =
     λ readers x l s.
-    let b = rw (c .before .before .before .before .before .plain .given .1) at (c .before .before .before .before .before .before .before .start .ensures readers x l s (c .before .before .before .before .before .before .before .before .before .before .before .pre .1 .0 .place)) in
-    rw (b .0) (c .before .before .read-plain .ensures readers)
+    let start = c .before .before .before .before .before .before .before .before .before .before .before in
+    let a = start .args in
+    let small = small-by-index (a .file .now) (λ i h. omega (arith, c .before .before .before .before .before .before .before .before .before .before .shared-slice-known .given i)) in
+    let b = rw (c .before .before .before .before .before .plain .given .1) at (c .before .before .before .before .before .before .before .start .ensures readers x l s (start .pre .1 .0 .place)) in
+    let e = c .before .before .read-plain .ensures in
+    rw (b .0, e .0, e .1) (plain-walked (a .file .now) (a .room) (a .shared) _ (a .at) (a .used) (a .words .now) small (start .pre .1 .0) (b .1) readers (a .depth) (a .parent))
 
 pub value-same-length-2 : (t : ℕ) → value-lts.Need-same-length-2 (
   start-reads.Asked,
@@ -216,8 +216,13 @@ pub value-returns-3 : (t : ℕ) → value-lts.Need-returns-3 (
 unfolding seen
 value-returns-3 t c =
     λ readers x l s.
-    let b = rw (c .before .before .before .before .before .next .given .1) at (c .before .before .before .before .before .before .before .start .ensures readers x l s (c .before .before .before .before .before .before .before .before .before .before .before .pre .1 .0 .place)) in
-    rw (b .is (c .before .before .before .before .before .before .before .before .before .before .before .args .shared) (c .before .before .before .before .before .before .before .before .before .before .before .args .parent)) (c .before .before .leaf .ensures nothing refl)
+    let start = c .before .before .before .before .before .before .before .before .before .before .before in
+    let a = start .args in
+    let p = start .pre .1 .0 in
+    let b = rw (c .before .before .before .before .before .next .given .1) at (c .before .before .before .before .before .before .before .start .ensures readers x l s (p .place)) in
+    let e = c .before .before .leaf .ensures in
+    let free : Free (a .words .now) (a .used) = record { there = omega (arith, b .free, p .long); few = omega (arith, b .free, p .few) } in
+    rw (b .is (a .shared) (a .parent), e .0, e .1) (leaf-walked {A = ℕ} (a .words .now) (headOf (a .used) (a .at) (a .parent) 0) 0 nothing (read 0 _) free (b .ahead, omega (arith, b .inside, p .short)))
 
 pub value-same-length-3 : (t : ℕ) → value-lts.Need-same-length-3 (
   start-reads.Asked,

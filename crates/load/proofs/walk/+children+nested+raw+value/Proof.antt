@@ -1,12 +1,12 @@
 use Prim.Native.Nat.{ℕ, _<_}
-use Rattle.walk.proofs.children.Reads as children
-use Rattle.walk.proofs.+children+nested+raw+value.Lts-children as children-lts
-use Rattle.walk.proofs.nested.Reads as nested
-use Rattle.walk.proofs.+children+nested+raw+value.Lts-nested as nested-lts
-use Rattle.walk.proofs.raw.Reads as raw
-use Rattle.walk.proofs.+children+nested+raw+value.Lts-raw as raw-lts
-use Rattle.walk.proofs.value.Reads as value
-use Rattle.walk.proofs.+children+nested+raw+value.Lts-value as value-lts
+use Rattle.load.proofs.walk.children.Reads as children
+use Rattle.load.proofs.walk.+children+nested+raw+value.Lts-children as children-lts
+use Rattle.load.proofs.walk.nested.Reads as nested
+use Rattle.load.proofs.walk.+children+nested+raw+value.Lts-nested as nested-lts
+use Rattle.load.proofs.walk.raw.Reads as raw
+use Rattle.load.proofs.walk.+children+nested+raw+value.Lts-raw as raw-lts
+use Rattle.load.proofs.walk.value.Reads as value
+use Rattle.load.proofs.walk.+children+nested+raw+value.Lts-value as value-lts
 use Rattle.heads.proofs.nest.child.Reads as child-reads
 use Rattle.heads.proofs.nest.count.Reads as count-reads
 use Rattle.heads.proofs.open.open.Reads as open-reads
@@ -16,14 +16,14 @@ use Rattle.objects.proofs.close.close.Reads as close-reads
 use Rattle.objects.proofs.start.start.Reads as start-reads
 use Rattle.table.proofs.leaf.Reads as leaf-reads
 use Rattle.types.proofs.kind_at.Reads as kind-at-reads
-use Rattle.walk.proofs.count_below.Reads as count-below-reads
-use Rattle.walk.proofs.+children+nested+raw+value.{statement}
-use Rattle.walk.proofs.+children+nested+raw+value.Tie.{close}
-use Rattle.walk.proofs.+children+nested+raw+value.Proof.Measures.{μ-children, μ-nested, μ-raw, μ-value, children-at, children-below, nested-at, nested-below, raw-at, raw-below, value-at, value-below}
-use Rattle.walk.proofs.+children+nested+raw+value.Proof.Children.{children-enum-told, children-enum-known-below, children-read-run-requires, children-enum-known-below-2, children-nested-requires, children-returns, children-same-length, children-returns-2, children-same-length-2, children-returns-3}
-use Rattle.walk.proofs.+children+nested+raw+value.Proof.Nested.{nested-Inv-loop, nested-μ-loop, nested-count-requires, nested-loop-holds, nested-child-requires, nested-value-requires, nested-enum-known-a, nested-enum-known-number, nested-same-length, nested-returns, nested-add-i, nested-loop-less, nested-loop-again, nested-same-length-2, nested-returns-2}
-use Rattle.walk.proofs.+children+nested+raw+value.Proof.Raw.{raw-open-requires, raw-enum-known-number, raw-enum-known-next, raw-add-first, raw-count-below-requires, raw-children-requires, raw-kind-at-requires, raw-cast-kind, raw-close-requires, raw-returns, raw-same-length, raw-returns-2}
-use Rattle.walk.proofs.+children+nested+raw+value.Proof.Value.{value-start-requires, value-enum-known-number, value-enum-known-plain, value-read-plain-requires, value-enum-known-next, value-leaf-requires, value-enum-known-place, value-sub-raw, value-raw-requires, value-returns, value-same-length, value-returns-2, value-same-length-2, value-returns-3, value-same-length-3, value-returns-4}
+use Rattle.load.proofs.walk.count_below.Reads as count-below-reads
+use Rattle.load.proofs.walk.+children+nested+raw+value.{statement}
+use Rattle.load.proofs.walk.+children+nested+raw+value.Tie.{close}
+use Rattle.load.proofs.walk.+children+nested+raw+value.Proof.Measures.{μ-children, μ-nested, μ-raw, μ-value, children-at, children-below, nested-at, nested-below, raw-at, raw-below, value-at, value-below}
+use Rattle.load.proofs.walk.+children+nested+raw+value.Proof.Children.{children-enum-told, children-enum-known-below, children-read-run-requires, children-enum-known-below-2, children-nested-requires, children-returns, children-same-length, children-returns-2, children-same-length-2, children-returns-3}
+use Rattle.load.proofs.walk.+children+nested+raw+value.Proof.Nested.{nested-Inv-loop, nested-μ-loop, nested-count-requires, nested-loop-holds, nested-child-requires, nested-value-requires, nested-enum-known-a, nested-enum-known-number, nested-same-length, nested-returns, nested-add-i, nested-loop-less, nested-loop-again, nested-same-length-2, nested-returns-2}
+use Rattle.load.proofs.walk.+children+nested+raw+value.Proof.Raw.{raw-open-requires, raw-enum-known-number, raw-enum-known-next, raw-add-first, raw-count-below-requires, raw-children-requires, raw-kind-at-requires, raw-cast-kind, raw-close-requires, raw-returns, raw-same-length, raw-returns-2}
+use Rattle.load.proofs.walk.+children+nested+raw+value.Proof.Value.{value-start-requires, value-enum-known-number, value-enum-known-plain, value-read-plain-requires, value-enum-known-next, value-leaf-requires, value-enum-known-place, value-sub-raw, value-raw-requires, value-returns, value-same-length, value-returns-2, value-same-length-2, value-returns-3, value-same-length-3, value-returns-4}
 mod Measures
 mod Children
 mod Nested

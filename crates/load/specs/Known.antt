@@ -8,11 +8,9 @@ use Rattle.layout.specs.Slot as L
 use Rattle.readers.specs.declared.Readers.{Readers}
 use Rattle.readers.specs.Listed.{Listed}
 use Rattle.table.specs.declared.Head.{Head}
-use Rattle.leaves.specs.Run.{LawfulRun}
 use Rattle.heads.specs.declared.slot.Slot.{Slot}
 use Rattle.heads.specs.declared.nest.Nest.{Nest}
 use Rattle.heads.specs.declared.nest.Below.{Below}
-use Rattle.heads.specs.declared.nest.Below.the-variants.{Nothing, Simple, Nested}
 use Rattle.heads.specs.Slots.{SlotIs}
 use Rattle.heads.specs.Nests.{Prelude, NestIs, BelowIs}
 use Rattle.objects.specs.Start.{Invoked}
@@ -38,11 +36,6 @@ pub record KnownBelow (codes : List ℕ) (below : Below) : Type 0 where
 pub record KnownNest (codes : List ℕ) (nest : Nest) : Type 0 where
   pub slots : List L.Slot
   pub is : NestIs codes nest slots
-
-abbrev pub LawfulBelow : Below → Type 0
-LawfulBelow Nothing = Unit {0}
-LawfulBelow (Simple run) = LawfulRun run
-LawfulBelow (Nested nest) = Unit {0}
 
 -- a raw value has its row, and all numbers fit
 pub record Ready (file words : List ℕ) (room : ℕ) (h : Head) (at : ℕ) : Type 0 where

@@ -16,16 +16,16 @@ use Rattle.table.specs.Contract.{seen, Walked}
 use Rattle.table.specs.Written.{written-none}
 use Rattle.table.specs.Loop.{Reading, start, same, turn, stop, give-up, got, lost, refusing, reading}
 use Rattle.types.specs.Laws.{kind-is}
-use Rattle.leaves.specs.Run.{begin-on}
+use Rattle.leaves.specs.Run.{begin-on, run-walked}
 use Rattle.readers.specs.Listed.{Listed}
 use Rattle.heads.specs.Nests.{NestIs}
 use Rattle.objects.specs.Close.{raw-refused, raw-closed}
-use Rattle.walk.specs.Laws.{opened-as, refused-as, lawful-below, begin-below, close-ready, after-row}
-use Rattle.walk.proofs.children.Reads as children
-use Rattle.walk.proofs.+children+nested+raw+value.Lts-children as children-lts
-use Rattle.walk.proofs.nested.Reads as nested
+use Rattle.load.specs.Walks.{opened-as, refused-as, begin-below, close-ready, after-row}
+use Rattle.load.proofs.walk.children.Reads as children
+use Rattle.load.proofs.walk.+children+nested+raw+value.Lts-children as children-lts
+use Rattle.load.proofs.walk.nested.Reads as nested
 use Rattle.leaves.proofs.run.read_run.Reads as read-run-reads
-use Rattle.walk.proofs.+children+nested+raw+value.Proof.Measures.{children-at, nested-below}
+use Rattle.load.proofs.walk.+children+nested+raw+value.Proof.Measures.{children-at, nested-below}
 
 pub children-enum-told : (t : ℕ) → children-lts.Need-enum-told (
   read-run-reads.Asked,
@@ -49,9 +49,7 @@ pub children-read-run-requires : (t : ℕ) → children-lts.Need-read-run-requir
   nested-below t,
   nested.Post,
 ) (children-at t) children.Post
-children-read-run-requires t c κs =
-    let w = rw (c .before .before .below .given .1) at (c .before .before .before .before .before .before .before .pre .1 .2 .is) in
-    (c .before .before .before .before .before .before .before .pre .1 .0, w .1)
+children-read-run-requires t c κs = search needs
 
 pub children-enum-known-below-2 : (t : ℕ) → children-lts.Need-enum-known-below-2 (
   read-run-reads.Asked,
@@ -97,8 +95,12 @@ pub children-returns-2 : (t : ℕ) → children-lts.Need-returns-2 (
 ) (children-at t) children.Post
 children-returns-2 t c =
     λ readers slots l w.
+    let start = c .before .before .before .before .before .before .before .before .before .before in
+    let a = start .args in
+    let small = small-by-index (a .file .now) (λ i h. omega (arith, c .before .before .before .before .before .before .before .before .before .shared-slice-known .given i)) in
     let v = rw (c .before .before .before .before .before .below .given .1) at w in
-    rw (v .0) (c .before .before .read-run .ensures readers)
+    let e = c .before .before .read-run .ensures in
+    rw (v .0, e .0, e .1) (run-walked (a .file .now) small (a .room) (a .shared) _ (v .1) readers (a .depth) (a .used) (a .words .now) (a .at) (a .used) (start .pre .1 .0))
 
 pub children-same-length-2 : (t : ℕ) → children-lts.Need-same-length-2 (
   read-run-reads.Asked,

@@ -21,13 +21,12 @@ use Rattle.table.specs.Contract.{seen, Walked}
 use Rattle.table.specs.Loop.{got}
 use Rattle.leaves.specs.Plain.{Begin}
 use Rattle.heads.specs.declared.nest.Below.{Below}
-use Rattle.heads.specs.declared.nest.Below.the-variants.{Nothing, Simple, Nested}
 use Rattle.heads.specs.declared.open.Opened.{Opened}
 use Rattle.heads.specs.declared.open.Opened.the-variants.{Head as Opened-head, Refused as Opened-refused}
 use Rattle.heads.specs.Opens.{Opens, OpenIs}
 use Rattle.heads.specs.Nests.{BelowIs}
 use Rattle.objects.specs.Close.{Closable, counted}
-use Rattle.walk.specs.Known.{LawfulBelow, Ready}
+use Rattle.load.specs.Known.{Ready}
 
 -- a head that was read
 pub record OpenedAs (codes : List ℕ) (x : Answer Opening) (next : ℕ) (below : Below) : Type 0 where
@@ -54,11 +53,6 @@ refused-as codes {n} {p} (refused m q) w e =
 refused-as codes {n} {p} (read o f) w e =
     let q : Opened-head f (w .below) ≡ Opened-refused n p = sym (w .is) ∙ e in
     absurd (let z : _≡_ {A = ℕ} 0 1 = cc in omega arith)
-
-pub lawful-below : (codes : List ℕ) (slots : List L.Slot) (below : Below) → BelowIs codes below slots → LawfulBelow below
-lawful-below codes slots Nothing w = tt
-lawful-below codes slots (Simple run) w = w .1
-lawful-below codes slots (Nested nest) w = tt
 
 -- the children begin inside the file and have rows left
 pub begin-below : {file words : List ℕ} {room : ℕ} {h : Head} {at next : ℕ} (t : Target) {o : Opening} → Small file → Ready file words room h at → headAt file t at ≡ read o next → Begin file words room next (h .row + 1)

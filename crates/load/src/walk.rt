@@ -22,11 +22,10 @@ ghost use Rattle.readers.specs.Listed.{Listed};
 ghost use Rattle.heads.specs.Slots.{SlotIs};
 ghost use Rattle.heads.specs.Nests.{Prelude, NestIs, BelowIs};
 ghost use Rattle.objects.specs.Start.{Invoked, under};
-ghost use Rattle.walk.specs.Known.{Known, KnownSlot, KnownType, KnownBelow, KnownNest, LawfulBelow, Ready};
+ghost use Rattle.load.specs.Known.{Known, KnownSlot, KnownType, KnownBelow, KnownNest, Ready};
 
 // How many values stand below.
 fn count_below(below: Below) -> usize
-    requires { ⌜ LawfulBelow below ⌝ }
     ensures { λ r. ⌜ ((codes : List ℕ) (slots : List L.Slot) → BelowIs codes below slots → r ≡ length slots) ⌝ }
 {
     match below {
@@ -174,7 +173,7 @@ fn children(
 }
 
 // Values one after the other, some of which need the reader list. Their parent is the row before the first of theirs, or none if that is row 0.
-pub fn nested(
+pub(crate) fn nested(
     file: &[u8],
     codes: &[u8],
     rd: Readers,

@@ -20,13 +20,13 @@ use Rattle.leaves.specs.Run.{begin-on}
 use Rattle.readers.specs.Listed.{Listed}
 use Rattle.heads.specs.Nests.{NestIs}
 use Rattle.objects.specs.Close.{raw-refused, raw-closed}
-use Rattle.walk.specs.Laws.{opened-as, refused-as, lawful-below, begin-below, close-ready, after-row}
-use Rattle.walk.proofs.nested.Reads as nested
-use Rattle.walk.proofs.+children+nested+raw+value.Lts-nested as nested-lts
-use Rattle.walk.proofs.value.Reads as value
+use Rattle.load.specs.Walks.{opened-as, refused-as, begin-below, close-ready, after-row}
+use Rattle.load.proofs.walk.nested.Reads as nested
+use Rattle.load.proofs.walk.+children+nested+raw+value.Lts-nested as nested-lts
+use Rattle.load.proofs.walk.value.Reads as value
 use Rattle.heads.proofs.nest.child.Reads as child-reads
 use Rattle.heads.proofs.nest.count.Reads as count-reads
-use Rattle.walk.proofs.+children+nested+raw+value.Proof.Measures.{nested-at, value-below}
+use Rattle.load.proofs.walk.+children+nested+raw+value.Proof.Measures.{nested-at, value-below}
 
 abbrev pub nested-Inv-loop : nested-lts.InvT-loop
 nested-Inv-loop file codes rd words₀ room shared nest at used depth n next₀ row₀ i₀ words next row i = (readers : List Target) (slots : List L.Slot) → Listed codes rd readers → NestIs codes nest slots → (n ≡ length slots) × Reading file room (λ y b v. walk file readers shared room depth y b v used) slots words₀ at used words next row i

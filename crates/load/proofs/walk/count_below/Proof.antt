@@ -1,10 +1,10 @@
 use mathlib.Core.Path.{_≡_, refl, sym, ap, _∙_}
 use lib.ListN.{length}
 use borrow.Author.Needs.{needs}
-use Rattle.walk.proofs.count_below.Statement.{statement}
-use Rattle.walk.proofs.count_below.Tie as tie
-use Rattle.walk.proofs.count_below.Reads as reads
-use Rattle.walk.proofs.count_below.Lts as lts
+use Rattle.load.proofs.walk.count_below.Statement.{statement}
+use Rattle.load.proofs.walk.count_below.Tie as tie
+use Rattle.load.proofs.walk.count_below.Reads as reads
+use Rattle.load.proofs.walk.count_below.Lts as lts
 use Rattle.heads.proofs.nest.count.Reads as count-reads
 use Rattle.leaves.proofs.run.turns.Reads as turns-reads
 
@@ -15,8 +15,7 @@ enum-known-below : tie.Need-enum-known-below
 enum-known-below c = search needs
 
 turns-requires : tie.Need-turns-requires
-turns-requires c κs =
-    rw (c .before .below .given .1) at (c .before .before .before .pre)
+turns-requires c κs = search needs
 
 enum-known-below-2 : tie.Need-enum-known-below-2
 enum-known-below-2 c = search needs

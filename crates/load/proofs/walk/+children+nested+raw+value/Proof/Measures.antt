@@ -1,14 +1,14 @@
 use Prim.Native.Nat.{ℕ, _<_, _+_, _*_}
 use borrow.Fn.Kinds.{In}
 use borrow.Fn.PlainCycle.{Measures, is, falls, and}
-use Rattle.walk.proofs.children.Reads as children
-use Rattle.walk.proofs.children.Kinds as children-kinds
-use Rattle.walk.proofs.nested.Reads as nested
-use Rattle.walk.proofs.nested.Kinds as nested-kinds
-use Rattle.walk.proofs.raw.Reads as raw
-use Rattle.walk.proofs.raw.Kinds as raw-kinds
-use Rattle.walk.proofs.value.Reads as value
-use Rattle.walk.proofs.value.Kinds as value-kinds
+use Rattle.load.proofs.walk.children.Reads as children
+use Rattle.load.proofs.walk.children.Kinds as children-kinds
+use Rattle.load.proofs.walk.nested.Reads as nested
+use Rattle.load.proofs.walk.nested.Kinds as nested-kinds
+use Rattle.load.proofs.walk.raw.Reads as raw
+use Rattle.load.proofs.walk.raw.Kinds as raw-kinds
+use Rattle.load.proofs.walk.value.Reads as value
+use Rattle.load.proofs.walk.value.Kinds as value-kinds
 
 abbrev pub μ-children : Measures 3 children-kinds.ps ℕ
 μ-children κs a = 4 * (a .1 .1 .1 .1 .1 .1 .1 .1 .1 .0) + 2
