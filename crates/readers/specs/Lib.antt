@@ -3,4 +3,5 @@ pub mod Listed
 pub mod Judged
 pub mod Parts
 pub mod Turns
+pub mod Left
 pub mod Contract

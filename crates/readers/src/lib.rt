@@ -10,6 +10,7 @@ ghost use Rattle.readers.specs.Judged.{judgedName};
 ghost use Rattle.readers.specs.Parts.{upTo, versionAt, endOf, namedAt, Takes};
 ghost use Rattle.readers.specs.Contract.{countedAt, listsOf, ReadsLists};
 ghost use Rattle.readers.specs.Turns.{Ends};
+ghost use Rattle.readers.specs.Left.{arrays, namedLeft, readerLeft, readersLeft, listsLeft};
 
 // The types and names of the first `count` readers.
 pub struct Readers {
@@ -68,6 +69,7 @@ fn versioned(file: &[u8], first: usize, end: usize, at: usize) -> One
 fn named_at(file: &[u8], codes: &mut [u8], used: usize, at: usize, first: usize, n: usize) -> One
     requires { ⌜ (first ≤ length (now file)) × (n ≤ 1024) × (used + 1024 ≤ length (now codes)) ⌝ }
     ensures { λ r. ⌜ Takes (namedAt (now (file .entry)) n at first) (now (file .entry)) (now (codes .entry)) (now (codes .exit)) used r ⌝ }
+    ensures { λ r. ⌜ namedLeft (now (file .entry)) (now (codes .entry)) used at first n ≡ (r, now (codes .exit)) ⌝ }
 {
     if !numbers::little::has_bytes(file, first, n) {
         return One::Refused(1, at);
@@ -85,6 +87,7 @@ fn named_at(file: &[u8], codes: &mut [u8], used: usize, at: usize, first: usize,
 fn reader_at(file: &[u8], codes: &mut [u8], used: usize, at: usize) -> One
     requires { ⌜ used + 1024 ≤ length (now codes) ⌝ }
     ensures { λ r. ⌜ Takes (readerAt judgedName (now (file .entry)) at) (now (file .entry)) (now (codes .entry)) (now (codes .exit)) used r ⌝ }
+    ensures { λ r. ⌜ readerLeft (now (file .entry)) (now (codes .entry)) used at ≡ (r, now (codes .exit)) ⌝ }
 {
     match numbers::seven::seven_at(file, at) {
         Number::Refused(number, place) => One::Refused(number, place),
@@ -117,6 +120,7 @@ fn readers_at(
 ) -> Many
     requires { ⌜ (length (now file) ≤ 16777216) × (n ≤ 64) × (length (now codes) ≡ 7168) × (length (now targets) ≡ 64) × (length (now starts) ≡ 64) ⌝ }
     ensures { λ r. ⌜ Ends (now (file .entry)) (now (codes .entry)) (now (codes .exit)) (now (targets .exit)) (now (starts .exit)) n at r ⌝ }
+    ensures { λ r. ⌜ readersLeft (now (file .entry)) n at (now (codes .entry)) (now (targets .entry)) (now (starts .entry)) ≡ (r, arrays (now (codes .exit)) (now (targets .exit)) (now (starts .exit))) ⌝ }
 {
     let mut i = 0;
     let mut used: usize = 11;
@@ -155,6 +159,7 @@ fn counted(
 ) -> Lists
     requires { ⌜ (length (now file) ≤ 16777216) × (n ≤ 64) × (length (now codes) ≡ 7168) × (length (now targets) ≡ 64) × (length (now starts) ≡ 64) ⌝ }
     ensures { λ r. ⌜ ReadsLists (countedAt (now (file .entry)) n at) (now (file .entry)) (now (codes .entry)) (now (codes .exit)) (now (targets .exit)) (now (starts .exit)) r ⌝ }
+    ensures { λ _. ⌜ readersLeft (now (file .entry)) n at (now (codes .entry)) (now (targets .entry)) (now (starts .entry)) .1 ≡ arrays (now (codes .exit)) (now (targets .exit)) (now (starts .exit)) ⌝ }
 {
     match readers_at(file, codes, targets, starts, n, at) {
         Many::Refused(number, place) => Lists::Refused(number, place),
@@ -174,6 +179,7 @@ pub fn read_lists(
     at: usize,
 ) -> Lists
     ensures { λ r. ⌜ ReadsLists (listsOf (now (file .entry)) at) (now (file .entry)) (now (codes .entry)) (now (codes .exit)) (now (targets .exit)) (now (starts .exit)) r ⌝ }
+    ensures { λ _. ⌜ listsLeft (now (file .entry)) at (now (codes .entry)) (now (targets .entry)) (now (starts .entry)) ≡ arrays (now (codes .exit)) (now (targets .exit)) (now (starts .exit)) ⌝ }
 {
     if 16777216 < file.len() {
         return Lists::Refused(9, 0);

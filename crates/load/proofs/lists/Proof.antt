@@ -29,7 +29,7 @@ enum-known-count c = search needs
 
 slice-aggregate-objects : tie.Need-slice-aggregate-objects
 slice-aggregate-objects c =
-    let l = rw (c .before .before .count .given .1) at (c .before .before .before .before .read-lists .ensures) in
+    let l = rw (c .before .before .count .given .1) at (c .before .before .before .before .read-lists .ensures .0) in
     sym (l .codes-size)
 
 objects-requires : tie.Need-objects-requires
@@ -37,7 +37,7 @@ objects-requires c κs =
     let a = c .before .before .before .before .before .before .before .before .before .before .before .before .before .before .args in
     let file = a .file .now in
     let small = small-by-index file (λ i h. omega (arith, c .before .before .before .before .before .before .before .before .before .before .before .before .before .shared-slice-known .given i)) in
-    let l = rw (c .before .before .before .count .given .1) at (c .before .before .before .before .before .read-lists .ensures) in
+    let l = rw (c .before .before .before .count .given .1) at (c .before .before .before .before .before .read-lists .ensures .0) in
     let q = sym (short-file file (a .at) (c .before .before .before .before .before .before .before .before .before .before .before .before .before .before .pre .0)) ∙ l .answer in
     (record { long = c .before .before .before .before .before .before .before .before .before .before .before .before .before .before .pre .2; few = omega arith; rows = omega arith; place = lists-inside file small (a .at) (c .before .before .before .before .before .before .before .before .before .before .before .before .before .before .pre .1) q; short = omega (arith, c .before .before .before .before .before .before .before .before .before .before .before .before .before .before .pre .0) }, record { readers = l .readers; listed = l .listed; prelude = kept-prelude _ (l .kept ∙ c .before .before .before .before .before .before .before .before .before .before .put-prelude .ensures) }, l .shared-few)
 
@@ -46,7 +46,7 @@ returns c =
     λ platform flags.
     let a = c .before .before .before .before .before .before .before .before .before .before .before .before .args in
     let file = a .file .now in
-    let l = rw (c .before .number .given .1) at (c .before .before .before .read-lists .ensures) in
+    let l = rw (c .before .number .given .1) at (c .before .before .before .read-lists .ensures .0) in
     loads-refused _ (a .words .now) _ (lists-refused file (a .room) platform flags (a .at) (sym (short-file file (a .at) (c .before .before .before .before .before .before .before .before .before .before .before .before .pre .0)) ∙ l))
 
 same-length : tie.Need-same-length
@@ -57,7 +57,7 @@ returns-2 c =
     λ platform flags.
     let a = c .before .before .before .before .before .before .before .before .before .before .before .before .before .before .before .before .before .args in
     let file = a .file .now in
-    let l = rw (c .before .before .before .before .before .before .count .given .1) at (c .before .before .before .before .before .before .before .before .read-lists .ensures) in
+    let l = rw (c .before .before .before .before .before .before .count .given .1) at (c .before .before .before .before .before .before .before .before .read-lists .ensures .0) in
     rw (behind-lists file (a .room) platform flags (a .at) (sym (short-file file (a .at) (c .before .before .before .before .before .before .before .before .before .before .before .before .before .before .before .before .before .pre .0)) ∙ l .answer)) (c .before .before .objects .ensures platform flags (l .names) (l .readers) (l .listed))
 
 pub lists-spec : {M : Type 1} → statement M

@@ -42,7 +42,9 @@ same-length-3 : tie.Need-same-length-3
 same-length-3 c = search needs
 
 returns : tie.Need-returns
-returns c = readers-refused _ _ _ (rw (c .before .number .given .1) at (c .before .before .before .before .before .before .before .before .before .readers-at .ensures))
+returns c =
+    let e = c .before .before .before .before .before .before .before .before .before .readers-at .ensures in
+    (readers-refused _ _ _ (rw (c .before .number .given .1) at (e .0)), rw (e .1))
 
 same-length-4 : tie.Need-same-length-4
 same-length-4 c = search needs
@@ -54,7 +56,9 @@ same-length-6 : tie.Need-same-length-6
 same-length-6 c = search needs
 
 returns-2 : tie.Need-returns-2
-returns-2 c = shared-refused _ _ _ (rw (c .before .before .before .before .before .end .given .1) at (c .before .before .before .before .before .before .before .before .before .before .before .before .before .readers-at .ensures)) (sym (c .before .before .before .up-to .ensures) ∙ ap told (c .before .number2 .given .1))
+returns-2 c =
+    let e = c .before .before .before .before .before .before .before .before .before .before .before .before .before .readers-at .ensures in
+    (shared-refused _ _ _ (rw (c .before .before .before .before .before .end .given .1) at (e .0)) (sym (c .before .before .before .up-to .ensures) ∙ ap told (c .before .number2 .given .1)), rw (e .1))
 
 same-length-7 : tie.Need-same-length-7
 same-length-7 c = search needs
@@ -66,7 +70,12 @@ same-length-9 : tie.Need-same-length-9
 same-length-9 c = search needs
 
 returns-3 : tie.Need-returns-3
-returns-3 c = shared-read _ _ _ (rw (c .before .before .before .before .before .end .given .1) at (c .before .before .before .before .before .before .before .before .before .before .before .before .before .readers-at .ensures)) (c .before .before .before .before .before .before .before .before .before .before .before .before .before .before .before .before .before .before .before .before .before .pre .1) (c .before .before .before .before .before .before .before .before .before .before .before .before .codes .given ∙ c .before .before .before .before .before .before .before .before .before .before .before .before .before .before .before .before .before .before .before .before .before .pre .2) (c .before .before .before .before .before .before .before .before .before .before .targets .given ∙ c .before .before .before .before .before .before .before .before .before .before .before .before .before .before .before .before .before .before .before .before .before .pre .3) (c .before .before .before .before .before .before .before .before .starts .given ∙ c .before .before .before .before .before .before .before .before .before .before .before .before .before .before .before .before .before .before .before .before .before .pre .4) (sym (c .before .before .before .up-to .ensures) ∙ ap told (c .before .shared .given .1))
+returns-3 c =
+    let p = c .before .before .before .before .before .before .before .before .before .before .before .before .before .before .before .before .before .before .before .before .before .pre in
+    let e = c .before .before .before .before .before .before .before .before .before .before .before .before .before .readers-at .ensures in (
+      shared-read _ _ _ (rw (c .before .before .before .before .before .end .given .1) at (e .0)) (p .1) (c .before .before .before .before .before .before .before .before .before .before .before .before .codes .given ∙ p .2) (c .before .before .before .before .before .before .before .before .before .before .targets .given ∙ p .3) (c .before .before .before .before .before .before .before .before .starts .given ∙ p .4) (sym (c .before .before .before .up-to .ensures) ∙ ap told (c .before .shared .given .1)),
+      rw (e .1),
+    )
 
 pub counted-spec : {M : Type 1} → statement M
 counted-spec =

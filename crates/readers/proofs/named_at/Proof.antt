@@ -10,6 +10,7 @@ use Rattle.types.specs.Meaning.{target-is}
 use mathlib.Core.Path.{sym, ap, _∙_}
 use native.Mathlib.Omega.{arith}
 use Rattle.readers.proofs.Parts.{named-missing, named-room, named-ten, named-eleven, named-target}
+use Rattle.readers.specs.Left.{name-missing, name-resolved}
 use borrow.Author.Needs.{needs}
 use Rattle.readers.proofs.named_at.Statement.{statement}
 use Rattle.readers.proofs.named_at.Tie as tie
@@ -36,7 +37,8 @@ has-bytes-requires c κs = search needs
 returns : tie.Need-returns
 returns c =
     let a = c .before .before .before .before .args in
-    named-missing (a .file .now) (a .n) (a .at) (a .first) (sym (c .before .has-bytes .ensures) ∙ not-true _ (c .if1 .taken))
+    let t = sym (c .before .has-bytes .ensures) ∙ not-true _ (c .if1 .taken) in
+    (named-missing (a .file .now) (a .n) (a .at) (a .first) t, name-missing (a .file .now) (a .codes .now) (a .used) (a .at) (a .first) (a .n) t)
 
 add-version : tie.Need-add-version
 add-version c = search needs
@@ -85,8 +87,10 @@ returns-3 : tie.Need-returns-3
 returns-3 c =
     let e = c .before .before .before .before .before .before .before in
     let a = e .before .before .before .before .args in
-    let pre = e .before .before .before .before .pre in
-    named-ten (a .file .now) (a .n) (a .at) (a .first) (there e) _ _ _ (a .used) (part e) (pre .1) (pre .2) (pre .0) (c .before .before .before .before .resolve .ensures) (ap resolved (c .enum-told2 .given .1))
+    let pre = e .before .before .before .before .pre in (
+      named-ten (a .file .now) (a .n) (a .at) (a .first) (there e) _ _ _ (a .used) (part e) (pre .1) (pre .2) (pre .0) (c .before .before .before .before .resolve .ensures) (ap resolved (c .enum-told2 .given .1)),
+      rw (c .enum-told2 .given .1) at (name-resolved (a .file .now) (a .codes .now) (a .used) (a .at) (a .first) (a .n) (there e) _ _ _ (part e) (c .before .before .before .before .resolve .ensures)),
+    )
 
 same-length-3 : tie.Need-same-length-3
 same-length-3 c = search needs
@@ -95,8 +99,10 @@ returns-4 : tie.Need-returns-4
 returns-4 c =
     let e = c .before .before .before .before .before .before .before in
     let a = e .before .before .before .before .args in
-    let pre = e .before .before .before .before .pre in
-    named-eleven (a .file .now) (a .n) (a .at) (a .first) (there e) _ _ _ (a .used) (part e) (pre .1) (pre .2) (pre .0) (c .before .before .before .before .resolve .ensures) (ap resolved (c .enum-told3 .given .1))
+    let pre = e .before .before .before .before .pre in (
+      named-eleven (a .file .now) (a .n) (a .at) (a .first) (there e) _ _ _ (a .used) (part e) (pre .1) (pre .2) (pre .0) (c .before .before .before .before .resolve .ensures) (ap resolved (c .enum-told3 .given .1)),
+      rw (c .enum-told3 .given .1) at (name-resolved (a .file .now) (a .codes .now) (a .used) (a .at) (a .first) (a .n) (there e) _ _ _ (part e) (c .before .before .before .before .resolve .ensures)),
+    )
 
 same-length-4 : tie.Need-same-length-4
 same-length-4 c = search needs
@@ -106,7 +112,10 @@ returns-5 c =
     let e = c .before .before .before .before .before .before .before .before .before in
     let a = e .before .before .before .before .args in
     let pre = e .before .before .before .before .pre in
-    rw (c .versioned .ensures) (named-target (a .file .now) (a .n) (a .at) (a .first) (there e) _ _ _ (a .used) (part e) (pre .1) (pre .2) (pre .0) _ (target-is _ _ _ _ _ (c .before .before .before .before .before .before .resolve .ensures) (ap resolved (c .before .before .end .given .1))))
+    rw (c .versioned .ensures) (
+      named-target (a .file .now) (a .n) (a .at) (a .first) (there e) _ _ _ (a .used) (part e) (pre .1) (pre .2) (pre .0) _ (target-is _ _ _ _ _ (c .before .before .before .before .before .before .resolve .ensures) (ap resolved (c .before .before .end .given .1))),
+      rw (c .before .before .end .given .1) at (name-resolved (a .file .now) (a .codes .now) (a .used) (a .at) (a .first) (a .n) (there e) _ _ _ (part e) (c .before .before .before .before .before .before .resolve .ensures)),
+    )
 
 pub named-at-spec : {M : Type 1} → statement M
 named-at-spec =

@@ -5,6 +5,7 @@ use Rattle.answers.specs.Told.{told}
 use Rattle.reading.specs.Reads.{small-by-index}
 use Rattle.reading.specs.Seven.{seven-next}
 use Rattle.readers.proofs.Parts.{reader-refused, reader-empty, reader-long, reader-named}
+use Rattle.readers.specs.Left.{count-refused, count-empty, count-long, count-fits}
 use borrow.Author.Needs.{needs}
 use Rattle.readers.proofs.reader_at.Statement.{statement}
 use Rattle.readers.proofs.reader_at.Tie as tie
@@ -21,12 +22,14 @@ enum-known-n c = search needs
 returns : tie.Need-returns
 returns c =
     let a = c .before .before .before .before .before .before .before .args in
-    reader-empty (a .file .now) (a .at) (sym (c .before .before .before .before .seven-at .ensures) ∙ ap told (c .before .before .n .given .1)) (c .if1 .taken)
+    let n = sym (c .before .before .before .before .seven-at .ensures) ∙ ap told (c .before .before .n .given .1) in
+    (reader-empty (a .file .now) (a .at) n (c .if1 .taken), count-empty (a .file .now) (a .codes .now) (a .used) (a .at) n (c .if1 .taken))
 
 returns-2 : tie.Need-returns-2
 returns-2 c =
     let a = c .before .before .before .before .before .before .before .before .args in
-    reader-long (a .file .now) (a .at) (sym (c .before .before .before .before .before .seven-at .ensures) ∙ ap told (c .before .before .before .n .given .1)) (c .if2 .taken)
+    let n = sym (c .before .before .before .before .before .seven-at .ensures) ∙ ap told (c .before .before .before .n .given .1) in
+    (reader-long (a .file .now) (a .at) n (c .if2 .taken), count-long (a .file .now) (a .codes .now) (a .used) (a .at) n (c .before .if1 .left) (c .if2 .taken))
 
 named-at-requires : tie.Need-named-at-requires
 named-at-requires c κs =
@@ -38,7 +41,8 @@ named-at-requires c κs =
 returns-3 : tie.Need-returns-3
 returns-3 c =
     let a = c .before .before .before .before .before .before .args in
-    reader-refused (a .file .now) (a .at) (sym (c .before .before .before .seven-at .ensures) ∙ ap told (c .before .number .given .1))
+    let n = sym (c .before .before .before .seven-at .ensures) ∙ ap told (c .before .number .given .1) in
+    (reader-refused (a .file .now) (a .at) n, count-refused (a .file .now) (a .codes .now) (a .used) (a .at) n)
 
 same-length : tie.Need-same-length
 same-length c = search needs
@@ -46,7 +50,11 @@ same-length c = search needs
 returns-4 : tie.Need-returns-4
 returns-4 c =
     let a = c .before .before .before .before .before .before .before .before .before .before .before .before .args in
-    rw (reader-named (a .file .now) (a .at) (sym (c .before .before .before .before .before .before .before .before .before .seven-at .ensures) ∙ ap told (c .before .before .before .before .before .before .before .n .given .1)) (c .before .before .before .before .before .if1 .left) (c .before .before .before .before .if2 .left)) (c .before .before .named-at .ensures)
+    let n = sym (c .before .before .before .before .before .before .before .before .before .seven-at .ensures) ∙ ap told (c .before .before .before .before .before .before .before .n .given .1) in
+    let z = c .before .before .before .before .before .if1 .left in
+    let l = c .before .before .before .before .if2 .left in
+    let e = c .before .before .named-at .ensures in
+    (rw (reader-named (a .file .now) (a .at) n z l) (e .0), count-fits (a .file .now) (a .codes .now) (a .used) (a .at) n z l ∙ e .1)
 
 pub reader-at-spec : {M : Type 1} → statement M
 reader-at-spec =

@@ -1,10 +1,11 @@
 -- `readers::readers_at` meets its contract: before each turn the first `i` readers are in the arrays. Assumes nothing.
-use mathlib.Core.Path.{_≡_, refl}
+use mathlib.Core.Path.{_≡_, refl, sym, ap, _∙_}
 use Prim.Native.Nat.{_-_}
 use native.Mathlib.Omega.{arith}
 use lib.ListN.{length}
 use Rattle.readers.specs.Turns.{Reached}
 use Rattle.readers.proofs.Turns.{start, refuse, stop, turn}
+use Rattle.readers.specs.Left.{readersFrom, readersLeft, readers-start, reader-turn, readers-end}
 use borrow.Author.Needs.{needs}
 use Rattle.readers.proofs.readers_at.Statement.{statement}
 use Rattle.readers.proofs.readers_at.Tie as tie
@@ -12,12 +13,13 @@ use Rattle.readers.proofs.readers_at.Tie as tie
 abbrev Inv-loop : tie.InvT-loop
 Inv-loop file codes₀ targets₀ starts₀ n at i₀ used₀ next₀ codes targets starts i used next =
     (length codes ≡ length codes₀) × (length targets ≡ length targets₀) × (length starts ≡ length starts₀) × Reached file codes₀ codes targets starts n at i used next
+    × (readersFrom file (n - i) i used next codes targets starts ≡ readersLeft file n at codes₀ targets₀ starts₀)
 
 abbrev μ-loop : tie.MeasureT-loop
 μ-loop file codes₀ targets₀ starts₀ n at i₀ used₀ next₀ codes targets starts i used next = n - i
 
 loop-holds : tie.Need-loop-holds Inv-loop μ-loop
-loop-holds c = (refl, refl, refl, start _ _ _ _ _ _)
+loop-holds c = (refl, refl, refl, start _ _ _ _ _ _, readers-start _ _ _ _ _ _)
 
 reader-at-requires : tie.Need-reader-at-requires Inv-loop μ-loop
 reader-at-requires c κs = search needs
@@ -35,7 +37,11 @@ same-length-3 : tie.Need-same-length-3 Inv-loop μ-loop
 same-length-3 c = search needs
 
 returns : tie.Need-returns Inv-loop μ-loop
-returns c = refuse (c .before .before .before .before .before .before .before .before .loop .inv .3) (c .before .before .before .before .before .before .before .loop-test .taken) (rw (c .before .number .given .1) at (c .before .before .before .before .before .reader-at .ensures))
+returns c =
+    let loop = c .before .before .before .before .before .before .before .before .loop in
+    let e = c .before .before .before .before .before .reader-at .ensures in
+    let one = sym (c .before .number .given .1) ∙ ap (λ o. o .0) (sym (e .1)) in
+    (refuse (loop .inv .3) (c .before .before .before .before .before .before .before .loop-test .taken) (rw (c .before .number .given .1) at (e .0)), sym (loop .inv .4) ∙ reader-turn _ _ _ _ _ _ _ _ _ _ (c .before .before .before .before .before .before .before .loop-test .taken) one (ap (λ o. o .1) (sym (e .1))))
 
 enum-known-first : tie.Need-enum-known-first Inv-loop μ-loop
 enum-known-first c = search needs
@@ -51,7 +57,7 @@ slice-write-targets c = search needs
 
 cast-starts : tie.Need-cast-starts Inv-loop μ-loop
 cast-starts c =
-    let t = rw (c .before .first .given .1) at (c .before .before .before .before .before .reader-at .ensures) in
+    let t = rw (c .before .first .given .1) at (c .before .before .before .before .before .reader-at .ensures .0) in
     omega (arith, t .inside, c .before .before .before .before .before .before .before .before .before .before .before .before .before .pre .0)
 
 mul-starts : tie.Need-mul-starts Inv-loop μ-loop
@@ -71,7 +77,9 @@ loop-again c =
     let h = c .before .before .before .before .before .before .before .loop-test .taken in
     let v = c .before .before .before .before .before .before .before .before .loop .inv in
     let p = c .before .before .before .before .before .before .before .before .before .before .before .before .before .pre in
-    (search needs, search needs, search needs, turn (v .3) (rw (c .before .first .given .1) at (c .before .before .before .before .before .reader-at .ensures)) h (omega (arith, v .1, p .1, p .3)) (omega (arith, v .2, p .1, p .4)))
+    let e = c .before .before .before .before .before .reader-at .ensures in
+    let one = sym (c .before .first .given .1) ∙ ap (λ o. o .0) (sym (e .1)) in
+    (search needs, search needs, search needs, turn (v .3) (rw (c .before .first .given .1) at (e .0)) h (omega (arith, v .1, p .1, p .3)) (omega (arith, v .2, p .1, p .4)), sym (reader-turn _ _ _ _ _ _ _ _ _ _ h one (ap (λ o. o .1) (sym (e .1)))) ∙ v .4)
 
 same-length-4 : tie.Need-same-length-4 Inv-loop μ-loop
 same-length-4 c = search needs
@@ -83,7 +91,7 @@ same-length-6 : tie.Need-same-length-6 Inv-loop μ-loop
 same-length-6 c = search needs
 
 returns-2 : tie.Need-returns-2 Inv-loop μ-loop
-returns-2 c = stop (c .before .loop .inv .3) (c .loop-test .left)
+returns-2 c = (stop (c .before .loop .inv .3) (c .loop-test .left), sym (c .before .loop .inv .4) ∙ readers-end _ _ _ _ _ _ _ _ (c .loop-test .left))
 
 pub readers-at-spec : {M : Type 1} → statement M
 readers-at-spec =

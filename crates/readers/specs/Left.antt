@@ -1,0 +1,143 @@
+-- What the lent arrays hold when reading the reader list ends, for every input: what is not written stays as it was. Assumes nothing.
+use mathlib.Core.Path.{_≡_, refl, sym, ap, _∙_}
+use mathlib.Core.Bool.{Bool, true, false, cond}
+use mathlib.Core.List.{List}
+use Prim.Native.Nat.{ℕ, zero, suc, _+_, _-_, _≤_, _<_}
+use native.Mathlib.Omega.{arith}
+use lib.Dec.{leb, eqb}
+use lib.ListN.{length, take, drop, set}
+use borrow.Author.Tests.{eq-eqb, ne-eqb, le-leb, lt-leb}
+use Rattle.names.specs.Parse.{nameOf}
+use Rattle.names.specs.Contract as N
+use Rattle.names.specs.Contract.{coded, no-room, roomy}
+use Rattle.types.specs.declared.Resolved.{Resolved}
+use Rattle.types.specs.Contract.{told, resolution, content, Resolves}
+use Rattle.reading.specs.Answer.{Answer, refused, read}
+use Rattle.reading.specs.Seven.{sevenAt}
+use Rattle.readers.specs.declared.One.{One}
+use Rattle.readers.specs.declared.One.the-variants.{Refused, Read}
+use Rattle.readers.specs.declared.Many.{Many}
+use Rattle.readers.specs.declared.Many.the-variants.{Refused as Many-refused, Ended}
+use Rattle.readers.specs.Parts.{versionAt, endOf, upTo}
+
+-- a reader's answer, and the codes
+abbrev pub Step : Type 0
+Step = One × List ℕ
+
+-- the answer of a reader, by what its name of n bytes comes to
+abbrev pub afterName : (file : List ℕ) (at first n : ℕ) → N.Answer → One
+afterName file at first n no-room = Refused 1 at
+afterName file at first n (N.refused k) = Refused k first
+afterName file at first n (coded end) = endOf first end (versionAt file (first + n))
+
+-- a reader whose name has n bytes from `first` on
+unfoldable pub namedLeft : (file codes : List ℕ) (used at first n : ℕ) → Step
+namedLeft file codes used at first n =
+    cond (leb n (length (drop first file))) (
+      afterName file at first n (resolution (roomy (take n (drop first file)) codes used) used (nameOf (take n (drop first file)))),
+      content (roomy (take n (drop first file)) codes used) codes used (nameOf (take n (drop first file))),
+    )
+    (Refused 1 at, codes)
+
+-- a reader, by the count of its name's bytes
+abbrev pub countedLeft : (file codes : List ℕ) (used at : ℕ) → Answer ℕ → Step
+countedLeft file codes used at (refused n p) = (Refused n p, codes)
+countedLeft file codes used at (read n first) = cond (eqb n 0) (Refused 9 at, codes) (cond (leb n 1024) (namedLeft file codes used at first n) (Refused 9 at, codes))
+
+unfoldable pub readerLeft : (file codes : List ℕ) (used at : ℕ) → Step
+readerLeft file codes used at = countedLeft file codes used at (sevenAt file at)
+
+-- the three lent arrays
+pub record Arrays : Type 0 where
+  pub codes : List ℕ
+  pub targets : List ℕ
+  pub starts : List ℕ
+
+abbrev pub arrays : (codes targets starts : List ℕ) → Arrays
+arrays c t s = record { codes = c; targets = t; starts = s }
+
+-- the answer of readers, and the arrays
+abbrev pub Steps : Type 0
+Steps = Many × Arrays
+
+-- reader i, whose codes stand at `used`
+abbrev pub onward : One → (codes targets starts : List ℕ) → (i used : ℕ) → (ℕ → ℕ → List ℕ → List ℕ → List ℕ → Steps) → Steps
+onward (Refused n p) c t s i used rest = (Many-refused n p, arrays c t s)
+onward (Read first end next) c t s i used rest = rest end next c (set t i used) (set s i first)
+
+-- so many readers from reader i on
+unfoldable pub readersFrom : (file : List ℕ) (left i used next : ℕ) (codes targets starts : List ℕ) → Steps
+readersFrom file zero i used next c t s = (Ended next, arrays c t s)
+readersFrom file (suc left) i used next c t s =
+    onward (readerLeft file c used next .0) (readerLeft file c used next .1) t s i used (λ end after c′ t′ s′. readersFrom file left (i + 1) end after c′ t′ s′)
+
+-- n readers
+abbrev pub readersLeft : (file : List ℕ) (n next : ℕ) (codes targets starts : List ℕ) → Steps
+readersLeft file n next c t s = readersFrom file n 0 11 next c t s
+
+-- the lists, by the reader count
+abbrev pub behindCount : (file : List ℕ) → Answer ℕ → (codes targets starts : List ℕ) → Arrays
+behindCount file (refused n p) c t s = arrays c t s
+behindCount file (read n next) c t s = readersLeft file n next c t s .1
+
+-- the arrays when the lists at a place were read, or refused
+unfoldable pub listsLeft : (file : List ℕ) (at : ℕ) (codes targets starts : List ℕ) → Arrays
+listsLeft file at c t s = cond (leb (length file) 16777216) (behindCount file (upTo 64 file at) c t s) (arrays c t s)
+
+-- a name was resolved
+pub name-missing : (file codes : List ℕ) (used at first n : ℕ) → leb n (length (drop first file)) ≡ false → namedLeft file codes used at first n ≡ (Refused 1 at, codes)
+unfolding namedLeft
+name-missing file codes used at first n t = rw t
+
+pub name-resolved : (file codes : List ℕ) (used at first n : ℕ) → leb n (length (drop first file)) ≡ true
+    → (s c′ : List ℕ) (r : Resolved) → s ≡ take n (drop first file) → Resolves s codes c′ used r → namedLeft file codes used at first n ≡ (afterName file at first n (told r), c′)
+unfolding namedLeft
+name-resolved file codes used at first n t s c′ r e v = rw (t, ← e, ← v .answers, ← v .writes)
+
+module _ (file codes : List ℕ) (used at : ℕ) where
+  pub count-refused : {n p : ℕ} → sevenAt file at ≡ refused n p → readerLeft file codes used at ≡ (Refused n p, codes)
+  unfolding readerLeft
+  count-refused e = rw e
+
+  module _ {n first : ℕ} (e : sevenAt file at ≡ read n first) where
+    pub count-empty : n ≡ 0 → readerLeft file codes used at ≡ (Refused 9 at, codes)
+    unfolding readerLeft
+    count-empty h = rw (e, eq-eqb n 0 h)
+
+    pub count-long : (n ≡ 0 → ⊥) → 1024 < n → readerLeft file codes used at ≡ (Refused 9 at, codes)
+    unfolding readerLeft
+    count-long z h = rw (e, ne-eqb n 0 z, lt-leb n 1024 h)
+
+    pub count-fits : (n ≡ 0 → ⊥) → n ≤ 1024 → readerLeft file codes used at ≡ namedLeft file codes used at first n
+    unfolding readerLeft
+    count-fits z h = rw (e, ne-eqb n 0 z, le-leb n 1024 h)
+
+-- none of n was read yet
+pub readers-start : (file : List ℕ) (n next : ℕ) (c t s : List ℕ) → readersFrom file (n - 0) 0 11 next c t s ≡ readersLeft file n next c t s
+readers-start file n next c t s =
+    let m : n - 0 ≡ n = omega arith in
+    rw m
+
+-- reader i of n, as it was read
+pub reader-turn : (file : List ℕ) (n i used next : ℕ) (c t s c′ : List ℕ) (o : One) → i < n → o ≡ readerLeft file c used next .0 → c′ ≡ readerLeft file c used next .1
+    → readersFrom file (n - i) i used next c t s ≡ onward o c′ t s i used (λ end after c″ t′ s′. readersFrom file (n - (i + 1)) (i + 1) end after c″ t′ s′)
+unfolding readersFrom
+reader-turn file n i used next c t s c′ o h e w =
+    let m : n - i ≡ suc (n - (i + 1)) = omega arith in
+    rw (m, ← e, ← w)
+
+pub readers-end : (file : List ℕ) (n i used next : ℕ) (c t s : List ℕ) → n ≤ i → readersFrom file (n - i) i used next c t s ≡ (Ended next, arrays c t s)
+unfolding readersFrom
+readers-end file n i used next c t s h =
+    let m : n - i ≡ 0 = omega arith in
+    rw m
+
+-- by the reader count
+module _ (file : List ℕ) (at : ℕ) (c t s : List ℕ) where
+  pub left-long : 16777216 < length file → listsLeft file at c t s ≡ arrays c t s
+  unfolding listsLeft
+  left-long h = rw (lt-leb (length file) 16777216 h)
+
+  pub left-counted : length file ≤ 16777216 → listsLeft file at c t s ≡ behindCount file (upTo 64 file at) c t s
+  unfolding listsLeft
+  left-counted h = rw (le-leb (length file) 16777216 h)
