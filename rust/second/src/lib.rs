@@ -22,7 +22,7 @@ mod walk;
 pub use image::{level_size, longest_chain};
 pub use load::{builder_answer, load, Loaded};
 pub use lookup::{part, signed, text, time};
-pub use printed::{printed_rows, refusal_line, INPUT_TOO_LONG, LONGEST_INPUT};
+pub use printed::{printed_rows, refusal_line, shortened, INPUT_TOO_LONG, LONGEST_INPUT};
 pub use refusal::Refusal;
 pub use rewrite::rewrite;
 pub use row::WORDS_PER_ROW;

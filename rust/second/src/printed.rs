@@ -1,7 +1,8 @@
-//! What the program `rows` prints.
+//! What the programs `rows` and `shorten` print.
 
 use crate::load::{load, Loaded, BUILDER_ROWS};
 use crate::refusal::Refusal;
+use crate::rewrite::rewrite;
 use crate::row::WORDS_PER_ROW;
 
 /// The longest input that the programs take.
@@ -23,6 +24,22 @@ pub fn printed_rows(input: &[u8]) -> String {
     match answer {
         Ok(loaded) => row_lines(&loaded, &words),
         Err(refusal) => refusal_line(refusal),
+    }
+}
+
+/// What `shorten` writes for an input: the rewritten file, or a refusal's line.
+pub fn shortened(input: &[u8]) -> Vec<u8> {
+    let mut words = vec![0; BUILDER_ROWS * WORDS_PER_ROW];
+    // A rewritten file is never longer than its input.
+    let mut out = vec![0; input.len()];
+    let answer = if input.len() > LONGEST_INPUT {
+        Err(INPUT_TOO_LONG)
+    } else {
+        rewrite(input, &mut words, &mut out)
+    };
+    match answer {
+        Ok(length) => out[..length].to_vec(),
+        Err(refusal) => refusal_line(refusal).into_bytes(),
     }
 }
 
