@@ -143,23 +143,12 @@ fn load_rows(file: &[u8], words: &mut [u32], room: u32) -> Loading
     }
 }
 
-// The number of whole rows in so many words, at most 65,536.
-fn room_of(words: usize) -> u32
-    ensures { λ r. ⌜ r ≡ roomOf words ⌝ }
-{
-    let rows = words / 6;
-    if 65536 < rows {
-        return 65536;
-    }
-    rows as u32
-}
-
 // Loads a file into the words: its rows, then zeros; only zeros after a refusal.
 pub fn load(file: &[u8], words: &mut [u32]) -> Loading
     ensures { λ r. ⌜ r ≡ answerOf (loadOf judgedName (now (file .entry)) (length (now (words .entry)))) ⌝ }
     ensures { λ _. ⌜ now (words .exit) ≡ tableOf (loadOf judgedName (now (file .entry)) (length (now (words .entry)))) (length (now (words .entry))) ⌝ }
 {
-    let room = room_of(words.len());
+    let room = words::room(words.len());
     match load_rows(file, words, room) {
         Loading::Refused { number, place } => {
             fill::clear(words, 0);

@@ -17,38 +17,17 @@ pub enum Span {
     Found(usize, usize),
 }
 
-// The number of whole rows in the words, at most 65,536.
-fn room(words: &[u32]) -> u32
-    ensures { λ r. ⌜ r ≡ roomOf (length (now (words .entry))) ⌝ }
-{
-    let rows = words.len() / 6;
-    if rows < 65536 {
-        return rows as u32;
-    }
-    65536
-}
-
-// The word at a place, 0 where there is none.
-fn word(words: &[u32], at: usize) -> u32
-    ensures { λ r. ⌜ r ≡ getD (now (words .entry)) at 0 ⌝ }
-{
-    if at < words.len() {
-        return words[at];
-    }
-    0
-}
-
 // The part of the file that a row names.
 pub fn part(file: &[u8], words: &[u32], row: RowNumber) -> Span
     ensures { λ r. ⌜ r ≡ partOf (now (file .entry)) (now (words .entry)) (row .0) ⌝ }
 {
     let number = row.0;
-    if room(words) <= number {
+    if words::room(words.len()) <= number {
         return Span::Refused(23, number);
     }
     let at = RowNumber(number).position();
-    let first = word(words, at + 1) as usize;
-    let length = word(words, at + 2) as usize;
+    let first = words::word(words, at + 1) as usize;
+    let length = words::word(words, at + 2) as usize;
     if length == 0 {
         return Span::Refused(23, number);
     }
@@ -120,7 +99,7 @@ pub fn text(file: &[u8], words: &[u32], row: RowNumber) -> Span
         Span::Refused(refusal, at) => Span::Refused(refusal, at),
         Span::Found(first, length) => {
             let end = first + length;
-            let kind = word(words, RowNumber(number).position());
+            let kind = words::word(words, RowNumber(number).position());
             text_in(&file[first..end], first, kind, number)
         }
     }
@@ -208,7 +187,7 @@ pub fn signed(file: &[u8], words: &[u32], row: RowNumber) -> Whole
         Span::Refused(refusal, at) => Whole::Refused(refusal, at),
         Span::Found(first, length) => {
             let end = first + length;
-            let kind = word(words, RowNumber(number).position());
+            let kind = words::word(words, RowNumber(number).position());
             signed_in(&file[first..end], kind, number)
         }
     }
@@ -228,7 +207,7 @@ pub fn time(file: &[u8], words: &[u32], row: RowNumber) -> Moment
     match signed(file, words, RowNumber(number)) {
         Whole::Refused(refusal, at) => Moment::Refused(refusal, at),
         Whole::Number(count) => {
-            let kind = word(words, RowNumber(number).position());
+            let kind = words::word(words, RowNumber(number).position());
             if kind != 20 {
                 return Moment::Refused(24, number);
             }

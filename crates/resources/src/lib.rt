@@ -20,16 +20,6 @@ pub enum Settled {
     Wrong(u32),
 }
 
-// The word at a place, 0 where there is none.
-fn word(words: &[u32], at: usize) -> u32
-    ensures { λ r. ⌜ r ≡ getD (now (words .entry)) at 0 ⌝ }
-{
-    if at < words.len() {
-        return words[at];
-    }
-    0
-}
-
 // Stores a word at a place, where there is one.
 fn put_word(words: &mut [u32], at: usize, value: u32)
     ensures { λ _. ⌜ now (words .exit) ≡ set (now (words .entry)) at value ⌝ }
@@ -62,8 +52,8 @@ fn root_kinds(words: &[u32], used: u32) -> [u32; 257]
     let mut i = 0;
     while i < used {
         let at = RowNumber(i).position();
-        let kind = word(words, at);
-        let parent = word(words, at + 4);
+        let kind = words::word(words, at);
+        let parent = words::word(words, at + 4);
         n = note(&mut kinds, n, parent, kind);
         i += 1;
     }
@@ -88,7 +78,7 @@ fn suits_id(kinds: &[u32], id: ResourceId, wanted: u32) -> bool
         Position::Null => true,
         Position::At(i) => {
             let at = i as usize + 1;
-            suits_kind(wanted, word(kinds, at))
+            suits_kind(wanted, words::word(kinds, at))
         }
     }
 }
@@ -98,16 +88,16 @@ fn judge_row(words: &mut [u32], row: RowNumber, kinds: &[u32]) -> Settled
     ensures { λ r. ⌜ ((before : List ℕ) (x : Row) (behind : List ℕ) → now (words .entry) ≡ before ++ (draft x ++ behind) → length before ≡ 6 * row .0 → Marked (x ∷ []) → Settles (drop 1 (now (kinds .entry))) (x ∷ []) (now (words .exit)) (before ++ (wordsOf x ++ behind)) r) ⌝ }
 {
     let at = row.position();
-    if word(words, at) != 36 {
+    if words::word(words, at) != 36 {
         return Settled::Fine;
     }
-    let wanted = word(words, at + 3);
-    let id = word(words, at + 5);
+    let wanted = words::word(words, at + 3);
+    let id = words::word(words, at + 5);
     if suits_id(kinds, ResourceId(id), wanted) {
         put_word(words, at + 3, 0);
         return Settled::Fine;
     }
-    Settled::Wrong(word(words, at + 1))
+    Settled::Wrong(words::word(words, at + 1))
 }
 
 // Judges the rows in order.

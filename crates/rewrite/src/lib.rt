@@ -58,16 +58,6 @@ fn measure(file: &[u8], at: usize) -> Measured
     }
 }
 
-// The word at a place, 0 where there is none.
-fn word(words: &[u32], at: usize) -> u32
-    ensures { λ r. ⌜ r ≡ getD (now (words .entry)) at 0 ⌝ }
-{
-    if at < words.len() {
-        return words[at];
-    }
-    0
-}
-
 // Whether a value of a kind and a detail starts with a type id or a resource id.
 fn numbered(kind: u32, detail: u32) -> bool
     ensures { λ r. ⌜ r ≡ startsWithId kind detail ⌝ }
@@ -98,9 +88,9 @@ fn row_padding(file: &[u8], words: &[u32], row: u32) -> usize
     ensures { λ r. ⌜ (r ≡ paddingOf (now (file .entry)) (placesIn (now (file .entry)) (now (words .entry)) row)) × (r ≤ 33554432) ⌝ }
 {
     let at = RowNumber(row).position();
-    let kind = word(words, at);
-    let first = word(words, at + 1) as usize;
-    if numbered(kind, word(words, at + 5)) {
+    let kind = words::word(words, at);
+    let first = words::word(words, at + 1) as usize;
+    if numbered(kind, words::word(words, at + 5)) {
         let id = measure(file, first);
         return id.padding + count_padding(file, kind, id.next);
     }
@@ -212,9 +202,9 @@ fn write_row(file: &[u8], words: &[u32], out: &mut [u8], c: Cursor, row: u32) ->
     ensures { λ r. ⌜ ((base places whole : List ℕ) → Pending (now (file .entry)) base (now (out .entry)) (c .from) (c .to) (placesIn (now (file .entry)) (now (words .entry)) row ++ places) whole → Pending (now (file .entry)) base (now (out .exit)) (r .from) (r .to) places whole) ⌝ }
 {
     let at = RowNumber(row).position();
-    let kind = word(words, at);
-    let first = word(words, at + 1) as usize;
-    if numbered(kind, word(words, at + 5)) {
+    let kind = words::word(words, at);
+    let first = words::word(words, at + 1) as usize;
+    if numbered(kind, words::word(words, at + 5)) {
         let id = measure(file, first);
         let next = id.next;
         let behind = write_number(file, out, c, first, id.value, next);

@@ -11,15 +11,14 @@ use Rattle.load.proofs.load.Reads as reads
 use Rattle.load.proofs.load.Lts as lts
 use Rattle.fill.proofs.clear.Reads as clear-reads
 use Rattle.load.proofs.load_rows.Reads as load-rows-reads
-use Rattle.load.proofs.room_of.Reads as room-of-reads
 
-room-of-requires : tie.Need-room-of-requires
-room-of-requires c κs = search needs
+room-requires : tie.Need-room-requires
+room-requires c κs = search needs
 
 load-rows-requires : tie.Need-load-rows-requires
 unfolding roomOf
 load-rows-requires c κs =
-    omega (arith, c .before .room-of .ensures)
+    omega (arith, c .before .room .ensures)
 
 enum-known-number : tie.Need-enum-known-number
 enum-known-number c = search needs
@@ -35,7 +34,7 @@ same-length c = search needs
 
 returns : tie.Need-returns
 returns c =
-    let l = rw (c .before .before .before .before .before .before .before .before .before .before .before .room-of .ensures, c .before .before .before .before .before .number .given .1) at (c .before .before .before .before .before .before .before .before .before .load-rows .ensures) in
+    let l = rw (c .before .before .before .before .before .before .before .before .before .before .before .room .ensures, c .before .before .before .before .before .number .given .1) at (c .before .before .before .before .before .before .before .before .before .load-rows .ensures) in
     load-refused (c .before .before .before .before .before .before .before .before .before .before .before .before .before .before .args .file .now) (c .before .before .before .before .before .before .before .before .before .before .before .before .before .before .args .words .now) _ l (search needs) (c .before .before .clear .ensures)
 
 same-length-2 : tie.Need-same-length-2
@@ -43,14 +42,14 @@ same-length-2 c = search needs
 
 returns-2 : tie.Need-returns-2
 returns-2 c =
-    let l = rw (c .before .before .before .before .before .before .before .room-of .ensures, c .before .rows .given .1) at (c .before .before .before .before .before .load-rows .ensures) in
+    let l = rw (c .before .before .before .before .before .before .before .room .ensures, c .before .rows .given .1) at (c .before .before .before .before .before .load-rows .ensures) in
     load-loaded (c .before .before .before .before .before .before .before .before .before .before .args .file .now) (c .before .before .before .before .before .before .before .before .before .before .args .words .now) l
 
 pub load-spec : {M : Type 1} → statement M
 load-spec =
     tie.close
     (tie.spec
-    room-of-requires
+    room-requires
     load-rows-requires
     enum-known-number
     clear-requires

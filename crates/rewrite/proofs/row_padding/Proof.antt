@@ -12,7 +12,6 @@ use Rattle.ids.proofs.RowNumber.position.Reads as position-reads
 use Rattle.rewrite.proofs.count_padding.Reads as count-padding-reads
 use Rattle.rewrite.proofs.measure.Reads as measure-reads
 use Rattle.rewrite.proofs.numbered.Reads as numbered-reads
-use Rattle.rewrite.proofs.word.Reads as word-reads
 
 -- src/lib.rt:100:9
 position-requires : tie.Need-position-requires

@@ -14,7 +14,6 @@ use Rattle.rewrite.proofs.write_row.Lts as lts
 use Rattle.ids.proofs.RowNumber.position.Reads as position-reads
 use Rattle.rewrite.proofs.measure.Reads as measure-reads
 use Rattle.rewrite.proofs.numbered.Reads as numbered-reads
-use Rattle.rewrite.proofs.word.Reads as word-reads
 use Rattle.rewrite.proofs.write_count.Reads as write-count-reads
 use Rattle.rewrite.proofs.write_number.Reads as write-number-reads
 

@@ -2,10 +2,10 @@ use native.Mathlib.Omega.{arith}
 use Prim.Native.Nat.{_/_, min}
 use Rattle.reading.specs.File.{roomOf}
 use borrow.Author.Needs.{needs}
-use Rattle.load.proofs.room_of.Statement.{statement}
-use Rattle.load.proofs.room_of.Tie as tie
-use Rattle.load.proofs.room_of.Reads as reads
-use Rattle.load.proofs.room_of.Lts as lts
+use Rattle.words.proofs.room.Statement.{statement}
+use Rattle.words.proofs.room.Tie as tie
+use Rattle.words.proofs.room.Reads as reads
+use Rattle.words.proofs.room.Lts as lts
 
 returns : tie.Need-returns
 unfolding roomOf
@@ -20,5 +20,5 @@ unfolding roomOf
 returns-2 c =
     omega (arith, c .if1 .left)
 
-pub room-of-spec : {M : Type 1} → statement M
-room-of-spec = tie.close (tie.spec returns cast-result returns-2)
+pub room-spec : {M : Type 1} → statement M
+room-spec = tie.close (tie.spec returns cast-result returns-2)

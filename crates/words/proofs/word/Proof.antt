@@ -1,10 +1,10 @@
 use lib.ListN.{List·getD-eq-default}
 use mathlib.Core.Path.{sym}
 use borrow.Author.Needs.{needs}
-use Rattle.rewrite.proofs.word.Statement.{statement}
-use Rattle.rewrite.proofs.word.Tie as tie
-use Rattle.rewrite.proofs.word.Reads as reads
-use Rattle.rewrite.proofs.word.Lts as lts
+use Rattle.words.proofs.word.Statement.{statement}
+use Rattle.words.proofs.word.Tie as tie
+use Rattle.words.proofs.word.Reads as reads
+use Rattle.words.proofs.word.Lts as lts
 
 -- src/lib.rt:66:16
 mul-result : tie.Need-mul-result
