@@ -29,10 +29,10 @@ pub enum Rewriting {
 }
 
 // A seven-bit number: its value, where it ends, and how many bytes it has beyond its shortest form.
-pub struct Measured {
-    pub value: u32,
-    pub next: usize,
-    pub padding: usize,
+struct Measured {
+    value: u32,
+    next: usize,
+    padding: usize,
 }
 
 // The number at a place; where there is none, 0 that ends where it starts.
@@ -112,9 +112,9 @@ fn rows_padding(file: &[u8], words: &[u32], rows: u32) -> usize
 }
 
 // The padding of the lengths of names, and where the readers end.
-pub struct Tally {
-    pub padding: usize,
-    pub at: usize,
+struct Tally {
+    padding: usize,
+    at: usize,
 }
 
 // The padding of the lengths of so many names, the first of which stands at a place.
@@ -149,9 +149,9 @@ fn padding(file: &[u8], words: &[u32], rows: u32, readers: u32) -> usize
 }
 
 // How far the file is taken, and how far the output is written.
-pub struct Cursor {
-    pub from: usize,
-    pub to: usize,
+struct Cursor {
+    from: usize,
+    to: usize,
 }
 
 // Copies the file up to the number at a place, and writes the number, of this value and end, in its shortest form.
@@ -227,10 +227,10 @@ fn write_rows(file: &[u8], words: &[u32], out: &mut [u8], c: Cursor, rows: u32) 
 }
 
 // How far the file is taken and the output is written behind the readers, and where they end.
-pub struct Behind {
-    pub from: usize,
-    pub to: usize,
-    pub at: usize,
+struct Behind {
+    from: usize,
+    to: usize,
+    at: usize,
 }
 
 // The same for the lengths of so many names, the first of which stands at a place.
