@@ -12,12 +12,12 @@ use Rattle.reading.specs.Seven.{sevenAt}
 use Rattle.shortest.specs.File.{shortBody, shortFile, length-file, length-header}
 use Rattle.shortest.specs.Places.{past}
 use Rattle.shortest.specs.Lists.{entriesPlaces, entriesEnd}
-use Rattle.shortest.specs.Rewrites.{padding, Rewrites, rewrites-padding}
+use Rattle.shortest.specs.Rewrites.{Rewrites, rewrites-padding}
 use Rattle.fill.specs.Fill.{cleared}
 use Rattle.shortest.specs.Rewrite.{Rewritten, refusal, written, fitted, outputOf, wordsOf}
 use Rattle.rewrite.specs.declared.Rewriting.{Rewriting}
 use Rattle.rewrite.specs.declared.Rewriting.the-variants.{Refused, Rewritten as Length}
-use Rattle.rewrite.specs.Table.{tablePlaces, placesOf}
+use Rattle.padding.specs.Table.{tablePlaces, placesOf, paddingIn, not-too-long}
 use Rattle.rewrite.specs.Pending.{Pending, LengthPut}
 
 -- 01: "its length is the answer"
@@ -71,10 +71,10 @@ module _ (file table : List ℕ) (readers rows : ℕ) (w : Ready file table read
       ∙ rw (c, k) (sym (append-assoc (header (w .tree .platform) (w .tree .flags) (10 + length body)) body (drop (10 + length body) base)))
 
   -- the bytes needed are those of the file less the padding
-  pub needed-is : length file ≡ length (shortFile (w .tree)) + padding file (placesOf file table readers rows)
-  needed-is = omega (arith, rewrites-padding file (w .rewrites), copy-length)
+  pub needed-is : length file ≡ length (shortFile (w .tree)) + paddingIn file table readers rows
+  needed-is = omega (arith, rewrites-padding file (w .rewrites), copy-length, not-too-long file table readers rows (w .small))
 
-  module _ (out : List ℕ) (padded : ℕ) (p : padded ≡ padding file (placesOf file table readers rows)) where
+  module _ (out : List ℕ) (padded : ℕ) (p : padded ≡ paddingIn file table readers rows) where
     long : length file - padded ≡ length (shortFile (w .tree))
     long = omega (arith, needed-is)
 

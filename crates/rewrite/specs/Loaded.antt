@@ -19,7 +19,7 @@ use Rattle.shortest.specs.Rewrite as rewritten
 use Rattle.shortest.specs.Theorems.{rewrite-is}
 use Rattle.rewrite.specs.declared.Rewriting.{Rewriting}
 use Rattle.rewrite.specs.declared.Rewriting.the-variants as rewriting
-use Rattle.rewrite.specs.Table.{placesOf, table-places}
+use Rattle.padding.specs.Table.{placesOf, table-places}
 use Rattle.rewrite.specs.Contract.{answerOf, Ready, Fits}
 
 module _ (file : List ℕ) (words : ℕ) where

@@ -1,5 +1,4 @@
 // Rewriting a file with each seven-bit number in its shortest form (01, "Seven-bit numbers").
-use answers::Number;
 use ids::RowNumber;
 use load::Loading;
 use numbers::shortest::Placed;
@@ -11,14 +10,11 @@ ghost use Rattle.layout.specs.File.{header};
 ghost use Rattle.reading.specs.Seven.{sevenAt};
 ghost use Rattle.reading.specs.File.{loadOf, tableOf};
 ghost use Rattle.readers.specs.Judged.{judgedName};
-ghost use Rattle.shortest.specs.Short.{numbered as startsWithId};
 ghost use Rattle.shortest.specs.File.{shortFile};
 ghost use Rattle.shortest.specs.Places.{numberOf, past, countPlaces};
-ghost use Rattle.shortest.specs.Rewrites.{padding as paddingOf};
 ghost use Rattle.shortest.specs.Lists.{entriesPlaces, entriesEnd};
 ghost use Rattle.shortest.specs.Rewrite.{rewriteOf, outputOf, wordsOf};
-ghost use Rattle.rewrite.specs.Table.{placesIn, tablePlaces, placesOf};
-ghost use Rattle.rewrite.specs.Measured.{measureOf};
+ghost use Rattle.padding.specs.Table.{placesIn, tablePlaces};
 ghost use Rattle.rewrite.specs.Pending.{Pending, LengthPut};
 ghost use Rattle.rewrite.specs.Contract.{answerOf, Ready, Fits};
 
@@ -26,126 +22,6 @@ ghost use Rattle.rewrite.specs.Contract.{answerOf, Ready, Fits};
 pub enum Rewriting {
     Refused { number: u32, place: usize },
     Rewritten { length: usize },
-}
-
-// A seven-bit number: its value, where it ends, and how many bytes it has beyond its shortest form.
-struct Measured {
-    value: u32,
-    next: usize,
-    padding: usize,
-}
-
-// The number at a place; where there is none, 0 that ends where it starts.
-fn measure(file: &[u8], at: usize) -> Measured
-    ensures { λ r. ⌜ r ≡ measureOf (sevenAt (now (file .entry)) at) at ⌝ }
-{
-    match numbers::seven::seven_at(file, at) {
-        Number::Refused(_, _) => Measured {
-            value: 0,
-            next: at,
-            padding: 0,
-        },
-        Number::Read(n, next) => {
-            let value = n as u32;
-            let size = numbers::shortest::shortest_len(value);
-            let padding = next - at - size;
-            Measured {
-                value,
-                next,
-                padding,
-            }
-        }
-    }
-}
-
-// Whether a value of a kind and a detail starts with a type id or a resource id.
-fn numbered(kind: u32, detail: u32) -> bool
-    ensures { λ r. ⌜ r ≡ startsWithId kind detail ⌝ }
-{
-    if detail != 0 {
-        return true;
-    }
-    if kind == 0 {
-        return true;
-    }
-    kind == 36
-}
-
-// The padding of a text's count, which stands at a place; other kinds have none.
-fn count_padding(file: &[u8], kind: u32, at: usize) -> usize
-    ensures { λ r. ⌜ (r ≡ paddingOf (now (file .entry)) (countPlaces (now (file .entry)) kind at)) × (r ≤ length (now (file .entry))) ⌝ }
-{
-    if kind == 13 {
-        let count = measure(file, at);
-        return count.padding;
-    }
-    0
-}
-
-// The padding of a row's numbers.
-fn row_padding(file: &[u8], words: &[u32], row: u32) -> usize
-    requires { ⌜ length (now file) ≤ 16777216 ⌝ }
-    ensures { λ r. ⌜ (r ≡ paddingOf (now (file .entry)) (placesIn (now (file .entry)) (now (words .entry)) row)) × (r ≤ 33554432) ⌝ }
-{
-    let at = RowNumber(row).position();
-    let kind = words::word(words, at);
-    let first = words::word(words, at + 1) as usize;
-    if numbered(kind, words::word(words, at + 5)) {
-        let id = measure(file, first);
-        return id.padding + count_padding(file, kind, id.next);
-    }
-    count_padding(file, kind, first)
-}
-
-// The padding of the numbers of the first rows.
-fn rows_padding(file: &[u8], words: &[u32], rows: u32) -> usize
-    requires { ⌜ length (now file) ≤ 16777216 ⌝ }
-    ensures { λ r. ⌜ (r ≡ paddingOf (now (file .entry)) (tablePlaces (now (file .entry)) (now (words .entry)) rows 0)) × (r ≤ 33554432 * rows) ⌝ }
-{
-    let mut total = 0;
-    let mut i = 0;
-    while i < rows {
-        total += row_padding(file, words, i);
-        i += 1;
-    }
-    total
-}
-
-// The padding of the lengths of names, and where the readers end.
-struct Tally {
-    padding: usize,
-    at: usize,
-}
-
-// The padding of the lengths of so many names, the first of which stands at a place.
-fn entries_padding(file: &[u8], readers: u32, at: usize) -> Tally
-    requires { ⌜ (length (now file) ≤ 16777216) × (at ≤ 2 ^ 33) ⌝ }
-    ensures { λ r. ⌜ (r .padding ≡ paddingOf (now (file .entry)) (entriesPlaces (now (file .entry)) readers at)) × (r .padding ≤ 16777216 * readers) × (r .at ≡ entriesEnd (now (file .entry)) readers at) ⌝ }
-{
-    let mut total = 0;
-    let mut place = at;
-    let mut left = readers;
-    while 0 < left {
-        let n = measure(file, place);
-        total += n.padding;
-        place = n.next + n.value as usize + 4;
-        left -= 1;
-    }
-    Tally {
-        padding: total,
-        at: place,
-    }
-}
-
-// The padding of all numbers of a loaded file.
-fn padding(file: &[u8], words: &[u32], rows: u32, readers: u32) -> usize
-    requires { ⌜ length (now file) ≤ 16777216 ⌝ }
-    ensures { λ r. ⌜ r ≡ paddingOf (now (file .entry)) (placesOf (now (file .entry)) (now (words .entry)) readers rows) ⌝ }
-{
-    let count = measure(file, 10);
-    let entries = entries_padding(file, readers, count.next);
-    let shared = measure(file, entries.at);
-    count.padding + entries.padding + shared.padding + rows_padding(file, words, rows)
 }
 
 // How far the file is taken, and how far the output is written.
@@ -191,7 +67,7 @@ fn write_count(file: &[u8], out: &mut [u8], c: Cursor, kind: u32, at: usize) -> 
     ensures { λ r. ⌜ ((base places whole : List ℕ) → Pending (now (file .entry)) base (now (out .entry)) (c .from) (c .to) (countPlaces (now (file .entry)) kind at ++ places) whole → Pending (now (file .entry)) base (now (out .exit)) (r .from) (r .to) places whole) ⌝ }
 {
     if kind == 13 {
-        let count = measure(file, at);
+        let count = padding::measure(file, at);
         return write_number(file, out, c, at, count.value, count.next);
     }
     c
@@ -204,8 +80,8 @@ fn write_row(file: &[u8], words: &[u32], out: &mut [u8], c: Cursor, row: u32) ->
     let at = RowNumber(row).position();
     let kind = words::word(words, at);
     let first = words::word(words, at + 1) as usize;
-    if numbered(kind, words::word(words, at + 5)) {
-        let id = measure(file, first);
+    if padding::numbered(kind, words::word(words, at + 5)) {
+        let id = padding::measure(file, first);
         let next = id.next;
         let behind = write_number(file, out, c, first, id.value, next);
         return write_count(file, out, behind, kind, next);
@@ -242,7 +118,7 @@ fn write_entries(file: &[u8], out: &mut [u8], c: Cursor, readers: u32, at: usize
     let mut place = at;
     let mut left = readers;
     while 0 < left {
-        let n = measure(file, place);
+        let n = padding::measure(file, place);
         let next = n.next;
         let value = n.value;
         done = write_number(file, out, done, place, value, next);
@@ -287,12 +163,12 @@ fn write(file: &[u8], words: &[u32], out: &mut [u8], rows: u32, readers: u32, ne
     requires { ⌜ length (now file) ≤ 16777216 ⌝ }
     ensures { λ _. ⌜ ((w : Ready (now (file .entry)) (now (words .entry)) readers rows) → needed ≡ length (shortFile (w .tree)) → needed ≤ length (now (out .entry)) → now (out .exit) ≡ shortFile (w .tree) ++ drop needed (now (out .entry))) ⌝ }
 {
-    let count = measure(file, 10);
+    let count = padding::measure(file, 10);
     let first = count.next;
     let start = write_number(file, out, Cursor { from: 0, to: 0 }, 10, count.value, first);
     let behind = write_entries(file, out, start, readers, first);
     let place = behind.at;
-    let shared = measure(file, place);
+    let shared = padding::measure(file, place);
     let read = Cursor {
         from: behind.from,
         to: behind.to,
@@ -308,7 +184,7 @@ fn fit(file: &[u8], words: &mut [u32], out: &mut [u8], rows: u32, readers: u32) 
     requires { ⌜ Ready (now file) (now words) readers rows ⌝ }
     ensures { λ r. ⌜ Fits (now (file .entry)) (now (words .entry)) (now (words .exit)) (now (out .entry)) (now (out .exit)) readers rows r ⌝ }
 {
-    let padded = padding(file, words, rows, readers);
+    let padded = padding::padding(file, words, rows, readers);
     let needed = file.len() - padded;
     if out.len() < needed {
         fill::clear(words, 0);

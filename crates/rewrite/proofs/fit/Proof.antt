@@ -7,16 +7,16 @@ use Rattle.rewrite.proofs.fit.Tie as tie
 use Rattle.rewrite.proofs.fit.Reads as reads
 use Rattle.rewrite.proofs.fit.Lts as lts
 use Rattle.fill.proofs.clear.Reads as clear-reads
-use Rattle.rewrite.proofs.padding.Reads as padding-reads
+use Rattle.padding.proofs.padding.Reads as padding-reads
 use Rattle.rewrite.proofs.write.Reads as write-reads
 
 -- src/lib.rt:328:9
 padding-requires : tie.Need-padding-requires
-padding-requires c κs = c .before .before .before .before .pre .small
+padding-requires c κs = search needs
 
 -- src/lib.rt:329:18
 sub-needed : tie.Need-sub-needed
-sub-needed c = omega (arith, needed-is (c .before .before .before .before .before .args .file .now) (c .before .before .before .before .before .args .words .now) (c .before .before .before .before .before .args .readers) (c .before .before .before .before .before .args .rows) (c .before .before .before .before .before .pre))
+sub-needed c = omega (arith, needed-is (c .before .before .before .before .before .args .file .now) (c .before .before .before .before .before .args .words .now) (c .before .before .before .before .before .args .readers) (c .before .before .before .before .before .args .rows) (c .before .before .before .before .before .pre), c .padding .ensures)
 
 -- src/lib.rt:331:9
 clear-requires : tie.Need-clear-requires

@@ -3,15 +3,15 @@ use mathlib.Core.List.{List, [], _∷_, _++_}
 use native.Mathlib.Omega.{arith}
 use Rattle.reading.specs.Reads.{small-by-index}
 use Rattle.shortest.specs.Lists.{entriesPlaces, entriesEnd}
-use Rattle.rewrite.specs.Table.{tablePlaces}
-use Rattle.rewrite.specs.Padded.{found}
+use Rattle.padding.specs.Table.{tablePlaces}
+use Rattle.padding.specs.Padded.{found}
 use Rattle.rewrite.specs.Contract.{copy, start, finish}
 use borrow.Author.Needs.{needs}
 use Rattle.rewrite.proofs.write.Statement.{statement}
 use Rattle.rewrite.proofs.write.Tie as tie
 use Rattle.rewrite.proofs.write.Reads as reads
 use Rattle.rewrite.proofs.write.Lts as lts
-use Rattle.rewrite.proofs.measure.Reads as measure-reads
+use Rattle.padding.proofs.measure.Reads as measure-reads
 use Rattle.rewrite.proofs.put_length.Reads as put-length-reads
 use Rattle.rewrite.proofs.write_entries.Reads as write-entries-reads
 use Rattle.rewrite.proofs.write_number.Reads as write-number-reads

@@ -5,15 +5,15 @@ use lib.ListN.{length}
 use native.Mathlib.Omega.{arith}
 use Rattle.reading.specs.Reads.{Small, small-by-index}
 use Rattle.shortest.specs.Lists.{entriesPlaces}
-use Rattle.rewrite.specs.Steps.{no-entry}
-use Rattle.rewrite.specs.Padded.{found, Passed, none-passed, one-passed, all-passed, end-fits, rest-places}
+use Rattle.padding.specs.Steps.{no-entry}
+use Rattle.padding.specs.Padded.{found, Passed, none-passed, one-passed, all-passed, end-fits, rest-places}
 use Rattle.rewrite.specs.Pending.{Pending}
 use borrow.Author.Needs.{needs}
 use Rattle.rewrite.proofs.write_entries.Statement.{statement}
 use Rattle.rewrite.proofs.write_entries.Tie as tie
 use Rattle.rewrite.proofs.write_entries.Reads as reads
 use Rattle.rewrite.proofs.write_entries.Lts as lts
-use Rattle.rewrite.proofs.measure.Reads as measure-reads
+use Rattle.padding.proofs.measure.Reads as measure-reads
 use Rattle.rewrite.proofs.write_number.Reads as write-number-reads
 
 abbrev Inv-loop : tie.InvT-loop

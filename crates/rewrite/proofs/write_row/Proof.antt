@@ -4,16 +4,16 @@ use native.Mathlib.Omega.{arith}
 use Rattle.reading.specs.Reads.{small-by-index}
 use Rattle.reading.specs.Seven.{sevenAt}
 use Rattle.shortest.specs.Places.{past, countPlaces}
-use Rattle.rewrite.specs.Steps.{with-id, without-id}
-use Rattle.rewrite.specs.Padded.{found}
+use Rattle.padding.specs.Steps.{with-id, without-id}
+use Rattle.padding.specs.Padded.{found}
 use borrow.Author.Needs.{needs}
 use Rattle.rewrite.proofs.write_row.Statement.{statement}
 use Rattle.rewrite.proofs.write_row.Tie as tie
 use Rattle.rewrite.proofs.write_row.Reads as reads
 use Rattle.rewrite.proofs.write_row.Lts as lts
 use Rattle.ids.proofs.RowNumber.position.Reads as position-reads
-use Rattle.rewrite.proofs.measure.Reads as measure-reads
-use Rattle.rewrite.proofs.numbered.Reads as numbered-reads
+use Rattle.padding.proofs.measure.Reads as measure-reads
+use Rattle.padding.proofs.numbered.Reads as numbered-reads
 use Rattle.rewrite.proofs.write_count.Reads as write-count-reads
 use Rattle.rewrite.proofs.write_number.Reads as write-number-reads
 

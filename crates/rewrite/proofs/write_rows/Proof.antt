@@ -3,8 +3,8 @@ use mathlib.Core.List.{List, [], _∷_, _++_}
 use Prim.Native.Nat.{ℕ, _+_, _-_, _≤_}
 use lib.ListN.{length}
 use native.Mathlib.Omega.{arith}
-use Rattle.rewrite.specs.Table.{tablePlaces}
-use Rattle.rewrite.specs.Steps.{next-row, no-row, all-rows}
+use Rattle.padding.specs.Table.{tablePlaces}
+use Rattle.padding.specs.Steps.{next-row, no-row, all-rows}
 use Rattle.rewrite.specs.Pending.{Pending}
 use borrow.Author.Needs.{needs}
 use Rattle.rewrite.proofs.write_rows.Statement.{statement}

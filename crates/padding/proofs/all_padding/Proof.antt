@@ -1,15 +1,15 @@
 use mathlib.Core.Path.{_≡_, refl, sym, _∙_}
 use native.Mathlib.Omega.{arith}
 use Rattle.reading.specs.Reads.{small-by-index}
-use Rattle.rewrite.specs.Padded.{found, file-padding}
+use Rattle.padding.specs.Padded.{found, file-padding}
 use borrow.Author.Needs.{needs}
-use Rattle.rewrite.proofs.padding.Statement.{statement}
-use Rattle.rewrite.proofs.padding.Tie as tie
-use Rattle.rewrite.proofs.padding.Reads as reads
-use Rattle.rewrite.proofs.padding.Lts as lts
-use Rattle.rewrite.proofs.entries_padding.Reads as entries-padding-reads
-use Rattle.rewrite.proofs.measure.Reads as measure-reads
-use Rattle.rewrite.proofs.rows_padding.Reads as rows-padding-reads
+use Rattle.padding.proofs.all_padding.Statement.{statement}
+use Rattle.padding.proofs.all_padding.Tie as tie
+use Rattle.padding.proofs.all_padding.Reads as reads
+use Rattle.padding.proofs.all_padding.Lts as lts
+use Rattle.padding.proofs.entries_padding.Reads as entries-padding-reads
+use Rattle.padding.proofs.measure.Reads as measure-reads
+use Rattle.padding.proofs.rows_padding.Reads as rows-padding-reads
 
 -- src/lib.rt:155:9
 measure-requires : tie.Need-measure-requires
@@ -59,8 +59,8 @@ returns c =
     let s = c .before .before .before .before .before .before .before .before .before .args .file .now in
     file-padding s (small-by-index s (λ i h. omega (arith, c .before .before .before .before .before .before .before .before .shared-slice-known .given i))) (c .before .before .before .before .before .before .before .before .before .args .words .now) (c .before .before .before .before .before .before .before .before .before .args .readers) (c .before .before .before .before .before .before .before .before .before .args .rows) (c .before .before .before .before .before .before .measure .result) (c .before .before .before .before .measure2 .result) (c .before .before .before .before .before .entries-padding .result .padding) (c .before .before .before .before .before .entries-padding .result .at) (c .rows-padding .result) (c .before .before .before .before .before .before .measure .ensures) (c .before .before .before .before .before .entries-padding .ensures .0) (c .before .before .before .before .before .entries-padding .ensures .2) (c .before .before .before .before .measure2 .ensures) (c .rows-padding .ensures .0)
 
-pub padding-spec : {M : Type 1} → statement M
-padding-spec =
+pub all-padding-spec : {M : Type 1} → statement M
+all-padding-spec =
     tie.close
     (tie.spec
     measure-requires

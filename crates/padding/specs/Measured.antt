@@ -12,7 +12,7 @@ use Rattle.reading.specs.Seven.{sevenAt, seven-reads, seven-next}
 use Rattle.numbers.specs.Shortest.{shortest, shortest-is}
 use Rattle.shortest.specs.Places.{numberOf, past}
 use Rattle.shortest.specs.Rewrites.{padOf, padding}
-use Rattle.rewrite.specs.declared.Measured.{Measured}
+use Rattle.padding.specs.declared.Measured.{Measured}
 
 unfoldable pub measureOf : Answer ℕ → (at : ℕ) → Measured
 measureOf x at = record { value = numberOf x; next = past x at; padding = padOf x at }

@@ -9,10 +9,10 @@ use Rattle.reading.specs.Seven.{sevenAt}
 use Rattle.shortest.specs.Places.{numberOf, past, countPlaces}
 use Rattle.shortest.specs.Rewrites.{padOf, padding}
 use Rattle.shortest.specs.Lists.{entriesPlaces, entriesEnd}
-use Rattle.rewrite.specs.declared.Measured.{Measured}
-use Rattle.rewrite.specs.Table.{placesIn, tablePlaces, placesOf}
-use Rattle.rewrite.specs.Measured.{measureOf, measured-small, padding-append}
-use Rattle.rewrite.specs.Steps.{count-there, no-count, next-row, all-rows, no-row, next-entry, no-entry}
+use Rattle.padding.specs.declared.Measured.{Measured}
+use Rattle.padding.specs.Table.{placesIn, tablePlaces, placesOf}
+use Rattle.padding.specs.Measured.{measureOf, measured-small, padding-append}
+use Rattle.padding.specs.Steps.{count-there, no-count, next-row, all-rows, no-row, next-entry, no-entry}
 
 module _ (file : List ℕ) (small : Small file) where
   -- what was measured at a place

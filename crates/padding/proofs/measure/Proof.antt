@@ -3,12 +3,12 @@ use native.Mathlib.Omega.{arith}
 use Rattle.answers.specs.Told.{told}
 use Rattle.reading.specs.Reads.{small-by-index}
 use Rattle.reading.specs.Seven.{sevenAt}
-use Rattle.rewrite.specs.Measured.{seven-long, measured-none, measured-read}
+use Rattle.padding.specs.Measured.{seven-long, measured-none, measured-read}
 use borrow.Author.Needs.{needs}
-use Rattle.rewrite.proofs.measure.Statement.{statement}
-use Rattle.rewrite.proofs.measure.Tie as tie
-use Rattle.rewrite.proofs.measure.Reads as reads
-use Rattle.rewrite.proofs.measure.Lts as lts
+use Rattle.padding.proofs.measure.Statement.{statement}
+use Rattle.padding.proofs.measure.Tie as tie
+use Rattle.padding.proofs.measure.Reads as reads
+use Rattle.padding.proofs.measure.Lts as lts
 use Rattle.numbers.proofs.seven.seven_at.Reads as seven-at-reads
 use Rattle.numbers.proofs.shortest.shortest_len.Reads as shortest-len-reads
 

@@ -1,12 +1,12 @@
 use native.Mathlib.Omega.{arith}
 use Rattle.reading.specs.Reads.{small-by-index}
-use Rattle.rewrite.specs.Padded.{count-padding, no-count-padding}
+use Rattle.padding.specs.Padded.{count-padding, no-count-padding}
 use borrow.Author.Needs.{needs}
-use Rattle.rewrite.proofs.count_padding.Statement.{statement}
-use Rattle.rewrite.proofs.count_padding.Tie as tie
-use Rattle.rewrite.proofs.count_padding.Reads as reads
-use Rattle.rewrite.proofs.count_padding.Lts as lts
-use Rattle.rewrite.proofs.measure.Reads as measure-reads
+use Rattle.padding.proofs.count_padding.Statement.{statement}
+use Rattle.padding.proofs.count_padding.Tie as tie
+use Rattle.padding.proofs.count_padding.Reads as reads
+use Rattle.padding.proofs.count_padding.Lts as lts
+use Rattle.padding.proofs.measure.Reads as measure-reads
 
 -- src/lib.rt:89:13
 measure-requires : tie.Need-measure-requires
