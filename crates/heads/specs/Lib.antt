@@ -1,5 +1,6 @@
 pub mod Slots
 pub mod Nests
 pub mod Opens
+pub mod Total
 pub mod Below
 pub mod Images

@@ -8,6 +8,7 @@ ghost use Prim.Native.Nat.{ℕ, _<_};
 ghost use lib.ListN.{length};
 ghost use Rattle.layout.specs.Slot as L;
 ghost use Rattle.heads.specs.Nests.{NestIs, Prelude, ChildIs, fontChild, pageChild};
+ghost use Rattle.heads.specs.Total.{countOf, childOf};
 
 // n elements that stand alike; n keys and values in turn; the fields of a font; the fields of a page.
 pub enum Nest {
@@ -27,6 +28,7 @@ pub enum Below {
 // How many values stand below.
 pub fn count(nest: Nest) -> usize
     ensures { λ r. ⌜ ((codes : List ℕ) (slots : List L.Slot) → NestIs codes nest slots → r ≡ length slots) ⌝ }
+    ensures { λ r. ⌜ r ≡ countOf nest ⌝ }
 {
     match nest {
         Nest::Each(_, n) => n as usize,
@@ -67,6 +69,7 @@ fn page_child(i: usize) -> Slot
 // How value i stands.
 pub fn child(nest: Nest, i: usize) -> Slot
     ensures { λ r. ⌜ ((codes : List ℕ) (slots : List L.Slot) → Prelude codes → NestIs codes nest slots → i < length slots → ChildIs codes slots i r) ⌝ }
+    ensures { λ r. ⌜ r ≡ childOf nest i ⌝ }
 {
     match nest {
         Nest::Each(one, _) => one,

@@ -6,19 +6,22 @@ use answers::Number;
 use leaves::run::Run;
 ghost use mathlib.Core.Path.{_≡_};
 ghost use mathlib.Core.List.{List};
-ghost use Prim.Native.Nat.{ℕ, _≤_};
+ghost use Prim.Native.Nat.{ℕ, _≤_, max};
 ghost use lib.ListN.{replicate};
 ghost use Rattle.answers.specs.Told.{told};
 ghost use Rattle.layout.specs.Slot as L;
 ghost use Rattle.layout.specs.Slot.{pairs};
 ghost use Rattle.layout.specs.Target.{Target, nullable, array, list, dictionary, texture2D, kindOf};
+ghost use Rattle.layout.specs.Image.{digits};
 ghost use Rattle.reading.specs.Answer.{Answer};
+ghost use Rattle.reading.specs.Little.{littleAt};
 ghost use Rattle.reading.specs.Heads.{Opening, headAt, flagAt};
 ghost use Rattle.table.specs.Leaf.{mute};
 ghost use Rattle.types.specs.Code.{Stands, NoEnum};
 ghost use Rattle.heads.specs.Slots.{SlotIs};
 ghost use Rattle.heads.specs.Nests.{BelowIs};
 ghost use Rattle.heads.specs.Opens.{Opens, Stopping, Leafy, rangedAt, heightAt, levelsAt, widthAt, Arguments};
+ghost use Rattle.heads.specs.Total.{aloneAs, leafAs, eachAs, pairsAs, flagAs, listAs, dictionaryAs, levelsAs, heightAs, widthAs, imageAs, openAs};
 
 pub enum Opened {
     Refused(u32, usize),
@@ -28,6 +31,7 @@ pub enum Opened {
 // A value without children, once its bytes are read.
 fn alone(read: Number) -> Opened
     ensures { λ r. ⌜ ((codes : List ℕ) (x : Answer Opening) → mute (told read) ≡ mute x → Stopping x → Opens codes x r) ⌝ }
+    ensures { λ r. ⌜ r ≡ aloneAs (told read) ⌝ }
 {
     match read {
         Number::Refused(number, place) => Opened::Refused(number, place),
@@ -38,6 +42,7 @@ fn alone(read: Number) -> Opened
 // The bytes of a value of a kind without children.
 fn leaf_at(file: &[u8], kind: u32, at: usize) -> Number
     ensures { λ r. ⌜ ((t : Target) → Leafy t → kindOf t ≡ kind → mute (told r) ≡ mute (headAt (now (file .entry)) t at)) ⌝ }
+    ensures { λ r. ⌜ told r ≡ leafAs (now (file .entry)) kind at ⌝ }
 {
     match kind {
         12 => text::char_at(file, at),
@@ -49,6 +54,7 @@ fn leaf_at(file: &[u8], kind: u32, at: usize) -> Number
 // n values that stand alike.
 fn each_of(slot: Slot, n: u32) -> Below
     ensures { λ r. ⌜ ((codes : List ℕ) (x : L.Slot) → SlotIs codes slot x → BelowIs codes r (replicate n x)) ⌝ }
+    ensures { λ r. ⌜ r ≡ eachAs slot n ⌝ }
 {
     match slot {
         Slot::Simple(value) => Below::Simple(Run::Same(value, n)),
@@ -60,19 +66,23 @@ fn each_of(slot: Slot, n: u32) -> Below
 // n keys and values in turn.
 fn pairs_of(key: Slot, value: Slot, n: u32) -> Below
     ensures { λ r. ⌜ ((codes : List ℕ) (x y : L.Slot) → SlotIs codes key x → SlotIs codes value y → BelowIs codes r (pairs n x y)) ⌝ }
+    ensures { λ r. ⌜ r ≡ pairsAs key value n ⌝ }
 {
-    let Slot::Simple(k) = key else {
-        return Below::Nested(Nest::Pairs(key, value, n));
-    };
-    let Slot::Simple(v) = value else {
-        return Below::Nested(Nest::Pairs(key, value, n));
-    };
-    Below::Simple(Run::Turns(k, v, n))
+    match key {
+        Slot::Simple(k) => match value {
+            Slot::Simple(v) => Below::Simple(Run::Turns(k, v, n)),
+            Slot::Raw(b) => Below::Nested(Nest::Pairs(Slot::Simple(k), Slot::Raw(b), n)),
+            Slot::Object(b) => Below::Nested(Nest::Pairs(Slot::Simple(k), Slot::Object(b), n)),
+        },
+        Slot::Raw(a) => Below::Nested(Nest::Pairs(Slot::Raw(a), value, n)),
+        Slot::Object(a) => Below::Nested(Nest::Pairs(Slot::Object(a), value, n)),
+    }
 }
 
 // A nullable of the type at `a`: its first byte, and perhaps the value.
 fn nullable_head(file: &[u8], codes: &[u8], a: usize, at: usize) -> Opened
     ensures { λ r. ⌜ ((t : Target) → Stands (now (codes .entry)) a t → NoEnum t → Opens (now (codes .entry)) (headAt (now (file .entry)) (nullable t) at) r) ⌝ }
+    ensures { λ r. ⌜ r ≡ flagAs (now (codes .entry)) a at (littleAt (now (file .entry)) 1 at at) ⌝ }
 {
     match numbers::little::little1(file, at) {
         Number::Refused(number, place) => Opened::Refused(number, place),
@@ -91,6 +101,7 @@ fn nullable_head(file: &[u8], codes: &[u8], a: usize, at: usize) -> Opened
 // An array or a list of the type at `a`: its count.
 fn list_head(file: &[u8], codes: &[u8], a: usize, at: usize) -> Opened
     ensures { λ r. ⌜ ((t : Target) → Stands (now (codes .entry)) a t → NoEnum t → Opens (now (codes .entry)) (headAt (now (file .entry)) (list t) at) r) ⌝ }
+    ensures { λ r. ⌜ r ≡ listAs (now (codes .entry)) a (littleAt (now (file .entry)) 4 at at) ⌝ }
 {
     match numbers::little::little4(file, at) {
         Number::Refused(number, place) => Opened::Refused(number, place),
@@ -104,6 +115,7 @@ fn list_head(file: &[u8], codes: &[u8], a: usize, at: usize) -> Opened
 // A dictionary of the types at `a` and `b`: its count.
 fn dictionary_head(file: &[u8], codes: &[u8], a: usize, b: usize, at: usize) -> Opened
     ensures { λ r. ⌜ ((t u : Target) → Stands (now (codes .entry)) a t → NoEnum t → Stands (now (codes .entry)) b u → NoEnum u → Opens (now (codes .entry)) (headAt (now (file .entry)) (dictionary t u) at) r) ⌝ }
+    ensures { λ r. ⌜ r ≡ dictionaryAs (now (codes .entry)) a b (littleAt (now (file .entry)) 4 at at) ⌝ }
 {
     match numbers::little::little4(file, at) {
         Number::Refused(number, place) => Opened::Refused(number, place),
@@ -140,6 +152,7 @@ fn ranged(file: &[u8], low: u64, high: u64, at: usize) -> Number
 fn image_levels(file: &[u8], format: u32, width: u32, height: u32, at: usize) -> Opened
     requires { ⌜ (format ≤ 18) × (1 ≤ width) × (width ≤ 4096) × (1 ≤ height) × (height ≤ 4096) ⌝ }
     ensures { λ r. ⌜ ((codes : List ℕ) → Opens codes (levelsAt (now (file .entry)) format width height at) r) ⌝ }
+    ensures { λ r. ⌜ r ≡ levelsAs format width height (rangedAt (now (file .entry)) 1 (digits 32 (max width height)) at) ⌝ }
 {
     let most = images::longest_chain(width, height) as u64;
     match ranged(file, 1, most, at) {
@@ -158,6 +171,7 @@ fn image_levels(file: &[u8], format: u32, width: u32, height: u32, at: usize) ->
 fn image_height(file: &[u8], format: u32, width: u32, at: usize) -> Opened
     requires { ⌜ (format ≤ 18) × (1 ≤ width) × (width ≤ 4096) ⌝ }
     ensures { λ r. ⌜ ((codes : List ℕ) → Opens codes (heightAt (now (file .entry)) format width at) r) ⌝ }
+    ensures { λ r. ⌜ r ≡ heightAs (now (file .entry)) format width (rangedAt (now (file .entry)) 1 4096 at) ⌝ }
 {
     match ranged(file, 1, 4096, at) {
         Number::Refused(number, place) => Opened::Refused(number, place),
@@ -169,6 +183,7 @@ fn image_height(file: &[u8], format: u32, width: u32, at: usize) -> Opened
 fn image_width(file: &[u8], format: u32, at: usize) -> Opened
     requires { ⌜ format ≤ 18 ⌝ }
     ensures { λ r. ⌜ ((codes : List ℕ) → Opens codes (widthAt (now (file .entry)) format at) r) ⌝ }
+    ensures { λ r. ⌜ r ≡ widthAs (now (file .entry)) format (rangedAt (now (file .entry)) 1 4096 at) ⌝ }
 {
     match ranged(file, 1, 4096, at) {
         Number::Refused(number, place) => Opened::Refused(number, place),
@@ -179,6 +194,7 @@ fn image_width(file: &[u8], format: u32, at: usize) -> Opened
 // An image: format, width, height and level count, each judged before the next.
 fn image_head(file: &[u8], at: usize) -> Opened
     ensures { λ r. ⌜ ((codes : List ℕ) → Opens codes (headAt (now (file .entry)) texture2D at) r) ⌝ }
+    ensures { λ r. ⌜ r ≡ imageAs (now (file .entry)) (rangedAt (now (file .entry)) 0 18 at) ⌝ }
 {
     match ranged(file, 0, 18, at) {
         Number::Refused(number, place) => Opened::Refused(number, place),
@@ -189,6 +205,7 @@ fn image_head(file: &[u8], at: usize) -> Opened
 // The head of a raw value of the type at `t`; Object and Texture have no raw values.
 pub fn open(file: &[u8], codes: &[u8], t: usize, at: usize) -> Opened
     ensures { λ r. ⌜ ((x : Target) → Stands (now (codes .entry)) t x → Arguments x → Opens (now (codes .entry)) (headAt (now (file .entry)) x at) r) ⌝ }
+    ensures { λ r. ⌜ r ≡ openAs (now (file .entry)) (now (codes .entry)) t at ⌝ }
 {
     if codes.len() <= t {
         return Opened::Refused(13, at);

@@ -5,6 +5,7 @@ ghost use Rattle.layout.specs.Target.{Target};
 ghost use Rattle.layout.specs.Slot.{slotOf, raw};
 ghost use Rattle.types.specs.Code.{Stands, NoEnum};
 ghost use Rattle.heads.specs.Slots.{SlotIs};
+ghost use Rattle.heads.specs.Total.{slotAs, rawAs};
 
 pub enum Slot {
     Simple(Plain),
@@ -15,6 +16,7 @@ pub enum Slot {
 // An element or a field of the type at a place: raw if it is a value type, else an object.
 pub fn slot_of(codes: &[u8], a: usize) -> Slot
     ensures { λ r. ⌜ ((t : Target) → Stands (now (codes .entry)) a t → NoEnum t → SlotIs (now (codes .entry)) r (slotOf t)) ⌝ }
+    ensures { λ r. ⌜ r ≡ slotAs (now (codes .entry)) a ⌝ }
 {
     let kind = types::kind_at(codes, a) as u32;
     if kind == 12 {
@@ -33,6 +35,7 @@ pub fn slot_of(codes: &[u8], a: usize) -> Slot
 // A raw value of the type at a place.
 pub fn raw_of(codes: &[u8], a: usize) -> Slot
     ensures { λ r. ⌜ ((t : Target) → Stands (now (codes .entry)) a t → NoEnum t → SlotIs (now (codes .entry)) r (raw t)) ⌝ }
+    ensures { λ r. ⌜ r ≡ rawAs (now (codes .entry)) a ⌝ }
 {
     let kind = types::kind_at(codes, a) as u32;
     if kind == 12 {

@@ -1,2 +1,3 @@
 pub mod Start
 pub mod Close
+pub mod Total

@@ -5,16 +5,20 @@ use ids::Position;
 use ids::TypeId;
 use leaves::plain::Plain;
 use readers::Readers;
+ghost use mathlib.Core.Path.{_≡_};
 ghost use mathlib.Core.List.{List};
 ghost use Prim.Native.Nat.{ℕ, suc, _≤_};
 ghost use lib.ListN.{length};
 ghost use Rattle.layout.specs.Target.{Target};
 ghost use Rattle.layout.specs.Slot as L;
 ghost use Rattle.layout.specs.Slot.{object};
+ghost use Rattle.ids.specs.Position.{positionOf};
+ghost use Rattle.reading.specs.Seven.{sevenAt};
 ghost use Rattle.types.specs.Code.{Stands, NoEnum};
 ghost use Rattle.readers.specs.Listed.{Listed};
 ghost use Rattle.heads.specs.Slots.{SlotIs};
 ghost use Rattle.objects.specs.Start.{Identifies, ObjectStarts, Starts};
+ghost use Rattle.objects.specs.Total.{readerAs, identifyAs, objectAs, startAs};
 
 // Null; the type of the reader that a type id names; or a refusal's number.
 pub enum Identified {
@@ -34,6 +38,7 @@ pub enum Started {
 // The reader at a place of the list, for an object declared as the type at `declared`: 13 before 14.
 fn reader_for(codes: &[u8], rd: Readers, declared: usize, i: u32) -> Identified
     ensures { λ r. ⌜ ((readers : List Target) (d : Target) → Listed (now (codes .entry)) rd readers → Stands (now (codes .entry)) declared d → NoEnum d → Identifies (now (codes .entry)) readers d (suc i) r) ⌝ }
+    ensures { λ r. ⌜ r ≡ readerAs (now (codes .entry)) rd declared i ⌝ }
 {
     if rd.count <= i {
         return Identified::Refused(13);
@@ -58,6 +63,7 @@ fn reader_for(codes: &[u8], rd: Readers, declared: usize, i: u32) -> Identified
 // The type that a type id names, for an object declared as the type at `declared`.
 fn identify(codes: &[u8], rd: Readers, declared: usize, id: TypeId) -> Identified
     ensures { λ r. ⌜ ((readers : List Target) (d : Target) → Listed (now (codes .entry)) rd readers → Stands (now (codes .entry)) declared d → NoEnum d → Identifies (now (codes .entry)) readers d (id .0) r) ⌝ }
+    ensures { λ r. ⌜ r ≡ identifyAs (now (codes .entry)) rd declared (positionOf (id .0)) ⌝ }
 {
     match id.position() {
         Position::Null => Identified::Null,
@@ -68,6 +74,7 @@ fn identify(codes: &[u8], rd: Readers, declared: usize, id: TypeId) -> Identifie
 // An object declared as the type at `declared`: its type id.
 fn object_start(file: &[u8], codes: &[u8], rd: Readers, declared: usize, at: usize) -> Started
     ensures { λ r. ⌜ ((readers : List Target) (d : Target) → Listed (now (codes .entry)) rd readers → Stands (now (codes .entry)) declared d → NoEnum d → ObjectStarts (now (file .entry)) (now (codes .entry)) readers (object d) at r) ⌝ }
+    ensures { λ r. ⌜ r ≡ objectAs (now (codes .entry)) rd declared at (sevenAt (now (file .entry)) at) ⌝ }
 {
     match numbers::seven::seven_at(file, at) {
         Number::Refused(number, place) => Started::Refused(number, place),
@@ -94,6 +101,7 @@ pub fn start(
     depth: u32,
 ) -> Started
     ensures { λ r. ⌜ ((readers : List Target) (x : L.Slot) → Listed (now (codes .entry)) rd readers → SlotIs (now (codes .entry)) slot x → at ≤ length (now (file .entry)) → Starts (now (file .entry)) (now (codes .entry)) readers room depth x at used r) ⌝ }
+    ensures { λ r. ⌜ r ≡ startAs (now (file .entry)) (now (codes .entry)) rd room slot at used depth ⌝ }
 {
     match slot {
         Slot::Simple(value) => Started::Plain(value),

@@ -28,28 +28,36 @@ enum-told-2 : tie.Need-enum-told-2
 enum-told-2 c = search needs
 
 returns : tie.Need-returns
-returns c =
-    λ codes slots n.
-    let w : EachIs codes _ _ slots = rw (c .before .nest .given .1) at n in
-    sym (ap length (w .are) ∙ length-replicate _ (w .slot))
+returns c = (
+  λ codes slots n.
+      let w : EachIs codes _ _ slots = rw (c .before .nest .given .1) at n in
+      sym (ap length (w .are) ∙ length-replicate _ (w .slot)),
+  rw (c .before .nest .given .1),
+)
 
 returns-2 : tie.Need-returns-2
-returns-2 c =
-    λ codes slots n. count-is codes _ _ _ slots (rw (c .before .nest2 .given .1) at n)
+returns-2 c = (
+  λ codes slots n. count-is codes _ _ _ slots (rw (c .before .nest2 .given .1) at n),
+  rw (c .before .nest2 .given .1),
+)
 
 returns-3 : tie.Need-returns-3
 unfolding fontSlots
-returns-3 c =
-    λ codes slots n.
-    let e : slots ≡ fontSlots = rw (c .enum-told .given .1) at n in
-    sym (ap length e)
+returns-3 c = (
+  λ codes slots n.
+      let e : slots ≡ fontSlots = rw (c .enum-told .given .1) at n in
+      sym (ap length e),
+  rw (c .enum-told .given .1),
+)
 
 returns-4 : tie.Need-returns-4
 unfolding pageSlots
-returns-4 c =
-    λ codes slots n.
-    let e : slots ≡ pageSlots = rw (c .enum-told2 .given .1) at n in
-    sym (ap length e)
+returns-4 c = (
+  λ codes slots n.
+      let e : slots ≡ pageSlots = rw (c .enum-told2 .given .1) at n in
+      sym (ap length e),
+  rw (c .enum-told2 .given .1),
+)
 
 pub count-spec : {M : Type 1} → statement M
 count-spec =

@@ -23,14 +23,18 @@ enum-known-read-2 c = search needs
 -- src/open.rt:30:1
 returns : tie.Need-returns
 unfolding mute
-returns c =
-    λ codes x e st. alone-refused codes x (rw (c .before .read .given .1) at e)
+returns c = (
+  λ codes x e st. alone-refused codes x (rw (c .before .read .given .1) at e),
+  rw (c .before .read .given .1),
+)
 
 -- src/open.rt:30:1
 returns-2 : tie.Need-returns-2
 unfolding mute
-returns-2 c =
-    λ codes x e st. alone-read codes x (rw (c .before .read2 .given .1) at e) st
+returns-2 c = (
+  λ codes x e st. alone-read codes x (rw (c .before .read2 .given .1) at e) st,
+  rw (c .before .read2 .given .1),
+)
 
 pub alone-spec : {M : Type 1} → statement M
 alone-spec = tie.close (tie.spec enum-known-read enum-known-read-2 returns returns-2)

@@ -48,13 +48,17 @@ pairs-of-requires c κs = search needs
 
 -- src/open.rt:102:1
 returns : tie.Need-returns
-returns c =
-    λ t u s n v m. opens-refused _ _ (pairs-refused _ _ t u (sym (c .before .before .before .little4 .ensures) ∙ ap told (c .before .number .given .1)))
+returns c = (
+  λ t u s n v m. opens-refused _ _ (pairs-refused _ _ t u (sym (c .before .before .before .little4 .ensures) ∙ ap told (c .before .number .given .1))),
+  rw (sym (c .before .before .before .little4 .ensures) ∙ ap told (c .before .number .given .1)),
+)
 
 -- src/open.rt:102:1
 returns-2 : tie.Need-returns-2
-returns-2 c =
-    λ t u s n v m. opens-head _ _ _ _ (pairs-read _ _ t u (sym (c .before .before .before .before .before .before .little4 .ensures) ∙ ap told (c .before .before .before .before .n .given .1))) (c .pairs-of .ensures _ _ _ (c .before .before .slot-of .ensures t s n) (c .before .slot-of2 .ensures u v m))
+returns-2 c = (
+  λ t u s n v m. opens-head _ _ _ _ (pairs-read _ _ t u (sym (c .before .before .before .before .before .before .little4 .ensures) ∙ ap told (c .before .before .before .before .n .given .1))) (c .pairs-of .ensures .0 _ _ _ (c .before .before .slot-of .ensures .0 t s n) (c .before .slot-of2 .ensures .0 u v m)),
+  rw (sym (c .before .before .before .before .before .before .little4 .ensures) ∙ ap told (c .before .before .before .before .n .given .1), c .pairs-of .ensures .1, c .before .before .slot-of .ensures .1, c .before .slot-of2 .ensures .1),
+)
 
 pub dictionary-head-spec : {M : Type 1} → statement M
 dictionary-head-spec =

@@ -26,20 +26,26 @@ enum-known-slot-3 c = search needs
 
 -- src/open.rt:51:1
 returns : tie.Need-returns
-returns c =
-    λ codes x s.
-    let w = rw (c .before .slot .given .1) at s in
-    (rw (w .0), w .1)
+returns c = (
+  λ codes x s.
+      let w = rw (c .before .slot .given .1) at s in
+      (rw (w .0), w .1),
+  rw (c .before .slot .given .1),
+)
 
 -- src/open.rt:51:1
 returns-2 : tie.Need-returns-2
-returns-2 c =
-    λ codes x s. record { slot = x; are = refl; is = rw (c .before .slot2 .given .1) at s }
+returns-2 c = (
+  λ codes x s. record { slot = x; are = refl; is = rw (c .before .slot2 .given .1) at s },
+  rw (c .before .slot2 .given .1),
+)
 
 -- src/open.rt:51:1
 returns-3 : tie.Need-returns-3
-returns-3 c =
-    λ codes x s. record { slot = x; are = refl; is = rw (c .before .slot3 .given .1) at s }
+returns-3 c = (
+  λ codes x s. record { slot = x; are = refl; is = rw (c .before .slot3 .given .1) at s },
+  rw (c .before .slot3 .given .1),
+)
 
 pub each-of-spec : {M : Type 1} → statement M
 each-of-spec =

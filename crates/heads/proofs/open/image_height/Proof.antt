@@ -35,15 +35,21 @@ image-levels-requires c κs =
 
 returns : tie.Need-returns
 unfolding heightAt
-returns c codes =
-    let a = c .before .before .before .before .before .args in
-    opens-refused codes (λ n e. levelsAt (a .file .now) (a .format) (a .width) n e) (sym (c .before .before .before .ranged .ensures) ∙ ap told (c .before .number .given .1))
+returns c = (
+  λ codes.
+      let a = c .before .before .before .before .before .args in
+      opens-refused codes (λ n e. levelsAt (a .file .now) (a .format) (a .width) n e) (sym (c .before .before .before .ranged .ensures) ∙ ap told (c .before .number .given .1)),
+  rw (sym (c .before .before .before .ranged .ensures) ∙ ap told (c .before .number .given .1)),
+)
 
 returns-2 : tie.Need-returns-2
 unfolding heightAt
-returns-2 c codes =
-    let a = c .before .before .before .before .before .before .args in
-    opens-read codes (λ n e. levelsAt (a .file .now) (a .format) (a .width) n e) (c .image-levels .result) (field (c .before)) (c .image-levels .ensures codes)
+returns-2 c = (
+  λ codes.
+      let a = c .before .before .before .before .before .before .args in
+      opens-read codes (λ n e. levelsAt (a .file .now) (a .format) (a .width) n e) (c .image-levels .result) (field (c .before)) (c .image-levels .ensures .0 codes),
+  rw (field (c .before)) (c .image-levels .ensures .1),
+)
 
 pub image-height-spec : {M : Type 1} → statement M
 image-height-spec =

@@ -31,17 +31,23 @@ cast-levels c =
 
 returns : tie.Need-returns
 unfolding levelsAt
-returns c codes =
-    let most = c .before .before .before .before .longest-chain .ensures in
-    opens-refused codes _ (rw (← most) (sym (c .before .before .before .ranged .ensures) ∙ ap told (c .before .number .given .1)))
+returns c = (
+  λ codes.
+      let most = c .before .before .before .before .longest-chain .ensures in
+      opens-refused codes _ (rw (← most) (sym (c .before .before .before .ranged .ensures) ∙ ap told (c .before .number .given .1))),
+  rw (rw (c .before .before .before .before .longest-chain .ensures) at (sym (c .before .before .before .ranged .ensures) ∙ ap told (c .before .number .given .1))),
+)
 
 returns-2 : tie.Need-returns-2
-returns-2 c codes =
-    let a = c .before .before .before .before .before .before .args in
-    let p = c .before .before .before .before .before .before .pre in
-    let most = c .before .before .before .before .longest-chain .ensures in
-    let field = sym (c .before .before .before .ranged .ensures) ∙ ap told (c .before .n .given .1) in
-    levels-open (a .file .now) codes (a .format) (a .width) (a .height) (a .at) _ _ (p .0) (p .1) (p .2) (p .3) (p .4) (rw most at field)
+returns-2 c = (
+  λ codes.
+      let a = c .before .before .before .before .before .before .args in
+      let p = c .before .before .before .before .before .before .pre in
+      let most = c .before .before .before .before .longest-chain .ensures in
+      let field = sym (c .before .before .before .ranged .ensures) ∙ ap told (c .before .n .given .1) in
+      levels-open (a .file .now) codes (a .format) (a .width) (a .height) (a .at) _ _ (p .0) (p .1) (p .2) (p .3) (p .4) (rw most at field),
+  rw (rw (c .before .before .before .before .longest-chain .ensures) at (sym (c .before .before .before .ranged .ensures) ∙ ap told (c .before .n .given .1))),
+)
 
 pub image-levels-spec : {M : Type 1} → statement M
 image-levels-spec =

@@ -34,15 +34,21 @@ image-height-requires c κs =
 
 returns : tie.Need-returns
 unfolding widthAt
-returns c codes =
-    let a = c .before .before .before .before .before .args in
-    opens-refused codes (λ n e. heightAt (a .file .now) (a .format) n e) (sym (c .before .before .before .ranged .ensures) ∙ ap told (c .before .number .given .1))
+returns c = (
+  λ codes.
+      let a = c .before .before .before .before .before .args in
+      opens-refused codes (λ n e. heightAt (a .file .now) (a .format) n e) (sym (c .before .before .before .ranged .ensures) ∙ ap told (c .before .number .given .1)),
+  rw (sym (c .before .before .before .ranged .ensures) ∙ ap told (c .before .number .given .1)),
+)
 
 returns-2 : tie.Need-returns-2
 unfolding widthAt
-returns-2 c codes =
-    let a = c .before .before .before .before .before .before .args in
-    opens-read codes (λ n e. heightAt (a .file .now) (a .format) n e) (c .image-height .result) (field (c .before)) (c .image-height .ensures codes)
+returns-2 c = (
+  λ codes.
+      let a = c .before .before .before .before .before .before .args in
+      opens-read codes (λ n e. heightAt (a .file .now) (a .format) n e) (c .image-height .result) (field (c .before)) (c .image-height .ensures .0 codes),
+  rw (field (c .before)) (c .image-height .ensures .1),
+)
 
 pub image-width-spec : {M : Type 1} → statement M
 image-width-spec =

@@ -1,3 +1,5 @@
+use borrow.Author.Tests.{ne-eqb}
+use Rattle.heads.specs.Total.{leafAs}
 use mathlib.Core.Path.{ap, _∙_}
 use Rattle.table.specs.Leaf.{mute}
 use Rattle.heads.specs.Images.{char-leaf, text-leaf, fixed-leaf}
@@ -18,20 +20,32 @@ fixed-at-requires : tie.Need-fixed-at-requires
 fixed-at-requires c κs = search needs
 
 returns : tie.Need-returns
-returns c t l e =
-    let a = c .before .before .before .args in
-    ap mute (c .char-at .ensures) ∙ char-leaf (a .file .now) (a .at) t l (e ∙ c .before .match .keys1)
+unfolding leafAs
+returns c = (
+  λ t l e.
+      let a = c .before .before .before .args in
+      ap mute (c .char-at .ensures) ∙ char-leaf (a .file .now) (a .at) t l (e ∙ c .before .match .keys1),
+  rw (c .before .match .keys1) (c .char-at .ensures),
+)
 
 returns-2 : tie.Need-returns-2
-returns-2 c t l e =
-    let a = c .before .before .before .args in
-    ap mute (c .text-at .ensures) ∙ text-leaf (a .file .now) (a .at) t l (e ∙ c .before .match .keys2)
+unfolding leafAs
+returns-2 c = (
+  λ t l e.
+      let a = c .before .before .before .args in
+      ap mute (c .text-at .ensures) ∙ text-leaf (a .file .now) (a .at) t l (e ∙ c .before .match .keys2),
+  rw (c .before .match .keys2) (c .text-at .ensures),
+)
 
 returns-3 : tie.Need-returns-3
-returns-3 c t l e =
-    let a = c .before .before .before .before .args in
-    let rest = c .before .before .match .rest in
-    ap mute (c .fixed-at .ensures) ∙ fixed-leaf (a .file .now) (a .at) t _ _ l e (c .before .size-of-kind .ensures) (rest .0 .1) (rest .1)
+unfolding leafAs
+returns-3 c = (
+  λ t l e.
+      let a = c .before .before .before .before .args in
+      let rest = c .before .before .match .rest in
+      ap mute (c .fixed-at .ensures) ∙ fixed-leaf (a .file .now) (a .at) t _ _ l e (c .before .size-of-kind .ensures) (rest .0 .1) (rest .1),
+  rw (ne-eqb _ 12 (c .before .before .match .rest .0 .1), ne-eqb _ 13 (c .before .before .match .rest .1), ← c .before .size-of-kind .ensures) (c .fixed-at .ensures),
+)
 
 pub leaf-at-spec : {M : Type 1} → statement M
 leaf-at-spec =

@@ -44,13 +44,17 @@ each-of-requires c κs = search needs
 
 -- src/open.rt:92:1
 returns : tie.Need-returns
-returns c =
-    λ t s n. opens-refused _ _ (list-refused _ _ t (sym (c .before .before .before .little4 .ensures) ∙ ap told (c .before .number .given .1)))
+returns c = (
+  λ t s n. opens-refused _ _ (list-refused _ _ t (sym (c .before .before .before .little4 .ensures) ∙ ap told (c .before .number .given .1))),
+  rw (sym (c .before .before .before .little4 .ensures) ∙ ap told (c .before .number .given .1)),
+)
 
 -- src/open.rt:92:1
 returns-2 : tie.Need-returns-2
-returns-2 c =
-    λ t s n. opens-head _ _ _ _ (list-read _ _ t (sym (c .before .before .before .before .before .little4 .ensures) ∙ ap told (c .before .before .before .n .given .1))) (c .each-of .ensures _ _ (c .before .slot-of .ensures t s n))
+returns-2 c = (
+  λ t s n. opens-head _ _ _ _ (list-read _ _ t (sym (c .before .before .before .before .before .little4 .ensures) ∙ ap told (c .before .before .before .n .given .1))) (c .each-of .ensures .0 _ _ (c .before .slot-of .ensures .0 t s n)),
+  rw (sym (c .before .before .before .before .before .little4 .ensures) ∙ ap told (c .before .before .before .n .given .1), c .each-of .ensures .1, c .before .slot-of .ensures .1),
+)
 
 pub list-head-spec : {M : Type 1} → statement M
 list-head-spec =

@@ -1,3 +1,4 @@
+use borrow.Author.Tests.{eq-eqb, ne-eqb}
 use mathlib.Core.Path.{_≡_, refl, sym, ap, _∙_}
 use mathlib.Core.List.{[]}
 use Prim.Native.Nat.{ℕ, _<_, _^_}
@@ -31,8 +32,10 @@ enum-known-flag c = search needs
 
 -- src/open.rt:82:17
 returns : tie.Need-returns
-returns c =
-    λ t s n. opens-head _ _ [] Nothing (flag-zero _ _ t (sym (c .before .before .before .before .little1 .ensures) ∙ ap told (c .before .before .flag .given .1)) (c .if1 .taken)) refl
+returns c = (
+  λ t s n. opens-head _ _ [] Nothing (flag-zero _ _ t (sym (c .before .before .before .before .little1 .ensures) ∙ ap told (c .before .before .flag .given .1)) (c .if1 .taken)) refl,
+  rw (sym (c .before .before .before .before .little1 .ensures) ∙ ap told (c .before .before .flag .given .1), eq-eqb _ 0 (c .if1 .taken)),
+)
 
 -- src/open.rt:85:51
 raw-of-requires : tie.Need-raw-of-requires
@@ -44,18 +47,24 @@ each-of-requires c κs = search needs
 
 -- src/open.rt:85:17
 returns-2 : tie.Need-returns-2
-returns-2 c =
-    λ t s n. opens-head _ _ _ _ (flag-one _ _ t (sym (c .before .before .before .before .before .before .before .little1 .ensures) ∙ ap told (c .before .before .before .before .before .flag .given .1)) (c .before .before .if2 .taken)) (c .each-of .ensures _ _ (c .before .raw-of .ensures t s n))
+returns-2 c = (
+  λ t s n. opens-head _ _ _ _ (flag-one _ _ t (sym (c .before .before .before .before .before .before .before .little1 .ensures) ∙ ap told (c .before .before .before .before .before .flag .given .1)) (c .before .before .if2 .taken)) (c .each-of .ensures .0 _ _ (c .before .raw-of .ensures .0 t s n)),
+  rw (sym (c .before .before .before .before .before .before .before .little1 .ensures) ∙ ap told (c .before .before .before .before .before .flag .given .1), ne-eqb _ 0 (c .before .before .before .if1 .left), eq-eqb _ 1 (c .before .before .if2 .taken), c .each-of .ensures .1, c .before .raw-of .ensures .1),
+)
 
 -- src/open.rt:75:1
 returns-3 : tie.Need-returns-3
-returns-3 c =
-    λ t s n. opens-refused _ _ (flag-refused _ _ t (sym (c .before .before .before .little1 .ensures) ∙ ap told (c .before .number .given .1)))
+returns-3 c = (
+  λ t s n. opens-refused _ _ (flag-refused _ _ t (sym (c .before .before .before .little1 .ensures) ∙ ap told (c .before .number .given .1))),
+  rw (sym (c .before .before .before .little1 .ensures) ∙ ap told (c .before .number .given .1)),
+)
 
 -- src/open.rt:75:1
 returns-4 : tie.Need-returns-4
-returns-4 c =
-    λ t s n. opens-refused _ _ (flag-other _ _ t (sym (c .before .before .before .before .before .little1 .ensures) ∙ ap told (c .before .before .before .flag .given .1)) (c .before .if1 .left) (c .if2 .left))
+returns-4 c = (
+  λ t s n. opens-refused _ _ (flag-other _ _ t (sym (c .before .before .before .before .before .little1 .ensures) ∙ ap told (c .before .before .before .flag .given .1)) (c .before .if1 .left) (c .if2 .left)),
+  rw (sym (c .before .before .before .before .before .little1 .ensures) ∙ ap told (c .before .before .before .flag .given .1), ne-eqb _ 0 (c .before .if1 .left), ne-eqb _ 1 (c .if2 .left)),
+)
 
 pub nullable-head-spec : {M : Type 1} → statement M
 nullable-head-spec =

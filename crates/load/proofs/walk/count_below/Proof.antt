@@ -35,7 +35,7 @@ returns-2 c =
 
 returns-3 : tie.Need-returns-3
 returns-3 c =
-    λ codes slots w. c .count .ensures codes slots (rw (c .before .before .below2 .given .1) at w)
+    λ codes slots w. c .count .ensures .0 codes slots (rw (c .before .before .below2 .given .1) at w)
 
 pub count-below-spec : {M : Type 1} → statement M
 count-below-spec =

@@ -1,3 +1,5 @@
+use borrow.Author.Tests.{le-leb, lt-leb, eq-eqb, ne-eqb}
+use Rattle.objects.specs.Total.{readerAs, placeAs}
 use mathlib.Core.Path.{_≡_, refl, sym, ap, subst, _∙_}
 use mathlib.Core.Bool.{true, false}
 use mathlib.Core.Logic.{inl, inr}
@@ -13,12 +15,18 @@ use Rattle.types.proofs.fits.Reads as fits-reads
 use Rattle.types.proofs.kind_at.Reads as kind-at-reads
 
 returns : tie.Need-returns
-returns c =
-    λ readers d l s n. beyond-list l s n (c .if1 .taken)
+unfolding readerAs placeAs
+returns c = (
+  λ readers d l s n. beyond-list l s n (c .if1 .taken),
+  rw (le-leb _ _ (c .if1 .taken)),
+)
 
 returns-2 : tie.Need-returns-2
-returns-2 c =
-    λ readers d l s n. beyond-most l s n (c .if2 .taken)
+unfolding readerAs placeAs
+returns-2 c = (
+  λ readers d l s n. beyond-most l s n (c .if2 .taken),
+  rw (lt-leb _ _ (c .before .if1 .left), le-leb 64 _ (c .if2 .taken)),
+)
 
 mul-place : tie.Need-mul-place
 mul-place c = search needs
@@ -33,23 +41,35 @@ kind-at-requires : tie.Need-kind-at-requires
 kind-at-requires c κs = search needs
 
 returns-3 : tie.Need-returns-3
-returns-3 c =
-    λ readers d l s n. never-called l s n (c .before .before .before .before .if1 .left) refl (c .before .kind-at .ensures) (inl (c .if3 .taken))
+unfolding readerAs placeAs
+returns-3 c = (
+  λ readers d l s n. never-called l s n (c .before .before .before .before .if1 .left) refl (c .before .kind-at .ensures) (inl (c .if3 .taken)),
+  rw (lt-leb _ _ (c .before .before .before .before .if1 .left), lt-leb 64 _ (c .before .before .before .if2 .left), ← c .before .kind-at .ensures, eq-eqb _ 14 (c .if3 .taken)),
+)
 
 returns-4 : tie.Need-returns-4
-returns-4 c =
-    λ readers d l s n. never-called l s n (c .before .before .before .before .before .if1 .left) refl (c .before .before .kind-at .ensures) (inr (c .if4 .taken))
+unfolding readerAs placeAs
+returns-4 c = (
+  λ readers d l s n. never-called l s n (c .before .before .before .before .before .if1 .left) refl (c .before .before .kind-at .ensures) (inr (c .if4 .taken)),
+  rw (lt-leb _ _ (c .before .before .before .before .before .if1 .left), lt-leb 64 _ (c .before .before .before .before .if2 .left), ← c .before .before .kind-at .ensures, ne-eqb _ 14 (c .before .if3 .left), eq-eqb _ 31 (c .if4 .taken)),
+)
 
 fits-requires : tie.Need-fits-requires
 fits-requires c κs = search needs
 
 returns-5 : tie.Need-returns-5
-returns-5 c =
-    λ readers d l s n. called-by l s n (c .before .before .before .before .before .before .before .if1 .left) refl (c .before .before .before .before .kind-at .ensures) (c .before .before .before .if3 .left) (c .before .before .if4 .left) true (sym (c .before .fits2 .ensures) ∙ c .if5 .taken)
+unfolding readerAs placeAs
+returns-5 c = (
+  λ readers d l s n. called-by l s n (c .before .before .before .before .before .before .before .if1 .left) refl (c .before .before .before .before .kind-at .ensures) (c .before .before .before .if3 .left) (c .before .before .if4 .left) true (sym (c .before .fits2 .ensures) ∙ c .if5 .taken),
+  rw (lt-leb _ _ (c .before .before .before .before .before .before .before .if1 .left), lt-leb 64 _ (c .before .before .before .before .before .before .if2 .left), ← c .before .before .before .before .kind-at .ensures, ne-eqb _ 14 (c .before .before .before .if3 .left), ne-eqb _ 31 (c .before .before .if4 .left), sym (c .before .fits2 .ensures) ∙ c .if5 .taken),
+)
 
 returns-6 : tie.Need-returns-6
-returns-6 c =
-    λ readers d l s n. called-by l s n (c .before .before .before .before .before .before .before .if1 .left) refl (c .before .before .before .before .kind-at .ensures) (c .before .before .before .if3 .left) (c .before .before .if4 .left) false (sym (c .before .fits2 .ensures) ∙ c .if5 .left)
+unfolding readerAs placeAs
+returns-6 c = (
+  λ readers d l s n. called-by l s n (c .before .before .before .before .before .before .before .if1 .left) refl (c .before .before .before .before .kind-at .ensures) (c .before .before .before .if3 .left) (c .before .before .if4 .left) false (sym (c .before .fits2 .ensures) ∙ c .if5 .left),
+  rw (lt-leb _ _ (c .before .before .before .before .before .before .before .if1 .left), lt-leb 64 _ (c .before .before .before .before .before .before .if2 .left), ← c .before .before .before .before .kind-at .ensures, ne-eqb _ 14 (c .before .before .before .if3 .left), ne-eqb _ 31 (c .before .before .if4 .left), sym (c .before .fits2 .ensures) ∙ c .if5 .left),
+)
 
 pub reader-for-spec : {M : Type 1} → statement M
 reader-for-spec =

@@ -52,7 +52,7 @@ pub nested-loop-holds : (t : ℕ) → nested-lts.Need-loop-holds (
   value-below t,
   value.Post,
 ) (nested-at t) nested.Post nested-Inv-loop nested-μ-loop
-nested-loop-holds t c = λ readers slots l w. (c .count .ensures _ slots w, start _ _ _ _ _ _ _)
+nested-loop-holds t c = λ readers slots l w. (c .count .ensures .0 _ slots w, start _ _ _ _ _ _ _)
 
 pub nested-child-requires : (t : ℕ) → nested-lts.Need-child-requires (
   count-reads.Asked,
@@ -76,7 +76,7 @@ nested-value-requires t c κs =
     let pre = c .before .before .before .before .before .before .before .before .pre .1 in
     let k = pre .1 in
     let inv = c .before .before .before .loop .inv (k .readers) (pre .2 .slots) (k .listed) (pre .2 .is) in
-    let ch = c .before .child .ensures _ (pre .2 .slots) (k .prelude) (pre .2 .is) (omega (arith, inv .0, c .before .before .loop-test .taken)) in
+    let ch = c .before .child .ensures .0 _ (pre .2 .slots) (k .prelude) (pre .2 .is) (omega (arith, inv .0, c .before .before .loop-test .taken)) in
     (omega (arith, c .before .before .before .before .before .before .before .before .pre .0), (begin-on (pre .0) (inv .1), k, record { x = ch .slot; is = ch .is }))
 
 pub nested-enum-known-a : (t : ℕ) → nested-lts.Need-enum-known-a (
@@ -125,7 +125,7 @@ nested-returns t c =
     λ readers slots l w.
     let inv = c .before .before .before .before .before .before .before .before .before .loop .inv readers slots l w in
     let i : c .before .before .before .before .before .before .before .before .before .loop .i < length slots = omega (arith, inv .0, c .before .before .before .before .before .before .before .before .loop-test .taken) in
-    let ch = c .before .before .before .before .before .before .before .child .ensures _ slots (c .before .before .before .before .before .before .before .before .before .before .before .before .before .before .pre .1 .1 .prelude) w i in
+    let ch = c .before .before .before .before .before .before .before .child .ensures .0 _ slots (c .before .before .before .before .before .before .before .before .before .before .before .before .before .before .pre .1 .1 .prelude) w i in
     give-up _ _ _ _ _ _ _ (ch .slot) (inv .1) i (ch .at) (lost (c .before .before .before .before .before .value .ensures readers (ch .slot) l (ch .is)) (c .before .number .given .1))
 
 pub nested-add-i : (t : ℕ) → nested-lts.Need-add-i (
@@ -163,7 +163,7 @@ nested-loop-again t c =
     let small = small-by-index file (λ i h. omega (arith, c .before .before .before .before .before .before .before .before .before .before .before .before .before .shared-slice-known .given i)) in
     let inv = c .before .before .before .before .before .before .before .before .before .loop .inv readers slots l w in
     let i : c .before .before .before .before .before .before .before .before .before .loop .i < length slots = omega (arith, inv .0, c .before .before .before .before .before .before .before .before .loop-test .taken) in
-    let ch = c .before .before .before .before .before .before .before .child .ensures _ slots (c .before .before .before .before .before .before .before .before .before .before .before .before .before .before .pre .1 .1 .prelude) w i in
+    let ch = c .before .before .before .before .before .before .before .child .ensures .0 _ slots (c .before .before .before .before .before .before .before .before .before .before .before .before .before .before .pre .1 .1 .prelude) w i in
     let g = got (c .before .before .before .before .before .value .ensures readers (ch .slot) l (ch .is)) (c .before .a .given .1) in
     (inv .0, turn _ _ _ _ _ _ _ (ch .slot) (inv .1) i (ch .at) g (walk-bounds file readers (a .shared) (a .room) small (a .depth) (ch .slot) _ _ (a .used) (g .taken) _ (g .is)))
 

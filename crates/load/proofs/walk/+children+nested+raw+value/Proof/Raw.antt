@@ -116,7 +116,7 @@ raw-children-requires t c κs =
     let t = c .before .before .before .before .before .before .before .before .before .before .pre .1 .2 in
     let file = c .before .before .before .before .before .before .before .before .before .before .args .file .now in
     let small = small-by-index file (λ i h. omega (arith, c .before .before .before .before .before .before .before .before .before .shared-slice-known .given i)) in
-    let o = opened-as (headAt file (t .type) (c .before .before .before .before .before .before .before .before .before .before .args .at)) (c .before .before .before .before .before .before .«open» .ensures (t .type) (t .is .stands) (t .is .plain)) (c .before .before .before .before .next .given .1) in
+    let o = opened-as (headAt file (t .type) (c .before .before .before .before .before .before .before .before .before .before .args .at)) (c .before .before .before .before .before .before .«open» .ensures .0 (t .type) (t .is .stands) (t .is .plain)) (c .before .before .before .before .next .given .1) in
     (omega (arith, c .before .before .before .before .before .before .before .before .before .before .pre .0), (begin-below (t .type) small (c .before .before .before .before .before .before .before .before .before .before .pre .1 .0) (o .is), c .before .before .before .before .before .before .before .before .before .before .pre .1 .1, record { slots = o .slots; is = o .stands }))
 
 pub raw-kind-at-requires : (t : ℕ) → raw-lts.Need-kind-at-requires (
@@ -178,7 +178,7 @@ raw-returns t c =
     let file = c .before .before .before .before .before .before .before .args .file .now in
     let small = small-by-index file (λ j h. omega (arith, c .before .before .before .before .before .before .shared-slice-known .given j)) in
     let r = c .before .before .before .before .before .before .before .pre .1 .0 in
-    raw-refused file small readers (c .before .before .before .before .before .before .before .args .shared) (c .before .before .before .before .before .before .before .args .room) (c .before .before .before .before .before .before .before .args .depth) t (i .stands .lawful) (c .before .before .before .before .before .before .before .args .h) (c .before .before .before .before .before .before .before .args .at) _ (r .long) (r .few) (r .free) (refused-as (c .before .before .before .before .before .before .before .args .codes .now) (headAt file t (c .before .before .before .before .before .before .before .args .at)) (c .before .before .before .«open» .ensures t (i .stands) (i .plain)) (c .before .number .given .1))
+    raw-refused file small readers (c .before .before .before .before .before .before .before .args .shared) (c .before .before .before .before .before .before .before .args .room) (c .before .before .before .before .before .before .before .args .depth) t (i .stands .lawful) (c .before .before .before .before .before .before .before .args .h) (c .before .before .before .before .before .before .before .args .at) _ (r .long) (r .few) (r .free) (refused-as (c .before .before .before .before .before .before .before .args .codes .now) (headAt file t (c .before .before .before .before .before .before .before .args .at)) (c .before .before .before .«open» .ensures .0 t (i .stands) (i .plain)) (c .before .number .given .1))
 
 pub raw-same-length : (t : ℕ) → raw-lts.Need-same-length (
   open-reads.Asked,
@@ -213,7 +213,7 @@ raw-returns-2 t c =
     let file = a .file .now in
     let small = small-by-index file (λ j h. omega (arith, c .before .before .before .before .before .before .before .before .before .before .before .before .before .before .before .before .before .shared-slice-known .given j)) in
     let r = start .pre .1 .0 in
-    let o = opened-as (headAt file t (a .at)) (c .before .before .before .before .before .before .before .before .before .before .before .before .before .before .«open» .ensures t (i .stands) (i .plain)) (c .before .before .before .before .before .before .before .before .before .before .before .before .next .given .1) in
+    let o = opened-as (headAt file t (a .at)) (c .before .before .before .before .before .before .before .before .before .before .before .before .before .before .«open» .ensures .0 t (i .stands) (i .plain)) (c .before .before .before .before .before .before .before .before .before .before .before .before .next .given .1) in
     let n = c .before .before .before .before .before .before .before .before .before .count-below .ensures (a .codes .now) (o .slots) (o .stands) in
     let below = c .before .before .before .before .before .before .before .children .ensures readers (o .slots) l (o .stands) in
     let fits = close-ready t readers (a .shared) (a .depth) (o .slots) _ _ small r (o .is) n below in

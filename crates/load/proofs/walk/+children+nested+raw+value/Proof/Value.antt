@@ -127,7 +127,7 @@ pub value-sub-raw : (t : ℕ) → value-lts.Need-sub-raw (
 ) (value-at t) value.Post
 value-sub-raw t c =
     let p = c .before .before .before .before .before .before .before .before .pre .1 in
-    let s = rw (c .before .before .place .given .1) at (c .before .before .before .before .start .ensures (p .1 .readers) (p .2 .x) (p .1 .listed) (p .2 .is) (p .0 .place)) in
+    let s = rw (c .before .before .place .given .1) at (c .before .before .before .before .start .ensures .0 (p .1 .readers) (p .2 .x) (p .1 .listed) (p .2 .is) (p .0 .place)) in
     omega (arith, s .deep)
 
 pub value-raw-requires : (t : ℕ) → value-lts.Need-raw-requires (
@@ -142,7 +142,7 @@ pub value-raw-requires : (t : ℕ) → value-lts.Need-raw-requires (
 ) (value-at t) value.Post
 value-raw-requires t c κs =
     let p = c .before .before .before .before .before .before .before .before .pre .1 in
-    let s = rw (c .before .before .place .given .1) at (c .before .before .before .before .start .ensures (p .1 .readers) (p .2 .x) (p .1 .listed) (p .2 .is) (p .0 .place)) in
+    let s = rw (c .before .before .place .given .1) at (c .before .before .before .before .start .ensures .0 (p .1 .readers) (p .2 .x) (p .1 .listed) (p .2 .is) (p .0 .place)) in
     (omega (arith, c .before .before .before .before .before .before .before .before .pre .0, s .deep), (record { long = p .0 .long; few = p .0 .few; free = s .free; begun = s .ahead; place = s .inside; short = p .0 .short }, p .1, record { type = s .type; is = s .stands }))
 
 pub value-returns : (t : ℕ) → value-lts.Need-returns (
@@ -157,7 +157,7 @@ pub value-returns : (t : ℕ) → value-lts.Need-returns (
 ) (value-at t) value.Post
 value-returns t c =
     λ readers x l s.
-    let b = rw (c .before .number .given .1) at (c .before .before .before .start .ensures readers x l s (c .before .before .before .before .before .before .before .pre .1 .0 .place)) in
+    let b = rw (c .before .number .given .1) at (c .before .before .before .start .ensures .0 readers x l s (c .before .before .before .before .before .before .before .pre .1 .0 .place)) in
     refusing (b (c .before .before .before .before .before .before .before .args .shared) (c .before .before .before .before .before .before .before .args .parent))
 
 pub value-same-length : (t : ℕ) → value-lts.Need-same-length (
@@ -187,7 +187,7 @@ value-returns-2 t c =
     let start = c .before .before .before .before .before .before .before .before .before .before .before in
     let a = start .args in
     let small = small-by-index (a .file .now) (λ i h. omega (arith, c .before .before .before .before .before .before .before .before .before .before .shared-slice-known .given i)) in
-    let b = rw (c .before .before .before .before .before .plain .given .1) at (c .before .before .before .before .before .before .before .start .ensures readers x l s (start .pre .1 .0 .place)) in
+    let b = rw (c .before .before .before .before .before .plain .given .1) at (c .before .before .before .before .before .before .before .start .ensures .0 readers x l s (start .pre .1 .0 .place)) in
     let e = c .before .before .read-plain .ensures in
     rw (b .0, e .0, e .1) (plain-walked (a .file .now) (a .room) (a .shared) _ (a .at) (a .used) (a .words .now) small (start .pre .1 .0) (b .1) readers (a .depth) (a .parent))
 
@@ -219,7 +219,7 @@ value-returns-3 t c =
     let start = c .before .before .before .before .before .before .before .before .before .before .before in
     let a = start .args in
     let p = start .pre .1 .0 in
-    let b = rw (c .before .before .before .before .before .next .given .1) at (c .before .before .before .before .before .before .before .start .ensures readers x l s (p .place)) in
+    let b = rw (c .before .before .before .before .before .next .given .1) at (c .before .before .before .before .before .before .before .start .ensures .0 readers x l s (p .place)) in
     let e = c .before .before .leaf .ensures in
     let free : Free (a .words .now) (a .used) = record { there = omega (arith, b .free, p .long); few = omega (arith, b .free, p .few) } in
     rw (b .is (a .shared) (a .parent), e .0, e .1) (leaf-walked {A = ℕ} (a .words .now) (headOf (a .used) (a .at) (a .parent) 0) 0 nothing (read 0 _) free (b .ahead, omega (arith, b .inside, p .short)))
@@ -248,5 +248,5 @@ pub value-returns-4 : (t : ℕ) → value-lts.Need-returns-4 (
 ) (value-at t) value.Post
 value-returns-4 t c =
     λ readers x l s.
-    let b = rw (c .before .before .before .before .before .place .given .1) at (c .before .before .before .before .before .before .before .start .ensures readers x l s (c .before .before .before .before .before .before .before .before .before .before .before .pre .1 .0 .place)) in
+    let b = rw (c .before .before .before .before .before .place .given .1) at (c .before .before .before .before .before .before .before .start .ensures .0 readers x l s (c .before .before .before .before .before .before .before .before .before .before .before .pre .1 .0 .place)) in
     rw (b .is (c .before .before .before .before .before .before .before .before .before .before .before .args .shared) (c .before .before .before .before .before .before .before .before .before .before .before .args .depth - 1) (c .before .before .before .before .before .before .before .before .before .before .before .args .parent) (omega (arith, b .deep))) (c .before .before .raw .ensures readers (b .type) l (b .stands))

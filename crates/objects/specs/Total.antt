@@ -1,0 +1,52 @@
+-- What is answered where a value begins, for every input. Assumes nothing.
+use mathlib.Core.Bool.{cond}
+use mathlib.Core.List.{List}
+use Prim.Native.Nat.{ℕ}
+use lib.Dec.{leb, eqb}
+use lib.ListN.{getD}
+use Rattle.ids.specs.declared.Position.{Position}
+use Rattle.ids.specs.declared.Position.the-variants.{Null as Null-position, At}
+use Rattle.ids.specs.Position.{positionOf}
+use Rattle.reading.specs.Answer.{Answer, refused, read}
+use Rattle.reading.specs.Seven.{sevenAt}
+use Rattle.types.specs.Place.{kindAt, fitsAt}
+use Rattle.readers.specs.declared.Readers.{Readers}
+use Rattle.heads.specs.declared.slot.Slot.{Slot}
+use Rattle.heads.specs.declared.slot.Slot.the-variants.{Simple, Object}
+use Rattle.heads.specs.declared.slot.Slot.the-variants.{Raw as RawSlot}
+use Rattle.objects.specs.declared.start.Identified.{Identified}
+use Rattle.objects.specs.declared.start.Identified.the-variants.{Null, Reader, Refused}
+use Rattle.objects.specs.declared.start.Started.{Started}
+use Rattle.objects.specs.declared.start.Started.the-variants.{Raw, Plain}
+use Rattle.objects.specs.declared.start.Started.the-variants.{Null as NullValue, Refused as RefusedValue}
+
+-- a reader of the type at `place`: 13 if it is never invoked, then 14 unless it serves
+unfoldable pub placeAs : (codes : List ℕ) (declared place : ℕ) → Identified
+placeAs codes declared place =
+    cond (eqb (kindAt codes place) 14) (Refused 13)
+    (cond (eqb (kindAt codes place) 31) (Refused 13) (cond (fitsAt codes declared place) (Reader place) (Refused 14)))
+
+-- reader i of the list: 13 past its end
+unfoldable pub readerAs : (codes : List ℕ) → Readers → (declared i : ℕ) → Identified
+readerAs codes rd declared i = cond (leb (rd .count) i) (Refused 13) (cond (leb 64 i) (Refused 13) (placeAs codes declared (getD (rd .targets) i 0)))
+
+abbrev pub identifyAs : (codes : List ℕ) → Readers → (declared : ℕ) → Position → Identified
+identifyAs codes rd declared Null-position = Null
+identifyAs codes rd declared (At i) = readerAs codes rd declared i
+
+-- an object, by its type id
+abbrev pub idAs : (at next id : ℕ) → Identified → Started
+idAs at next id Null = NullValue next
+idAs at next id (Reader place) = Raw place next id
+idAs at next id (Refused n) = RefusedValue n at
+
+abbrev pub objectAs : (codes : List ℕ) → Readers → (declared at : ℕ) → Answer ℕ → Started
+objectAs codes rd declared at (refused n p) = RefusedValue n p
+objectAs codes rd declared at (read id next) = idAs at next id (identifyAs codes rd declared (positionOf id))
+
+-- the value in a slot: 18, then 19, then its type id if it is an object
+abbrev pub startAs : (file codes : List ℕ) → Readers → (room : ℕ) → Slot → (at used depth : ℕ) → Started
+startAs file codes rd room (Simple p) at used depth = Plain p
+startAs file codes rd room (RawSlot place) at used depth = cond (eqb depth 0) (RefusedValue 18 at) (cond (leb room used) (RefusedValue 19 at) (Raw place at 0))
+startAs file codes rd room (Object d) at used depth =
+    cond (eqb depth 0) (RefusedValue 18 at) (cond (leb room used) (RefusedValue 19 at) (objectAs codes rd d at (sevenAt file at)))
