@@ -1,8 +1,8 @@
 -- Values that have no children and need no reader list. Assumes nothing.
-use mathlib.Core.Path.{_≡_, refl, sym, _∙_}
+use mathlib.Core.Path.{_≡_, refl, _∙_}
 use mathlib.Core.Bool.{Bool, true, false, cond}
 use mathlib.Core.List.{List, [], _∷_}
-use Prim.Native.Nat.{ℕ, zero, suc, _+_, _*_, _-_, _≤_, _<_, _^_}
+use Prim.Native.Nat.{ℕ, zero, suc, _*_, _-_, _≤_, _<_, _^_}
 use native.Mathlib.Omega.{arith}
 use lib.Dec.{leb, ltb, eqb}
 use lib.ListN.{length, getD, take, drop}
@@ -11,7 +11,7 @@ use Rattle.layout.specs.Target.{Target, fixed, char, texture2D, page, kindOf, s
 use Rattle.layout.specs.Tree.{none, tree, count}
 use Rattle.layout.specs.Fixed.{sizes}
 use Rattle.layout.specs.Slot.{Slot, raw, reference, leaf, level, Plan, stop}
-use Rattle.layout.specs.Rows.{row, Wants, nothing, resource}
+use Rattle.layout.specs.Rows.{row, nothing, resource}
 use Rattle.reading.specs.Answer.{Answer, refused, read, bind, check}
 use Rattle.reading.specs.Seven.{sevenAt, seven-next}
 use Rattle.reading.specs.Utf8.{charAt, char-reads}
@@ -22,7 +22,6 @@ use Rattle.reading.specs.Font.{fontOk, fontIf}
 use Rattle.reading.specs.Heads.{headAt, leafAt, whole, ownAt, fixedHeadAt, leaf-reads as level-reads}
 use Rattle.reading.specs.Walk.{Outcome, done, sequence, rawAt, valueAt, walk}
 use Rattle.table.specs.declared.Head.{Head}
-use Rattle.table.specs.declared.Walk.{Walk}
 use Rattle.table.specs.Contract.{Seen, seen, Free, Ahead, Walked}
 use Rattle.table.specs.Loop.{refusing}
 use Rattle.table.specs.Leaf.{leafOf, leafAnswer, leafWords, leaf-walked}

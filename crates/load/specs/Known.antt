@@ -1,7 +1,6 @@
 -- What is known where a walk begins. Assumes nothing.
-use mathlib.Core.Path.{_≡_}
 use mathlib.Core.List.{List}
-use Prim.Native.Nat.{ℕ, _+_, _*_, _≤_, _<_, _^_}
+use Prim.Native.Nat.{ℕ, _*_, _≤_, _<_, _^_}
 use lib.ListN.{length}
 use Rattle.layout.specs.Target.{Target}
 use Rattle.layout.specs.Slot as L

@@ -1,19 +1,18 @@
 -- Laws of the walk: what its functions know of each other's answers. Assumes nothing.
 use mathlib.Core.Path.{_≡_, refl, sym, ap, subst, _∙_}
-use mathlib.Core.List.{List, []}
-use Prim.Native.Nat.{ℕ, zero, suc, _+_, _*_, _-_, _≤_, _<_, _^_}
+use mathlib.Core.List.{List}
+use Prim.Native.Nat.{ℕ, suc, _+_, _≤_}
 use native.Mathlib.Omega.{arith}
 use native.Mathlib.Numerals.{add-one}
 use lib.ListN.{length}
 use Rattle.layout.specs.Target.{Target}
 use Rattle.layout.specs.Slot as L
 use Rattle.layout.specs.Slot.{each}
-use Rattle.layout.specs.Head as H
 use Rattle.reading.specs.Answer.{Answer, refused, read}
 use Rattle.reading.specs.Reads.{Small, reads-bounds}
 use Rattle.reading.specs.Heads.{Opening, headAt, head-reads}
-use Rattle.reading.specs.Walk.{Taken, Outcome, sequence, walk}
-use Rattle.reading.specs.Bounds.{Bounds, sequence-bounds}
+use Rattle.reading.specs.Walk.{sequence, walk}
+use Rattle.reading.specs.Bounds.{sequence-bounds}
 use Rattle.table.specs.declared.Head.{Head}
 use Rattle.table.specs.declared.Walk.{Walk}
 use Rattle.table.specs.declared.Walk.the-variants.{Done, Refused}
@@ -23,7 +22,7 @@ use Rattle.leaves.specs.Plain.{Begin}
 use Rattle.heads.specs.declared.nest.Below.{Below}
 use Rattle.heads.specs.declared.open.Opened.{Opened}
 use Rattle.heads.specs.declared.open.Opened.the-variants.{Head as Opened-head, Refused as Opened-refused}
-use Rattle.heads.specs.Opens.{Opens, OpenIs}
+use Rattle.heads.specs.Opens.{Opens}
 use Rattle.heads.specs.Nests.{BelowIs}
 use Rattle.objects.specs.Close.{Closable, counted}
 use Rattle.load.specs.Known.{Ready}

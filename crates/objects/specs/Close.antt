@@ -1,8 +1,8 @@
 -- How a value ends, and the raw value that it is. Assumes nothing.
-use mathlib.Core.Path.{_≡_, refl, sym, ap, subst, _∙_}
+use mathlib.Core.Path.{_≡_, refl, sym, ap, _∙_}
 use mathlib.Core.Bool.{Bool, true, false, cond}
 use mathlib.Core.List.{List, [], _∷_}
-use Prim.Native.Nat.{ℕ, zero, suc, _+_, _*_, _-_, _≤_, _<_, _^_}
+use Prim.Native.Nat.{ℕ, suc, _+_, _*_, _-_, _≤_, _<_, _^_}
 use native.Mathlib.Omega.{arith}
 use lib.Dec.{eqb}
 use lib.ListN.{length}
@@ -10,7 +10,7 @@ use borrow.Author.Tests.{eqb-true, eqb-false}
 use Rattle.layout.specs.Target.{Target, spriteFont, kindOf}
 use Rattle.layout.specs.Tree.{Trees, none, tree, count, size}
 use Rattle.layout.specs.Slot as L
-use Rattle.layout.specs.Slot.{Plan, stop, put, each, fontSlots}
+use Rattle.layout.specs.Slot.{each, fontSlots}
 use Rattle.layout.specs.Layout.{Lays}
 use Rattle.layout.specs.Resource.{Within}
 use Rattle.layout.specs.Rows.{Row, row, nothing}
@@ -18,9 +18,9 @@ use Rattle.reading.specs.Answer.{Answer, refused, read, bind, check, Ok, not-re
 use Rattle.reading.specs.Reads.{Small}
 use Rattle.reading.specs.Font.{fontOk}
 use Rattle.reading.specs.Heads.{Opening, headAt}
-use Rattle.reading.specs.Walk.{Taken, Outcome, done, point, sequence, rawAt, walk}
+use Rattle.reading.specs.Walk.{Taken, Outcome, point, sequence, rawAt, walk}
 use Rattle.reading.specs.Sound.{Read, walks-sound}
-use Rattle.reading.specs.Bounds.{Bounds, sequence-bounds}
+use Rattle.reading.specs.Bounds.{sequence-bounds}
 use Rattle.types.specs.Types.{plain, fixedKind}
 use Rattle.names.specs.Name.{between}
 use Rattle.types.specs.Code.{Lawful}
@@ -31,7 +31,7 @@ use Rattle.table.specs.declared.Head.{Head}
 use Rattle.table.specs.declared.Walk.{Walk}
 use Rattle.table.specs.declared.Walk.the-variants.{Done, Refused}
 use Rattle.table.specs.Written.{written, putRow, written-under, length-written}
-use Rattle.table.specs.Contract.{Seen, seen, Walked, Free, put-free}
+use Rattle.table.specs.Contract.{seen, Walked, Free, put-free}
 use Rattle.table.specs.Leaf.{inWord, in-word, valueRow, value-row}
 use Rattle.table.specs.Loop.{Got, got, lost, refusing, reading}
 use Rattle.heads.specs.Below.{font-head}

@@ -2,11 +2,6 @@ use Rattle.leaves.specs.Plain.{plainAt}
 use borrow.Author.Needs.{needs}
 use Rattle.leaves.proofs.plain.plain_value.Statement.{statement}
 use Rattle.leaves.proofs.plain.plain_value.Tie as tie
-use Rattle.leaves.proofs.plain.reference.Reads as reference-reads
-use Rattle.leaves.proofs.read.level_at.Reads as level-at-reads
-use Rattle.table.proofs.leaf.Reads as leaf-reads
-use Rattle.text.proofs.char_at.Reads as char-at-reads
-use Rattle.values.proofs.fixed_at.Reads as fixed-at-reads
 
 enum-known-slot : tie.Need-enum-known-slot
 enum-known-slot c = search needs

@@ -3,7 +3,6 @@ use Rattle.leaves.specs.Plain.{kept, value-deep, value-full, value-there
 use borrow.Author.Needs.{needs}
 use Rattle.leaves.proofs.plain.read_plain.Statement.{statement}
 use Rattle.leaves.proofs.plain.read_plain.Tie as tie
-use Rattle.leaves.proofs.plain.plain_value.Reads as plain-value-reads
 
 returns : tie.Need-returns
 returns c =

@@ -10,9 +10,6 @@ use Rattle.leaves.specs.Plain.{reference-refused, reference-beyond, refe
 use borrow.Author.Needs.{needs}
 use Rattle.leaves.proofs.plain.reference.Statement.{statement}
 use Rattle.leaves.proofs.plain.reference.Tie as tie
-use Rattle.leaves.proofs.plain.beyond.Reads as beyond-reads
-use Rattle.numbers.proofs.seven.seven_at.Reads as seven-at-reads
-use Rattle.table.proofs.leaf.Reads as leaf-reads
 
 -- the resource id was read
 number : (c : tie.After-known-told2)

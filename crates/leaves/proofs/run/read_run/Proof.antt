@@ -1,4 +1,4 @@
-use mathlib.Core.Path.{_≡_, refl, sym, ap, _∙_}
+use mathlib.Core.Path.{_≡_, refl, sym, _∙_}
 use Prim.Native.Nat.{_-_}
 use native.Mathlib.Omega.{arith}
 use borrow.Author.Needs.{needs}
@@ -6,9 +6,6 @@ use lib.ListN.{length}
 use Rattle.leaves.specs.Run.{runSlots, runFrom, runOf, run-turn, run-end}
 use Rattle.leaves.proofs.run.read_run.Statement.{statement}
 use Rattle.leaves.proofs.run.read_run.Tie as tie
-use Rattle.leaves.proofs.plain.read_plain.Reads as read-plain-reads
-use Rattle.leaves.proofs.run.turn.Reads as turn-reads
-use Rattle.leaves.proofs.run.turns.Reads as turns-reads
 
 abbrev Inv-loop : tie.InvT-loop
 Inv-loop file words₀ room shared run at used depth parent n next₀ row₀ i₀ words next row i =

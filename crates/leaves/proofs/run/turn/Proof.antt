@@ -4,7 +4,6 @@ use Rattle.leaves.specs.Run.{turnOf, length-levels}
 use borrow.Author.Needs.{needs}
 use Rattle.leaves.proofs.run.turn.Statement.{statement}
 use Rattle.leaves.proofs.run.turn.Tie as tie
-use Rattle.images.proofs.level_size.Reads as level-size-reads
 
 enum-known-run : tie.Need-enum-known-run
 enum-known-run c = search needs

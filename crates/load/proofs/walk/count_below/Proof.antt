@@ -1,12 +1,8 @@
-use mathlib.Core.Path.{_≡_, refl, sym, ap, _∙_}
+use mathlib.Core.Path.{sym, ap, _∙_}
 use lib.ListN.{length}
 use borrow.Author.Needs.{needs}
 use Rattle.load.proofs.walk.count_below.Statement.{statement}
 use Rattle.load.proofs.walk.count_below.Tie as tie
-use Rattle.load.proofs.walk.count_below.Reads as reads
-use Rattle.load.proofs.walk.count_below.Lts as lts
-use Rattle.heads.proofs.nest.count.Reads as count-reads
-use Rattle.leaves.proofs.run.turns.Reads as turns-reads
 
 enum-told : tie.Need-enum-told
 enum-told c = search needs

@@ -2,10 +2,6 @@ use mathlib.Core.Path.{refl, sym, _∙_}
 use borrow.Author.Needs.{needs}
 use Rattle.objects.proofs.close.close.Statement.{statement}
 use Rattle.objects.proofs.close.close.Tie as tie
-use Rattle.objects.proofs.close.keeps_rule.Reads as keeps-rule-reads
-use Rattle.table.proofs.put_row.Reads as put-row-reads
-use Rattle.table.proofs.span.Reads as span-reads
-use Rattle.table.proofs.word.Reads as word-reads
 
 enum-known-walked : tie.Need-enum-known-walked
 enum-known-walked c = search needs

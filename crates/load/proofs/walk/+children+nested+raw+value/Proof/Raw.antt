@@ -1,24 +1,11 @@
 use borrow.Author.Needs.{needs}
-use mathlib.Core.Path.{_≡_, refl, sym, ap, subst, _∙_}
-use mathlib.Core.List.{List, []}
-use Prim.Native.Nat.{ℕ, suc, _+_, _*_, _-_, _≤_, _<_, _^_}
+use mathlib.Core.Path.{_∙_}
+use Prim.Native.Nat.{ℕ}
 use native.Mathlib.Omega.{arith}
-use lib.ListN.{length}
-use Rattle.layout.specs.Target.{Target}
-use Rattle.layout.specs.Slot as L
-use Rattle.layout.specs.Slot.{each}
-use Rattle.layout.specs.Rows.{nothing}
 use Rattle.reading.specs.Reads.{small-by-index}
 use Rattle.reading.specs.Heads.{headAt}
-use Rattle.reading.specs.Walk.{walk, sequence}
-use Rattle.reading.specs.Bounds.{walk-bounds}
-use Rattle.table.specs.Contract.{seen, Walked}
-use Rattle.table.specs.Written.{written-none}
-use Rattle.table.specs.Loop.{Reading, start, same, turn, stop, give-up, got, lost, refusing, reading}
+use Rattle.table.specs.Loop.{start}
 use Rattle.types.specs.Laws.{kind-is}
-use Rattle.leaves.specs.Run.{begin-on}
-use Rattle.readers.specs.Listed.{Listed}
-use Rattle.heads.specs.Nests.{NestIs}
 use Rattle.objects.specs.Close.{raw-refused, raw-closed}
 use Rattle.load.specs.Walks.{opened-as, refused-as, begin-below, close-ready, after-row}
 use Rattle.load.proofs.walk.children.Reads as children
