@@ -14,14 +14,14 @@ use Rattle.layout.specs.Slot.{Slot, raw, object, reference, leaf, Plan, stop, p
 use Rattle.layout.specs.Head.{Head}
 use Rattle.layout.specs.Layout.{Raw, Value, Lays}
 use Rattle.layout.specs.Resource.{Within}
-use Rattle.layout.specs.Rows.{row, nothing, resource, rawRows, valueRows, rowsOf}
+use Rattle.layout.specs.Rows.{Row, row, nothing, resource, rawRows, valueRows, rowsOf}
 use Rattle.reading.specs.Answer.{read, Ok, not-read, is-read, ok-bind, ok-check, ok-weaken}
 use Rattle.reading.specs.Reads.{Small, Spans}
 use Rattle.reading.specs.Seven.{seven-reads}
 use Rattle.reading.specs.Rules.{Found, missing, found, reader, reader-sound, serves, serves-sound}
 use Rattle.reading.specs.Font.{fontOk, font-sound, font-characters, Characters}
 use Rattle.reading.specs.Heads.{head-reads, leaf-reads}
-use Rattle.reading.specs.Walk.{Taken, Outcome, ownOf, before, point, point-is, sequence, rawAt, byReader, objectAt, valueAt, walk}
+use Rattle.reading.specs.Walk.{Taken, Outcome, done, ownOf, before, point, point-is, sequence, rawAt, byReader, objectAt, valueAt, walk}
 
 -- a font's plan is that of its eight fields
 font-plan : (t : Target) (own : List ℕ) (plan : Plan) (bs : List ℕ) → Head t own plan bs → t ≡ spriteFont → plan ≡ each fontSlots
@@ -179,27 +179,39 @@ module _ (file : List ℕ) (readers : List Target) (shared room : ℕ) (small : 
           room-left = v .room-left;
         }))
 
+    -- a value without children, by its bytes; `z` is its row by its length
+    childless : (x : Slot) (kind id : ℕ) (own bytes : List ℕ) (at next parent : ℕ) (z : ℕ → Row)
+        (laid : Value readers (Within shared) (λ plan b. Lays readers (Within shared) plan none b) x kind id own none bytes)
+        → drop at file ≡ bytes ++ drop next file → next ≡ at + length bytes
+        → z (length bytes) ∷ [] ≡ valueRows readers (Within shared) (λ plan b. Lays readers (Within shared) plan none b)
+            (λ plan b v a n p. rowsOf readers (Within shared) plan none b v a n p) x kind id own none bytes laid at used parent
+        → Ok (ReadValue (suc d) x at used parent) (done next (suc used) (z (next - at) ∷ []) (tree kind id own none none))
+    unfolding size depth
+    childless x kind id own bytes at next parent z laid there end rows =
+        let m : next - at ≡ length bytes = omega arith in
+        let n : suc used ≡ used + suc 0 = omega arith in
+        is-read {a = (suc used, z (next - at) ∷ [], tree kind id own none none)} (record {
+          kind = kind;
+          id = id;
+          own = own;
+          children = none;
+          bytes = bytes;
+          laid = laid;
+          tree-is = refl;
+          there = there;
+          end = end;
+          used-is = n;
+          rows-are = rw m rows;
+          deep = omega arith;
+          room-left = free;
+        })
+
     id-value : (t : Target) (id at next parent : ℕ) → Spans file Seven at id next
         → Ok (ReadValue (suc d) (object t) at used parent) (objectAt file readers shared room below t id at next used parent)
     unfolding objectAt Value valueRows size depth
     id-value t zero at next parent q =
-        let m : next - at ≡ length (q .0) = omega arith in
-        let n : suc used ≡ used + suc 0 = omega arith in
-        is-read {a = (suc used, row 0 at (next - at) 0 parent 0 nothing ∷ [], tree 0 0 [] none none)} (record {
-          kind = 0;
-          id = 0;
-          own = [];
-          children = none;
-          bytes = q .0;
-          laid = inl (record { kind-of = refl; id-of = refl; empty = refl; childless = refl; number = q .1 });
-          tree-is = refl;
-          there = q .2;
-          end = q .3;
-          used-is = n;
-          rows-are = rw m;
-          deep = omega arith;
-          room-left = free;
-        })
+        childless (object t) 0 0 [] (q .0) at next parent (λ z. row 0 at z 0 parent 0 nothing)
+        (inl (record { kind-of = refl; id-of = refl; empty = refl; childless = refl; number = q .1 })) (q .2) (q .3) refl
     id-value t (suc i) at next parent q = reader-value t i at next parent q (reader readers (suc i)) refl
 
     value-sound : (x : Slot) (at parent : ℕ) → Ok (ReadValue (suc d) x at used parent) (valueAt file readers shared room below x at used parent)
@@ -227,42 +239,11 @@ module _ (file : List ℕ) (readers : List Target) (shared room : ℕ) (small : 
     value-sound (reference t) at parent =
         ok-bind (seven-reads file .sound small at)
         (λ id next q. ok-check (leb id shared) 16 at _
-        (λ b. let m : next - at ≡ length (q .0) = omega arith in
-        let n : suc used ≡ used + suc 0 = omega arith in
-        is-read {a = (suc used, row 36 at (next - at) 0 parent id (resource (kindOf t)) ∷ [], tree 36 id [] none none)} (record {
-          kind = 36;
-          id = id;
-          own = [];
-          children = none;
-          bytes = q .0;
-          laid = record { kind-of = refl; empty = refl; childless = refl; named = leb-true id shared b; number = q .1 };
-          tree-is = refl;
-          there = q .2;
-          end = q .3;
-          used-is = n;
-          rows-are = rw m;
-          deep = omega arith;
-          room-left = free;
-        })))
+        (λ b. childless (reference t) 36 id [] (q .0) at next parent (λ z. row 36 at z 0 parent id (resource (kindOf t)))
+        (record { kind-of = refl; empty = refl; childless = refl; named = leb-true id shared b; number = q .1 }) (q .2) (q .3) refl))
     value-sound (leaf x) at parent =
         ok-bind (leaf-reads file x .sound small at)
-        (λ own next q. let m : next - at ≡ length (q .0) = omega arith in
-        let n : suc used ≡ used + suc 0 = omega arith in
-        is-read {a = (suc used, row 35 at (next - at) 0 parent 0 nothing ∷ [], tree 35 0 own none none)} (record {
-          kind = 35;
-          id = 0;
-          own = own;
-          children = none;
-          bytes = q .0;
-          laid = (refl, refl, q .1);
-          tree-is = refl;
-          there = q .2;
-          end = q .3;
-          used-is = n;
-          rows-are = rw m;
-          deep = omega arith;
-          room-left = free;
-        }))
+        (λ own next q. childless (leaf x) 35 0 own (q .0) at next parent (λ z. row 35 at z 0 parent 0 nothing) (refl, refl, q .1) (q .2) (q .3) refl)
 
   pub walk-sound : (d : ℕ) (x : Slot) (at used parent : ℕ) → Ok (ReadValue d x at used parent) (walk file readers shared room d x at used parent)
   unfolding walk
