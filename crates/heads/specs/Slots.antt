@@ -66,22 +66,27 @@ fixed-sized k f =
     let t : sizedIf (fixedKind k) k ≡ true = at-each 64 (λ n. sizedIf (fixedKind n) n) refl k small in
     ltb-true 0 (getD sizes k 0) (rw f at t)
 
+-- by the kind of a lawful type: a character
+pub raw-char : (t : Target) → LawfulTarget t → kindOf t ≡ 12 → t ≡ char
+unfolding Throughout kindOf fixedKind between
+raw-char (fixed k) l e = absurd (let q : _≡_ {A = Bool} false true = rw e at l in let z : _≡_ {A = ℕ} 0 1 = cc in omega arith)
+raw-char char l e = refl
+raw-char string l e = absurd (omega arith)
+raw-char anything l e = absurd (omega arith)
+raw-char (enum name) l e = absurd (omega arith)
+raw-char (nullable t) l e = absurd (omega arith)
+raw-char (array t) l e = absurd (omega arith)
+raw-char (list t) l e = absurd (omega arith)
+raw-char (dictionary k v) l e = absurd (omega arith)
+raw-char texture l e = absurd (omega arith)
+raw-char texture2D l e = absurd (omega arith)
+raw-char spriteFont l e = absurd (omega arith)
+raw-char page l e = absurd (omega arith)
+
 -- by the kind of a lawful type without enums, how it stands as an element or a field
 pub char-slot : (t : Target) → LawfulTarget t → kindOf t ≡ 12 → slotOf t ≡ raw char
-unfolding Throughout kindOf slotOf rawOrObject isValue fixedKind between
-char-slot (fixed k) l e = absurd (let q : _≡_ {A = Bool} false true = rw e at l in let z : _≡_ {A = ℕ} 0 1 = cc in omega arith)
-char-slot char l e = refl
-char-slot string l e = absurd (omega arith)
-char-slot anything l e = absurd (omega arith)
-char-slot (enum name) l e = absurd (omega arith)
-char-slot (nullable t) l e = absurd (omega arith)
-char-slot (array t) l e = absurd (omega arith)
-char-slot (list t) l e = absurd (omega arith)
-char-slot (dictionary k v) l e = absurd (omega arith)
-char-slot texture l e = absurd (omega arith)
-char-slot texture2D l e = absurd (omega arith)
-char-slot spriteFont l e = absurd (omega arith)
-char-slot page l e = absurd (omega arith)
+unfolding slotOf rawOrObject isValue
+char-slot t l e = rw (raw-char t l e)
 
 pub nullable-slot : {codes : List ℕ} {a : ℕ} (t : Target) → Stands codes a t → NoEnum t → kindOf t ≡ 16 → RawIs codes a (slotOf t)
 unfolding Throughout kindOf slotOf rawOrObject isValue fixedKind between
@@ -130,23 +135,6 @@ fixed-slot texture n c o e = absurd (e refl)
 fixed-slot texture2D n c o e = absurd (e refl)
 fixed-slot spriteFont n c o e = absurd (e refl)
 fixed-slot page n c o e = absurd (e refl)
-
--- a raw value of a type: a character, a value of fixed size, or another
-pub raw-char : (t : Target) → LawfulTarget t → kindOf t ≡ 12 → t ≡ char
-unfolding Throughout kindOf fixedKind between
-raw-char (fixed k) l e = absurd (let q : _≡_ {A = Bool} false true = rw e at l in let z : _≡_ {A = ℕ} 0 1 = cc in omega arith)
-raw-char char l e = refl
-raw-char string l e = absurd (omega arith)
-raw-char anything l e = absurd (omega arith)
-raw-char (enum name) l e = absurd (omega arith)
-raw-char (nullable t) l e = absurd (omega arith)
-raw-char (array t) l e = absurd (omega arith)
-raw-char (list t) l e = absurd (omega arith)
-raw-char (dictionary k v) l e = absurd (omega arith)
-raw-char texture l e = absurd (omega arith)
-raw-char texture2D l e = absurd (omega arith)
-raw-char spriteFont l e = absurd (omega arith)
-raw-char page l e = absurd (omega arith)
 
 pub raw-fixed : (t : Target) → NoEnum t → (getD sizes (kindOf t) 0 ≡ 0 → ⊥) → t ≡ fixed (kindOf t)
 unfolding Throughout kindOf sizes
