@@ -3,6 +3,7 @@ use mathlib.Core.Path.{_≡_, refl, sym, ap, _∙_}
 use mathlib.Core.List.{List, [], _∷_, _++_}
 use mathlib.Core.Logic.{_↔_}
 use Prim.Native.Nat.{ℕ, _*_, _-_, _≤_}
+use native.Mathlib.Omega.{arith}
 use lib.ListN.{length, replicate}
 use Rattle.layout.specs.Target.{Target}
 use Rattle.layout.specs.Tree.{Trees, count}
@@ -12,10 +13,11 @@ use Rattle.layout.specs.Resource.{Within}
 use Rattle.layout.specs.Rows.{flat}
 use Rattle.layout.specs.File.{FileTree, sharedOf, FileLays, fileRows}
 use Rattle.reading.specs.Reads.{Small}
-use Rattle.reading.specs.File.{refusal, loadOf, tableOf}
+use Rattle.reading.specs.File.{Load, refusal, accepted, loadOf, tableOf}
+use Rattle.reading.specs.Refusals.{refusal-number, refusal-place}
 use Rattle.reading.specs.Theorems as T
 use Rattle.reading.specs.Theorems.{Accepts, Fitting, rowsIn}
-use Rattle.readers.specs.Judged.{named, judgedName, judges}
+use Rattle.readers.specs.Judged.{named, judgedName, judges, ten-or-eleven}
 use Rattle.load.specs.declared.Loading.{Loading}
 use Rattle.load.specs.declared.Loading.the-variants.{Refused, Loaded}
 use Rattle.load.specs.Loads.{answerOf}
@@ -62,3 +64,15 @@ module _ {file entry exit : List ℕ} {r : Loading} (p : Promised file entry exi
   not-loaded small none =
       let w = T.refuses named judgedName judges file (length entry) small none in
       (w .0, w .1, p .answers ∙ ap answerOf (w .2), p .leaves ∙ w .3)
+
+  -- a refusal's number is one of 01's for a load, and its place is in the file
+  pub refused-inside : {number place : ℕ} → r ≡ Refused number place → (1 ≤ number) × (number ≤ 22) × (place ≤ length file)
+  refused-inside {number} {place} e = go (loadOf judgedName file (length entry)) refl (sym e ∙ p .answers) where
+    go : (x : Load) → loadOf judgedName file (length entry) ≡ x → Refused number place ≡ answerOf x → (1 ≤ number) × (number ≤ 22) × (place ≤ length file)
+    go (refusal m q) f e =
+        let a = refusal-number judgedName ten-or-eleven file (length entry) m q f in
+        let b = refusal-place judgedName ten-or-eleven file (length entry) m q f in
+        let e₁ : number ≡ m = cc in
+        let e₂ : place ≡ q = cc in
+        (omega (arith, a .0), omega (arith, a .1), omega (arith, b .0))
+    go (accepted rows readers shared) f e = absurd (let z : _≡_ {A = ℕ} 0 1 = cc in omega arith)
