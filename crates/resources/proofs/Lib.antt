@@ -1,3 +1,4 @@
 pub mod Padded
 pub mod OneRow
 pub mod Passed
+pub mod Turns

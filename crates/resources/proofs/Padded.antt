@@ -1,28 +1,35 @@
 -- The kinds of the rows that have no parent, as they are put into an array and looked up. Assumes nothing.
-use mathlib.Core.Path.{_≡_, refl, sym}
+use mathlib.Core.Path.{_≡_, refl, sym, ap, _∙_}
 use mathlib.Core.List.{List, [], _∷_, _++_, append-nil, append-assoc}
-use Prim.Native.Nat.{ℕ, zero, suc, _+_, _-_, _≤_, _<_}
+use Prim.Native.Nat.{ℕ, zero, suc, _+_, _*_, _-_, _≤_, _<_}
 use native.Mathlib.Omega.{arith}
-use lib.ListN.{length, getD, drop, set, replicate, length-append}
-use lib.Seq.{set-at, getD-drop}
-use Rattle.layout.specs.Rows.{Wants, nothing, resource, Row, row}
+use lib.ListN.{length, getD, take, drop, set, replicate, length-append, length-take}
+use lib.Seq.{set-at, getD-drop, take-all, take-append-le}
+use Rattle.layout.specs.Rows.{Wants, nothing, resource}
 use Rattle.reading.specs.File.{rootKind}
 use Rattle.reading.specs.Resource.{suits}
-use Rattle.resources.specs.Settled.{settledOf}
+use Rattle.resources.specs.declared.Settled.{Settled}
+use Rattle.resources.specs.declared.Settled.the-variants.{Fine, Wrong}
 use Rattle.resources.specs.Roots.{padded, Holds}
+use Rattle.resources.specs.Total.{rootsFrom, rootsOf, rowSettled, onward, rowsSettled}
 
-pub none-found : Holds (replicate 257 0) 0 []
+none-found : Holds (replicate 257 0) 0 []
 unfolding padded
 none-found = record { array-is = refl; count = refl }
 
 -- a row with a parent adds no kind
-pub no-root : {array found : List ℕ} {n : ℕ} (parent kind : ℕ) → (parent ≡ 0 → ⊥) → Holds array n found → Holds array n (found ++ rootKind parent kind [])
+pub no-root : {array found : List ℕ} {n : ℕ} (parent kind : ℕ) → (parent ≡ 0 → ⊥) → Holds array n found → length found ≤ 257 → Holds array n (take 257 (found ++ rootKind parent kind []))
 unfolding rootKind
-no-root zero kind h f = absurd (h refl)
-no-root (suc parent) kind h f = rw append-nil f
+no-root zero kind h f few = absurd (h refl)
+no-root {found = found} (suc parent) kind h f few = rw (append-nil, take-all 257 found few) f
+
+-- no row adds a kind where there is no room
+pub no-room : {array found : List ℕ} {n : ℕ} (more : List ℕ) → 257 ≤ n → Holds array n found → length found ≤ 257 → Holds array n (take 257 (found ++ more))
+no-room {found = found} more h f few =
+    rw (take-append-le 257 found more (omega (arith, f .count)), take-all 257 found few) f
 
 -- a row without a parent adds its kind
-pub one-root : {array found : List ℕ} {n : ℕ} (parent kind : ℕ) → parent ≡ 0 → n < 257 → Holds array n found → Holds (set array n kind) (n + 1) (found ++ rootKind parent kind [])
+pub one-root : {array found : List ℕ} {n : ℕ} (parent kind : ℕ) → parent ≡ 0 → n < 257 → Holds array n found → Holds (set array n kind) (n + 1) (take 257 (found ++ rootKind parent kind []))
 unfolding rootKind padded
 one-root {array} {found} {n} parent kind p h f =
     let l : length (found ++ (kind ∷ [])) ≡ length found + 1 = length-append found (kind ∷ []) in
@@ -30,14 +37,55 @@ one-root {array} {found} {n} parent kind p h f =
     let e : 257 - length found ≡ suc (256 - length found) = omega arith in
     let g : 257 - length (found ++ (kind ∷ [])) ≡ 256 - length found = omega arith in
     let s : set (found ++ (0 ∷ replicate (256 - length found) 0)) n kind ≡ found ++ (kind ∷ replicate (256 - length found) 0) = set-at found 0 (replicate (256 - length found) 0) kind n (sym c) in
-    rw p (record { array-is = rw (f .array-is, e, s, g) (sym (append-assoc found (kind ∷ []) (replicate (256 - length found) 0))); count = omega arith })
+    let t : take 257 (found ++ (kind ∷ [])) ≡ found ++ (kind ∷ []) = take-all 257 (found ++ (kind ∷ [])) (omega arith) in
+    rw (p, t) (record { array-is = rw (f .array-is, e, s, g) (sym (append-assoc found (kind ∷ []) (replicate (256 - length found) 0))); count = omega arith })
 
--- and there is room for it
-pub room : {array found : List ℕ} {n : ℕ} (parent kind : ℕ) → parent ≡ 0 → Holds array n found → length (found ++ rootKind parent kind []) ≤ 257 → n < 257
+take-first : (n : ℕ) (a b : List ℕ) → take n (take n a ++ b) ≡ take n (a ++ b)
+take-first zero a b = refl
+take-first (suc n) [] b = refl
+take-first (suc n) (x ∷ a) b = ap (λ (l : List ℕ). x ∷ l) (take-first n a b)
+
+root-append : (parent kind : ℕ) (more : List ℕ) → rootKind parent kind more ≡ rootKind parent kind [] ++ more
 unfolding rootKind
-room {found = found} parent kind p f h =
-    let h′ : length (found ++ (kind ∷ [])) ≤ 257 = rw p at h in
-    omega (arith, length-append found (kind ∷ []), f .count)
+root-append zero kind more = refl
+root-append (suc parent) kind more = refl
+
+-- the first i rows were looked at: the array holds kinds, and those of the rows from i on stand behind them
+pub record Found (w : List ℕ) (used : ℕ) (array : List ℕ) (n i : ℕ) : Type 0 where
+  found : List ℕ
+  holds : Holds array n found
+  few : length found ≤ 257
+  all : take 257 (found ++ rootsFrom w (used - i) i) ≡ rootsOf w used
+
+pub found-none : (w : List ℕ) (used : ℕ) → Found w used (replicate 257 0) 0 0
+found-none w used =
+    let z : used - 0 ≡ used = omega arith in
+    record { found = []; holds = none-found; few = omega arith; all = rw z }
+
+-- one more row was looked at, and its kind was put behind the others if it has no parent
+pub found-more : {w array exit : List ℕ} {used n m : ℕ} (i : ℕ) {at kind parent : ℕ} → i < used → at ≡ 6 * i → kind ≡ getD w at 0 → parent ≡ getD w (at + 4) 0 → Found w used array n i
+    → ((found : List ℕ) → Holds array n found → length found ≤ 257 → Holds exit m (take 257 (found ++ rootKind parent kind [])))
+    → Found w used exit m (i + 1)
+unfolding rootsFrom
+found-more {w} {array} {exit} {used} {n} {m} i {at} {kind} {parent} h a k p f g =
+    let z : used - i ≡ suc (used - (i + 1)) = omega arith in
+    let more = rootsFrom w (used - (i + 1)) (i + 1) in
+    let e : rootsFrom w (used - i) i ≡ rootKind parent kind [] ++ more = rw (z, p, k, a) (root-append (getD w (6 * i + 4) 0) (getD w (6 * i) 0) more) in
+    let all : take 257 (f .found ++ (rootKind parent kind [] ++ more)) ≡ rootsOf w used = rw e at (f .all) in
+    record {
+      found = take 257 (f .found ++ rootKind parent kind []);
+      holds = g (f .found) (f .holds) (f .few);
+      few = omega (arith, length-take 257 (f .found ++ rootKind parent kind []));
+      all = take-first 257 (f .found ++ rootKind parent kind []) more ∙ ap (take 257) (append-assoc (f .found) (rootKind parent kind []) more) ∙ all;
+    }
+
+pub found-all : {w array : List ℕ} {used n : ℕ} (i : ℕ) → used ≤ i → Found w used array n i → array ≡ padded (rootsOf w used)
+unfolding rootsFrom
+found-all {w} {used = used} i h f =
+    let z : used - i ≡ 0 = omega arith in
+    let all : take 257 (f .found ++ []) ≡ rootsOf w used = rw z at (f .all) in
+    let e : f .found ≡ rootsOf w used = sym (take-all 257 (f .found) (f .few)) ∙ ap (take 257) (sym (append-nil (f .found))) ∙ all in
+    f .holds .array-is ∙ ap padded e
 
 zeros : (n i : ℕ) → _≡_ {A = ℕ} (getD (replicate n 0) i 0) 0
 zeros zero i = refl
@@ -56,8 +104,16 @@ padded-suits kinds (resource wanted) zero = refl
 padded-suits kinds (resource wanted) (suc i) =
     rw (getD-drop 1 (kinds ++ replicate (257 - length kinds) 0) i 0, getD-drop 1 kinds i 0, padded-at kinds (257 - length kinds) (1 + i))
 
+padded-row : (kinds w : List ℕ) (i : ℕ) → rowSettled (drop 1 (padded kinds)) w i ≡ rowSettled (drop 1 kinds) w i
+unfolding rowSettled
+padded-row kinds w i = rw (padded-suits kinds (resource (getD w (6 * i + 3) 0)) (getD w (6 * i + 5) 0))
+
+same-onward : (o : Settled) (w : List ℕ) (f g : List ℕ → Settled × List ℕ) → ((v : List ℕ) → f v ≡ g v) → onward o w f ≡ onward o w g
+same-onward Fine w f g e = e w
+same-onward (Wrong first) w f g e = refl
+
 -- the zeros behind the kinds change nothing
-pub padded-settled : (kinds : List ℕ) (rows : List Row) → settledOf (drop 1 (padded kinds)) rows ≡ settledOf (drop 1 kinds) rows
-unfolding settledOf
-padded-settled kinds [] = refl
-padded-settled kinds (row kind first z children parent id wants ∷ rows) = rw (padded-suits kinds wants id, padded-settled kinds rows)
+pub padded-rows : (kinds : List ℕ) (left i : ℕ) (w : List ℕ) → rowsSettled (drop 1 (padded kinds)) left i w ≡ rowsSettled (drop 1 kinds) left i w
+unfolding rowsSettled
+padded-rows kinds zero i w = refl
+padded-rows kinds (suc left) i w = rw (padded-row kinds w i) (same-onward (rowSettled (drop 1 kinds) w i .0) (rowSettled (drop 1 kinds) w i .1) _ _ (λ v. padded-rows kinds left (i + 1) v))

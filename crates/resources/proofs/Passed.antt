@@ -5,18 +5,19 @@ use mathlib.Core.List.{List, [], _∷_, _++_, append-nil, append-assoc}
 use Prim.Native.Nat.{ℕ, zero, suc, _+_, _*_, _≤_, _<_}
 use native.Mathlib.Omega.{arith}
 use native.Mathlib.Numerals.{add-one}
-use lib.ListN.{length, getD, take, drop, length-append, take-append-drop, drop-of-length-le}
+use lib.ListN.{length, getD, take, drop, take-append-drop, drop-of-length-le}
 use lib.Seq.{drop-cons, take-suc, take-all, length-take-le}
 use Rattle.layout.specs.Rows.{nothing, Row, row, words, flat}
 use Rattle.reading.specs.Resource.{suits}
-use Rattle.reading.specs.File.{rootKind, rootKinds}
-use Rattle.reading.specs.References.{roots-append, length-flat}
+use Rattle.reading.specs.File.{rootKinds}
+use Rattle.reading.specs.References.{length-flat}
 use Rattle.table.specs.Written.{draft, drafts, drafts-append, length-drafts}
+use Rattle.resources.specs.declared.Settled.{Settled}
 use Rattle.resources.specs.declared.Settled.the-variants.{Fine, Wrong}
 use Rattle.resources.specs.Marked.{Marked}
 use Rattle.resources.specs.Settled.{orWrong, settledOf, Settles, Drafted}
-use Rattle.resources.specs.Roots.{Holds}
-use Rattle.resources.proofs.OneRow.{Stands, root-word}
+use Rattle.resources.specs.Total.{rootsFrom, rootsOf, rowSettled, onward, rowsSettled, settleOf}
+use Rattle.resources.proofs.OneRow.{Stands, root-word, row-settles}
 
 abbrev pub rowAt : List Row → ℕ → Row
 rowAt rows i = getD rows i (row 0 0 0 0 0 0 nothing)
@@ -76,26 +77,19 @@ module _ (rows : List Row) (rest : List ℕ) where
   unfolding drafts
   passed-all i h = rw (take-all i rows h, drop-of-length-le rows {i = i} h)
 
--- the kinds of the roots among one more row
-roots-more : (rows : List Row) (rest : List ℕ) {w : List ℕ} (i : ℕ) → i < length rows → w ≡ drafts rows ++ rest
-    → rootKinds (take i rows) ++ rootKind (getD w (6 * i + 4) 0) (getD w (6 * i) 0) [] ≡ rootKinds (take (i + 1) rows)
-roots-more rows rest i h e =
-    rw (root-word (stands-draft rows rest i h e), add-one, take-suc rows i (row 0 0 0 0 0 0 nothing) h) (sym (roots-append (take i rows) (rowAt rows i ∷ [])))
+next-row : (rows : List Row) (i : ℕ) → i < length rows → drop i rows ≡ rowAt rows i ∷ drop (i + 1) rows
+next-row rows i h = rw add-one (drop-cons rows i (row 0 0 0 0 0 0 nothing) h)
 
--- are no more than those of all rows
-roots-few : (rows : List Row) (i n : ℕ) → length (rootKinds rows) ≤ n → length (rootKinds (take i rows)) ≤ n
-roots-few rows i n h =
-    let e : rootKinds rows ≡ rootKinds (take i rows) ++ rootKinds (drop i rows) = ap rootKinds (sym (take-append-drop i rows)) ∙ roots-append (take i rows) (drop i rows) in
-    omega (arith, ap length e ∙ length-append (rootKinds (take i rows)) (rootKinds (drop i rows)))
+-- the kinds of the roots among the rows from i on
+roots-from : (rows : List Row) (rest : List ℕ) {w : List ℕ} (left i : ℕ) → left + i ≡ length rows → w ≡ drafts rows ++ rest → rootsFrom w left i ≡ rootKinds (drop i rows)
+unfolding rootsFrom rootKinds
+roots-from rows rest zero i l e = rw (drop-of-length-le rows {i = i} (omega arith))
+roots-from rows rest (suc left) i l e =
+    rw (roots-from rows rest left (i + 1) (omega arith) e, next-row rows i (omega arith)) (root-word (drop (i + 1) rows) (stands-draft rows rest i (omega arith) e))
 
--- one more row was looked at, and its kind was put behind the others if it has no parent
-pub found-more : {w rest array exit : List ℕ} {used n m : ℕ} {rows : List Row} (i : ℕ) {at kind parent : ℕ} → Drafted w used rows rest → i < used
-    → at ≡ 6 * i → kind ≡ getD w at 0 → parent ≡ getD w (at + 4) 0 → Holds array n (rootKinds (take i rows))
-    → ((found : List ℕ) → Holds array n found → length (found ++ rootKind parent kind []) ≤ 257 → Holds exit m (found ++ rootKind parent kind []))
-    → Holds exit m (rootKinds (take (i + 1) rows))
-found-more {w} {rest} {array} {exit} {used} {n} {m} {rows} i {at} {kind} {parent} d h a k p f g =
-    let e : rootKinds (take i rows) ++ rootKind parent kind [] ≡ rootKinds (take (i + 1) rows) = rw (p, k, a) (roots-more rows rest i (omega (arith, d .count)) (d .stand)) in
-    rw e at (g (rootKinds (take i rows)) f (rw e (roots-few rows (i + 1) 257 (d .few))))
+-- there is room for those of all rows
+pub roots-drafted : {w rest : List ℕ} {used : ℕ} {rows : List Row} → Drafted w used rows rest → rootsOf w used ≡ rootKinds rows
+roots-drafted {w} {rest} {used} {rows} d = rw (roots-from rows rest {w = w} used 0 (omega (arith, d .count)) (d .stand)) (take-all 257 (rootKinds rows) (d .few))
 
 -- the answer for the rows from i on, by the answer for row i
 module _ (shared : List ℕ) where
@@ -114,33 +108,54 @@ module _ (shared : List ℕ) where
     go false q = q
 
   -- the first i rows are judged and cleared, and the rest gives the answer
-  pub record Passed (rows : List Row) (rest w : List ℕ) (i : ℕ) : Type 0 where
-    pub words-are : w ≡ passed rows rest i
-    pub answer : settledOf shared rows ≡ settledOf shared (drop i rows)
+  record Passed (rows : List Row) (rest w : List ℕ) (i : ℕ) : Type 0 where
+    words-are : w ≡ passed rows rest i
+    answer : settledOf shared rows ≡ settledOf shared (drop i rows)
 
-  pub start : {rows : List Row} {rest w : List ℕ} → w ≡ drafts rows ++ rest → Passed rows rest w 0
+  start : {rows : List Row} {rest w : List ℕ} → w ≡ drafts rows ++ rest → Passed rows rest w 0
   start {rows} {rest} e = record { words-are = e ∙ passed-none rows rest; answer = refl }
 
-  next-row : (rows : List Row) (i : ℕ) → i < length rows → drop i rows ≡ rowAt rows i ∷ drop (i + 1) rows
-  next-row rows i h = rw add-one (drop-cons rows i (row 0 0 0 0 0 0 nothing) h)
-
-  pub turn : {rows : List Row} {rest w exit : List ℕ} (i : ℕ) → i < length rows → Passed rows rest w i
+  turn : {rows : List Row} {rest w exit : List ℕ} (i : ℕ) → i < length rows → Passed rows rest w i
       → Settles shared (rowAt rows i ∷ []) exit (flat (take i rows) ++ (words (rowAt rows i) ++ behind rows rest i)) Fine → Passed rows rest exit (i + 1)
   turn {rows} {rest} i h p s = record {
     words-are = s .leaves ∙ passed-more rows rest i h;
     answer = p .answer ∙ rw (next-row rows i h) (fine-first (rowAt rows i) (drop (i + 1) rows) (s .answers));
   }
 
-  pub give-up : {rows : List Row} {rest w exit cleared cleared′ : List ℕ} (i first : ℕ) → i < length rows → Passed rows rest w i
+  give-up : {rows : List Row} {rest w exit cleared cleared′ : List ℕ} (i first : ℕ) → i < length rows → Passed rows rest w i
       → Settles shared (rowAt rows i ∷ []) exit cleared (Wrong first) → Settles shared rows exit cleared′ (Wrong first)
   give-up {rows} i first h p s = record {
     answers = rw (p .answer, next-row rows i h) (wrong-first (rowAt rows i) (drop (i + 1) rows) first (s .answers));
     leaves = refl;
   }
 
-  pub stop : {rows : List Row} {rest w : List ℕ} (i : ℕ) → length rows ≤ i → Passed rows rest w i → Settles shared rows w (flat rows ++ rest) Fine
+  stop : {rows : List Row} {rest w : List ℕ} (i : ℕ) → length rows ≤ i → Passed rows rest w i → Settles shared rows w (flat rows ++ rest) Fine
   unfolding settledOf
   stop {rows} {rest} i h p = record {
     answers = rw (p .answer, drop-of-length-le rows {i = i} h);
     leaves = p .words-are ∙ passed-all rows rest i h;
   }
+
+  -- rows that stand in the words as drafts are judged and cleared
+  module _ (rows : List Row) (rest : List ℕ) (m : Marked rows) where
+    abbrev Whole : Settled × List ℕ → Type 0
+    Whole o = Settles shared rows (o .1) (flat rows ++ rest) (o .0)
+
+    on-settles : {w : List ℕ} (i : ℕ) → i < length rows → Passed rows rest w i → (o : Settled) (v : List ℕ) → Settles shared (rowAt rows i ∷ []) v (flat (take i rows) ++ (words (rowAt rows i) ++ behind rows rest i)) o
+        → (more : List ℕ → Settled × List ℕ) → ((v : List ℕ) → Passed rows rest v (i + 1) → Whole (more v)) → Whole (onward o v more)
+    on-settles i h p Fine v s more on = on v (turn i h p s)
+    on-settles i h p (Wrong first) v s more on = give-up i first h p s
+
+    from-settles : (left i : ℕ) {w : List ℕ} → left + i ≡ length rows → Passed rows rest w i → Whole (rowsSettled shared left i w)
+    unfolding rowsSettled
+    from-settles zero i l p = stop i (omega arith) p
+    from-settles (suc left) i {w} l p =
+        on-settles i (omega arith) p (rowSettled shared w i .0) (rowSettled shared w i .1)
+        (row-settles shared i (rowAt rows i) (stands rows rest i (omega arith) (p .words-are)) (marked-at rows i (omega arith) m))
+        (λ v. rowsSettled shared left (i + 1) v) (λ v q. from-settles left (i + 1) (omega arith) q)
+
+-- what is answered and left where rows stand in the words as drafts
+pub drafted-settles : {w rest : List ℕ} {used : ℕ} {rows : List Row} → Drafted w used rows rest
+    → Settles (drop 1 (rootKinds rows)) rows (settleOf w used .1) (flat rows ++ rest) (settleOf w used .0)
+drafted-settles {w} {rest} {used} {rows} d =
+    rw (roots-drafted d) (from-settles (drop 1 (rootKinds rows)) rows rest (d .marked) used 0 (omega (arith, d .count)) (start (drop 1 (rootKinds rows)) (d .stand)))

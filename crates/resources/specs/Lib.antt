@@ -2,3 +2,4 @@ pub mod Marked
 pub mod Settled
 pub mod Roots
 pub mod Objects
+pub mod Total

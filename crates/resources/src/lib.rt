@@ -3,16 +3,15 @@ use ids::Position;
 use ids::ResourceId;
 use ids::RowNumber;
 ghost use mathlib.Core.Path.{_≡_};
-ghost use mathlib.Core.List.{List, [], _∷_, _++_};
-ghost use Prim.Native.Nat.{ℕ, _*_, _≤_};
-ghost use lib.ListN.{length, getD, drop, set};
-ghost use Rattle.layout.specs.Rows.{Row, resource, words as wordsOf, flat};
-ghost use Rattle.table.specs.Written.{draft};
+ghost use mathlib.Core.List.{List, [], _++_};
+ghost use Prim.Native.Nat.{ℕ, _≤_};
+ghost use lib.ListN.{length, take, drop, set};
+ghost use Rattle.layout.specs.Rows.{Row, resource, flat};
 ghost use Rattle.reading.specs.Resource.{suit, suits};
 ghost use Rattle.reading.specs.File.{rootKind, rootKinds};
-ghost use Rattle.resources.specs.Marked.{Marked};
 ghost use Rattle.resources.specs.Settled.{Drafted, Settles};
 ghost use Rattle.resources.specs.Roots.{padded, Holds};
+ghost use Rattle.resources.specs.Total.{rootsOf, rowSettled, rowsSettled, settleOf};
 
 // Every reference names a resource that suits it, or the first byte of the first that does not.
 pub enum Settled {
@@ -29,9 +28,9 @@ fn put_word(words: &mut [u32], at: usize, value: u32)
     }
 }
 
-// Puts the kind of a row that has no parent behind the `n` kinds before it; how many there are then.
+// Puts the kind of a row that has no parent behind the `n` kinds before it, where there is room; how many there are then.
 fn note(kinds: &mut [u32; 257], n: usize, parent: u32, kind: u32) -> usize
-    ensures { λ r. ⌜ ((found : List ℕ) → Holds (now (kinds .entry)) n found → length (found ++ rootKind parent kind []) ≤ 257 → Holds (now (kinds .exit)) r (found ++ rootKind parent kind [])) ⌝ }
+    ensures { λ r. ⌜ ((found : List ℕ) → Holds (now (kinds .entry)) n found → length found ≤ 257 → Holds (now (kinds .exit)) r (take 257 (found ++ rootKind parent kind []))) ⌝ }
 {
     if parent != 0 {
         return n;
@@ -43,9 +42,9 @@ fn note(kinds: &mut [u32; 257], n: usize, parent: u32, kind: u32) -> usize
     n + 1
 }
 
-// The kinds of the rows that have no parent: the primary's, then those of the shared objects.
+// The kinds of the first 257 rows that have no parent: the primary's, then those of the shared objects; zeros behind them.
 fn root_kinds(words: &[u32], used: u32) -> [u32; 257]
-    ensures { λ r. ⌜ ((rows : List Row) (rest : List ℕ) → Drafted (now (words .entry)) used rows rest → r ≡ padded (rootKinds rows)) ⌝ }
+    ensures { λ r. ⌜ r ≡ padded (rootsOf (now (words .entry)) used) ⌝ }
 {
     let mut kinds = [0u32; 257];
     let mut n = 0;
@@ -85,7 +84,8 @@ fn suits_id(kinds: &[u32], id: ResourceId, wanted: u32) -> bool
 
 // Judges one row and clears its mark.
 fn judge_row(words: &mut [u32], row: RowNumber, kinds: &[u32]) -> Settled
-    ensures { λ r. ⌜ ((before : List ℕ) (x : Row) (behind : List ℕ) → now (words .entry) ≡ before ++ (draft x ++ behind) → length before ≡ 6 * row .0 → Marked (x ∷ []) → Settles (drop 1 (now (kinds .entry))) (x ∷ []) (now (words .exit)) (before ++ (wordsOf x ++ behind)) r) ⌝ }
+    ensures { λ r. ⌜ r ≡ rowSettled (drop 1 (now (kinds .entry))) (now (words .entry)) (row .0) .0 ⌝ }
+    ensures { λ _. ⌜ now (words .exit) ≡ rowSettled (drop 1 (now (kinds .entry))) (now (words .entry)) (row .0) .1 ⌝ }
 {
     let at = row.position();
     if words::word(words, at) != 36 {
@@ -102,7 +102,8 @@ fn judge_row(words: &mut [u32], row: RowNumber, kinds: &[u32]) -> Settled
 
 // Judges the rows in order.
 fn judge_rows(words: &mut [u32], used: u32, kinds: &[u32]) -> Settled
-    ensures { λ r. ⌜ ((rows : List Row) (rest : List ℕ) → Drafted (now (words .entry)) used rows rest → Settles (drop 1 (now (kinds .entry))) rows (now (words .exit)) (flat rows ++ rest) r) ⌝ }
+    ensures { λ r. ⌜ r ≡ rowsSettled (drop 1 (now (kinds .entry))) used 0 (now (words .entry)) .0 ⌝ }
+    ensures { λ _. ⌜ now (words .exit) ≡ rowsSettled (drop 1 (now (kinds .entry))) used 0 (now (words .entry)) .1 ⌝ }
 {
     let mut i = 0;
     while i < used {
@@ -117,9 +118,11 @@ fn judge_rows(words: &mut [u32], used: u32, kinds: &[u32]) -> Settled
     Settled::Fine
 }
 
-// Judges the references of the first `used` rows, which stand in the words as drafts, and makes them the rows of 01.
+// Judges the references of the first `used` rows, and clears their marks: drafts that stand in the words become the rows of 01.
 pub fn settle(words: &mut [u32], used: u32) -> Settled
     ensures { λ r. ⌜ ((rows : List Row) (rest : List ℕ) → Drafted (now (words .entry)) used rows rest → Settles (drop 1 (rootKinds rows)) rows (now (words .exit)) (flat rows ++ rest) r) ⌝ }
+    ensures { λ r. ⌜ r ≡ settleOf (now (words .entry)) used .0 ⌝ }
+    ensures { λ _. ⌜ now (words .exit) ≡ settleOf (now (words .entry)) used .1 ⌝ }
 {
     let kinds = root_kinds(words, used);
     judge_rows(words, used, &kinds)

@@ -40,7 +40,7 @@ same-length c = search needs
 returns-2 : tie.Need-returns-2
 returns-2 c =
     λ platform flags names a rest d.
-    let s = c .before .before .before .before .before .settle .ensures (a .1) rest d in
+    let s = c .before .before .before .before .before .settle .ensures .0 (a .1) rest d in
     loads-refused _ (c .before .before .before .before .before .before .before .before .before .before .args .words .now) _ (wrong-resource _ platform flags names _ _ a _ (c .before .before .before .before .before .before .before .if1 .left) (sym (s .answers) ∙ c .before .first .given .1))
 
 same-length-2 : tie.Need-same-length-2
@@ -49,7 +49,7 @@ same-length-2 c = search needs
 returns-3 : tie.Need-returns-3
 returns-3 c =
     λ platform flags names a rest d.
-    let s = rw (c .before .before .before .before .before .enum-told .given .1) at (c .before .before .before .before .before .before .before .before .before .settle .ensures (a .1) rest d) in
+    let s = rw (c .before .before .before .before .before .enum-told .given .1) at (c .before .before .before .before .before .before .before .before .before .settle .ensures .0 (a .1) rest d) in
     all-well _ platform flags names _ _ a _ (c .before .before .before .before .before .before .before .before .before .before .before .if1 .left) d (s .answers) (s .leaves) (c .before .before .clear .ensures ∙ ap (cleared _) (c .before .before .before .position .ensures))
 
 pub finish-spec : {M : Type 1} → statement M

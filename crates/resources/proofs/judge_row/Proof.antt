@@ -1,7 +1,7 @@
 -- `resources::judge_row` meets its contract, by whether the row's kind is 36 and its resource suits it. Assumes nothing.
-use mathlib.Core.Path.{sym, _∙_}
-use lib.ListN.{drop}
-use Rattle.resources.proofs.OneRow.{other-row, fitting-row, wrong-row}
+use mathlib.Core.Path.{refl, sym, _∙_}
+use borrow.Author.Tests.{eq-eqb, ne-eqb}
+use Rattle.resources.specs.Total.{rowSettled}
 use borrow.Author.Needs.{needs}
 use Rattle.resources.proofs.judge_row.Statement.{statement}
 use Rattle.resources.proofs.judge_row.Tie as tie
@@ -16,11 +16,10 @@ same-length : tie.Need-same-length
 same-length c = search needs
 
 returns : tie.Need-returns
+unfolding rowSettled
 returns c =
-    λ before x behind e l m.
-    let start = c .before .before .before .before .before .before in
     let place = c .before .before .before .position .ensures in
-    other-row (drop 1 (start .args .kinds .now)) {before = before} x {behind = behind} (record { there = e; place = l ∙ sym place }) m (λ k. c .if1 .taken (c .before .word .ensures ∙ k))
+    rw (← place, ← c .before .word .ensures, ne-eqb _ 36 (c .if1 .taken)) (refl, refl)
 
 add-word : tie.Need-add-word
 add-word c = search needs
@@ -47,16 +46,14 @@ same-length-2 : tie.Need-same-length-2
 same-length-2 c = search needs
 
 returns-2 : tie.Need-returns-2
+unfolding rowSettled
 returns-2 c =
-    λ before x behind e l m.
     let suited = c .before .before .before .before in
     let first = suited .before .before .before .before .before .before in
-    let start = first .before .before .before .before .before .before in
     let place = first .before .before .before .position .ensures in
-    let k = sym (first .before .word .ensures) ∙ first .if1 .left in
     let t = sym (suited .before .suits-id .ensures) ∙ suited .if2 .taken in
     let t′ = rw (suited .before .before .before .before .word2 .ensures, suited .before .before .word3 .ensures) at t in
-    rw (c .before .before .put-word .ensures) (fitting-row (drop 1 (start .args .kinds .now)) {before = before} x {behind = behind} (record { there = e; place = l ∙ sym place }) m k t′)
+    rw (← place, ← first .before .word .ensures, eq-eqb _ 36 (first .if1 .left), t′) (refl, rw place at (c .before .before .put-word .ensures))
 
 add-word-3 : tie.Need-add-word-3
 add-word-3 c = search needs
@@ -68,16 +65,14 @@ same-length-3 : tie.Need-same-length-3
 same-length-3 c = search needs
 
 returns-3 : tie.Need-returns-3
+unfolding rowSettled
 returns-3 c =
-    λ before x behind e l m.
     let suited = c .before .before in
     let first = suited .before .before .before .before .before .before in
-    let start = first .before .before .before .before .before .before in
     let place = first .before .before .before .position .ensures in
-    let k = sym (first .before .word .ensures) ∙ first .if1 .left in
     let t = sym (suited .before .suits-id .ensures) ∙ suited .if2 .left in
     let t′ = rw (suited .before .before .before .before .word2 .ensures, suited .before .before .word3 .ensures) at t in
-    rw (c .word4 .ensures) (wrong-row (drop 1 (start .args .kinds .now)) {before = before} x {behind = behind} _ (record { there = e; place = l ∙ sym place }) m k t′)
+    rw (← place, ← first .before .word .ensures, eq-eqb _ 36 (first .if1 .left), t′, c .word4 .ensures, place) (refl, refl)
 
 pub judge-row-spec : {M : Type 1} → statement M
 judge-row-spec =

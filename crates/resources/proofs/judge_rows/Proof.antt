@@ -1,25 +1,26 @@
--- `resources::judge_rows` meets its contract: before each turn the first `i` rows are judged and cleared. Assumes nothing.
-use mathlib.Core.Path.{_≡_, refl}
-use mathlib.Core.List.{List}
-use Prim.Native.Nat.{ℕ, _-_, _≤_, _<_}
+-- `resources::judge_rows` meets its contract: before each turn the rows from `i` on give the answer and the words. Assumes nothing.
+use mathlib.Core.Path.{_≡_, refl, sym, _∙_}
+use Prim.Native.Nat.{_-_}
 use native.Mathlib.Omega.{arith}
-use lib.ListN.{length, take, drop}
-use Rattle.layout.specs.Rows.{Row, flat}
-use Rattle.resources.specs.Settled.{Drafted}
-use Rattle.resources.proofs.Passed.{Passed, rowAt, behind, marked-at, stands, start, turn, give-up, stop}
+use lib.ListN.{length, drop}
+use Rattle.resources.specs.Total.{rowsSettled}
+use Rattle.resources.proofs.Turns.{rows-turn, rows-end}
 use borrow.Author.Needs.{needs}
 use Rattle.resources.proofs.judge_rows.Statement.{statement}
 use Rattle.resources.proofs.judge_rows.Tie as tie
 
 abbrev Inv-loop : tie.InvT-loop
 Inv-loop words₀ used kinds i₀ words i =
-    (i ≤ used) × (length words ≡ length words₀) × ((rows : List Row) (rest : List ℕ) → Drafted words₀ used rows rest → Passed (drop 1 kinds) rows rest words i)
+    (length words ≡ length words₀) × (rowsSettled (drop 1 kinds) (used - i) i words ≡ rowsSettled (drop 1 kinds) used 0 words₀)
 
 abbrev μ-loop : tie.MeasureT-loop
 μ-loop words₀ used kinds i₀ words i = used - i
 
 loop-holds : tie.Need-loop-holds Inv-loop μ-loop
-loop-holds c = (omega arith, refl, λ rows rest d. start _ (d .stand))
+loop-holds c =
+    let used = c .before .before .args .used in
+    let z : used - 0 ≡ used = omega arith in
+    (refl, rw z)
 
 judge-row-requires : tie.Need-judge-row-requires Inv-loop μ-loop
 judge-row-requires c κs = search needs
@@ -35,13 +36,10 @@ same-length c = search needs
 
 returns : tie.Need-returns Inv-loop μ-loop
 returns c =
-    λ rows rest d.
     let at = c .before .before .before .before .before .before .before .before in
-    let h : at .loop .i < length rows = omega (arith, d .count, c .before .before .before .before .before .before .before .loop-test .taken) in
-    let p = at .loop .inv .2 rows rest d in
-    let s = stands rows rest (at .loop .i) h (p .words-are) in
-    let j = c .before .before .before .before .before .judge-row .ensures (flat (take (at .loop .i) rows)) (rowAt rows (at .loop .i)) (behind rows rest (at .loop .i)) (s .there) (s .place) (marked-at rows (at .loop .i) h (d .marked)) in
-    give-up _ (at .loop .i) _ h p (rw (c .before .first .given .1) at j)
+    let j = rw (c .before .first .given .1) at (c .before .before .before .before .before .judge-row .ensures) in
+    let e = rows-turn _ _ _ _ (c .before .before .before .before .before .before .before .loop-test .taken) (j .0) (j .1) in
+    rw (sym (at .loop .inv .1) ∙ e) (refl, refl)
 
 add-i : tie.Need-add-i Inv-loop μ-loop
 add-i c = search needs
@@ -51,23 +49,16 @@ loop-less c = search needs
 
 loop-again : tie.Need-loop-again Inv-loop μ-loop
 loop-again c =
-    let at = c .before .before .before .before .before .before .before in (
-      omega arith,
-      search needs,
-      λ rows rest d.
-          let h : at .loop .i < length rows = omega (arith, d .count, c .before .before .before .before .before .before .loop-test .taken) in
-          let p = at .loop .inv .2 rows rest d in
-          let s = stands rows rest (at .loop .i) h (p .words-are) in
-          let j = c .before .before .before .before .judge-row .ensures (flat (take (at .loop .i) rows)) (rowAt rows (at .loop .i)) (behind rows rest (at .loop .i)) (s .there) (s .place) (marked-at rows (at .loop .i) h (d .marked)) in
-          turn _ (at .loop .i) h p (rw (c .enum-told .given .1) at j),
-    )
+    let at = c .before .before .before .before .before .before .before in
+    let j = rw (c .enum-told .given .1) at (c .before .before .before .before .judge-row .ensures) in
+    let e = rows-turn _ _ _ _ (c .before .before .before .before .before .before .loop-test .taken) (j .0) (j .1) in
+    (search needs, sym e ∙ at .loop .inv .1)
 
 same-length-2 : tie.Need-same-length-2 Inv-loop μ-loop
 same-length-2 c = search needs
 
 returns-2 : tie.Need-returns-2 Inv-loop μ-loop
-returns-2 c =
-    λ rows rest d. stop _ (c .before .loop .i) (omega (arith, d .count, c .loop-test .left)) (c .before .loop .inv .2 rows rest d)
+returns-2 c = rw (sym (c .before .loop .inv .1) ∙ rows-end _ _ _ _ (c .loop-test .left)) (refl, refl)
 
 pub judge-rows-spec : {M : Type 1} → statement M
 judge-rows-spec =

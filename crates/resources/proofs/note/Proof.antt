@@ -1,15 +1,14 @@
 -- `resources::note` meets its contract. Assumes nothing.
-use native.Mathlib.Omega.{arith}
-use Rattle.resources.proofs.Padded.{no-root, one-root, room}
+use Rattle.resources.proofs.Padded.{no-root, no-room, one-root}
 use borrow.Author.Needs.{needs}
 use Rattle.resources.proofs.note.Statement.{statement}
 use Rattle.resources.proofs.note.Tie as tie
 
 returns : tie.Need-returns
-returns c = λ found h few. no-root _ _ (c .if1 .taken) h
+returns c = λ found h few. no-root _ _ (c .if1 .taken) h few
 
 returns-2 : tie.Need-returns-2
-returns-2 c = λ found h few. absurd (omega (arith, room _ _ (c .before .if1 .left) h few))
+returns-2 c = λ found h few. no-room _ (c .if2 .taken) h few
 
 mul-kinds : tie.Need-mul-kinds
 mul-kinds c = search needs

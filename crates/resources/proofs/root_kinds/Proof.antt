@@ -1,28 +1,18 @@
--- `resources::root_kinds` meets its contract: before each turn the array holds the kinds of the roots among the first `i` rows. Assumes nothing.
-use mathlib.Core.List.{List}
-use Prim.Native.Nat.{ℕ, _-_, _≤_}
-use native.Mathlib.Omega.{arith}
-use lib.ListN.{take}
-use lib.Seq.{take-all}
-use Rattle.layout.specs.Rows.{Row}
-use Rattle.reading.specs.File.{rootKinds}
-use Rattle.resources.specs.Settled.{Drafted}
-use Rattle.resources.specs.Roots.{Holds}
-use Rattle.resources.proofs.Padded.{none-found}
-use Rattle.resources.proofs.Passed.{found-more}
+-- `resources::root_kinds` meets its contract: before each turn the array holds the kinds of the roots among the first `i` rows, as far as there is room. Assumes nothing.
+use Prim.Native.Nat.{_-_}
+use Rattle.resources.proofs.Padded.{Found, found-none, found-more, found-all}
 use borrow.Author.Needs.{needs}
 use Rattle.resources.proofs.root_kinds.Statement.{statement}
 use Rattle.resources.proofs.root_kinds.Tie as tie
 
 abbrev Inv-loop : tie.InvT-loop
-Inv-loop words used kinds₀ n₀ i₀ kinds n i = (i ≤ used) × ((rows : List Row) (rest : List ℕ) → Drafted words used rows rest → Holds kinds n (rootKinds (take i rows)))
+Inv-loop words used kinds₀ n₀ i₀ kinds n i = Found words used kinds n i
 
 abbrev μ-loop : tie.MeasureT-loop
 μ-loop words used kinds₀ n₀ i₀ kinds n i = used - i
 
 loop-holds : tie.Need-loop-holds Inv-loop μ-loop
-unfolding rootKinds
-loop-holds c = (omega arith, λ rows rest d. none-found)
+loop-holds c = found-none _ _
 
 position-requires : tie.Need-position-requires Inv-loop μ-loop
 position-requires c κs = search needs
@@ -47,18 +37,12 @@ loop-less c = search needs
 
 loop-again : tie.Need-loop-again Inv-loop μ-loop
 loop-again c =
-    let at = c .before .before .before .before .before .before in (
-      omega arith,
-      λ rows rest d.
-          found-more (at .loop .i) d (c .before .before .before .before .before .loop-test .taken) (c .before .before .before .before .position .ensures)
-          (c .before .before .before .word .ensures) (c .before .before .word2 .ensures) (at .loop .inv .1 rows rest d) (c .note .ensures),
-    )
+    let at = c .before .before .before .before .before .before in
+    found-more (at .loop .i) (c .before .before .before .before .before .loop-test .taken) (c .before .before .before .before .position .ensures)
+    (c .before .before .before .word .ensures) (c .before .before .word2 .ensures) (at .loop .inv) (c .note .ensures)
 
 returns : tie.Need-returns Inv-loop μ-loop
-returns c =
-    λ rows rest d.
-    let at = c .before in
-    rw (take-all (at .loop .i) rows (omega (arith, d .count))) at (at .loop .inv .1 rows rest d .array-is)
+returns c = found-all _ (c .loop-test .left) (c .before .loop .inv)
 
 pub root-kinds-spec : {M : Type 1} → statement M
 root-kinds-spec =

@@ -1,7 +1,6 @@
--- `resources::settle` meets its contract. Assumes nothing.
-use mathlib.Core.Path.{_∙_}
-use Rattle.reading.specs.File.{rootKinds}
-use Rattle.resources.proofs.Padded.{padded-settled}
+-- `resources::settle` meets its contract; what it says of drafts follows from its equations. Assumes nothing.
+use Rattle.resources.proofs.Padded.{padded-rows}
+use Rattle.resources.proofs.Passed.{drafted-settles}
 use borrow.Author.Needs.{needs}
 use Rattle.resources.proofs.settle.Statement.{statement}
 use Rattle.resources.proofs.settle.Tie as tie
@@ -20,10 +19,9 @@ same-length c = search needs
 
 returns : tie.Need-returns
 returns c =
-    λ rows rest d.
-    let kinds = c .before .before .before .before .before .root-kinds .ensures rows rest d in
-    let j = c .before .before .judge-rows .ensures rows rest d in
-    record { answers = j .answers ∙ rw kinds (padded-settled (rootKinds rows) rows); leaves = j .leaves }
+    let kinds = c .before .before .before .before .before .root-kinds .ensures in
+    let j = rw (kinds, padded-rows) at (c .before .before .judge-rows .ensures) in
+    (λ rows rest d. rw (j .0, j .1) (drafted-settles d), j)
 
 pub settle-spec : {M : Type 1} → statement M
 settle-spec =
