@@ -48,12 +48,12 @@ turnOf (Levels format w h n) i = Level (levelSizeOf format w h i)
 -- a value was read, or refused
 abbrev pub onward : Walk → List ℕ → (ℕ → ℕ → List ℕ → Walk × List ℕ) → Walk × List ℕ
 onward (Refused n p) w rest = (Refused n p, w)
-onward (Done a u) w rest = rest a u w
+onward (Done u a) w rest = rest a u w
 
 module _ (file : List ℕ) (room shared : ℕ) (run : Run) (depth parent : ℕ) where
   -- so many values from value i on: the answer, and the words
   unfoldable pub runFrom : (left i at used : ℕ) → List ℕ → Walk × List ℕ
-  runFrom zero i at used w = (Done at used, w)
+  runFrom zero i at used w = (Done used at, w)
   runFrom (suc left) i at used w =
       onward (leafAnswer used (plainValue file room shared (turnOf run i) at used depth))
       (plainWords w (turnOf run i) (headOf used at parent 0) (plainValue file room shared (turnOf run i) at used depth))
@@ -72,7 +72,7 @@ module _ (file : List ℕ) (room shared : ℕ) (run : Run) (depth parent : ℕ) 
       let m : n - i ≡ suc (n - (i + 1)) = omega arith in
       rw (m, ← e, ← q, ← z)
 
-  pub run-end : (n i at used : ℕ) (w : List ℕ) → n ≤ i → runFrom (n - i) i at used w ≡ (Done at used, w)
+  pub run-end : (n i at used : ℕ) (w : List ℕ) → n ≤ i → runFrom (n - i) i at used w ≡ (Done used at, w)
   unfolding runFrom
   run-end n i at used w h =
       let m : n - i ≡ 0 = omega arith in
@@ -169,7 +169,7 @@ module _ (file : List ℕ) (small : Small file) (room shared : ℕ) (run : Run) 
 
     value-walked : (o : Walk) → leafAnswer row value ≡ o → Whole (onward o words rest)
     value-walked (Refused n q) z = give-up file room step (runSlots run) w₀ at used (plainSlot p) r h (t .stands) (lost one z)
-    value-walked (Done a u) z =
+    value-walked (Done u a) z =
         let g = got one z in
         on a u words (turn file room step (runSlots run) w₀ at used (plainSlot p) r h (t .stands) g (walk-bounds file readers shared room small depth (plainSlot p) next row parent (g .taken) a (g .is)))
 

@@ -115,7 +115,7 @@ module _ (file : List ℕ) (small : Small file) (codes : List ℕ) (room shared 
       pub is : objectsAt file room readers shared at ≡ read taken next
       pub drafted : Drafted w′ used (taken .1) (drop (6 * used) w)
 
-    pub objects-got : {w w′ : List ℕ} {next used : ℕ} {r : Walk} → 6 * room ≤ length w → Walked w w′ 0 (seen (sequence (λ y b v. walk file readers shared room 32 y b v 0) (each roots) at 0)) r → r ≡ Done next used → Rooted w w′ next used
+    pub objects-got : {w w′ : List ℕ} {next used : ℕ} {r : Walk} → 6 * room ≤ length w → Walked w w′ 0 (seen (sequence (λ y b v. walk file readers shared room 32 y b v 0) (each roots) at 0)) r → r ≡ Done used next → Rooted w w′ next used
     objects-got {w} {w′} {next} {used} long c e =
         let g = got c e in
         let q = sym (objects-are readers) ∙ g .is in

@@ -65,7 +65,7 @@ pub close-ready : {file words w₁ : List ℕ} {room : ℕ} {h : Head} {at next 
     → Walked words w₁ (h .row + 1) (seen (sequence (λ y b v. walk file readers shared room depth y b v (h .row + 1)) (each slots) next (h .row + 1))) walked
     → Closable h n walked
 close-ready t readers shared depth slots n (Refused m p) s r e z c = tt
-close-ready {file} {words} {w₁} {room} {h} {at} {next} t readers shared depth slots n (Done f u) s r e z c =
+close-ready {file} {words} {w₁} {room} {h} {at} {next} t readers shared depth slots n (Done u f) s r e z c =
     let g = got c refl in
     let b = reads-bounds (head-reads file t) s at (r .place) e in
     let k = sequence-bounds file readers shared room s depth (each slots) next (h .row + 1) (h .row + 1) (g .taken) f (g .is) in

@@ -44,16 +44,16 @@ keeps file words kind number = cond (eqb kind 33) (fontWords file words number) 
 -- a refusal below is the value's; else its rule, then its row
 abbrev pub closeAnswer : (file w : List ℕ) → Head → (kind at : ℕ) → Walk → Walk
 closeAnswer file w h kind at (Refused m p) = Refused m p
-closeAnswer file w h kind at (Done next used) = cond (keeps file w kind (h .row)) (Done next used) (Refused 22 at)
+closeAnswer file w h kind at (Done used next) = cond (keeps file w kind (h .row)) (Done used next) (Refused 22 at)
 
 abbrev pub closeWords : (file w : List ℕ) → Head → (kind children : ℕ) → Walk → List ℕ
 closeWords file w h kind n (Refused m p) = w
-closeWords file w h kind n (Done next used) = cond (keeps file w kind (h .row)) (putRow w (h .row) (valueRow h kind (inWord n) next)) w
+closeWords file w h kind n (Done used next) = cond (keeps file w kind (h .row)) (putRow w (h .row) (valueRow h kind (inWord n) next)) w
 
 -- the value's length and its number of children fit a word
 abbrev pub Closable : Head → (children : ℕ) → Walk → Type 0
 Closable h n (Refused m p) = Unit {0}
-Closable h n (Done next used) = (h .first ≤ next) × (next < 2 ^ 32) × (n < 2 ^ 32)
+Closable h n (Done used next) = (h .first ≤ next) × (next < 2 ^ 32) × (n < 2 ^ 32)
 
 -- as many children as slots, and a row for each
 laid-count : (readers : List Target) (refers : Target → ℕ → Type 0) (slots : List L.Slot) (ts : Trees) (bs : List ℕ) → Lays readers refers (each slots) ts bs → (count ts ≡ length slots) × (count ts ≤ size ts)
@@ -104,8 +104,8 @@ module _ (file : List ℕ) (small : Small file) (readers : List Target) (shared 
           let l : length w₁ ≡ length w₀ = ap length words ∙ length-written w₀ (suc (h .row)) (a .1) in
           rw s (font-judged file small readers shared room below next (h .row) a e q′ w₀ w₁ words (omega (arith, k .counted, k .fits (omega arith))))
 
-      kept : (w₁ : List ℕ) (n e u : ℕ) → Closable h n (Done e u) → n ≡ length slots → (g : Got w₀ w₁ (suc (h .row)) seq e u) → (b : Bool) → fontOk point t (g .taken .2) ≡ b
-          → Walked w₀ (cond b (putRow w₁ (h .row) (valueRow h (kindOf t) (inWord n) e)) w₁) (h .row) (seen rawOf) (cond b (Done e u) (Refused 22 at))
+      kept : (w₁ : List ℕ) (n e u : ℕ) → Closable h n (Done u e) → n ≡ length slots → (g : Got w₀ w₁ (suc (h .row)) seq e u) → (b : Bool) → fontOk point t (g .taken .2) ≡ b
+          → Walked w₀ (cond b (putRow w₁ (h .row) (valueRow h (kindOf t) (inWord n) e)) w₁) (h .row) (seen rawOf) (cond b (Done u e) (Refused 22 at))
       unfolding rawAt bind check
       kept w₁ n e u c z g false f = refusing (rw (opened, plan, g .is, f))
       kept w₁ n e u c z g true f =
@@ -123,6 +123,6 @@ module _ (file : List ℕ) (small : Small file) (readers : List Target) (shared 
           → Walked w₀ (closeWords file w₁ h (kindOf t) n walked) (h .row) (seen rawOf) (closeAnswer file w₁ h (kindOf t) at walked)
       unfolding rawAt bind keeps
       raw-closed w₁ n (Refused m p) c z d = refusing (rw (opened, plan, lost d refl))
-      raw-closed w₁ n (Done e u) c z d =
+      raw-closed w₁ n (Done u e) c z d =
           let g = got d refl in
           kept w₁ n e u c z g (keeps file w₁ (kindOf t) (h .row)) (rule (g .taken) e w₁ (g .is) (g .words) (eqb (kindOf t) 33) refl)

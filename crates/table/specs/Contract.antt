@@ -22,7 +22,7 @@ seen (read a e) = read (a .0, a .1) e
 -- 01's number and place for a refusal, and for a value its end and the rows used
 abbrev pub answerOf : Answer Seen → Walk
 answerOf (refused n p) = Refused n p
-answerOf (read a e) = Done e (a .0)
+answerOf (read a e) = Done (a .0) e
 
 -- the new rows stand in the words from row `used` on; after a refusal the words may be anything
 abbrev pub contentOf : (exit entry : List ℕ) (used : ℕ) → Answer Seen → List ℕ

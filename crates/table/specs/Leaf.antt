@@ -32,7 +32,7 @@ value-row h kind children next a f = rw (in-word (h .first) (omega arith), in-wo
 -- what is answered once the bytes of a value without children are read, or refused
 abbrev pub leafAnswer : {A : Type 0} → (u : ℕ) → Answer A → Walk
 leafAnswer u (refused n p) = Refused n p
-leafAnswer u (read a next) = Done next (inWord (u + 1))
+leafAnswer u (read a next) = Done (inWord (u + 1)) next
 
 -- and what the words then hold: its row, if they have it
 abbrev pub leafWords : {A : Type 0} → List ℕ → Head → (kind mark : ℕ) → Answer A → List ℕ

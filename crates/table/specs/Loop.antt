@@ -24,18 +24,18 @@ pub record Got (entry exit : List ℕ) (used : ℕ) (o : Outcome) (next u : ℕ)
   pub rows-used : taken .0 ≡ u
   pub words : exit ≡ written entry used (taken .1)
 
-got-of : (o : Outcome) {entry exit : List ℕ} {used next u : ℕ} → Walked entry exit used (seen o) (Done next u) → Got entry exit used o next u
+got-of : (o : Outcome) {entry exit : List ℕ} {used next u : ℕ} → Walked entry exit used (seen o) (Done u next) → Got entry exit used o next u
 unfolding seen
 got-of (refused n p) {next = next} {u = u} m =
-    let a : Done next u ≡ Refused n p = m .answers in
+    let a : Done u next ≡ Refused n p = m .answers in
     let z : _≡_ {A = ℕ} 0 1 = cc in absurd (omega arith)
 got-of (read a e) {next = next} {u = u} m =
-    let q : Done next u ≡ Done e (a .0) = m .answers in
+    let q : Done u next ≡ Done (a .0) e = m .answers in
     let e₁ : e ≡ next = cc in
     let e₂ : a .0 ≡ u = cc in
     record { taken = a; is = rw e₁; rows-used = e₂; words = m .writes }
 
-pub got : {o : Outcome} {entry exit : List ℕ} {used : ℕ} {r : Walk} {next u : ℕ} → Walked entry exit used (seen o) r → r ≡ Done next u → Got entry exit used o next u
+pub got : {o : Outcome} {entry exit : List ℕ} {used : ℕ} {r : Walk} {next u : ℕ} → Walked entry exit used (seen o) r → r ≡ Done u next → Got entry exit used o next u
 got {o = o} {entry} {exit} {used} m e = got-of o (record { answers = sym e ∙ m .answers; writes = m .writes })
 
 lost-of : (o : Outcome) {entry exit : List ℕ} {used n p : ℕ} → Walked entry exit used (seen o) (Refused n p) → o ≡ refused n p
@@ -46,7 +46,7 @@ lost-of (refused m q) {n = n} {p = p} h =
     let e₂ : q ≡ p = cc in
     rw (e₁, e₂)
 lost-of (read a e) {n = n} {p = p} h =
-    let q : Refused n p ≡ Done e (a .0) = h .answers in
+    let q : Refused n p ≡ Done (a .0) e = h .answers in
     let z : _≡_ {A = ℕ} 0 1 = cc in absurd (omega arith)
 
 pub lost : {o : Outcome} {entry exit : List ℕ} {used : ℕ} {r : Walk} {n p : ℕ} → Walked entry exit used (seen o) r → r ≡ Refused n p → o ≡ refused n p
@@ -58,7 +58,7 @@ unfolding seen
 refusing e = rw e (record { answers = refl; writes = refl })
 
 -- values that were read
-pub reading : {o : Outcome} {entry exit : List ℕ} {used : ℕ} (a : Taken) {next u : ℕ} → o ≡ read a next → u ≡ a .0 → exit ≡ written entry used (a .1) → Walked entry exit used (seen o) (Done next u)
+pub reading : {o : Outcome} {entry exit : List ℕ} {used : ℕ} (a : Taken) {next u : ℕ} → o ≡ read a next → u ≡ a .0 → exit ≡ written entry used (a .1) → Walked entry exit used (seen o) (Done u next)
 unfolding seen
 reading a e c w = rw (e, c) (record { answers = refl; writes = w })
 
@@ -133,7 +133,7 @@ module _ (file : List ℕ) (room : ℕ) (step : Slot → ℕ → ℕ → Outcome
         fits = λ p. rw (← q) (b .fits (r .fits p));
       }
 
-  pub stop : {w : List ℕ} {next row i : ℕ} → Reading w next row i → length slots ≤ i → Walked w₀ w used (seen (sequence step (each slots) at used)) (Done next row)
+  pub stop : {w : List ℕ} {next row i : ℕ} → Reading w next row i → length slots ≤ i → Walked w₀ w used (seen (sequence step (each slots) at used)) (Done row next)
   unfolding sequence each seen
   stop {w} {next} {row} {i} r h =
       let e : drop i slots ≡ [] = drop-of-length-le slots {i = i} h in

@@ -15,9 +15,9 @@ pub struct Head {
     pub detail: u32,
 }
 
-// A value, or values one after the other: the next byte and the rows used so far, or a refusal's number and place.
+// A value, or values one after the other: the rows used so far and the next byte, or a refusal's number and place.
 pub enum Walk {
-    Done { next: usize, used: u32 },
+    Done { used: u32, next: usize },
     Refused { number: u32, place: usize },
 }
 

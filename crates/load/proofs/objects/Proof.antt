@@ -23,8 +23,8 @@ nested-requires c κs =
 enum-known-number : tie.Need-enum-known-number
 enum-known-number c = search needs
 
-enum-known-next : tie.Need-enum-known-next
-enum-known-next c = search needs
+enum-known-used : tie.Need-enum-known-used
+enum-known-used c = search needs
 
 finish-requires : tie.Need-finish-requires
 finish-requires c κs = search needs
@@ -49,7 +49,7 @@ returns-2 c =
     let a = c .before .before .before .before .before .before .before .before .before .before .before .before .before .before .args in
     let small = small-by-index (a .file .now) (λ i h. omega (arith, c .before .before .before .before .before .before .before .before .before .before .before .before .before .shared-slice-known .given i)) in
     let w = c .before .before .before .before .before .before .before .before .before .nested .ensures readers (roots (a .file .now) small (a .codes .now) (a .room) (a .shared) (a .at) (c .before .before .before .before .before .before .before .before .before .before .before .before .before .before .pre .2)) l (roots-are (a .file .now) small (a .codes .now) (a .room) (a .shared) (a .at) (c .before .before .before .before .before .before .before .before .before .before .before .before .before .before .pre .2) (c .before .before .before .before .before .before .before .before .before .before .before .before .before .before .pre .1 .prelude)) in
-    let o = objects-got (a .file .now) small (a .codes .now) (a .room) (a .shared) (a .at) (c .before .before .before .before .before .before .before .before .before .before .before .before .before .before .pre .2) platform flags names readers (c .before .before .before .before .before .before .before .before .before .before .before .before .before .before .pre .0 .long) w (c .before .before .before .before .before .next .given .1) in
+    let o = objects-got (a .file .now) small (a .codes .now) (a .room) (a .shared) (a .at) (c .before .before .before .before .before .before .before .before .before .before .before .before .before .before .pre .2) platform flags names readers (c .before .before .before .before .before .before .before .before .before .before .before .before .before .before .pre .0 .long) w (c .before .before .before .before .before .used .given .1) in
     objects-loaded (a .file .now) small (a .codes .now) (a .room) (a .shared) (a .at) (c .before .before .before .before .before .before .before .before .before .before .before .before .before .before .pre .2) platform flags names readers (a .words .now) _ _ _ o (search needs) (rw (l .counts) at (c .before .before .finish .ensures platform flags names (o .taken) _ (o .drafted)))
 
 pub objects-spec : {M : Type 1} → statement M
@@ -59,7 +59,7 @@ objects-spec =
     add-n
     nested-requires
     enum-known-number
-    enum-known-next
+    enum-known-used
     finish-requires
     same-length
     returns

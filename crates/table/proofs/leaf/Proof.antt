@@ -37,7 +37,7 @@ returns-2 : tie.Need-returns-2
 unfolding inWord
 returns-2 c =
     let read = c .before .before .before .before .before .before .before .before .read2 .given in
-    rw (read .1, ← c .before .before .before .before .before .before .word .ensures, ← c .before .before .before .before .before .span .ensures) (ap (Done (read .0 .1 .0)) (c .before .before .before .before .wrapping-add-u32 .ensures), c .before .before .put-row .ensures)
+    rw (read .1, ← c .before .before .before .before .before .before .word .ensures, ← c .before .before .before .before .before .span .ensures) (ap (λ u. Done u (read .0 .1 .0)) (c .before .before .before .before .wrapping-add-u32 .ensures), c .before .before .put-row .ensures)
 
 pub leaf-spec : {M : Type 1} → statement M
 leaf-spec =

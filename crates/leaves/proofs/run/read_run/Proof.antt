@@ -30,8 +30,8 @@ turn-requires c κs = omega (arith, c .before .loop .inv .0, c .loop-test .taken
 read-plain-requires : tie.Need-read-plain-requires Inv-loop μ-loop
 read-plain-requires c κs = search needs
 
-enum-known-a : tie.Need-enum-known-a Inv-loop μ-loop
-enum-known-a c = search needs
+enum-known-u : tie.Need-enum-known-u Inv-loop μ-loop
+enum-known-u c = search needs
 
 enum-known-number : tie.Need-enum-known-number Inv-loop μ-loop
 enum-known-number c = search needs
@@ -58,7 +58,7 @@ loop-again c =
     let at = c .before .before .before .before .before .before .before .before .before in
     let a = at .before .before .before .before .args in
     let read = c .before .before .before .before .before .read-plain in
-    let e = run-turn (a .file .now) (a .room) (a .shared) (a .run) (a .depth) (a .parent) _ _ _ _ _ _ _ _ (c .before .before .before .before .before .before .before .before .loop-test .taken) (c .before .before .before .before .before .before .before .turn .ensures) (sym (c .before .a .given .1) ∙ read .ensures .0) (read .ensures .1) in
+    let e = run-turn (a .file .now) (a .room) (a .shared) (a .run) (a .depth) (a .parent) _ _ _ _ _ _ _ _ (c .before .before .before .before .before .before .before .before .loop-test .taken) (c .before .before .before .before .before .before .before .turn .ensures) (sym (c .before .u .given .1) ∙ read .ensures .0) (read .ensures .1) in
     (at .loop .inv .0, search needs, sym e ∙ at .loop .inv .2)
 
 same-length-2 : tie.Need-same-length-2 Inv-loop μ-loop
@@ -79,7 +79,7 @@ read-run-spec =
     loop-holds
     turn-requires
     read-plain-requires
-    enum-known-a
+    enum-known-u
     enum-known-number
     same-length
     returns

@@ -21,7 +21,7 @@ use Rattle.load.proofs.walk.+children+nested+raw+value.{statement}
 use Rattle.load.proofs.walk.+children+nested+raw+value.Tie.{close}
 use Rattle.load.proofs.walk.+children+nested+raw+value.Proof.Measures.{μ-children, μ-nested, μ-raw, μ-value, children-at, children-below, nested-at, nested-below, raw-at, raw-below, value-at, value-below}
 use Rattle.load.proofs.walk.+children+nested+raw+value.Proof.Children.{children-enum-told, children-enum-known-below, children-read-run-requires, children-enum-known-below-2, children-nested-requires, children-returns, children-same-length, children-returns-2, children-same-length-2, children-returns-3}
-use Rattle.load.proofs.walk.+children+nested+raw+value.Proof.Nested.{nested-Inv-loop, nested-μ-loop, nested-count-requires, nested-loop-holds, nested-child-requires, nested-value-requires, nested-enum-known-a, nested-enum-known-number, nested-same-length, nested-returns, nested-add-i, nested-loop-less, nested-loop-again, nested-same-length-2, nested-returns-2}
+use Rattle.load.proofs.walk.+children+nested+raw+value.Proof.Nested.{nested-Inv-loop, nested-μ-loop, nested-count-requires, nested-loop-holds, nested-child-requires, nested-value-requires, nested-enum-known-u, nested-enum-known-number, nested-same-length, nested-returns, nested-add-i, nested-loop-less, nested-loop-again, nested-same-length-2, nested-returns-2}
 use Rattle.load.proofs.walk.+children+nested+raw+value.Proof.Raw.{raw-open-requires, raw-enum-known-number, raw-enum-known-next, raw-add-first, raw-count-below-requires, raw-children-requires, raw-kind-at-requires, raw-cast-kind, raw-close-requires, raw-returns, raw-same-length, raw-returns-2}
 use Rattle.load.proofs.walk.+children+nested+raw+value.Proof.Value.{value-start-requires, value-enum-known-number, value-enum-known-plain, value-read-plain-requires, value-enum-known-next, value-leaf-requires, value-enum-known-place, value-sub-raw, value-raw-requires, value-returns, value-same-length, value-returns-2, value-same-length-2, value-returns-3, value-same-length-3, value-returns-4}
 mod Measures
@@ -65,7 +65,7 @@ pub +children+nested+raw+value-spec : {M : Type 1} → statement M
     (nested-loop-holds t)
     (nested-child-requires t)
     (nested-value-requires t)
-    (nested-enum-known-a t)
+    (nested-enum-known-u t)
     (nested-enum-known-number t)
     (nested-same-length t)
     (nested-returns t)

@@ -71,7 +71,7 @@ nested-value-requires t c κs =
     let ch = c .before .child .ensures .0 _ (pre .2 .slots) (k .prelude) (pre .2 .is) (omega (arith, inv .0, c .before .before .loop-test .taken)) in
     (omega (arith, c .before .before .before .before .before .before .before .before .pre .0), (begin-on (pre .0) (inv .1), k, record { x = ch .slot; is = ch .is }))
 
-pub nested-enum-known-a : (t : ℕ) → nested-lts.Need-enum-known-a (
+pub nested-enum-known-u : (t : ℕ) → nested-lts.Need-enum-known-u (
   count-reads.Asked,
   count-reads.Learnt,
   child-reads.Asked,
@@ -79,7 +79,7 @@ pub nested-enum-known-a : (t : ℕ) → nested-lts.Need-enum-known-a (
   value-below t,
   value.Post,
 ) (nested-at t) nested.Post nested-Inv-loop nested-μ-loop
-nested-enum-known-a t c = search needs
+nested-enum-known-u t c = search needs
 
 pub nested-enum-known-number : (t : ℕ) → nested-lts.Need-enum-known-number (
   count-reads.Asked,
@@ -156,7 +156,7 @@ nested-loop-again t c =
     let inv = c .before .before .before .before .before .before .before .before .before .loop .inv readers slots l w in
     let i : c .before .before .before .before .before .before .before .before .before .loop .i < length slots = omega (arith, inv .0, c .before .before .before .before .before .before .before .before .loop-test .taken) in
     let ch = c .before .before .before .before .before .before .before .child .ensures .0 _ slots (c .before .before .before .before .before .before .before .before .before .before .before .before .before .before .pre .1 .1 .prelude) w i in
-    let g = got (c .before .before .before .before .before .value .ensures readers (ch .slot) l (ch .is)) (c .before .a .given .1) in
+    let g = got (c .before .before .before .before .before .value .ensures readers (ch .slot) l (ch .is)) (c .before .u .given .1) in
     (inv .0, turn _ _ _ _ _ _ _ (ch .slot) (inv .1) i (ch .at) g (walk-bounds file readers (a .shared) (a .room) small (a .depth) (ch .slot) _ _ (a .used) (g .taken) _ (g .is)))
 
 pub nested-same-length-2 : (t : ℕ) → nested-lts.Need-same-length-2 (
