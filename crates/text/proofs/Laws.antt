@@ -1,6 +1,6 @@
 -- The laws of characters at a place of a list, as the code meets them. Assumes nothing.
 use mathlib.Core.Path.{_≡_, refl, sym, ap, _∙_}
-use mathlib.Core.Bool.{Bool, true, false, and-true}
+use mathlib.Core.Bool.{Bool, true, false, _||_, and-true}
 use mathlib.Core.List.{List, _∷_}
 use Prim.Native.Nat.{ℕ, zero, suc, _+_, _*_, _-_, _<_, _≤_}
 use native.Mathlib.Nat.{add-zero}
@@ -9,19 +9,15 @@ use native.Mathlib.Omega.{arith}
 use native.Mathlib.Decide.{decLt}
 use lib.ListN.{length, getD, drop, length-drop, drop-of-length-le}
 use lib.Seq.{drop-cons, drop-drop, getD-drop}
-use lib.Bits.{bitOr, bitAnd, or-add-and, and-le-l, and-le-r}
-use borrow.Author.Tests.{le-leb, lt-leb}
+use lib.Dec.{leb}
+use borrow.Author.Tests.{le-leb, lt-leb, leb-false}
 use Rattle.reading.specs.Answer.{refused, read, check, within, true-within}
 use Rattle.reading.specs.Utf8.{pick, size, size-one, size-low, size-four, size-high, least, most, between, follow, follow-fits, follow-first, follow-last, both, least-known, charSize, sized, char-fits, bits, mark, charOf, charAt, chars, utf8s, utf8s-stops, utf8s-steps}
 use Rattle.text.specs.Passed.{Passed, Ran}
 
--- two numbers are below what their OR is below
-pub or-below : (a b n : ℕ) → bitOr a b < n → (a < n) × (b < n)
-or-below a b n h =
-    let s : bitOr a b + bitAnd a b ≡ a + b = or-add-and a b in
-    let l : bitAnd a b ≤ a = and-le-l a b in
-    let r : bitAnd a b ≤ b = and-le-r a b in
-    (omega arith, omega arith)
+pub neither : (s t : Bool) → (s || t) ≡ false → (s ≡ false) × (t ≡ false)
+neither true t e = let z : _≡_ {A = ℕ} 0 1 = cc in absurd (omega arith)
+neither false t e = (refl, e)
 
 module _ (s : List ℕ) (i : ℕ) where
   pub at-byte : i < length s → drop i s ≡ getD s i 0 ∷ drop (i + 1) s
@@ -135,13 +131,13 @@ module _ (s : List ℕ) (i : ℕ) where
   ascii-step h l = char-step 1 (sym (char-here s i 0 true h (size-one (getD s i 0) l) refl)) (λ z. omega arith)
 
 module _ (s : List ℕ) (i : ℕ) where
-  -- one byte more of a block, whose bytes so far OR to b
-  pub block-step : (j b : ℕ) → i + j < length s → (b < 0x80 → utf8s (drop (i + j) s) ≡ utf8s (drop i s))
-      → bitOr b (getD s (i + j) 0) < 0x80 → utf8s (drop (i + (j + 1)) s) ≡ utf8s (drop i s)
-  block-step j b h f l =
-      let w = or-below b (getD s (i + j) 0) 0x80 l in
+  -- one byte more of a block, in which so far b says whether there is another byte than ASCII
+  pub block-step : (j : ℕ) (b : Bool) → i + j < length s → (b ≡ false → utf8s (drop (i + j) s) ≡ utf8s (drop i s))
+      → (b || leb 0x80 (getD s (i + j) 0)) ≡ false → utf8s (drop (i + (j + 1)) s) ≡ utf8s (drop i s)
+  block-step j b h f e =
+      let w = neither b (leb 0x80 (getD s (i + j) 0)) e in
       let z : i + (j + 1) ≡ i + j + 1 = omega arith in
-      rw z (ascii-step s (i + j) h (w .1) ∙ f (w .0))
+      rw z (ascii-step s (i + j) h (leb-false 0x80 (getD s (i + j) 0) (w .1)) ∙ f (w .0))
 
   pub passed-none : i ≤ length s → Passed s i i
   passed-none h = record { forward = omega arith; inside = h; same = refl }
@@ -153,7 +149,7 @@ module _ (s : List ℕ) (i : ℕ) where
     pub pass-ascii : i < length s → getD s i 0 < 0x80 → Passed s from (i + 1)
     pass-ascii h l = pass 1 (omega arith) (ascii-step s i h l)
 
-    pub pass-block : (n j b : ℕ) → j ≤ n → n ≤ j → i + n ≤ length s → (b < 0x80 → utf8s (drop (i + j) s) ≡ utf8s (drop i s)) → b < 0x80 → Passed s from (i + n)
+    pub pass-block : (n j : ℕ) (b : Bool) → j ≤ n → n ≤ j → i + n ≤ length s → (b ≡ false → utf8s (drop (i + j) s) ≡ utf8s (drop i s)) → b ≡ false → Passed s from (i + n)
     pass-block n j b p q h f l = let z : n ≡ j = omega arith in pass n h (rw z (f l))
 
     pub passed-on : (j : ℕ) → Passed s i j → Passed s from j

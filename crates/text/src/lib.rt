@@ -82,23 +82,23 @@ pub fn is_utf8(s: &[u8]) -> bool
     true
 }
 
-// Past the blocks of 32 ASCII bytes from `from` on.
+// Past the blocks of 64 ASCII bytes from `from` on.
 fn ascii_blocks(s: &[u8], from: usize) -> usize
     requires { ⌜ from ≤ length (now s) ⌝ }
     ensures { λ r. ⌜ Passed (now (s .entry)) from r ⌝ }
 {
     let mut i = from;
-    while 32 <= s.len() - i {
+    while 64 <= s.len() - i {
         let mut j = 0;
-        let mut b = 0u8;
-        while j < 32 {
-            b |= s[i + j];
+        let mut other = false;
+        while j < 64 {
+            other = other | (0x80 <= s[i + j]);
             j += 1;
         }
-        if 128 <= b {
+        if other {
             return i;
         }
-        i += 32;
+        i += 64;
     }
     i
 }

@@ -1,6 +1,7 @@
 use borrow.Author.Needs.{needs}
 use mathlib.Core.Path.{_≡_}
-use Prim.Native.Nat.{_+_, _-_, _<_, _≤_}
+use mathlib.Core.Bool.{false}
+use Prim.Native.Nat.{_+_, _-_, _≤_}
 use native.Mathlib.Omega.{arith}
 use native.Mathlib.Nat.{add-zero}
 use lib.ListN.{length, drop}
@@ -11,10 +12,10 @@ use Rattle.text.proofs.ascii_blocks.Statement.{statement}
 use Rattle.text.proofs.ascii_blocks.Tie as tie
 
 abbrev Inv-loop2 : tie.InvT-loop2
-Inv-loop2 s from i j₀ b₀ j b = (j ≤ 32) × (b < 0x80 → utf8s (drop (i + j) s) ≡ utf8s (drop i s))
+Inv-loop2 s from i j₀ other₀ j other = (j ≤ 64) × (other ≡ false → utf8s (drop (i + j) s) ≡ utf8s (drop i s))
 
 abbrev μ-loop2 : tie.MeasureT-loop2
-μ-loop2 s from i j₀ b₀ j b = 32 - j
+μ-loop2 s from i j₀ other₀ j other = 64 - j
 
 abbrev Inv-loop : tie.InvT-loop
 Inv-loop s from i₀ i = Passed s from i
@@ -31,11 +32,11 @@ sub-loop c = search needs
 loop2-holds : tie.Need-loop2-holds Inv-loop2 μ-loop2 Inv-loop μ-loop
 loop2-holds c = (omega arith, λ h. rw (add-zero (c .before .loop .i)))
 
-add-b : tie.Need-add-b Inv-loop2 μ-loop2 Inv-loop μ-loop
-add-b c = search needs
+add-other : tie.Need-add-other Inv-loop2 μ-loop2 Inv-loop μ-loop
+add-other c = search needs
 
-shared-slice-read-b : tie.Need-shared-slice-read-b Inv-loop2 μ-loop2 Inv-loop μ-loop
-shared-slice-read-b c = search needs
+shared-slice-read-other : tie.Need-shared-slice-read-other Inv-loop2 μ-loop2 Inv-loop μ-loop
+shared-slice-read-other c = search needs
 
 add-j : tie.Need-add-j Inv-loop2 μ-loop2 Inv-loop μ-loop
 add-j c = search needs
@@ -48,7 +49,7 @@ loop2-again c =
     let a = c .before .before .before .before .before .args in
     let l = c .before .before .before .before .loop in
     let m = c .before .before .loop2 in
-    (search needs, block-step (a .s .now) (l .i) (m .j) (m .b) (omega arith) (m .inv .1))
+    (search needs, block-step (a .s .now) (l .i) (m .j) (m .other) (omega arith) (m .inv .1))
 
 returns : tie.Need-returns Inv-loop2 μ-loop2 Inv-loop μ-loop
 returns c = c .before .before .before .before .loop .inv
@@ -64,7 +65,7 @@ loop-again c =
     let a = c .before .before .before .before .before .args in
     let l = c .before .before .before .before .loop in
     let m = c .before .before .loop2 in
-    pass-block (a .s .now) (l .i) (l .inv) 32 (m .j) (m .b) (m .inv .0) (c .before .loop2-test .left) (omega arith) (m .inv .1) (c .if1 .left)
+    pass-block (a .s .now) (l .i) (l .inv) 64 (m .j) (m .other) (m .inv .0) (c .before .loop2-test .left) (omega arith) (m .inv .1) (c .if1 .left)
 
 returns-2 : tie.Need-returns-2 Inv-loop2 μ-loop2 Inv-loop μ-loop
 returns-2 c = c .before .loop .inv
@@ -80,8 +81,8 @@ ascii-blocks-spec =
     loop-holds
     sub-loop
     loop2-holds
-    add-b
-    shared-slice-read-b
+    add-other
+    shared-slice-read-other
     add-j
     loop2-less
     loop2-again
