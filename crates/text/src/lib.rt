@@ -1,11 +1,13 @@
 // UTF-8 by RFC 3629: one character at a place, and whether a whole text is lawful.
 use answers::Number;
 ghost use mathlib.Core.Path.{_≡_};
-ghost use Prim.Native.Nat.{_+_, _-_, _*_, _^_, _≤_, _<_};
+ghost use mathlib.Core.Bool.{true, false};
+ghost use Prim.Native.Nat.{ℕ, _+_, _-_, _*_, _^_, _≤_, _<_};
 ghost use lib.ListN.{length, getD, drop};
 ghost use Rattle.reading.specs.Utf8.{least, most, follow, charSize, charAt, utf8s};
 ghost use Rattle.answers.specs.Told.{told};
 ghost use Rattle.text.specs.Passed.{Passed, Ran};
+ghost use Rattle.text.specs.Window.{Fits, AllFit, Three};
 
 // The character of one to three bytes at `at`.
 pub fn char_at(s: &[u8], at: usize) -> Number
@@ -65,7 +67,7 @@ fn char_three(s: &[u8], at: usize) -> Number
     Number::Refused(15, at)
 }
 
-// Whether `s` is UTF-8: blocks of ASCII, and where a block has another byte, its characters one by one.
+// Whether `s` is UTF-8: block by block, and what no block takes, one character after the other.
 pub fn is_utf8(s: &[u8]) -> bool
     ensures { λ r. ⌜ r ≡ utf8s (now (s .entry)) ⌝ }
 {
@@ -73,11 +75,15 @@ pub fn is_utf8(s: &[u8]) -> bool
     let mut i = 0;
     while i < n {
         let a = ascii_blocks(s, i);
-        let most = if n - a < 32 { n } else { a + 32 };
-        i = chars(s, a, most);
-        if i < most {
-            return false;
+        let w = char_blocks(s, a);
+        if w <= i {
+            let e = chars(s, w, n);
+            if e < n {
+                return false;
+            }
+            return true;
         }
+        i = w;
     }
     true
 }
@@ -89,18 +95,113 @@ fn ascii_blocks(s: &[u8], from: usize) -> usize
 {
     let mut i = from;
     while 64 <= s.len() - i {
-        let mut j = 0;
-        let mut other = false;
-        while j < 64 {
-            other = other | (0x80 <= s[i + j]);
-            j += 1;
-        }
-        if other {
+        if ascii_block(s, i) {
+            i += 64;
+        } else {
             return i;
         }
-        i += 64;
     }
     i
+}
+
+// Whether the 64 bytes from i on are ASCII.
+fn ascii_block(s: &[u8], i: usize) -> bool
+    requires { ⌜ i + 64 ≤ length (now s) ⌝ }
+    ensures { λ r. ⌜ (r ≡ true → Passed (now (s .entry)) i (i + 64)) ⌝ }
+{
+    let mut j = 0;
+    let mut other = false;
+    while j < 64 {
+        other = other | (0x80 <= s[i + j]);
+        j += 1;
+    }
+    if other {
+        return false;
+    }
+    true
+}
+
+// Past the blocks of 64 bytes that fit, from `from` on, to where their last character starts or ends.
+fn char_blocks(s: &[u8], from: usize) -> usize
+    requires { ⌜ from ≤ length (now s) ⌝ }
+    ensures { λ r. ⌜ Passed (now (s .entry)) from r ⌝ }
+{
+    if s.len() - from < 67 {
+        return from;
+    }
+    if misfits(s, from) {
+        return from;
+    }
+    let mut at = from;
+    while 67 <= s.len() - at {
+        if fit(s, at) {
+            at += 64;
+        } else {
+            return last_start(s, at);
+        }
+    }
+    last_start(s, at)
+}
+
+// Whether one of the three bytes at `at` does not fit where a character starts at `at`.
+fn misfits(s: &[u8], at: usize) -> bool
+    requires { ⌜ at + 3 ≤ length (now s) ⌝ }
+    ensures { λ r. ⌜ (r ≡ false → Three (now (s .entry)) at at) ⌝ }
+{
+    let x = s[at];
+    let y = s[at + 1];
+    let z = s[at + 2];
+    wrong(0, 0, 0, x) | wrong(0, 0, x, y) | wrong(0, x, y, z)
+}
+
+// Whether each of the 64 bytes past the three at `at` fits, where those from `at` on are not all ASCII.
+fn fit(s: &[u8], at: usize) -> bool
+    requires { ⌜ at + 67 ≤ length (now s) ⌝ }
+    ensures { λ r. ⌜ (r ≡ true → AllFit (now (s .entry)) at 64) ⌝ }
+{
+    if ascii_block(s, at) {
+        return false;
+    }
+    let mut j = 0;
+    let mut bad = false;
+    while j < 64 {
+        let i = at + j;
+        bad = bad | wrong(s[i], s[i + 1], s[i + 2], s[i + 3]);
+        j += 1;
+    }
+    if bad {
+        return false;
+    }
+    true
+}
+
+// Whether the byte d does not fit after the bytes a, b and c.
+fn wrong(a: u8, b: u8, c: u8, d: u8) -> bool
+    ensures { λ r. ⌜ (r ≡ false → Fits a b c d) ⌝ }
+{
+    let needed = (0xC0 <= c) | (0xE0 <= b) | (0xF0 <= a);
+    let follows = (low(c) <= d) & (d <= high(c));
+    let never = (0xF5 <= d) | (d == 0xC0) | (d == 0xC1);
+    (needed ^ follows) | never
+}
+
+// Where the character starts that the three bytes at `at` leave open, or past them where they leave none open.
+fn last_start(s: &[u8], at: usize) -> usize
+    requires { ⌜ at + 3 ≤ length (now s) ⌝ }
+    ensures { λ r. ⌜ ((from : ℕ) → Three (now (s .entry)) from at → Passed (now (s .entry)) from r) ⌝ }
+{
+    let i = at + 1;
+    let j = at + 2;
+    if 0xC0 <= s[j] {
+        return j;
+    }
+    if 0xE0 <= s[i] {
+        return i;
+    }
+    if 0xF0 <= s[at] {
+        return at;
+    }
+    at + 3
 }
 
 // One character after the other from `from` on, to `most` or past it, or to where there is none.

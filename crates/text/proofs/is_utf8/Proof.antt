@@ -1,6 +1,5 @@
 use borrow.Author.Needs.{needs}
 use mathlib.Core.Path.{_≡_, sym, _∙_}
-use mathlib.Core.Logic.{⊎-elim}
 use Prim.Native.Nat.{_-_}
 use native.Mathlib.Omega.{arith}
 use lib.ListN.{length}
@@ -21,38 +20,46 @@ loop-holds c = (search needs, passed-none (c .before .args .s .now) 0 (omega ari
 ascii-blocks-requires : tie.Need-ascii-blocks-requires Inv-loop μ-loop
 ascii-blocks-requires c κs = search needs
 
-sub-if1 : tie.Need-sub-if1 Inv-loop μ-loop
-sub-if1 c = search needs
-
-add-most : tie.Need-add-most Inv-loop μ-loop
-add-most c = search needs
+char-blocks-requires : tie.Need-char-blocks-requires Inv-loop μ-loop
+char-blocks-requires c κs = search needs
 
 chars-requires : tie.Need-chars-requires Inv-loop μ-loop
-chars-requires c κs = ⊎-elim (λ w. omega arith) (λ w. omega arith) (c .if1 .came)
+chars-requires c κs = search needs
 
 returns : tie.Need-returns Inv-loop μ-loop
 returns c =
-    let t = c .before .before .before .before .before .before .before .args .s .now in
-    let l = c .before .before .before .before .before .loop in
-    let b = c .before .before .before .ascii-blocks in
-    let r = c .before .chars in
-    let p = passed-on t (b .result) (passed-on t (l .i) (l .inv .1) (b .result) (b .ensures)) (r .result) (r .ensures .passed) in
-    sym (r .ensures .stops (c .if2 .taken)) ∙ p .same
+    let t = c .before .before .before .before .before .before .before .before .args .s .now in
+    let l = c .before .before .before .before .before .before .loop in
+    let a = c .before .before .before .before .ascii-blocks in
+    let w = c .before .before .before .char-blocks in
+    let p = passed-on t (a .result) (passed-on t (l .i) (l .inv .1) (a .result) (a .ensures)) (w .result) (w .ensures) in
+    let e = c .before .chars in
+    sym (e .ensures .stops (c .if2 .taken)) ∙ passed-on t (w .result) p (e .result) (e .ensures .passed) .same
+
+returns-2 : tie.Need-returns-2 Inv-loop μ-loop
+returns-2 c =
+    let t = c .before .before .before .before .before .before .before .before .args .s .now in
+    let l = c .before .before .before .before .before .before .loop in
+    let a = c .before .before .before .before .ascii-blocks in
+    let w = c .before .before .before .char-blocks in
+    let p = passed-on t (a .result) (passed-on t (l .i) (l .inv .1) (a .result) (a .ensures)) (w .result) (w .ensures) in
+    let e = c .before .chars in
+    sym (passed-all t (e .result) (passed-on t (w .result) p (e .result) (e .ensures .passed)) (omega arith))
 
 loop-less : tie.Need-loop-less Inv-loop μ-loop
-loop-less c = ⊎-elim (λ w. omega arith) (λ w. omega arith) (c .before .before .if1 .came)
+loop-less c = search needs
 
 loop-again : tie.Need-loop-again Inv-loop μ-loop
 loop-again c =
-    let t = c .before .before .before .before .before .before .before .args .s .now in
-    let l = c .before .before .before .before .before .loop in
-    let b = c .before .before .before .ascii-blocks in
-    let r = c .before .chars in
-    let p = passed-on t (b .result) (passed-on t (l .i) (l .inv .1) (b .result) (b .ensures)) (r .result) (r .ensures .passed) in
+    let t = c .before .before .before .before .before .before .args .s .now in
+    let l = c .before .before .before .before .loop in
+    let a = c .before .before .ascii-blocks in
+    let w = c .before .char-blocks in
+    let p = passed-on t (a .result) (passed-on t (l .i) (l .inv .1) (a .result) (a .ensures)) (w .result) (w .ensures) in
     (l .inv .0, p)
 
-returns-2 : tie.Need-returns-2 Inv-loop μ-loop
-returns-2 c = sym (passed-all (c .before .before .before .args .s .now) (c .before .loop .i) (c .before .loop .inv .1) (omega arith))
+returns-3 : tie.Need-returns-3 Inv-loop μ-loop
+returns-3 c = sym (passed-all (c .before .before .before .args .s .now) (c .before .loop .i) (c .before .loop .inv .1) (omega arith))
 
 pub is-utf8-spec : {M : Type 1} → statement M
 is-utf8-spec =
@@ -62,10 +69,10 @@ is-utf8-spec =
     μ-loop
     loop-holds
     ascii-blocks-requires
-    sub-if1
-    add-most
+    char-blocks-requires
     chars-requires
     returns
+    returns-2
     loop-less
     loop-again
-    returns-2)
+    returns-3)
