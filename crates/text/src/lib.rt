@@ -74,10 +74,12 @@ pub fn is_utf8(s: &[u8]) -> bool
     let n = s.len();
     let mut i = 0;
     while i < n {
-        let a = ascii_blocks(s, i);
-        let w = char_blocks(s, a);
+        let a = ascii_blocks(s, i, 128);
+        let b = ascii_blocks(s, a, 64);
+        let w = char_blocks(s, b);
         if w <= i {
-            let e = chars(s, w, n);
+            let t = ascii_blocks(s, w, 16);
+            let e = chars(s, t, n);
             if e < n {
                 return false;
             }
@@ -88,15 +90,15 @@ pub fn is_utf8(s: &[u8]) -> bool
     true
 }
 
-// Past the blocks of 64 ASCII bytes from `from` on.
-fn ascii_blocks(s: &[u8], from: usize) -> usize
-    requires { ⌜ from ≤ length (now s) ⌝ }
+// Past the blocks of n ASCII bytes from `from` on.
+fn ascii_blocks(s: &[u8], from: usize, n: usize) -> usize
+    requires { ⌜ (from ≤ length (now s)) × (1 ≤ n) ⌝ }
     ensures { λ r. ⌜ Passed (now (s .entry)) from r ⌝ }
 {
     let mut i = from;
-    while 64 <= s.len() - i {
-        if ascii_block(s, i) {
-            i += 64;
+    while n <= s.len() - i {
+        if ascii_block(s, i, n) {
+            i += n;
         } else {
             return i;
         }
@@ -104,14 +106,14 @@ fn ascii_blocks(s: &[u8], from: usize) -> usize
     i
 }
 
-// Whether the 64 bytes from i on are ASCII.
-fn ascii_block(s: &[u8], i: usize) -> bool
-    requires { ⌜ i + 64 ≤ length (now s) ⌝ }
-    ensures { λ r. ⌜ (r ≡ true → Passed (now (s .entry)) i (i + 64)) ⌝ }
+// Whether the n bytes from i on are ASCII.
+fn ascii_block(s: &[u8], i: usize, n: usize) -> bool
+    requires { ⌜ i + n ≤ length (now s) ⌝ }
+    ensures { λ r. ⌜ (r ≡ true → Passed (now (s .entry)) i (i + n)) ⌝ }
 {
     let mut j = 0;
     let mut other = false;
-    while j < 64 {
+    while j < n {
         other = other | (0x80 <= s[i + j]);
         j += 1;
     }
@@ -159,7 +161,7 @@ fn fit(s: &[u8], at: usize) -> bool
     requires { ⌜ at + 67 ≤ length (now s) ⌝ }
     ensures { λ r. ⌜ (r ≡ true → AllFit (now (s .entry)) at 64) ⌝ }
 {
-    if ascii_block(s, at) {
+    if ascii_block(s, at, 64) {
         return false;
     }
     let mut j = 0;

@@ -11,10 +11,10 @@ use Rattle.text.proofs.ascii_block.Statement.{statement}
 use Rattle.text.proofs.ascii_block.Tie as tie
 
 abbrev Inv-loop : tie.InvT-loop
-Inv-loop s i j₀ other₀ j other = (j ≤ 64) × (other ≡ false → utf8s (drop (i + j) s) ≡ utf8s (drop i s))
+Inv-loop s i n j₀ other₀ j other = (j ≤ n) × (other ≡ false → utf8s (drop (i + j) s) ≡ utf8s (drop i s))
 
 abbrev μ-loop : tie.MeasureT-loop
-μ-loop s i j₀ other₀ j other = 64 - j
+μ-loop s i n j₀ other₀ j other = n - j
 
 loop-holds : tie.Need-loop-holds Inv-loop μ-loop
 loop-holds c = (omega arith, λ h. rw (add-zero (c .args .i)))
@@ -44,7 +44,7 @@ returns-2 : tie.Need-returns-2 Inv-loop μ-loop
 returns-2 c =
     let a = c .before .before .before .args in
     let m = c .before .before .loop in
-    λ e. pass-block (a .s .now) (a .i) (passed-none (a .s .now) (a .i) (omega arith)) 64 (m .j) (m .other) (m .inv .0) (c .before .loop-test .left) (omega arith) (m .inv .1) (c .if1 .left)
+    λ e. pass-block (a .s .now) (a .i) (passed-none (a .s .now) (a .i) (omega arith)) (a .n) (m .j) (m .other) (m .inv .0) (c .before .loop-test .left) (omega arith) (m .inv .1) (c .if1 .left)
 
 pub ascii-block-spec : {M : Type 1} → statement M
 ascii-block-spec =

@@ -7,13 +7,13 @@ use Rattle.text.proofs.ascii_blocks.Statement.{statement}
 use Rattle.text.proofs.ascii_blocks.Tie as tie
 
 abbrev Inv-loop : tie.InvT-loop
-Inv-loop s from i₀ i = Passed s from i
+Inv-loop s from n i₀ i = Passed s from i
 
 abbrev μ-loop : tie.MeasureT-loop
-μ-loop s from i₀ i = length s - i
+μ-loop s from n i₀ i = length s - i
 
 loop-holds : tie.Need-loop-holds Inv-loop μ-loop
-loop-holds c = passed-none (c .before .args .s .now) (c .before .args .from) (c .before .pre)
+loop-holds c = passed-none (c .before .args .s .now) (c .before .args .from) (c .before .pre .0)
 
 sub-loop : tie.Need-sub-loop Inv-loop μ-loop
 sub-loop c = search needs
@@ -31,7 +31,7 @@ loop-again : tie.Need-loop-again Inv-loop μ-loop
 loop-again c =
     let a = c .before .before .before .before .before .args in
     let l = c .before .before .before .loop in
-    passed-on (a .s .now) (l .i) (l .inv) (l .i + 64) (c .before .ascii-block .ensures (c .if1 .taken))
+    passed-on (a .s .now) (l .i) (l .inv) (l .i + a .n) (c .before .ascii-block .ensures (c .if1 .taken))
 
 returns : tie.Need-returns Inv-loop μ-loop
 returns c = c .before .before .before .loop .inv

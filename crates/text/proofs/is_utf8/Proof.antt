@@ -20,42 +20,55 @@ loop-holds c = (search needs, passed-none (c .before .args .s .now) 0 (omega ari
 ascii-blocks-requires : tie.Need-ascii-blocks-requires Inv-loop μ-loop
 ascii-blocks-requires c κs = search needs
 
+ascii-blocks-requires-2 : tie.Need-ascii-blocks-requires-2 Inv-loop μ-loop
+ascii-blocks-requires-2 c κs = search needs
+
 char-blocks-requires : tie.Need-char-blocks-requires Inv-loop μ-loop
 char-blocks-requires c κs = search needs
+
+ascii-blocks-requires-3 : tie.Need-ascii-blocks-requires-3 Inv-loop μ-loop
+ascii-blocks-requires-3 c κs = search needs
 
 chars-requires : tie.Need-chars-requires Inv-loop μ-loop
 chars-requires c κs = search needs
 
 returns : tie.Need-returns Inv-loop μ-loop
 returns c =
-    let t = c .before .before .before .before .before .before .before .before .args .s .now in
-    let l = c .before .before .before .before .before .before .loop in
-    let a = c .before .before .before .before .ascii-blocks in
-    let w = c .before .before .before .char-blocks in
-    let p = passed-on t (a .result) (passed-on t (l .i) (l .inv .1) (a .result) (a .ensures)) (w .result) (w .ensures) in
+    let t = c .before .before .before .before .before .before .before .before .before .before .args .s .now in
+    let l = c .before .before .before .before .before .before .before .before .loop in
+    let a = c .before .before .before .before .before .before .ascii-blocks in
+    let b = c .before .before .before .before .before .ascii-blocks2 in
+    let w = c .before .before .before .before .char-blocks in
+    let p = passed-on t (b .result) (passed-on t (a .result) (passed-on t (l .i) (l .inv .1) (a .result) (a .ensures)) (b .result) (b .ensures)) (w .result) (w .ensures) in
+    let x = c .before .before .ascii-blocks3 in
     let e = c .before .chars in
-    sym (e .ensures .stops (c .if2 .taken)) ∙ passed-on t (w .result) p (e .result) (e .ensures .passed) .same
+    let q = passed-on t (x .result) (passed-on t (w .result) p (x .result) (x .ensures)) (e .result) (e .ensures .passed) in
+    sym (e .ensures .stops (c .if2 .taken)) ∙ q .same
 
 returns-2 : tie.Need-returns-2 Inv-loop μ-loop
 returns-2 c =
-    let t = c .before .before .before .before .before .before .before .before .args .s .now in
-    let l = c .before .before .before .before .before .before .loop in
-    let a = c .before .before .before .before .ascii-blocks in
-    let w = c .before .before .before .char-blocks in
-    let p = passed-on t (a .result) (passed-on t (l .i) (l .inv .1) (a .result) (a .ensures)) (w .result) (w .ensures) in
+    let t = c .before .before .before .before .before .before .before .before .before .before .args .s .now in
+    let l = c .before .before .before .before .before .before .before .before .loop in
+    let a = c .before .before .before .before .before .before .ascii-blocks in
+    let b = c .before .before .before .before .before .ascii-blocks2 in
+    let w = c .before .before .before .before .char-blocks in
+    let p = passed-on t (b .result) (passed-on t (a .result) (passed-on t (l .i) (l .inv .1) (a .result) (a .ensures)) (b .result) (b .ensures)) (w .result) (w .ensures) in
+    let x = c .before .before .ascii-blocks3 in
     let e = c .before .chars in
-    sym (passed-all t (e .result) (passed-on t (w .result) p (e .result) (e .ensures .passed)) (omega arith))
+    let q = passed-on t (x .result) (passed-on t (w .result) p (x .result) (x .ensures)) (e .result) (e .ensures .passed) in
+    sym (passed-all t (e .result) q (omega arith))
 
 loop-less : tie.Need-loop-less Inv-loop μ-loop
 loop-less c = search needs
 
 loop-again : tie.Need-loop-again Inv-loop μ-loop
 loop-again c =
-    let t = c .before .before .before .before .before .before .args .s .now in
-    let l = c .before .before .before .before .loop in
-    let a = c .before .before .ascii-blocks in
+    let t = c .before .before .before .before .before .before .before .args .s .now in
+    let l = c .before .before .before .before .before .loop in
+    let a = c .before .before .before .ascii-blocks in
+    let b = c .before .before .ascii-blocks2 in
     let w = c .before .char-blocks in
-    let p = passed-on t (a .result) (passed-on t (l .i) (l .inv .1) (a .result) (a .ensures)) (w .result) (w .ensures) in
+    let p = passed-on t (b .result) (passed-on t (a .result) (passed-on t (l .i) (l .inv .1) (a .result) (a .ensures)) (b .result) (b .ensures)) (w .result) (w .ensures) in
     (l .inv .0, p)
 
 returns-3 : tie.Need-returns-3 Inv-loop μ-loop
@@ -69,7 +82,9 @@ is-utf8-spec =
     μ-loop
     loop-holds
     ascii-blocks-requires
+    ascii-blocks-requires-2
     char-blocks-requires
+    ascii-blocks-requires-3
     chars-requires
     returns
     returns-2
