@@ -158,11 +158,11 @@ module _ (s : List ℕ) (i : ℕ) where
     pub pass-char : (k : ℕ) → k ≡ charSize (drop i s) → (k ≡ 0 → ⊥) → Passed s from (i + k)
     pass-char k e n = pass k (omega (arith, char-fits (drop i s), length-drop i s)) (char-step s i k e n)
 
-    pub ran-to : (most : ℕ) → most ≤ i → Ran s from most i
-    ran-to most h = record { passed = p; stops = λ l. absurd (omega arith) }
+    pub ran-to : length s ≤ i → Ran s from i
+    ran-to h = record { passed = p; stops = λ l. absurd (omega arith) }
 
-    pub ran-out : (most k : ℕ) → i < length s → k ≡ charSize (drop i s) → k ≡ 0 → Ran s from most i
-    ran-out most k h e z = record { passed = p; stops = λ l. utf8s-stops (drop i s) (omega (arith, length-drop i s)) (sym e ∙ z) }
+    pub ran-out : (k : ℕ) → i < length s → k ≡ charSize (drop i s) → k ≡ 0 → Ran s from i
+    ran-out k h e z = record { passed = p; stops = λ l. utf8s-stops (drop i s) (omega (arith, length-drop i s)) (sym e ∙ z) }
 
 pub passed-all : (s : List ℕ) (i : ℕ) → Passed s 0 i → length s ≤ i → utf8s s ≡ true
 unfolding utf8s chars

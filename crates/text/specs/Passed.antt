@@ -12,7 +12,7 @@ pub record Passed (s : List ℕ) (from i : ℕ) : Type 0 where
   pub inside : i ≤ length s
   pub same : utf8s (drop i s) ≡ utf8s (drop from s)
 
--- the same up to `most`, or to a place before it where no character starts
-pub record Ran (s : List ℕ) (from most i : ℕ) : Type 0 where
+-- the same up to the end, or to a place before it where no character starts
+pub record Ran (s : List ℕ) (from i : ℕ) : Type 0 where
   pub passed : Passed s from i
-  pub stops : i < most → utf8s (drop i s) ≡ false
+  pub stops : i < length s → utf8s (drop i s) ≡ false

@@ -79,7 +79,7 @@ pub fn is_utf8(s: &[u8]) -> bool
         let w = char_blocks(s, b);
         if w <= i {
             let t = ascii_blocks(s, w, 16);
-            let e = chars(s, t, n);
+            let e = chars(s, t);
             if e < n {
                 return false;
             }
@@ -206,13 +206,13 @@ fn last_start(s: &[u8], at: usize) -> usize
     at + 3
 }
 
-// One character after the other from `from` on, to `most` or past it, or to where there is none.
-fn chars(s: &[u8], from: usize, most: usize) -> usize
-    requires { ⌜ (from ≤ most) × (most ≤ length (now s)) ⌝ }
-    ensures { λ r. ⌜ Ran (now (s .entry)) from most r ⌝ }
+// One character after the other from `from` on, to the end or to where there is none.
+fn chars(s: &[u8], from: usize) -> usize
+    requires { ⌜ from ≤ length (now s) ⌝ }
+    ensures { λ r. ⌜ Ran (now (s .entry)) from r ⌝ }
 {
     let mut i = from;
-    while i < most {
+    while i < s.len() {
         if s[i] < 0x80 {
             i += 1;
         } else {

@@ -8,10 +8,10 @@ use Rattle.text.proofs.chars.Statement.{statement}
 use Rattle.text.proofs.chars.Tie as tie
 
 abbrev Inv-loop : tie.InvT-loop
-Inv-loop s from most i₀ i = Passed s from i
+Inv-loop s from i₀ i = Passed s from i
 
 abbrev μ-loop : tie.MeasureT-loop
-μ-loop s from most i₀ i = length s - i
+μ-loop s from i₀ i = length s - i
 
 loop-holds : tie.Need-loop-holds Inv-loop μ-loop
 loop-holds c = passed-none (c .before .args .s .now) (c .before .args .from) (omega arith)
@@ -38,7 +38,7 @@ returns : tie.Need-returns Inv-loop μ-loop
 returns c =
     let a = c .before .before .before .before .before .before .before .args in
     let l = c .before .before .before .before .before .loop in
-    ran-out (a .s .now) (l .i) (l .inv) (a .most) (c .before .multi .result) (omega arith) (c .before .multi .ensures) (c .if2 .taken)
+    ran-out (a .s .now) (l .i) (l .inv) (c .before .multi .result) (omega arith) (c .before .multi .ensures) (c .if2 .taken)
 
 add-i-2 : tie.Need-add-i-2 Inv-loop μ-loop
 add-i-2 c =
@@ -59,7 +59,7 @@ returns-2 : tie.Need-returns-2 Inv-loop μ-loop
 returns-2 c =
     let a = c .before .before .before .args in
     let l = c .before .loop in
-    ran-to (a .s .now) (l .i) (l .inv) (a .most) (c .loop-test .left)
+    ran-to (a .s .now) (l .i) (l .inv) (c .loop-test .left)
 
 pub chars-spec : {M : Type 1} → statement M
 chars-spec =

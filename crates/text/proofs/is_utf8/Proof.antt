@@ -43,7 +43,7 @@ returns c =
     let x = c .before .before .ascii-blocks3 in
     let e = c .before .chars in
     let q = passed-on t (x .result) (passed-on t (w .result) p (x .result) (x .ensures)) (e .result) (e .ensures .passed) in
-    sym (e .ensures .stops (c .if2 .taken)) ∙ q .same
+    sym (e .ensures .stops (omega arith)) ∙ q .same
 
 returns-2 : tie.Need-returns-2 Inv-loop μ-loop
 returns-2 c =
