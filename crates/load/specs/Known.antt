@@ -9,10 +9,9 @@ use Rattle.readers.specs.Listed.{Listed}
 use Rattle.table.specs.declared.Head.{Head}
 use Rattle.heads.specs.declared.slot.Slot.{Slot}
 use Rattle.heads.specs.declared.nest.Nest.{Nest}
-use Rattle.heads.specs.declared.nest.Below.{Below}
 use Rattle.heads.specs.Slots.{SlotIs}
-use Rattle.heads.specs.Nests.{Prelude, NestIs, BelowIs}
-use Rattle.objects.specs.Start.{Invoked}
+use Rattle.heads.specs.Nests.{Prelude, NestIs}
+use Rattle.objects.specs.Start.{Has, positionOfSlot}
 
 -- the codes hold the types of some readers and those that fonts and pages declare
 pub record Known (codes : List ℕ) (rd : Readers) : Type 0 where
@@ -20,17 +19,16 @@ pub record Known (codes : List ℕ) (rd : Readers) : Type 0 where
   pub listed : Listed codes rd readers
   pub prelude : Prelude codes
 
+-- the codes hold the types of a reader list with so many readers, and the type that a slot's type id names is at a place
+pub record KnownTarget (file codes : List ℕ) (slot : Slot) (at count target : ℕ) : Type 0 where
+  pub rd : Readers
+  pub readers : List Target
+  pub has : Has rd count (positionOfSlot file slot at) target
+  pub listed : Listed codes rd readers
+
 pub record KnownSlot (codes : List ℕ) (slot : Slot) : Type 0 where
   pub x : L.Slot
   pub is : SlotIs codes slot x
-
-pub record KnownType (codes : List ℕ) (place : ℕ) : Type 0 where
-  pub type : Target
-  pub is : Invoked codes place type
-
-pub record KnownBelow (codes : List ℕ) (below : Below) : Type 0 where
-  pub slots : List L.Slot
-  pub is : BelowIs codes below slots
 
 pub record KnownNest (codes : List ℕ) (nest : Nest) : Type 0 where
   pub slots : List L.Slot

@@ -1,4 +1,5 @@
 pub mod Known
 pub mod Walks
+pub mod Steps
 pub mod Loads
 pub mod Laws

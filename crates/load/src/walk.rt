@@ -11,36 +11,151 @@ use table::Walk;
 ghost use mathlib.Core.Path.{_≡_};
 ghost use mathlib.Core.List.{List};
 ghost use Prim.Native.Nat.{ℕ, suc};
-ghost use lib.ListN.{length};
-ghost use Rattle.layout.specs.Target.{Target};
+ghost use Rattle.layout.specs.Target.{Target, kindOf};
 ghost use Rattle.layout.specs.Slot as L;
 ghost use Rattle.layout.specs.Slot.{each};
+ghost use Rattle.reading.specs.Heads.{headAt};
 ghost use Rattle.reading.specs.Walk as W;
 ghost use Rattle.table.specs.Contract.{seen, Walked};
 ghost use Rattle.leaves.specs.Plain.{Begin};
+ghost use Rattle.readers.specs.declared.Readers as R;
 ghost use Rattle.readers.specs.Listed.{Listed};
+ghost use Rattle.heads.specs.declared.nest.Below.the-variants as B;
 ghost use Rattle.heads.specs.Slots.{SlotIs};
-ghost use Rattle.heads.specs.Nests.{Prelude, NestIs, BelowIs};
-ghost use Rattle.objects.specs.Start.{Invoked, under};
-ghost use Rattle.load.specs.Known.{Known, KnownSlot, KnownType, KnownBelow, KnownNest, Ready};
+ghost use Rattle.heads.specs.Nests.{NestIs};
+ghost use Rattle.objects.specs.Start.{Invoked, Has, positionOfSlot};
+ghost use Rattle.load.specs.Known.{Known, KnownSlot, KnownNest, KnownTarget, Ready};
+ghost use Rattle.load.specs.Walks.{OpenedAs};
+ghost use Rattle.load.specs.Steps.{KnownRaw, RawSteps, Steps, stepOf, rawOf};
 
-// How many values stand below.
-fn count_below(below: Below) -> usize
-    ensures { λ r. ⌜ ((codes : List ℕ) (slots : List L.Slot) → BelowIs codes below slots → r ≡ length slots) ⌝ }
+// A value that needs no reader list, walked; or a raw value whose children need it: its type id, its first byte, the place of its type, where its head ends, and its children.
+pub enum Stepped {
+    Done {
+        used: u32,
+        next: usize,
+    },
+    Refused {
+        number: u32,
+        place: usize,
+    },
+    Nested {
+        id: u32,
+        from: usize,
+        place: usize,
+        next: usize,
+        nest: Nest,
+    },
+}
+
+// A value that was walked.
+fn walked_step(walked: Walk) -> Stepped
+    ensures { λ r. ⌜ r ≡ stepOf walked ⌝ }
 {
-    match below {
-        Below::Nothing => 0,
-        Below::Simple(run) => leaves::run::turns(run),
-        Below::Nested(nest) => heads::nest::count(nest),
+    match walked {
+        Walk::Done { next, used } => Stepped::Done { next, used },
+        Walk::Refused { number, place } => Stepped::Refused { number, place },
     }
 }
 
-// The value in a slot, with the depth left.
+// A raw value of a kind, once its head is read: walked, unless its children need the reader list.
+fn close_flat(
+    file: &[u8],
+    words: &mut [u32],
+    room: u32,
+    shared: u32,
+    kind: u32,
+    place: usize,
+    h: Head,
+    at: usize,
+    depth: u32,
+    next: usize,
+    below: Below,
+) -> Stepped
+    requires { ⌜ Ready (now file) (now words) room h at ⌝ }
+    ensures { λ r. ⌜ ((codes : List ℕ) (readers : List Target) (t : Target) → Invoked codes place t → kind ≡ kindOf t → OpenedAs codes (headAt (now (file .entry)) t at) next below → RawSteps (now (file .entry)) codes readers shared room depth t place h at (now (words .entry)) (now (words .exit)) r) ⌝ }
+{
+    let first = h.row + 1;
+    match below {
+        Below::Nothing => walked_step(objects::close::close(
+            file,
+            words,
+            h,
+            kind,
+            0,
+            at,
+            Walk::Done { next, used: first },
+        )),
+        Below::Simple(run) => {
+            let n = leaves::run::turns(run);
+            let walked = leaves::run::read_run(
+                file,
+                words,
+                room,
+                shared,
+                run,
+                next,
+                first,
+                depth,
+                first,
+            );
+            walked_step(objects::close::close(file, words, h, kind, n, at, walked))
+        }
+        Below::Nested(nest) => Stepped::Nested {
+            id: h.detail,
+            from: at,
+            place,
+            next,
+            nest,
+        },
+    }
+}
+
+// A raw value of the type at `place`, as far as it needs no reader list.
+fn raw_step(
+    file: &[u8],
+    codes: &[u8],
+    words: &mut [u32],
+    room: u32,
+    shared: u32,
+    place: usize,
+    h: Head,
+    at: usize,
+    depth: u32,
+) -> Stepped
+    requires { ⌜ Ready (now file) (now words) room h at ⌝ }
+    ensures { λ r. ⌜ ((readers : List Target) (t : Target) → Invoked (now (codes .entry)) place t → RawSteps (now (file .entry)) (now (codes .entry)) readers shared room depth t place h at (now (words .entry)) (now (words .exit)) r) ⌝ }
+{
+    match heads::open::open(file, codes, place, at) {
+        Opened::Refused(number, from) => Stepped::Refused {
+            number,
+            place: from,
+        },
+        Opened::Head(next, below) => {
+            let kind = types::kind_at(codes, place) as u32;
+            close_flat(
+                file,
+                words,
+                room,
+                shared,
+                kind,
+                place,
+                h,
+                at,
+                depth,
+                next,
+                below,
+            )
+        }
+    }
+}
+
+// The value in a slot, with the depth left, as far as it needs no more of the reader list than how many readers there are and the place of the type that the value's type id names.
 fn value(
     file: &[u8],
     codes: &[u8],
-    rd: Readers,
     words: &mut [u32],
+    count: u32,
+    target: u32,
     room: u32,
     shared: u32,
     slot: Slot,
@@ -48,13 +163,14 @@ fn value(
     used: u32,
     depth: u32,
     parent: u32,
-) -> Walk
-    requires { ⌜ Begin (now file) (now words) room at used × Known (now codes) rd × KnownSlot (now codes) slot ⌝ }
-    ensures { λ r. ⌜ ((readers : List Target) (x : L.Slot) → Listed (now (codes .entry)) rd readers → SlotIs (now (codes .entry)) slot x → Walked (now (words .entry)) (now (words .exit)) used (seen (W.walk (now (file .entry)) readers shared room depth x at used parent)) r) ⌝ }
+) -> Stepped
+    requires { ⌜ Begin (now file) (now words) room at used × KnownTarget (now file) (now codes) slot at count target × KnownSlot (now codes) slot ⌝ }
+    ensures { λ r. ⌜ ((rd : R.Readers) (readers : List Target) (x : L.Slot) → Has rd count (positionOfSlot (now (file .entry)) slot at) target → Listed (now (codes .entry)) rd readers → SlotIs (now (codes .entry)) slot x → Steps (now (file .entry)) (now (codes .entry)) readers shared room depth x at used parent (now (words .entry)) (now (words .exit)) r) ⌝ }
 {
-    match objects::start::start(file, codes, rd, room, slot, at, used, depth) {
-        Started::Refused(number, place) => Walk::Refused { number, place },
-        Started::Plain(plain) => leaves::plain::read_plain(
+    let named = target as usize;
+    match objects::start::start(file, codes, count, named, room, slot, at, used, depth) {
+        Started::Refused(number, place) => Stepped::Refused { number, place },
+        Started::Plain(plain) => walked_step(leaves::plain::read_plain(
             file,
             words,
             room,
@@ -64,7 +180,7 @@ fn value(
             used,
             depth,
             parent,
-        ),
+        )),
         Started::Null(next) => {
             let h = Head {
                 row: used,
@@ -72,7 +188,7 @@ fn value(
                 parent,
                 detail: 0,
             };
-            table::leaf(words, h, 0, 0, Number::Read(0, next))
+            walked_step(table::leaf(words, h, 0, 0, Number::Read(0, next)))
         }
         Started::Raw(place, from, id) => {
             let h = Head {
@@ -81,23 +197,12 @@ fn value(
                 parent,
                 detail: id,
             };
-            raw(
-                file,
-                codes,
-                rd,
-                words,
-                room,
-                shared,
-                place,
-                h,
-                from,
-                depth - 1,
-            )
+            raw_step(file, codes, words, room, shared, place, h, from, depth - 1)
         }
     }
 }
 
-// A raw value of the type at `place`, whose children have the depth left.
+// A raw value of the type at `place`, whose head ends at `next` and whose children need the reader list and have the depth left.
 fn raw(
     file: &[u8],
     codes: &[u8],
@@ -108,71 +213,32 @@ fn raw(
     place: usize,
     h: Head,
     at: usize,
+    next: usize,
+    nest: Nest,
     depth: u32,
 ) -> Walk
-    requires { ⌜ Ready (now file) (now words) room h at × Known (now codes) rd × KnownType (now codes) place ⌝ }
-    ensures { λ r. ⌜ ((readers : List Target) (t : Target) → Listed (now (codes .entry)) rd readers → Invoked (now (codes .entry)) place t → Walked (now (words .entry)) (now (words .exit)) (h .row) (seen (W.rawAt (now (file .entry)) readers shared room (under (now (file .entry)) readers shared room depth (h .row)) t (h .first) at (h .row) (h .parent) (h .detail))) r) ⌝ }
+    requires { ⌜ Ready (now file) (now words) room h at × Known (now codes) rd × KnownRaw (now file) (now codes) place at next nest ⌝ }
+    ensures { λ r. ⌜ ((readers : List Target) (t : Target) → Listed (now (codes .entry)) rd readers → Invoked (now (codes .entry)) place t → OpenedAs (now (codes .entry)) (headAt (now (file .entry)) t at) next (B.Nested nest) → Walked (now (words .entry)) (now (words .exit)) (h .row) (seen (rawOf (now (file .entry)) readers shared room depth t h at)) r) ⌝ }
 {
-    match heads::open::open(file, codes, place, at) {
-        Opened::Refused(number, from) => Walk::Refused {
-            number,
-            place: from,
-        },
-        Opened::Head(next, below) => {
-            let first = h.row + 1;
-            let n = count_below(below);
-            let walked = children(
-                file,
-                codes,
-                rd,
-                words,
-                room,
-                shared,
-                below,
-                next,
-                first,
-                depth,
-            );
-            let kind = types::kind_at(codes, place) as u32;
-            objects::close::close(file, words, h, kind, n, at, walked)
-        }
-    }
+    let first = h.row + 1;
+    let n = heads::nest::count(nest);
+    let walked = nested(
+        file,
+        codes,
+        rd,
+        words,
+        room,
+        shared,
+        nest,
+        next,
+        first,
+        depth,
+    );
+    let kind = types::kind_at(codes, place) as u32;
+    objects::close::close(file, words, h, kind, n, at, walked)
 }
 
-// What stands below a value, whose first row is `used` and whose parent is the row before it.
-fn children(
-    file: &[u8],
-    codes: &[u8],
-    rd: Readers,
-    words: &mut [u32],
-    room: u32,
-    shared: u32,
-    below: Below,
-    at: usize,
-    used: u32,
-    depth: u32,
-) -> Walk
-    requires { ⌜ Begin (now file) (now words) room at used × Known (now codes) rd × KnownBelow (now codes) below ⌝ }
-    ensures { λ r. ⌜ ((readers : List Target) (slots : List L.Slot) → Listed (now (codes .entry)) rd readers → BelowIs (now (codes .entry)) below slots → Walked (now (words .entry)) (now (words .exit)) used (seen (W.sequence (λ y b v. W.walk (now (file .entry)) readers shared room depth y b v used) (each slots) at used)) r) ⌝ }
-{
-    match below {
-        Below::Nothing => Walk::Done { next: at, used },
-        Below::Simple(run) => leaves::run::read_run(
-            file,
-            words,
-            room,
-            shared,
-            run,
-            at,
-            used,
-            depth,
-            used,
-        ),
-        Below::Nested(nest) => nested(file, codes, rd, words, room, shared, nest, at, used, depth),
-    }
-}
-
-// Values one after the other, some of which need the reader list. Their parent is the row before the first of theirs, or none if that is row 0.
+// Objects and raw values one after the other. Their parent is the row before the first of theirs, or none if that is row 0.
 pub(crate) fn nested(
     file: &[u8],
     codes: &[u8],
@@ -194,11 +260,14 @@ pub(crate) fn nested(
     let mut i = 0;
     while i < n {
         let slot = heads::nest::child(nest, i);
+        let position = objects::start::reader_position(file, slot, next);
+        let target = rd.targets[position];
         match value(
             file,
             codes,
-            rd,
             words,
+            rd.count,
+            target,
             room,
             shared,
             slot,
@@ -207,12 +276,48 @@ pub(crate) fn nested(
             depth,
             used,
         ) {
-            Walk::Done { next: a, used: u } => {
+            Stepped::Done { next: a, used: u } => {
                 next = a;
                 row = u;
             }
-            Walk::Refused { number, place } => {
+            Stepped::Refused { number, place } => {
                 return Walk::Refused { number, place };
+            }
+            Stepped::Nested {
+                id,
+                from,
+                place,
+                next: below,
+                nest: inner,
+            } => {
+                let h = Head {
+                    row,
+                    first: next,
+                    parent: used,
+                    detail: id,
+                };
+                match raw(
+                    file,
+                    codes,
+                    rd,
+                    words,
+                    room,
+                    shared,
+                    place,
+                    h,
+                    from,
+                    below,
+                    inner,
+                    depth - 1,
+                ) {
+                    Walk::Done { next: a, used: u } => {
+                        next = a;
+                        row = u;
+                    }
+                    Walk::Refused { number, place: q } => {
+                        return Walk::Refused { number, place: q };
+                    }
+                }
             }
         }
         i += 1;

@@ -3,7 +3,7 @@ use mathlib.Core.Path.{_≡_, refl, sym, ap, subst, _∙_}
 use mathlib.Core.Bool.{Bool, true, false}
 use mathlib.Core.List.{List, [], _∷_}
 use mathlib.Core.Logic.{_⊎_, inl, inr}
-use Prim.Native.Nat.{ℕ, zero, suc, _+_, _-_, _≤_, _<_}
+use Prim.Native.Nat.{ℕ, zero, suc, _+_, _-_, _%_, _≤_, _<_}
 use native.Mathlib.Omega.{arith}
 use lib.ListN.{length, getD}
 use lib.Dec.{ltb}
@@ -29,12 +29,48 @@ use Rattle.readers.specs.declared.Readers.{Readers}
 use Rattle.readers.specs.Listed.{Listed}
 use Rattle.leaves.specs.Plain.{plainSlot, Lawful}
 use Rattle.heads.specs.Opens.{Arguments}
+use Rattle.heads.specs.declared.slot.Slot.{Slot}
+use Rattle.heads.specs.declared.slot.Slot.the-variants.{Object}
+use Rattle.heads.specs.declared.slot.Slot.the-variants.{Simple as SimpleSlot, Raw as RawSlot}
 use Rattle.heads.specs.Slots.{SlotIs}
 use Rattle.objects.specs.declared.start.Identified.{Identified}
 use Rattle.objects.specs.declared.start.Identified.the-variants.{Null, Reader, Refused}
 use Rattle.objects.specs.declared.start.Started.{Started}
 use Rattle.objects.specs.declared.start.Started.the-variants.{Raw, Plain}
 use Rattle.objects.specs.declared.start.Started.the-variants.{Null as NullValue, Refused as RefusedValue}
+
+-- 01: "A type id counts readers": the position that it names in a list of at most 64
+abbrev pub positionIn : (id : ℕ) → ℕ
+positionIn zero = 0
+positionIn (suc i) = i % 64
+
+abbrev pub positionBy : Answer ℕ → ℕ
+positionBy (refused n p) = 0
+positionBy (read id next) = positionIn id
+
+-- the position that the type id of an object in a slot names
+abbrev pub positionOfSlot : (file : List ℕ) → Slot → (at : ℕ) → ℕ
+positionOfSlot file (SimpleSlot p) at = 0
+positionOfSlot file (RawSlot a) at = 0
+positionOfSlot file (Object a) at = positionBy (sevenAt file at)
+
+-- what is known of a reader list: how many readers it has, and the place of the type at a position
+pub record Has (rd : Readers) (count i target : ℕ) : Type 0 where
+  pub counts : rd .count ≡ count
+  pub at : getD (rd .targets) i 0 ≡ target
+
+-- each position is one of a list of 64
+in-list : (id : ℕ) → positionIn id < 64
+in-list zero = omega arith
+in-list (suc i) = omega arith
+
+pub position-in-list : (file : List ℕ) (slot : Slot) (at : ℕ) → positionOfSlot file slot at < 64
+position-in-list file (SimpleSlot p) at = omega arith
+position-in-list file (RawSlot a) at = omega arith
+position-in-list file (Object a) at = go (sevenAt file at) where
+  go : (x : Answer ℕ) → positionBy x < 64
+  go (refused n p) = omega arith
+  go (read id next) = in-list id
 
 -- a type without enums in its arguments stands at a place
 pub record Invoked (codes : List ℕ) (place : ℕ) (t : Target) : Type 0 where
@@ -111,40 +147,46 @@ arguments t (inl n) = no-enum t n
 arguments t (inr e) = rw (e .1) tt
 
 -- the reader at place i of a list that the code has
-module _ {codes : List ℕ} {rd : Readers} {readers : List Target} {declared : ℕ} {d : Target} (l : Listed codes rd readers) (s : Stands codes declared d) (n : NoEnum d) where
-  pub beyond-list : {i : ℕ} → rd .count ≤ i → Identifies codes readers d (suc i) (Refused 13)
-  beyond-list {i} h = inl (refl, omega arith, no-reader readers i (omega (arith, l .counts)))
+module _ {codes : List ℕ} {rd : Readers} {count i target : ℕ} (has : Has rd count (positionIn (suc i)) target) {readers : List Target} {declared : ℕ} {d : Target} (l : Listed codes rd readers) (s : Stands codes declared d) (n : NoEnum d) where
+  pub beyond-list : count ≤ i → Identifies codes readers d (suc i) (Refused 13)
+  beyond-list h = inl (refl, omega arith, no-reader readers i (omega (arith, l .counts, has .counts)))
 
-  pub beyond-most : {i : ℕ} → 64 ≤ i → Identifies codes readers d (suc i) (Refused 13)
-  beyond-most {i} h = inl (refl, omega arith, no-reader readers i (omega (arith, l .few)))
+  pub beyond-most : 64 ≤ i → Identifies codes readers d (suc i) (Refused 13)
+  beyond-most h = inl (refl, omega arith, no-reader readers i (omega (arith, l .few)))
 
-  pub never-called : {i place k : ℕ} → i < rd .count → getD (rd .targets) i 0 ≡ place → k ≡ kindAt codes place → (k ≡ 14) ⊎ (k ≡ 31) → Identifies codes readers d (suc i) (Refused 13)
+  -- where the list has the reader
+  here : i < count → getD (rd .targets) i 0 ≡ target
+  here h =
+      let p : i % 64 ≡ i = omega (arith, l .counts, l .few, has .counts) in
+      rw p at (has .at)
+
+  pub never-called : {k : ℕ} → i < count → k ≡ kindAt codes target → (k ≡ 14) ⊎ (k ≡ 31) → Identifies codes readers d (suc i) (Refused 13)
   unfolding plain fixedKind between invoked
-  never-called {i} {place} {k} h e q w = inl (refl, omega arith, reader-at readers i g ∙ go w) where
+  never-called {k} h q w = inl (refl, omega arith, reader-at readers i g ∙ go w) where
     g : i < length readers
-    g = omega (arith, l .counts)
+    g = omega (arith, l .counts, has .counts)
 
     kind : kindOf (getD readers i anything) ≡ k
-    kind = sym (kind-is (l .stands i g)) ∙ ap (kindAt codes) e ∙ sym q
+    kind = sym (kind-is (l .stands i g)) ∙ ap (kindAt codes) (here h) ∙ sym q
 
     go : (k ≡ 14) ⊎ (k ≡ 31) → invoked (getD readers i anything) ≡ missing
     go (inl y) = rw (of-kind (getD readers i anything) anything 14 (l .stands i g .lawful) (kind ∙ y) refl)
     go (inr y) = rw (of-kind (getD readers i anything) texture 31 (l .stands i g .lawful) (kind ∙ y) refl)
 
-  pub called-by : {i place k : ℕ} → i < rd .count → getD (rd .targets) i 0 ≡ place → k ≡ kindAt codes place → (k ≡ 14 → ⊥) → (k ≡ 31 → ⊥)
-      → (b : Bool) → fitsAt codes declared place ≡ b → Identifies codes readers d (suc i) (by b place)
-  called-by {i} {place} {k} h e q x y b f = go b f where
+  pub called-by : {k : ℕ} → i < count → k ≡ kindAt codes target → (k ≡ 14 → ⊥) → (k ≡ 31 → ⊥)
+      → (b : Bool) → fitsAt codes declared target ≡ b → Identifies codes readers d (suc i) (by b target)
+  called-by {k} h q x y b f = go b f where
     g : i < length readers
-    g = omega (arith, l .counts)
+    g = omega (arith, l .counts, has .counts)
 
     t : Target
     t = getD readers i anything
 
     kind : kindOf t ≡ k
-    kind = sym (kind-is (l .stands i g)) ∙ ap (kindAt codes) e ∙ sym q
+    kind = sym (kind-is (l .stands i g)) ∙ ap (kindAt codes) (here h) ∙ sym q
 
-    there : Stands codes place t
-    there = subst (λ a. Stands codes a t) e (l .stands i g)
+    there : Stands codes target t
+    there = subst (λ a. Stands codes a t) (here h) (l .stands i g)
 
     called : invoked t ≡ found t
     called = always t (λ z. x (sym kind ∙ z)) (λ z. y (sym kind ∙ z))
@@ -152,13 +194,13 @@ module _ {codes : List ℕ} {rd : Readers} {readers : List Target} {declared : �
     named : reader readers (suc i) ≡ found t
     named = reader-at readers i g ∙ called
 
-    serving : (b c : Bool) → fitsAt codes declared place ≡ b → serves d t ≡ c → c ≡ b
+    serving : (b c : Bool) → fitsAt codes declared target ≡ b → serves d t ≡ c → c ≡ b
     serving true true f c = refl
     serving false false f c = refl
     serving true false f c = absurd (let z : _≡_ {A = Bool} true false = sym (serves-complete (fits-then n s there f)) ∙ c in let y : _≡_ {A = ℕ} 0 1 = cc in omega arith)
     serving false true f c = absurd (let z : _≡_ {A = Bool} true false = sym (then-fits n s there (serves-sound d t c)) ∙ f in let y : _≡_ {A = ℕ} 0 1 = cc in omega arith)
 
-    go : (b : Bool) → fitsAt codes declared place ≡ b → Identifies codes readers d (suc i) (by b place)
+    go : (b : Bool) → fitsAt codes declared target ≡ b → Identifies codes readers d (suc i) (by b target)
     go true f = (omega arith, record { type = t; at = record { stands = there; plain = arguments t (l .plain i g) }; named = named; serving = serving true (serves d t) f refl })
     go false f = inr (refl, omega arith, (t, named, serving false (serves d t) f refl))
 

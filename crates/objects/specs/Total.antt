@@ -3,14 +3,12 @@ use mathlib.Core.Bool.{cond}
 use mathlib.Core.List.{List}
 use Prim.Native.Nat.{ℕ}
 use lib.Dec.{leb, eqb}
-use lib.ListN.{getD}
 use Rattle.ids.specs.declared.Position.{Position}
 use Rattle.ids.specs.declared.Position.the-variants.{Null as Null-position, At}
 use Rattle.ids.specs.Position.{positionOf}
 use Rattle.reading.specs.Answer.{Answer, refused, read}
 use Rattle.reading.specs.Seven.{sevenAt}
 use Rattle.types.specs.Place.{kindAt, fitsAt}
-use Rattle.readers.specs.declared.Readers.{Readers}
 use Rattle.heads.specs.declared.slot.Slot.{Slot}
 use Rattle.heads.specs.declared.slot.Slot.the-variants.{Simple, Object}
 use Rattle.heads.specs.declared.slot.Slot.the-variants.{Raw as RawSlot}
@@ -26,13 +24,13 @@ placeAs codes declared place =
     cond (eqb (kindAt codes place) 14) (Refused 13)
     (cond (eqb (kindAt codes place) 31) (Refused 13) (cond (fitsAt codes declared place) (Reader place) (Refused 14)))
 
--- reader i of the list: 13 past its end
-unfoldable pub readerAs : (codes : List ℕ) → Readers → (declared i : ℕ) → Identified
-readerAs codes rd declared i = cond (leb (rd .count) i) (Refused 13) (cond (leb 64 i) (Refused 13) (placeAs codes declared (getD (rd .targets) i 0)))
+-- reader i of a list of so many readers, whose type is at `target`: 13 past its end
+unfoldable pub readerAs : (codes : List ℕ) (count target declared i : ℕ) → Identified
+readerAs codes count target declared i = cond (leb count i) (Refused 13) (cond (leb 64 i) (Refused 13) (placeAs codes declared target))
 
-abbrev pub identifyAs : (codes : List ℕ) → Readers → (declared : ℕ) → Position → Identified
-identifyAs codes rd declared Null-position = Null
-identifyAs codes rd declared (At i) = readerAs codes rd declared i
+abbrev pub identifyAs : (codes : List ℕ) (count target declared : ℕ) → Position → Identified
+identifyAs codes count target declared Null-position = Null
+identifyAs codes count target declared (At i) = readerAs codes count target declared i
 
 -- an object, by its type id
 abbrev pub idAs : (at next id : ℕ) → Identified → Started
@@ -40,13 +38,13 @@ idAs at next id Null = NullValue next
 idAs at next id (Reader place) = Raw place next id
 idAs at next id (Refused n) = RefusedValue n at
 
-abbrev pub objectAs : (codes : List ℕ) → Readers → (declared at : ℕ) → Answer ℕ → Started
-objectAs codes rd declared at (refused n p) = RefusedValue n p
-objectAs codes rd declared at (read id next) = idAs at next id (identifyAs codes rd declared (positionOf id))
+abbrev pub objectAs : (codes : List ℕ) (count target declared at : ℕ) → Answer ℕ → Started
+objectAs codes count target declared at (refused n p) = RefusedValue n p
+objectAs codes count target declared at (read id next) = idAs at next id (identifyAs codes count target declared (positionOf id))
 
 -- the value in a slot: 18, then 19, then its type id if it is an object
-abbrev pub startAs : (file codes : List ℕ) → Readers → (room : ℕ) → Slot → (at used depth : ℕ) → Started
-startAs file codes rd room (Simple p) at used depth = Plain p
-startAs file codes rd room (RawSlot place) at used depth = cond (eqb depth 0) (RefusedValue 18 at) (cond (leb room used) (RefusedValue 19 at) (Raw place at 0))
-startAs file codes rd room (Object d) at used depth =
-    cond (eqb depth 0) (RefusedValue 18 at) (cond (leb room used) (RefusedValue 19 at) (objectAs codes rd d at (sevenAt file at)))
+abbrev pub startAs : (file codes : List ℕ) (count target room : ℕ) → Slot → (at used depth : ℕ) → Started
+startAs file codes count target room (Simple p) at used depth = Plain p
+startAs file codes count target room (RawSlot place) at used depth = cond (eqb depth 0) (RefusedValue 18 at) (cond (leb room used) (RefusedValue 19 at) (Raw place at 0))
+startAs file codes count target room (Object d) at used depth =
+    cond (eqb depth 0) (RefusedValue 18 at) (cond (leb room used) (RefusedValue 19 at) (objectAs codes count target d at (sevenAt file at)))

@@ -4,7 +4,6 @@ use heads::slot::Slot;
 use ids::Position;
 use ids::TypeId;
 use leaves::plain::Plain;
-use readers::Readers;
 ghost use mathlib.Core.Path.{_≡_};
 ghost use mathlib.Core.List.{List};
 ghost use Prim.Native.Nat.{ℕ, suc, _≤_};
@@ -12,13 +11,14 @@ ghost use lib.ListN.{length};
 ghost use Rattle.layout.specs.Target.{Target};
 ghost use Rattle.layout.specs.Slot as L;
 ghost use Rattle.layout.specs.Slot.{object};
-ghost use Rattle.ids.specs.Position.{positionOf};
-ghost use Rattle.reading.specs.Seven.{sevenAt};
 ghost use Rattle.types.specs.Code.{Stands, NoEnum};
+ghost use Rattle.readers.specs.declared.Readers.{Readers};
 ghost use Rattle.readers.specs.Listed.{Listed};
+ghost use Rattle.ids.specs.Position.{positionOf};
 ghost use Rattle.heads.specs.Slots.{SlotIs};
-ghost use Rattle.objects.specs.Start.{Identifies, ObjectStarts, Starts};
+ghost use Rattle.reading.specs.Seven.{sevenAt};
 ghost use Rattle.objects.specs.Total.{readerAs, identifyAs, objectAs, startAs};
+ghost use Rattle.objects.specs.Start.{Has, positionIn, positionBy, positionOfSlot, Identifies, ObjectStarts, Starts};
 
 // Null; the type of the reader that a type id names; or a refusal's number.
 pub enum Identified {
@@ -35,52 +35,85 @@ pub enum Started {
     Raw(usize, usize, u32),
 }
 
-// The reader at a place of the list, for an object declared as the type at `declared`: 13 before 14.
-fn reader_for(codes: &[u8], rd: Readers, declared: usize, i: u32) -> Identified
-    ensures { λ r. ⌜ ((readers : List Target) (d : Target) → Listed (now (codes .entry)) rd readers → Stands (now (codes .entry)) declared d → NoEnum d → Identifies (now (codes .entry)) readers d (suc i) r) ⌝ }
-    ensures { λ r. ⌜ r ≡ readerAs (now (codes .entry)) rd declared i ⌝ }
+// The position in a list of 64 readers that a type id names; 0 for null.
+fn position_in(id: TypeId) -> usize
+    ensures { λ r. ⌜ r ≡ positionIn (id .0) ⌝ }
 {
-    if rd.count <= i {
+    match id.position() {
+        Position::Null => 0,
+        Position::At(i) => (i % 64) as usize,
+    }
+}
+
+// The position in the reader list that the type id of an object in a slot names; 0 if there is none.
+pub fn reader_position(file: &[u8], slot: Slot, at: usize) -> usize
+    ensures { λ r. ⌜ r ≡ positionOfSlot (now (file .entry)) slot at ⌝ }
+{
+    match slot {
+        Slot::Simple(_) => 0,
+        Slot::Raw(_) => 0,
+        Slot::Object(_) => match numbers::seven::seven_at(file, at) {
+            Number::Refused(_, _) => 0,
+            Number::Read(value, _) => {
+                let id = value as u32;
+                position_in(TypeId(id))
+            }
+        },
+    }
+}
+
+// Reader i of a list with so many readers, if the type of that reader is at `target`, for an object declared as the type at `declared`: 13 before 14.
+fn reader_for(codes: &[u8], count: u32, target: usize, declared: usize, i: u32) -> Identified
+    ensures { λ r. ⌜ ((rd : Readers) (readers : List Target) (d : Target) → Has rd count (positionIn (suc i)) target → Listed (now (codes .entry)) rd readers → Stands (now (codes .entry)) declared d → NoEnum d → Identifies (now (codes .entry)) readers d (suc i) r) ⌝ }
+    ensures { λ r. ⌜ r ≡ readerAs (now (codes .entry)) count target declared i ⌝ }
+{
+    if count <= i {
         return Identified::Refused(13);
     }
     if 64 <= i {
         return Identified::Refused(13);
     }
-    let place = rd.targets[i as usize] as usize;
-    let kind = types::kind_at(codes, place);
+    let kind = types::kind_at(codes, target);
     if kind == 14 {
         return Identified::Refused(13);
     }
     if kind == 31 {
         return Identified::Refused(13);
     }
-    if types::fits(codes, declared, place) {
-        return Identified::Reader(place);
+    if types::fits(codes, declared, target) {
+        return Identified::Reader(target);
     }
     Identified::Refused(14)
 }
 
 // The type that a type id names, for an object declared as the type at `declared`.
-fn identify(codes: &[u8], rd: Readers, declared: usize, id: TypeId) -> Identified
-    ensures { λ r. ⌜ ((readers : List Target) (d : Target) → Listed (now (codes .entry)) rd readers → Stands (now (codes .entry)) declared d → NoEnum d → Identifies (now (codes .entry)) readers d (id .0) r) ⌝ }
-    ensures { λ r. ⌜ r ≡ identifyAs (now (codes .entry)) rd declared (positionOf (id .0)) ⌝ }
+fn identify(codes: &[u8], count: u32, target: usize, declared: usize, id: TypeId) -> Identified
+    ensures { λ r. ⌜ ((rd : Readers) (readers : List Target) (d : Target) → Has rd count (positionIn (id .0)) target → Listed (now (codes .entry)) rd readers → Stands (now (codes .entry)) declared d → NoEnum d → Identifies (now (codes .entry)) readers d (id .0) r) ⌝ }
+    ensures { λ r. ⌜ r ≡ identifyAs (now (codes .entry)) count target declared (positionOf (id .0)) ⌝ }
 {
     match id.position() {
         Position::Null => Identified::Null,
-        Position::At(i) => reader_for(codes, rd, declared, i),
+        Position::At(i) => reader_for(codes, count, target, declared, i),
     }
 }
 
 // An object declared as the type at `declared`: its type id.
-fn object_start(file: &[u8], codes: &[u8], rd: Readers, declared: usize, at: usize) -> Started
-    ensures { λ r. ⌜ ((readers : List Target) (d : Target) → Listed (now (codes .entry)) rd readers → Stands (now (codes .entry)) declared d → NoEnum d → ObjectStarts (now (file .entry)) (now (codes .entry)) readers (object d) at r) ⌝ }
-    ensures { λ r. ⌜ r ≡ objectAs (now (codes .entry)) rd declared at (sevenAt (now (file .entry)) at) ⌝ }
+fn object_start(
+    file: &[u8],
+    codes: &[u8],
+    count: u32,
+    target: usize,
+    declared: usize,
+    at: usize,
+) -> Started
+    ensures { λ r. ⌜ ((rd : Readers) (readers : List Target) (d : Target) → Has rd count (positionBy (sevenAt (now (file .entry)) at)) target → Listed (now (codes .entry)) rd readers → Stands (now (codes .entry)) declared d → NoEnum d → ObjectStarts (now (file .entry)) (now (codes .entry)) readers (object d) at r) ⌝ }
+    ensures { λ r. ⌜ r ≡ objectAs (now (codes .entry)) count target declared at (sevenAt (now (file .entry)) at) ⌝ }
 {
     match numbers::seven::seven_at(file, at) {
         Number::Refused(number, place) => Started::Refused(number, place),
         Number::Read(value, next) => {
             let id = value as u32;
-            match identify(codes, rd, declared, TypeId(id)) {
+            match identify(codes, count, target, declared, TypeId(id)) {
                 Identified::Null => Started::Null(next),
                 Identified::Reader(place) => Started::Raw(place, next, id),
                 Identified::Refused(number) => Started::Refused(number, at),
@@ -89,19 +122,20 @@ fn object_start(file: &[u8], codes: &[u8], rd: Readers, declared: usize, at: usi
     }
 }
 
-// The value in a slot: 18, then 19, then its type id if it is an object.
+// The value in a slot: 18, then 19, then its type id if it is an object. The reader list has so many readers, and the type of the one that the type id names is at `target`.
 pub fn start(
     file: &[u8],
     codes: &[u8],
-    rd: Readers,
+    count: u32,
+    target: usize,
     room: u32,
     slot: Slot,
     at: usize,
     used: u32,
     depth: u32,
 ) -> Started
-    ensures { λ r. ⌜ ((readers : List Target) (x : L.Slot) → Listed (now (codes .entry)) rd readers → SlotIs (now (codes .entry)) slot x → at ≤ length (now (file .entry)) → Starts (now (file .entry)) (now (codes .entry)) readers room depth x at used r) ⌝ }
-    ensures { λ r. ⌜ r ≡ startAs (now (file .entry)) (now (codes .entry)) rd room slot at used depth ⌝ }
+    ensures { λ r. ⌜ ((rd : Readers) (readers : List Target) (x : L.Slot) → Has rd count (positionOfSlot (now (file .entry)) slot at) target → Listed (now (codes .entry)) rd readers → SlotIs (now (codes .entry)) slot x → at ≤ length (now (file .entry)) → Starts (now (file .entry)) (now (codes .entry)) readers room depth x at used r) ⌝ }
+    ensures { λ r. ⌜ r ≡ startAs (now (file .entry)) (now (codes .entry)) count target room slot at used depth ⌝ }
 {
     match slot {
         Slot::Simple(value) => Started::Plain(value),
@@ -121,7 +155,7 @@ pub fn start(
             if room <= used {
                 return Started::Refused(19, at);
             }
-            object_start(file, codes, rd, declared, at)
+            object_start(file, codes, count, target, declared, at)
         }
     }
 }

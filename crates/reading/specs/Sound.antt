@@ -184,7 +184,7 @@ module _ (file : List ℕ) (readers : List Target) (shared room : ℕ) (small : 
         (laid : Value readers (Within shared) (λ plan b. Lays readers (Within shared) plan none b) x kind id own none bytes)
         → drop at file ≡ bytes ++ drop next file → next ≡ at + length bytes
         → z (length bytes) ∷ [] ≡ valueRows readers (Within shared) (λ plan b. Lays readers (Within shared) plan none b)
-            (λ plan b v a n p. rowsOf readers (Within shared) plan none b v a n p) x kind id own none bytes laid at used parent
+        (λ plan b v a n p. rowsOf readers (Within shared) plan none b v a n p) x kind id own none bytes laid at used parent
         → Ok (ReadValue (suc d) x at used parent) (done next (suc used) (z (next - at) ∷ []) (tree kind id own none none))
     unfolding size depth
     childless x kind id own bytes at next parent z laid there end rows =

@@ -43,28 +43,31 @@ enum-known-number-2 c = search needs
 
 returns : tie.Need-returns
 returns c = (
-  λ readers d l s n. no-number _ (c .before .before .before .before .before .before .args .codes .now) readers d _ (sym (c .before .before .before .seven-at .ensures) ∙ ap told (c .before .number .given .1)),
+  λ rd readers d h l s n. no-number _ (c .before .before .before .before .before .before .args .codes .now) readers d _ (sym (c .before .before .before .seven-at .ensures) ∙ ap told (c .before .number .given .1)),
   rw (sym (c .before .before .before .seven-at .ensures) ∙ ap told (c .before .number .given .1)),
 )
 
 returns-2 : tie.Need-returns-2
 returns-2 c = (
   let s = c .before .before .before .before .before .before .before .before .before .args .file .now in
-      λ readers d l p n. null-starts s (c .before .before .before .before .before .before .before .before .before .args .codes .now) readers d _ (small-by-index s (λ i h. omega (arith, c .before .before .before .before .before .before .before .before .shared-slice-known .given i))) (sym (c .before .before .before .before .before .before .seven-at .ensures) ∙ ap told (c .before .before .before .before .value .given .1)) (rw (c .enum-told .given .1) at (c .before .before .identify .ensures .0 readers d l p n)),
+      let e = sym (c .before .before .before .before .before .before .seven-at .ensures) ∙ ap told (c .before .before .before .before .value .given .1) in
+      λ rd readers d h l p n. null-starts s (c .before .before .before .before .before .before .before .before .before .args .codes .now) readers d _ (small-by-index s (λ i h. omega (arith, c .before .before .before .before .before .before .before .before .shared-slice-known .given i))) e (rw (c .enum-told .given .1) at (c .before .before .identify .ensures .0 rd readers d (rw e at h) l p n)),
   rw (sym (c .before .before .before .before .before .before .seven-at .ensures) ∙ ap told (c .before .before .before .before .value .given .1), sym (c .before .before .identify .ensures .1) ∙ c .enum-told .given .1),
 )
 
 returns-3 : tie.Need-returns-3
 returns-3 c = (
   let s = c .before .before .before .before .before .before .before .before .before .before .args .file .now in
-      λ readers d l p n. read-starts s (c .before .before .before .before .before .before .before .before .before .before .args .codes .now) readers d _ (small-by-index s (λ i h. omega (arith, c .before .before .before .before .before .before .before .before .before .shared-slice-known .given i))) (sym (c .before .before .before .before .before .before .before .seven-at .ensures) ∙ ap told (c .before .before .before .before .before .value .given .1)) (rw (c .before .place .given .1) at (c .before .before .before .identify .ensures .0 readers d l p n)),
+      let e = sym (c .before .before .before .before .before .before .before .seven-at .ensures) ∙ ap told (c .before .before .before .before .before .value .given .1) in
+      λ rd readers d h l p n. read-starts s (c .before .before .before .before .before .before .before .before .before .before .args .codes .now) readers d _ (small-by-index s (λ i h. omega (arith, c .before .before .before .before .before .before .before .before .before .shared-slice-known .given i))) e (rw (c .before .place .given .1) at (c .before .before .before .identify .ensures .0 rd readers d (rw e at h) l p n)),
   rw (sym (c .before .before .before .before .before .before .before .seven-at .ensures) ∙ ap told (c .before .before .before .before .before .value .given .1), sym (c .before .before .before .identify .ensures .1) ∙ c .before .place .given .1),
 )
 
 returns-4 : tie.Need-returns-4
 returns-4 c = (
   let s = c .before .before .before .before .before .before .before .before .before .before .args .file .now in
-      λ readers d l p n. unread s (c .before .before .before .before .before .before .before .before .before .before .args .codes .now) readers d _ (small-by-index s (λ i h. omega (arith, c .before .before .before .before .before .before .before .before .before .shared-slice-known .given i))) (sym (c .before .before .before .before .before .before .before .seven-at .ensures) ∙ ap told (c .before .before .before .before .before .value .given .1)) (rw (c .before .number2 .given .1) at (c .before .before .before .identify .ensures .0 readers d l p n)),
+      let e = sym (c .before .before .before .before .before .before .before .seven-at .ensures) ∙ ap told (c .before .before .before .before .before .value .given .1) in
+      λ rd readers d h l p n. unread s (c .before .before .before .before .before .before .before .before .before .before .args .codes .now) readers d _ (small-by-index s (λ i h. omega (arith, c .before .before .before .before .before .before .before .before .before .shared-slice-known .given i))) e (rw (c .before .number2 .given .1) at (c .before .before .before .identify .ensures .0 rd readers d (rw e at h) l p n)),
   rw (sym (c .before .before .before .before .before .before .before .seven-at .ensures) ∙ ap told (c .before .before .before .before .before .value .given .1), sym (c .before .before .before .identify .ensures .1) ∙ c .before .number2 .given .1),
 )
 

@@ -17,25 +17,16 @@ use Rattle.types.proofs.kind_at.Reads as kind-at-reads
 returns : tie.Need-returns
 unfolding readerAs placeAs
 returns c = (
-  λ readers d l s n. beyond-list l s n (c .if1 .taken),
+  λ rd readers d h l s n. beyond-list h l s n (c .if1 .taken),
   rw (le-leb _ _ (c .if1 .taken)),
 )
 
 returns-2 : tie.Need-returns-2
 unfolding readerAs placeAs
 returns-2 c = (
-  λ readers d l s n. beyond-most l s n (c .if2 .taken),
+  λ rd readers d h l s n. beyond-most h l s n (c .if2 .taken),
   rw (lt-leb _ _ (c .before .if1 .left), le-leb 64 _ (c .if2 .taken)),
 )
-
-mul-place : tie.Need-mul-place
-mul-place c = search needs
-
-element-copy-out-place : tie.Need-element-copy-out-place
-element-copy-out-place c = search needs
-
-cast-place : tie.Need-cast-place
-cast-place c = search needs
 
 kind-at-requires : tie.Need-kind-at-requires
 kind-at-requires c κs = search needs
@@ -43,15 +34,15 @@ kind-at-requires c κs = search needs
 returns-3 : tie.Need-returns-3
 unfolding readerAs placeAs
 returns-3 c = (
-  λ readers d l s n. never-called l s n (c .before .before .before .before .if1 .left) refl (c .before .kind-at .ensures) (inl (c .if3 .taken)),
-  rw (lt-leb _ _ (c .before .before .before .before .if1 .left), lt-leb 64 _ (c .before .before .before .if2 .left), ← c .before .kind-at .ensures, eq-eqb _ 14 (c .if3 .taken)),
+  λ rd readers d h l s n. never-called h l s n (c .before .before .before .if1 .left) (c .before .kind-at .ensures) (inl (c .if3 .taken)),
+  rw (lt-leb _ _ (c .before .before .before .if1 .left), lt-leb 64 _ (c .before .before .if2 .left), ← c .before .kind-at .ensures, eq-eqb _ 14 (c .if3 .taken)),
 )
 
 returns-4 : tie.Need-returns-4
 unfolding readerAs placeAs
 returns-4 c = (
-  λ readers d l s n. never-called l s n (c .before .before .before .before .before .if1 .left) refl (c .before .before .kind-at .ensures) (inr (c .if4 .taken)),
-  rw (lt-leb _ _ (c .before .before .before .before .before .if1 .left), lt-leb 64 _ (c .before .before .before .before .if2 .left), ← c .before .before .kind-at .ensures, ne-eqb _ 14 (c .before .if3 .left), eq-eqb _ 31 (c .if4 .taken)),
+  λ rd readers d h l s n. never-called h l s n (c .before .before .before .before .if1 .left) (c .before .before .kind-at .ensures) (inr (c .if4 .taken)),
+  rw (lt-leb _ _ (c .before .before .before .before .if1 .left), lt-leb 64 _ (c .before .before .before .if2 .left), ← c .before .before .kind-at .ensures, ne-eqb _ 14 (c .before .if3 .left), eq-eqb _ 31 (c .if4 .taken)),
 )
 
 fits-requires : tie.Need-fits-requires
@@ -60,15 +51,15 @@ fits-requires c κs = search needs
 returns-5 : tie.Need-returns-5
 unfolding readerAs placeAs
 returns-5 c = (
-  λ readers d l s n. called-by l s n (c .before .before .before .before .before .before .before .if1 .left) refl (c .before .before .before .before .kind-at .ensures) (c .before .before .before .if3 .left) (c .before .before .if4 .left) true (sym (c .before .fits2 .ensures) ∙ c .if5 .taken),
-  rw (lt-leb _ _ (c .before .before .before .before .before .before .before .if1 .left), lt-leb 64 _ (c .before .before .before .before .before .before .if2 .left), ← c .before .before .before .before .kind-at .ensures, ne-eqb _ 14 (c .before .before .before .if3 .left), ne-eqb _ 31 (c .before .before .if4 .left), sym (c .before .fits2 .ensures) ∙ c .if5 .taken),
+  λ rd readers d h l s n. called-by h l s n (c .before .before .before .before .before .before .if1 .left) (c .before .before .before .before .kind-at .ensures) (c .before .before .before .if3 .left) (c .before .before .if4 .left) true (sym (c .before .fits2 .ensures) ∙ c .if5 .taken),
+  rw (lt-leb _ _ (c .before .before .before .before .before .before .if1 .left), lt-leb 64 _ (c .before .before .before .before .before .if2 .left), ← c .before .before .before .before .kind-at .ensures, ne-eqb _ 14 (c .before .before .before .if3 .left), ne-eqb _ 31 (c .before .before .if4 .left), sym (c .before .fits2 .ensures) ∙ c .if5 .taken),
 )
 
 returns-6 : tie.Need-returns-6
 unfolding readerAs placeAs
 returns-6 c = (
-  λ readers d l s n. called-by l s n (c .before .before .before .before .before .before .before .if1 .left) refl (c .before .before .before .before .kind-at .ensures) (c .before .before .before .if3 .left) (c .before .before .if4 .left) false (sym (c .before .fits2 .ensures) ∙ c .if5 .left),
-  rw (lt-leb _ _ (c .before .before .before .before .before .before .before .if1 .left), lt-leb 64 _ (c .before .before .before .before .before .before .if2 .left), ← c .before .before .before .before .kind-at .ensures, ne-eqb _ 14 (c .before .before .before .if3 .left), ne-eqb _ 31 (c .before .before .if4 .left), sym (c .before .fits2 .ensures) ∙ c .if5 .left),
+  λ rd readers d h l s n. called-by h l s n (c .before .before .before .before .before .before .if1 .left) (c .before .before .before .before .kind-at .ensures) (c .before .before .before .if3 .left) (c .before .before .if4 .left) false (sym (c .before .fits2 .ensures) ∙ c .if5 .left),
+  rw (lt-leb _ _ (c .before .before .before .before .before .before .if1 .left), lt-leb 64 _ (c .before .before .before .before .before .if2 .left), ← c .before .before .before .before .kind-at .ensures, ne-eqb _ 14 (c .before .before .before .if3 .left), ne-eqb _ 31 (c .before .before .if4 .left), sym (c .before .fits2 .ensures) ∙ c .if5 .left),
 )
 
 pub reader-for-spec : {M : Type 1} → statement M
@@ -77,9 +68,6 @@ reader-for-spec =
     (tie.spec
     returns
     returns-2
-    mul-place
-    element-copy-out-place
-    cast-place
     kind-at-requires
     returns-3
     returns-4

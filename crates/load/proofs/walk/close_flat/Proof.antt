@@ -1,0 +1,97 @@
+use mathlib.Core.Path.{refl, sym, ap, subst, _∙_}
+use Prim.Native.Nat.{_+_}
+use native.Mathlib.Omega.{arith}
+use lib.ListN.{length}
+use Rattle.reading.specs.Reads.{small-by-index}
+use Rattle.reading.specs.Heads.{headAt}
+use Rattle.leaves.specs.Run.{run-walked}
+use Rattle.load.specs.Walks.{OpenedAs, begin-below}
+use Rattle.load.specs.Steps.{raw-told, raw-ends, nothing-below}
+use borrow.Author.Needs.{needs}
+use Rattle.load.proofs.walk.close_flat.Statement.{statement}
+use Rattle.load.proofs.walk.close_flat.Tie as tie
+use Rattle.load.proofs.walk.close_flat.Reads as reads
+use Rattle.load.proofs.walk.close_flat.Lts as lts
+use Rattle.leaves.proofs.run.read_run.Reads as read-run-reads
+use Rattle.leaves.proofs.run.turns.Reads as turns-reads
+use Rattle.load.proofs.walk.walked_step.Reads as walked-step-reads
+use Rattle.objects.proofs.close.close.Reads as close-reads
+
+add-first : tie.Need-add-first
+add-first c = omega (arith, c .before .before .before .pre .free)
+
+enum-told : tie.Need-enum-told
+enum-told c = search needs
+
+close-requires : tie.Need-close-requires
+close-requires c κs = search needs
+
+walked-step-requires : tie.Need-walked-step-requires
+walked-step-requires c κs = search needs
+
+enum-known-below : tie.Need-enum-known-below
+enum-known-below c = search needs
+
+turns-requires : tie.Need-turns-requires
+turns-requires c κs = search needs
+
+read-run-requires : tie.Need-read-run-requires
+read-run-requires c κs = search needs
+
+close-requires-2 : tie.Need-close-requires-2
+close-requires-2 c κs = search needs
+
+walked-step-requires-2 : tie.Need-walked-step-requires-2
+walked-step-requires-2 c κs = search needs
+
+enum-known-below-2 : tie.Need-enum-known-below-2
+enum-known-below-2 c = search needs
+
+same-length : tie.Need-same-length
+same-length c = search needs
+
+returns : tie.Need-returns
+returns c = λ codes readers t i k o.
+    let a = c .before .before .before .before .before .before .before .before .before .before .args in
+    let small = small-by-index (a .file .now) (λ j h. omega (arith, c .before .before .before .before .before .before .before .before .before .shared-slice-known .given j)) in
+    let v = rw (c .before .before .before .before .before .enum-told .given .1) at (o .stands) in
+    let e = c .before .before .before .close .ensures in
+    rw (c .walked-step .ensures, e .0, e .1) (raw-told (a .file .now) codes readers (a .shared) (a .room) (a .depth) t (a .place) (a .h) (a .at) _ (raw-ends (a .file .now) (a .room) (a .h) (a .at) t readers (a .shared) (a .depth) 0 (a .kind) _ small (c .before .before .before .before .before .before .before .before .before .before .pre) (i .stands .lawful) o (sym (ap length v)) k (nothing-below _ (o .slots) (a .words .now) (a .next) (a .h .row + 1) v)))
+
+same-length-2 : tie.Need-same-length-2
+same-length-2 c = search needs
+
+returns-2 : tie.Need-returns-2
+returns-2 c = λ codes readers t i k o.
+    let a = c .before .before .before .before .before .before .before .before .before .before .before .before .before .before .before .before .args in
+    let small = small-by-index (a .file .now) (λ j h. omega (arith, c .before .before .before .before .before .before .before .before .before .before .before .before .before .before .before .shared-slice-known .given j)) in
+    let v = rw (c .before .before .before .before .before .before .before .before .before .before .before .below .given .1) at (o .stands) in
+    let run = c .before .before .before .before .before .before .before .read-run .ensures in
+    let e = c .before .before .before .close2 .ensures in
+    let below = run-walked (a .file .now) small (a .room) (a .shared) _ (v .1) readers (a .depth) (a .h .row + 1) (a .words .now) (a .next) (a .h .row + 1) (begin-below t small (c .before .before .before .before .before .before .before .before .before .before .before .before .before .before .before .before .pre) (o .is)) in
+    rw (c .walked-step2 .ensures, e .0, e .1) (raw-told (a .file .now) codes readers (a .shared) (a .room) (a .depth) t (a .place) (a .h) (a .at) _ (raw-ends (a .file .now) {w₁ = c .before .before .before .before .before .before .before .read-run .last .1 .0} (a .room) (a .h) (a .at) t readers (a .shared) (a .depth) (c .before .before .before .before .before .before .before .before .before .turns .result) (a .kind) (c .before .before .before .before .before .before .before .read-run .result) small (c .before .before .before .before .before .before .before .before .before .before .before .before .before .before .before .before .pre) (i .stands .lawful) o (c .before .before .before .before .before .before .before .before .before .turns .ensures ∙ sym (ap length (v .0))) k (rw (v .0, run .0, run .1) below)))
+
+returns-3 : tie.Need-returns-3
+returns-3 c = λ codes readers t i k o.
+    let a = c .before .before .before .before .before .before .args in
+    record { same = refl; id-is = refl; from-is = refl; place-is = refl; opened = subst (λ b. OpenedAs codes (headAt (a .file .now) t (a .at)) (a .next) b) (c .before .below2 .given .1) o }
+
+pub close-flat-spec : {M : Type 1} → statement M
+close-flat-spec =
+    tie.close
+    (tie.spec
+    add-first
+    enum-told
+    close-requires
+    walked-step-requires
+    enum-known-below
+    turns-requires
+    read-run-requires
+    close-requires-2
+    walked-step-requires-2
+    enum-known-below-2
+    same-length
+    returns
+    same-length-2
+    returns-2
+    returns-3)

@@ -1,0 +1,62 @@
+use mathlib.Core.Path.{_∙_}
+use native.Mathlib.Omega.{arith}
+use Rattle.reading.specs.Reads.{small-by-index}
+use Rattle.reading.specs.Heads.{headAt}
+use Rattle.types.specs.Laws.{kind-is}
+use Rattle.objects.specs.Close.{raw-refused}
+use Rattle.load.specs.Walks.{opened-as, refused-as}
+use borrow.Author.Needs.{needs}
+use Rattle.load.proofs.walk.raw_step.Statement.{statement}
+use Rattle.load.proofs.walk.raw_step.Tie as tie
+use Rattle.load.proofs.walk.raw_step.Reads as reads
+use Rattle.load.proofs.walk.raw_step.Lts as lts
+use Rattle.heads.proofs.open.open.Reads as open-reads
+use Rattle.load.proofs.walk.close_flat.Reads as close-flat-reads
+use Rattle.types.proofs.kind_at.Reads as kind-at-reads
+
+open-requires : tie.Need-open-requires
+open-requires c κs = search needs
+
+enum-known-number : tie.Need-enum-known-number
+enum-known-number c = search needs
+
+enum-known-next : tie.Need-enum-known-next
+enum-known-next c = search needs
+
+kind-at-requires : tie.Need-kind-at-requires
+kind-at-requires c κs = search needs
+
+cast-kind : tie.Need-cast-kind
+cast-kind c = search needs
+
+close-flat-requires : tie.Need-close-flat-requires
+close-flat-requires c κs = search needs
+
+returns : tie.Need-returns
+returns c = λ readers t i.
+    let a = c .before .before .before .before .before .before .before .args in
+    let r = c .before .before .before .before .before .before .before .pre in
+    let small = small-by-index (a .file .now) (λ j h. omega (arith, c .before .before .before .before .before .before .shared-slice-known .given j)) in
+    raw-refused (a .file .now) small readers (a .shared) (a .room) (a .depth) t (i .stands .lawful) (a .h) (a .at) _ (r .long) (r .few) (r .free) (refused-as (a .codes .now) (headAt (a .file .now) t (a .at)) (c .before .before .before .«open» .ensures .0 t (i .stands) (i .plain)) (c .before .number .given .1))
+
+same-length : tie.Need-same-length
+same-length c = search needs
+
+returns-2 : tie.Need-returns-2
+returns-2 c = λ readers t i.
+    let a = c .before .before .before .before .before .before .before .before .before .before .before .before .args in
+    c .before .before .close-flat .ensures (a .codes .now) readers t i (c .before .before .before .before .kind-at .ensures ∙ kind-is (i .stands)) (opened-as (headAt (a .file .now) t (a .at)) (c .before .before .before .before .before .before .before .before .«open» .ensures .0 t (i .stands) (i .plain)) (c .before .before .before .before .before .before .next .given .1))
+
+pub raw-step-spec : {M : Type 1} → statement M
+raw-step-spec =
+    tie.close
+    (tie.spec
+    open-requires
+    enum-known-number
+    enum-known-next
+    kind-at-requires
+    cast-kind
+    close-flat-requires
+    returns
+    same-length
+    returns-2)

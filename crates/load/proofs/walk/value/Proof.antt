@@ -1,0 +1,118 @@
+use Prim.Native.Nat.{ℕ, _-_}
+use native.Mathlib.Omega.{arith}
+use Rattle.layout.specs.Rows.{nothing}
+use Rattle.reading.specs.Answer.{read}
+use Rattle.reading.specs.Reads.{small-by-index}
+use Rattle.table.specs.Contract.{seen, Free}
+use Rattle.table.specs.Loop.{refusing}
+use Rattle.table.specs.Leaf.{leaf-walked}
+use Rattle.leaves.specs.Plain.{headOf, plain-walked}
+use Rattle.load.specs.Steps.{value-told, raw-steps}
+use borrow.Author.Needs.{needs}
+use Rattle.load.proofs.walk.value.Statement.{statement}
+use Rattle.load.proofs.walk.value.Tie as tie
+use Rattle.load.proofs.walk.value.Reads as reads
+use Rattle.load.proofs.walk.value.Lts as lts
+use Rattle.leaves.proofs.plain.read_plain.Reads as read-plain-reads
+use Rattle.load.proofs.walk.raw_step.Reads as raw-step-reads
+use Rattle.load.proofs.walk.walked_step.Reads as walked-step-reads
+use Rattle.objects.proofs.start.start.Reads as start-reads
+use Rattle.table.proofs.leaf.Reads as leaf-reads
+
+start-requires : tie.Need-start-requires
+start-requires c κs = search needs
+
+enum-known-number : tie.Need-enum-known-number
+enum-known-number c = search needs
+
+enum-known-plain : tie.Need-enum-known-plain
+enum-known-plain c = search needs
+
+read-plain-requires : tie.Need-read-plain-requires
+read-plain-requires c κs = search needs
+
+walked-step-requires : tie.Need-walked-step-requires
+walked-step-requires c κs = search needs
+
+enum-known-next : tie.Need-enum-known-next
+enum-known-next c = search needs
+
+leaf-requires : tie.Need-leaf-requires
+leaf-requires c κs = search needs
+
+walked-step-requires-2 : tie.Need-walked-step-requires-2
+walked-step-requires-2 c κs = search needs
+
+enum-known-place : tie.Need-enum-known-place
+enum-known-place c = search needs
+
+sub-raw-step : tie.Need-sub-raw-step
+sub-raw-step c = let p = c .before .before .before .before .before .before .before .before .pre in
+    let s = rw (c .before .before .place .given .1) at (c .before .before .before .before .start .ensures .0 (p .1 .rd) (p .1 .readers) (p .2 .x) (p .1 .has) (p .1 .listed) (p .2 .is) (p .0 .place)) in
+    omega (arith, s .deep)
+
+raw-step-requires : tie.Need-raw-step-requires
+raw-step-requires c κs = let p = c .before .before .before .before .before .before .before .before .pre in
+    let s = rw (c .before .before .place .given .1) at (c .before .before .before .before .start .ensures .0 (p .1 .rd) (p .1 .readers) (p .2 .x) (p .1 .has) (p .1 .listed) (p .2 .is) (p .0 .place)) in
+    record { long = p .0 .long; few = p .0 .few; free = s .free; begun = s .ahead; place = s .inside; short = p .0 .short }
+
+returns : tie.Need-returns
+returns c = λ rd readers x h l s.
+    let b = rw (c .before .number .given .1) at (c .before .before .before .start .ensures .0 rd readers x h l s (c .before .before .before .before .before .before .before .pre .0 .place)) in
+    refusing (b (c .before .before .before .before .before .before .before .args .shared) (c .before .before .before .before .before .before .before .args .parent))
+
+same-length : tie.Need-same-length
+same-length c = search needs
+
+returns-2 : tie.Need-returns-2
+returns-2 c = λ rd readers x h l s.
+    let a = c .before .before .before .before .before .before .before .before .before .before .before .before .args in
+    let small = small-by-index (a .file .now) (λ i h. omega (arith, c .before .before .before .before .before .before .before .before .before .before .before .shared-slice-known .given i)) in
+    let b = rw (c .before .before .before .before .before .before .plain .given .1) at (c .before .before .before .before .before .before .before .before .start .ensures .0 rd readers x h l s (c .before .before .before .before .before .before .before .before .before .before .before .before .pre .0 .place)) in
+    let e = c .before .before .before .read-plain .ensures in
+    rw (b .0, c .walked-step .ensures, e .0, e .1) (value-told (a .file .now) (a .codes .now) readers (a .shared) (a .room) (a .depth) _ (a .at) (a .used) (a .parent) _ (plain-walked (a .file .now) (a .room) (a .shared) _ (a .at) (a .used) (a .words .now) small (c .before .before .before .before .before .before .before .before .before .before .before .before .pre .0) (b .1) readers (a .depth) (a .parent)))
+
+same-length-2 : tie.Need-same-length-2
+same-length-2 c = search needs
+
+returns-3 : tie.Need-returns-3
+unfolding seen
+returns-3 c = λ rd readers x h l s.
+    let a = c .before .before .before .before .before .before .before .before .before .before .before .before .args in
+    let p = c .before .before .before .before .before .before .before .before .before .before .before .before .pre .0 in
+    let b = rw (c .before .before .before .before .before .before .next .given .1) at (c .before .before .before .before .before .before .before .before .start .ensures .0 rd readers x h l s (p .place)) in
+    let e = c .before .before .before .leaf .ensures in
+    let free : Free (a .words .now) (a .used) = record { there = omega (arith, b .free, p .long); few = omega (arith, b .free, p .few) } in
+    rw (c .walked-step2 .ensures, e .0, e .1, b .is (a .shared) (a .parent)) (leaf-walked {A = ℕ} (a .words .now) (headOf (a .used) (a .at) (a .parent) 0) 0 nothing (read 0 _) free (b .ahead, omega (arith, b .inside, p .short)))
+
+same-length-3 : tie.Need-same-length-3
+same-length-3 c = search needs
+
+returns-4 : tie.Need-returns-4
+returns-4 c = λ rd readers x h l s.
+    let a = c .before .before .before .before .before .before .before .before .before .before .before .args in
+    let b = rw (c .before .before .before .before .before .place .given .1) at (c .before .before .before .before .before .before .before .start .ensures .0 rd readers x h l s (c .before .before .before .before .before .before .before .before .before .before .before .pre .0 .place)) in
+    raw-steps (a .file .now) (a .codes .now) readers (a .shared) (a .room) (a .depth) (a .depth - 1) x (a .at) (a .used) (a .parent) _ _ _ (a .words .now) (c .before .before .raw-step .last .1 .1 .0) (c .before .before .raw-step .result) (omega (arith, b .deep)) b (c .before .before .raw-step .ensures readers (b .type) (b .stands))
+
+pub value-spec : {M : Type 1} → statement M
+value-spec =
+    tie.close
+    (tie.spec
+    start-requires
+    enum-known-number
+    enum-known-plain
+    read-plain-requires
+    walked-step-requires
+    enum-known-next
+    leaf-requires
+    walked-step-requires-2
+    enum-known-place
+    sub-raw-step
+    raw-step-requires
+    returns
+    same-length
+    returns-2
+    same-length-2
+    returns-3
+    same-length-3
+    returns-4)
