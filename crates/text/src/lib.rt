@@ -71,23 +71,30 @@ fn char_three(s: &[u8], at: usize) -> Number
 pub fn is_utf8(s: &[u8]) -> bool
     ensures { λ r. ⌜ r ≡ utf8s (now (s .entry)) ⌝ }
 {
-    let n = s.len();
+    let b = past_blocks(s);
+    let a = ascii_blocks(s, b, 16);
+    let e = chars(s, a);
+    if e < s.len() {
+        return false;
+    }
+    true
+}
+
+// Past the blocks of at least 64 bytes: ASCII, then other characters, as long as there are some.
+fn past_blocks(s: &[u8]) -> usize
+    ensures { λ r. ⌜ Passed (now (s .entry)) 0 r ⌝ }
+{
     let mut i = 0;
-    while i < n {
+    while 64 <= s.len() - i {
         let a = ascii_blocks(s, i, 128);
         let b = ascii_blocks(s, a, 64);
         let w = char_blocks(s, b);
         if w <= i {
-            let t = ascii_blocks(s, w, 16);
-            let e = chars(s, t);
-            if e < n {
-                return false;
-            }
-            return true;
+            return w;
         }
         i = w;
     }
-    true
+    i
 }
 
 // Past the blocks of n ASCII bytes from `from` on.
