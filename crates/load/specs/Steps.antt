@@ -1,5 +1,5 @@
 -- What a value comes to by what needs no reader list, and how a value ends. Assumes nothing.
-use mathlib.Core.Path.{_≡_, refl, sym, ap, _∙_}
+use mathlib.Core.Path.{_≡_, refl, sym}
 use mathlib.Core.List.{List, []}
 use Prim.Native.Nat.{ℕ, suc, _+_}
 use lib.ListN.{length}

@@ -10,7 +10,7 @@ use table::Head;
 use table::Walk;
 ghost use mathlib.Core.Path.{_≡_};
 ghost use mathlib.Core.List.{List};
-ghost use Prim.Native.Nat.{ℕ, suc};
+ghost use Prim.Native.Nat.{ℕ};
 ghost use Rattle.layout.specs.Target.{Target, kindOf};
 ghost use Rattle.layout.specs.Slot as L;
 ghost use Rattle.layout.specs.Slot.{each};
