@@ -5,14 +5,14 @@ use Prim.Native.Nat.{ℕ, max}
 use lib.IntN.{ℤ, negsuc}
 use lib.ListN.{take}
 use Rattle.layout.specs.Target.{kindOf, isValue}
-use Rattle.layout.specs.Tree.{Trees, count, kindAt, childrenAt}
+use Rattle.layout.specs.Tree.{count, kindAt, childrenAt}
 use Rattle.layout.specs.Slot.{each, slotOf, rawOrObject, pairs, leaves, fontSlots, pageSlots}
 use Rattle.layout.specs.Number.{little}
 use Rattle.layout.specs.Text.{ascii}
 use Rattle.layout.specs.Image.{levels, levelBytes, pixelBytes, blockBytes, digits}
 use Rattle.layout.specs.Fixed.{sizes}
 use Rattle.layout.specs.File.{sharedOf, header, objectsPlan}
-use Rattle.layout.specs.Rows.{Row, row, nothing}
+use Rattle.layout.specs.Rows.{row, nothing}
 use Rattle.reading.specs.Answer.{Answer, read, refused, bind, check, within}
 use Rattle.reading.specs.Reads.{some, field}
 use Rattle.reading.specs.Seven.{group, groups, sevenAt}
@@ -24,7 +24,7 @@ use Rattle.reading.specs.Font.{fontOk, fontIf, fontTest}
 use Rattle.reading.specs.Resource.{suit, suits}
 use Rattle.reading.specs.Walk.{ownOf, before, sequence, rawAt, byReader, objectAt, valueAt, walk}
 use Rattle.reading.specs.Heads.{headAt, fixedHeadAt, whole as whole-value, textAt, countAt, imageAt, leafAt, always}
-use Rattle.reading.specs.File.{isPlatform, headerAt, judge, rootKind, rootKinds, judged, readerAt, readersAt, listsAt, objectsAt, finished, fileAt, Load, refusal, accepted, toLoad, roomOf, loadOf, tableOf}
+use Rattle.reading.specs.File.{isPlatform, headerAt, judge, rootKind, rootKinds, judged, readerAt, readersAt, listsAt, objectsAt, finished, fileAt, Load, refusal, accepted, toLoad, roomOf, loadOf}
 use Rattle.names.specs.Name.{between, headByte, tailByte, headings}
 use Rattle.names.specs.Kind.{lookup, alike, listed, reader, readers, target as target-entry, targets}
 use Rattle.names.specs.Parse.{span, starts, tailSize, tailOf, closed, opening, onOnly, onSecond, onFirst, afterHead, headed, nameIn, whole, nameOf}

@@ -1,12 +1,10 @@
 -- A seven-bit number in a file, measured: its value, where it ends, and its bytes beyond the shortest form. Assumes nothing.
-use mathlib.Core.Path.{_≡_, refl, sym, ap, _∙_}
-use mathlib.Core.Bool.{Bool, true, false, cond}
+use mathlib.Core.Path.{_≡_, refl}
 use mathlib.Core.List.{List, [], _∷_, _++_}
-use Prim.Native.Nat.{ℕ, zero, suc, _+_, _*_, _-_, _<_, _≤_, _^_, max}
+use Prim.Native.Nat.{ℕ, _+_, _-_, _<_, _≤_, _^_, max}
 use native.Mathlib.Omega.{arith}
-use lib.Dec.{eqb}
 use lib.ListN.{length}
-use Rattle.reading.specs.Answer.{Answer, refused, read, Ok, not-read, is-read}
+use Rattle.reading.specs.Answer.{Answer, refused, read}
 use Rattle.reading.specs.Reads.{Small, next-of}
 use Rattle.reading.specs.Seven.{sevenAt, seven-reads, seven-next}
 use Rattle.numbers.specs.Shortest.{shortest, shortest-is}

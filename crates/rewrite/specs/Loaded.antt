@@ -1,21 +1,20 @@
 -- A file that was loaded is ready to be rewritten, by what load answered and left. Assumes nothing.
-use mathlib.Core.Path.{_≡_, refl, sym, ap, subst, _∙_}
+use mathlib.Core.Path.{_≡_, refl, sym, ap, _∙_}
 use mathlib.Core.List.{List, _++_}
 use Prim.Native.Nat.{ℕ, _*_, _-_}
 use native.Mathlib.Omega.{arith}
-use lib.ListN.{length, take, replicate, length-replicate}
+use lib.ListN.{length, replicate, length-replicate}
 use Rattle.layout.specs.Rows.{Row, flat}
 use Rattle.reading.specs.Answer.{Answer, refused, read}
 use Rattle.reading.specs.Reads.{Small}
 use Rattle.reading.specs.File.{Load, refusal, accepted, Loaded as FileLoaded, fileAt, toLoad, roomOf, loadOf, tableOf}
-use Rattle.reading.specs.Theorems.{Fitting, rowsIn, accepted-is}
+use Rattle.reading.specs.Theorems.{rowsIn, accepted-is}
 use Rattle.readers.specs.Judged.{judgedName, named, judges}
 use Rattle.load.specs.declared.Loading.the-variants.{Refused, Loaded}
 use Rattle.load.specs.Loads as load
 use Rattle.shortest.specs.File.{shortFile, header-is}
 use Rattle.shortest.specs.Lists.{filePlaces, file-rewrites}
 use Rattle.shortest.specs.Rewrite.{fitted, byLoad, rewriteOf, outputOf, wordsOf}
-use Rattle.shortest.specs.Rewrite as rewritten
 use Rattle.shortest.specs.Theorems.{rewrite-is}
 use Rattle.rewrite.specs.declared.Rewriting.{Rewriting}
 use Rattle.rewrite.specs.declared.Rewriting.the-variants as rewriting

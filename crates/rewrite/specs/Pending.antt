@@ -1,8 +1,8 @@
 -- How far the output is written while a file is rewritten number by number. Assumes nothing.
 use mathlib.Core.Path.{_≡_, refl, sym, ap, _∙_}
 use mathlib.Core.Bool.{Bool, true, false, _&&_}
-use mathlib.Core.List.{List, [], _∷_, _++_, append-assoc, append-nil}
-use Prim.Native.Nat.{ℕ, zero, suc, _+_, _-_, _/_, _%_, _<_, _≤_}
+use mathlib.Core.List.{List, [], _∷_, _++_, append-assoc}
+use Prim.Native.Nat.{ℕ, _+_, _-_, _/_, _%_, _<_, _≤_}
 use native.Mathlib.Omega.{arith}
 use lib.Dec.{leb}
 use lib.ListN.{length, take, drop, set, length-append, length-drop}
@@ -19,7 +19,7 @@ use Rattle.numbers.specs.declared.shortest.Placed.the-variants.{Next, NoRoom}
 use Rattle.fill.specs.Fill.{inside, pasted, copied}
 use Rattle.shortest.specs.File.{length-header}
 use Rattle.shortest.specs.Places.{numberOf, past}
-use Rattle.shortest.specs.Rewrites.{part, Rewrites, rest, anew}
+use Rattle.shortest.specs.Rewrites.{Rewrites, rest, anew}
 
 -- The output, which was `base`, has its first `to` bytes written; the file is taken up to `from`. With the numbers at these places in their shortest forms it becomes `whole`, for which there is room.
 pub record Pending (file base out : List ℕ) (from to : ℕ) (places whole : List ℕ) : Type 0 where

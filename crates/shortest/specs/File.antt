@@ -1,13 +1,13 @@
 -- The shortest bytes of a file tree (01, "Seven-bit numbers": "The rewriter changes only these numbers, each to its shortest form, and the header's length"). Assumes nothing.
 use mathlib.Core.Path.{_≡_, refl, sym, ap, _∙_}
 use mathlib.Core.List.{List, [], _∷_, _++_}
-use Prim.Native.Nat.{ℕ, suc, _+_, _≤_}
+use Prim.Native.Nat.{ℕ, _+_, _≤_}
 use native.Mathlib.Omega.{arith}
 use lib.ListN.{length, take, length-append}
-use Rattle.layout.specs.Number.{Seven, little}
+use Rattle.layout.specs.Number.{little}
 use Rattle.layout.specs.Text.{ascii}
 use Rattle.layout.specs.Target.{Target}
-use Rattle.layout.specs.Tree.{Trees, count}
+use Rattle.layout.specs.Tree.{count}
 use Rattle.layout.specs.Resource.{Resource}
 use Rattle.layout.specs.File.{FileTree, sharedOf, header, objectsPlan, Entry, Entries, Lists, FileLays}
 use Rattle.numbers.specs.Shortest.{shortest, Shortens, shortest-is}

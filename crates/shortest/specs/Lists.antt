@@ -1,11 +1,10 @@
 -- Where the seven-bit numbers of a whole file start: the reader count, the lengths of names, the shared count, and those of the rows. Assumes nothing.
 use mathlib.Core.Path.{_≡_, refl, sym, ap, _∙_}
 use mathlib.Core.List.{List, [], _∷_, _++_, append-assoc, append-nil}
-use Prim.Native.Nat.{ℕ, zero, suc, _+_, _-_, _≤_}
+use Prim.Native.Nat.{ℕ, zero, suc, _+_, _-_}
 use native.Mathlib.Omega.{arith}
 use lib.ListN.{length, take, drop, length-append}
-use lib.Seq.{drop-drop, drop-append-seam}
-use Rattle.layout.specs.Number.{Seven, little}
+use Rattle.layout.specs.Number.{little}
 use Rattle.layout.specs.Text.{ascii}
 use Rattle.layout.specs.Target.{Target}
 use Rattle.layout.specs.Tree.{count}
@@ -18,9 +17,9 @@ use Rattle.reading.specs.Seven.{sevenAt}
 use Rattle.reading.specs.Little.{length-little}
 use Rattle.numbers.specs.Shortest.{shortest}
 use Rattle.shortest.specs.Short.{short}
-use Rattle.shortest.specs.File.{shortEntry, shortEntries, shortLists, shortBody, length-header}
+use Rattle.shortest.specs.File.{shortEntry, shortEntries, shortLists, shortBody}
 use Rattle.shortest.specs.Places.{numberOf, past, rowsPlaces, Shortened, copied, number, joined, number-is, split, lays-shortened}
-use Rattle.shortest.specs.Rewrites.{part, Rewrites, whole-rewrites}
+use Rattle.shortest.specs.Rewrites.{Rewrites, whole-rewrites}
 
 -- where a reader ends: its name's length, the name, and four bytes of a version
 unfoldable pub behindEntry : Answer ℕ → (at : ℕ) → ℕ

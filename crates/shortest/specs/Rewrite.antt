@@ -1,14 +1,11 @@
 -- What rewriting a file answers, and what it leaves in the output and in the words (01, "Seven-bit numbers"; refusal 21). Assumes nothing.
-use mathlib.Core.Path.{_≡_, refl, sym, ap, _∙_}
-use mathlib.Core.Bool.{Bool, true, false, cond}
-use mathlib.Core.List.{List, [], _∷_, _++_}
-use Prim.Native.Nat.{ℕ, _+_, _≤_, _<_}
-use native.Mathlib.Omega.{arith}
+use mathlib.Core.Bool.{cond}
+use mathlib.Core.List.{List, _++_}
+use Prim.Native.Nat.{ℕ, _+_}
 use lib.Dec.{leb}
 use lib.ListN.{length, drop, replicate}
-use borrow.Author.Tests.{le-leb, lt-leb}
 use Rattle.reading.specs.Answer.{Answer, refused, read}
-use Rattle.reading.specs.File.{Named, Loaded, fileAt, roomOf, loadOf, tableOf}
+use Rattle.reading.specs.File.{Named, Loaded, fileAt, roomOf}
 use Rattle.shortest.specs.File.{shortFile}
 
 -- refused with a number and a place, or the bytes that are written

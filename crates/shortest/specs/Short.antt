@@ -12,10 +12,10 @@ use Rattle.layout.specs.Number.{Seven, little}
 use Rattle.layout.specs.Target.{Target, fixed, char, string, object as anything, texture, texture2D, spriteFont, page, enum, nullable, array, list, dictionary, kindOf}
 use Rattle.layout.specs.Tree.{Trees, none, tree, count}
 use Rattle.layout.specs.Slot.{Leaf, level, Slot, raw, object, reference, leaf, slotOf, Plan, stop, put, each, pairs, leaves}
-use Rattle.layout.specs.Fixed.{sizes, Fixed}
+use Rattle.layout.specs.Fixed.{sizes}
 use Rattle.layout.specs.Image.{levels}
-use Rattle.layout.specs.Head.{Head, Textual, Flagged, Counted, Pictured}
-use Rattle.layout.specs.Layout.{Leafed, Raw, Null, Object, Reference, Value, Lays}
+use Rattle.layout.specs.Head.{Head, Textual, Counted, Pictured}
+use Rattle.layout.specs.Layout.{Leafed, Raw, Value, Lays}
 use Rattle.reading.specs.Rules.{null-id}
 use Rattle.reading.specs.References.{slots-count}
 use Rattle.numbers.specs.Shortest.{shortest, Shortens, shortest-is}

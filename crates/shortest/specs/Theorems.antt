@@ -1,26 +1,26 @@
 -- What is promised of rewriting, over the layout alone. Assumes nothing.
 use mathlib.Core.Path.{_≡_, refl, sym, ap, _∙_}
 use mathlib.Core.Bool.{Bool, true, false, cond}
-use mathlib.Core.List.{List, [], _∷_, _++_}
-use Prim.Native.Nat.{ℕ, _+_, _≤_, _<_}
+use mathlib.Core.List.{List}
+use Prim.Native.Nat.{ℕ, _+_, _≤_}
 use native.Mathlib.Omega.{arith}
 use lib.ListN.{length, take, length-append}
 use Rattle.layout.specs.Target.{Target}
-use Rattle.layout.specs.Tree.{Trees, count, size}
-use Rattle.layout.specs.File.{FileTree, sharedOf, header, FileLays, fileRows}
+use Rattle.layout.specs.Tree.{count}
+use Rattle.layout.specs.File.{sharedOf, FileLays}
 use lib.Dec.{leb}
 use Rattle.reading.specs.Answer.{Answer, refused, read}
 use Rattle.reading.specs.Reads.{Small}
 use Rattle.reading.specs.File as load
-use Rattle.reading.specs.File.{Named, Judges, Loaded, Load, accepted, fileAt, toLoad, roomOf, loadOf}
+use Rattle.reading.specs.File.{Named, Judges, Loaded, accepted, fileAt, toLoad, roomOf, loadOf}
 use Rattle.reading.specs.Refusals.{TenOrEleven, refusal-number, refusal-place}
-use Rattle.reading.specs.Accepts.{loadedOf, file-complete}
+use Rattle.reading.specs.Accepts.{file-complete}
 use Rattle.reading.specs.Theorems.{Fitting, rowsIn, rows-are, accepted-is}
 use Rattle.numbers.specs.Shortest.{Shortens}
 use Rattle.shortest.specs.File.{shortBody, shortFile, length-file, length-header, header-is, file-short}
 use Rattle.shortest.specs.Rewrites.{padding, rewrites-padding}
 use Rattle.shortest.specs.Lists.{filePlaces, file-rewrites}
-use Rattle.shortest.specs.Rewrite.{Rewritten, refusal, written, fitted, byLoad, rewriteOf}
+use Rattle.shortest.specs.Rewrite.{refusal, written, fitted, byLoad, rewriteOf}
 
 module _ (named : List ℕ → Target → Type 0) (nameOf : List ℕ → Named) (judges : Judges named nameOf) where
   -- the bytes written are the shortest of the file tree that fits

@@ -3,8 +3,6 @@ use Rattle.builder.specs.Packed.{code}
 use borrow.Author.Needs.{needs}
 use Rattle.builder.proofs.refused.Statement.{statement}
 use Rattle.builder.proofs.refused.Tie as tie
-use Rattle.builder.proofs.refused.Reads as reads
-use Rattle.builder.proofs.refused.Lts as lts
 
 -- src/lib.rt:26:5
 mul-result : tie.Need-mul-result

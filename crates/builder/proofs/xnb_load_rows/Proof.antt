@@ -4,10 +4,6 @@ use Rattle.builder.proofs.Laws.{load-place, load-refused, load-accepted
 use borrow.Author.Needs.{needs}
 use Rattle.builder.proofs.xnb_load_rows.Statement.{statement}
 use Rattle.builder.proofs.xnb_load_rows.Tie as tie
-use Rattle.builder.proofs.xnb_load_rows.Reads as reads
-use Rattle.builder.proofs.xnb_load_rows.Lts as lts
-use Rattle.builder.proofs.refused.Reads as refused-reads
-use Rattle.load.proofs.load.Reads as load-reads
 
 -- src/lib.rt:51:11
 load-requires : tie.Need-load-requires

@@ -6,10 +6,6 @@ use Rattle.builder.proofs.Laws.{rewrite-place, rewrite-refused, rewrite
 use borrow.Author.Needs.{needs}
 use Rattle.builder.proofs.xnb_rewrite.Statement.{statement}
 use Rattle.builder.proofs.xnb_rewrite.Tie as tie
-use Rattle.builder.proofs.xnb_rewrite.Reads as reads
-use Rattle.builder.proofs.xnb_rewrite.Lts as lts
-use Rattle.builder.proofs.refused.Reads as refused-reads
-use Rattle.rewrite.proofs.rewrite.Reads as rewrite-reads
 
 -- src/lib.rt:76:11
 rewrite-requires : tie.Need-rewrite-requires

@@ -1,15 +1,9 @@
-use mathlib.Core.Path.{_≡_, refl, sym, _∙_}
 use native.Mathlib.Omega.{arith}
 use Rattle.reading.specs.Reads.{small-by-index}
 use Rattle.padding.specs.Padded.{found, file-padding}
 use borrow.Author.Needs.{needs}
 use Rattle.padding.proofs.all_padding.Statement.{statement}
 use Rattle.padding.proofs.all_padding.Tie as tie
-use Rattle.padding.proofs.all_padding.Reads as reads
-use Rattle.padding.proofs.all_padding.Lts as lts
-use Rattle.padding.proofs.entries_padding.Reads as entries-padding-reads
-use Rattle.padding.proofs.measure.Reads as measure-reads
-use Rattle.padding.proofs.rows_padding.Reads as rows-padding-reads
 
 -- src/lib.rt:155:9
 measure-requires : tie.Need-measure-requires

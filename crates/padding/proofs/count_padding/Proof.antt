@@ -4,9 +4,6 @@ use Rattle.padding.specs.Padded.{count-padding, no-count-padding}
 use borrow.Author.Needs.{needs}
 use Rattle.padding.proofs.count_padding.Statement.{statement}
 use Rattle.padding.proofs.count_padding.Tie as tie
-use Rattle.padding.proofs.count_padding.Reads as reads
-use Rattle.padding.proofs.count_padding.Lts as lts
-use Rattle.padding.proofs.measure.Reads as measure-reads
 
 -- src/lib.rt:89:13
 measure-requires : tie.Need-measure-requires

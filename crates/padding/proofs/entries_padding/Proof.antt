@@ -1,13 +1,9 @@
-use mathlib.Core.Path.{_≡_, refl, sym, _∙_}
 use native.Mathlib.Omega.{arith}
 use Rattle.reading.specs.Reads.{Small, small-by-index}
 use Rattle.padding.specs.Padded.{Passed, none-passed, one-passed, all-passed, end-fits, Added, none-added, one-added, all-added}
 use borrow.Author.Needs.{needs}
 use Rattle.padding.proofs.entries_padding.Statement.{statement}
 use Rattle.padding.proofs.entries_padding.Tie as tie
-use Rattle.padding.proofs.entries_padding.Reads as reads
-use Rattle.padding.proofs.entries_padding.Lts as lts
-use Rattle.padding.proofs.measure.Reads as measure-reads
 
 abbrev Inv-loop : tie.InvT-loop
 Inv-loop file readers at total₀ place₀ left₀ total place left = (s : Small file) → Passed file s readers at left place × Added file s readers at left place total

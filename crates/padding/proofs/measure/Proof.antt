@@ -7,10 +7,6 @@ use Rattle.padding.specs.Measured.{seven-long, measured-none, measured-r
 use borrow.Author.Needs.{needs}
 use Rattle.padding.proofs.measure.Statement.{statement}
 use Rattle.padding.proofs.measure.Tie as tie
-use Rattle.padding.proofs.measure.Reads as reads
-use Rattle.padding.proofs.measure.Lts as lts
-use Rattle.numbers.proofs.seven.seven_at.Reads as seven-at-reads
-use Rattle.numbers.proofs.shortest.shortest_len.Reads as shortest-len-reads
 
 -- src/lib.rt:42:11
 seven-at-requires : tie.Need-seven-at-requires

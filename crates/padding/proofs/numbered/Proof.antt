@@ -1,8 +1,6 @@
 use Rattle.padding.specs.Steps.{has-detail, kind-null, kind-reference}
 use Rattle.padding.proofs.numbered.Statement.{statement}
 use Rattle.padding.proofs.numbered.Tie as tie
-use Rattle.padding.proofs.numbered.Reads as reads
-use Rattle.padding.proofs.numbered.Lts as lts
 
 -- src/lib.rt:76:9
 returns : tie.Need-returns

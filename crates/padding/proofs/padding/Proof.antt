@@ -1,11 +1,7 @@
 use mathlib.Core.Path.{_∙_}
 use Rattle.padding.specs.Table.{too-long, not-too-long}
-use borrow.Author.Needs.{needs}
 use Rattle.padding.proofs.padding.Statement.{statement}
 use Rattle.padding.proofs.padding.Tie as tie
-use Rattle.padding.proofs.padding.Reads as reads
-use Rattle.padding.proofs.padding.Lts as lts
-use Rattle.padding.proofs.all_padding.Reads as all-padding-reads
 
 -- src/lib.rt:140:9
 returns : tie.Need-returns

@@ -6,12 +6,6 @@ use Rattle.padding.specs.Padded.{id-padding, plain-padding}
 use borrow.Author.Needs.{needs}
 use Rattle.padding.proofs.row_padding.Statement.{statement}
 use Rattle.padding.proofs.row_padding.Tie as tie
-use Rattle.padding.proofs.row_padding.Reads as reads
-use Rattle.padding.proofs.row_padding.Lts as lts
-use Rattle.ids.proofs.RowNumber.position.Reads as position-reads
-use Rattle.padding.proofs.count_padding.Reads as count-padding-reads
-use Rattle.padding.proofs.measure.Reads as measure-reads
-use Rattle.padding.proofs.numbered.Reads as numbered-reads
 
 -- src/lib.rt:100:9
 position-requires : tie.Need-position-requires

@@ -1,4 +1,4 @@
-use mathlib.Core.Path.{_≡_, refl, sym, _∙_}
+use mathlib.Core.Path.{_≡_}
 use Prim.Native.Nat.{_+_, _*_, _-_, _≤_}
 use native.Mathlib.Omega.{arith}
 use Rattle.reading.specs.Reads.{small-by-index}
@@ -8,9 +8,6 @@ use Rattle.padding.specs.Padded.{rows-start, row-added, rows-added}
 use borrow.Author.Needs.{needs}
 use Rattle.padding.proofs.rows_padding.Statement.{statement}
 use Rattle.padding.proofs.rows_padding.Tie as tie
-use Rattle.padding.proofs.rows_padding.Reads as reads
-use Rattle.padding.proofs.rows_padding.Lts as lts
-use Rattle.padding.proofs.row_padding.Reads as row-padding-reads
 
 abbrev Inv-loop : tie.InvT-loop
 Inv-loop file words rows total₀ i₀ total i = (i ≤ rows) × (total + padding file (tablePlaces file words (rows - i) i) ≡ padding file (tablePlaces file words rows 0)) × (total ≤ 33554432 * i)

@@ -1,14 +1,8 @@
-use mathlib.Core.Path.{_≡_, refl, sym, ap, _∙_}
 use native.Mathlib.Omega.{arith}
 use Rattle.rewrite.specs.Contract.{needed-is, too-small, fits-in}
 use borrow.Author.Needs.{needs}
 use Rattle.rewrite.proofs.fit.Statement.{statement}
 use Rattle.rewrite.proofs.fit.Tie as tie
-use Rattle.rewrite.proofs.fit.Reads as reads
-use Rattle.rewrite.proofs.fit.Lts as lts
-use Rattle.fill.proofs.clear.Reads as clear-reads
-use Rattle.padding.proofs.padding.Reads as padding-reads
-use Rattle.rewrite.proofs.write.Reads as write-reads
 
 -- src/lib.rt:328:9
 padding-requires : tie.Need-padding-requires

@@ -4,8 +4,6 @@ use Rattle.rewrite.specs.Pending.{length-stored, too-short}
 use borrow.Author.Needs.{needs}
 use Rattle.rewrite.proofs.put_length.Statement.{statement}
 use Rattle.rewrite.proofs.put_length.Tie as tie
-use Rattle.rewrite.proofs.put_length.Reads as reads
-use Rattle.rewrite.proofs.put_length.Lts as lts
 
 -- src/lib.rt:287:9
 returns : tie.Need-returns

@@ -1,18 +1,11 @@
-use mathlib.Core.Path.{_≡_, refl, sym, ap, subst, _∙_}
+use mathlib.Core.Path.{sym, _∙_}
 use native.Mathlib.Omega.{arith}
 use lib.ListN.{length}
 use Rattle.reading.specs.Reads.{small-by-index}
-use Rattle.readers.specs.Judged.{judgedName}
-use Rattle.reading.specs.File.{loadOf, tableOf}
-use Rattle.rewrite.specs.Contract.{Ready}
 use Rattle.rewrite.specs.Loaded.{load-refused, loaded, fitted-is}
 use borrow.Author.Needs.{needs}
 use Rattle.rewrite.proofs.rewrite.Statement.{statement}
 use Rattle.rewrite.proofs.rewrite.Tie as tie
-use Rattle.rewrite.proofs.rewrite.Reads as reads
-use Rattle.rewrite.proofs.rewrite.Lts as lts
-use Rattle.load.proofs.load.Reads as load-reads
-use Rattle.rewrite.proofs.fit.Reads as fit-reads
 
 -- src/lib.rt:347:11
 load-requires : tie.Need-load-requires

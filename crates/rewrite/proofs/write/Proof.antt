@@ -1,5 +1,4 @@
-use mathlib.Core.Path.{_≡_, refl, sym, ap, _∙_}
-use mathlib.Core.List.{List, [], _∷_, _++_}
+use mathlib.Core.List.{_∷_, _++_}
 use native.Mathlib.Omega.{arith}
 use Rattle.reading.specs.Reads.{small-by-index}
 use Rattle.shortest.specs.Lists.{entriesPlaces, entriesEnd}
@@ -9,14 +8,6 @@ use Rattle.rewrite.specs.Contract.{copy, start, finish}
 use borrow.Author.Needs.{needs}
 use Rattle.rewrite.proofs.write.Statement.{statement}
 use Rattle.rewrite.proofs.write.Tie as tie
-use Rattle.rewrite.proofs.write.Reads as reads
-use Rattle.rewrite.proofs.write.Lts as lts
-use Rattle.padding.proofs.measure.Reads as measure-reads
-use Rattle.rewrite.proofs.put_length.Reads as put-length-reads
-use Rattle.rewrite.proofs.write_entries.Reads as write-entries-reads
-use Rattle.rewrite.proofs.write_number.Reads as write-number-reads
-use Rattle.rewrite.proofs.write_rest.Reads as write-rest-reads
-use Rattle.rewrite.proofs.write_rows.Reads as write-rows-reads
 
 -- src/lib.rt:307:9
 measure-requires : tie.Need-measure-requires

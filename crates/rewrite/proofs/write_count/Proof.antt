@@ -1,5 +1,3 @@
-use mathlib.Core.Path.{_≡_, refl, sym, ap, _∙_}
-use mathlib.Core.List.{List, [], _∷_, _++_}
 use native.Mathlib.Omega.{arith}
 use Rattle.reading.specs.Reads.{small-by-index}
 use Rattle.padding.specs.Steps.{count-there, no-count}
@@ -7,10 +5,6 @@ use Rattle.padding.specs.Padded.{found}
 use borrow.Author.Needs.{needs}
 use Rattle.rewrite.proofs.write_count.Statement.{statement}
 use Rattle.rewrite.proofs.write_count.Tie as tie
-use Rattle.rewrite.proofs.write_count.Reads as reads
-use Rattle.rewrite.proofs.write_count.Lts as lts
-use Rattle.padding.proofs.measure.Reads as measure-reads
-use Rattle.rewrite.proofs.write_number.Reads as write-number-reads
 
 -- src/lib.rt:204:13
 measure-requires : tie.Need-measure-requires

@@ -1,6 +1,6 @@
-use mathlib.Core.Path.{_≡_, refl, sym, ap, _∙_}
-use mathlib.Core.List.{List, [], _∷_, _++_}
-use Prim.Native.Nat.{ℕ, _+_, _-_, _≤_}
+use mathlib.Core.Path.{_≡_, refl}
+use mathlib.Core.List.{List, _++_}
+use Prim.Native.Nat.{ℕ, _+_, _-_}
 use lib.ListN.{length}
 use native.Mathlib.Omega.{arith}
 use Rattle.reading.specs.Reads.{Small, small-by-index}
@@ -11,10 +11,6 @@ use Rattle.rewrite.specs.Pending.{Pending}
 use borrow.Author.Needs.{needs}
 use Rattle.rewrite.proofs.write_entries.Statement.{statement}
 use Rattle.rewrite.proofs.write_entries.Tie as tie
-use Rattle.rewrite.proofs.write_entries.Reads as reads
-use Rattle.rewrite.proofs.write_entries.Lts as lts
-use Rattle.padding.proofs.measure.Reads as measure-reads
-use Rattle.rewrite.proofs.write_number.Reads as write-number-reads
 
 abbrev Inv-loop : tie.InvT-loop
 Inv-loop file out₀ readers at done₀ place₀ left₀ out done place left = (length out ≡ length out₀) × ((s : Small file) → Passed file s readers at left place × ((base places whole : List ℕ) → Pending file base out₀ (done₀ .from) (done₀ .to) (entriesPlaces file readers at ++ places) whole → Pending file base out (done .from) (done .to) (entriesPlaces file left place ++ places) whole))

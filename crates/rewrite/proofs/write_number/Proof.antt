@@ -5,10 +5,6 @@ use Rattle.rewrite.specs.Pending.{copy-inside, not-behind, not-copied, h
 use borrow.Author.Needs.{needs}
 use Rattle.rewrite.proofs.write_number.Statement.{statement}
 use Rattle.rewrite.proofs.write_number.Tie as tie
-use Rattle.rewrite.proofs.write_number.Reads as reads
-use Rattle.rewrite.proofs.write_number.Lts as lts
-use Rattle.fill.proofs.copy.Reads as copy-reads
-use Rattle.numbers.proofs.shortest.write_shortest.Reads as write-shortest-reads
 
 -- src/lib.rt:181:9
 returns : tie.Need-returns

@@ -1,12 +1,9 @@
 use native.Mathlib.Omega.{arith}
-use mathlib.Core.Path.{sym, _∙_}
+use mathlib.Core.Path.{_∙_}
 use Rattle.rewrite.specs.Pending.{rest-copied}
 use borrow.Author.Needs.{needs}
 use Rattle.rewrite.proofs.write_rest.Statement.{statement}
 use Rattle.rewrite.proofs.write_rest.Tie as tie
-use Rattle.rewrite.proofs.write_rest.Reads as reads
-use Rattle.rewrite.proofs.write_rest.Lts as lts
-use Rattle.fill.proofs.copy.Reads as copy-reads
 
 -- src/lib.rt:276:9
 returns : tie.Need-returns

@@ -1,5 +1,5 @@
-use mathlib.Core.Path.{_≡_, refl, sym, ap, _∙_}
-use mathlib.Core.List.{List, [], _∷_, _++_}
+use mathlib.Core.Path.{sym, _∙_}
+use mathlib.Core.List.{_++_}
 use native.Mathlib.Omega.{arith}
 use Rattle.reading.specs.Reads.{small-by-index}
 use Rattle.reading.specs.Seven.{sevenAt}
@@ -9,13 +9,6 @@ use Rattle.padding.specs.Padded.{found}
 use borrow.Author.Needs.{needs}
 use Rattle.rewrite.proofs.write_row.Statement.{statement}
 use Rattle.rewrite.proofs.write_row.Tie as tie
-use Rattle.rewrite.proofs.write_row.Reads as reads
-use Rattle.rewrite.proofs.write_row.Lts as lts
-use Rattle.ids.proofs.RowNumber.position.Reads as position-reads
-use Rattle.padding.proofs.measure.Reads as measure-reads
-use Rattle.padding.proofs.numbered.Reads as numbered-reads
-use Rattle.rewrite.proofs.write_count.Reads as write-count-reads
-use Rattle.rewrite.proofs.write_number.Reads as write-number-reads
 
 -- src/lib.rt:214:9
 position-requires : tie.Need-position-requires

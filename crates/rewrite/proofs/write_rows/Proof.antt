@@ -1,5 +1,5 @@
-use mathlib.Core.Path.{_≡_, refl, sym, ap, _∙_}
-use mathlib.Core.List.{List, [], _∷_, _++_}
+use mathlib.Core.Path.{_≡_, refl}
+use mathlib.Core.List.{List}
 use Prim.Native.Nat.{ℕ, _+_, _-_, _≤_}
 use lib.ListN.{length}
 use native.Mathlib.Omega.{arith}
@@ -9,9 +9,6 @@ use Rattle.rewrite.specs.Pending.{Pending}
 use borrow.Author.Needs.{needs}
 use Rattle.rewrite.proofs.write_rows.Statement.{statement}
 use Rattle.rewrite.proofs.write_rows.Tie as tie
-use Rattle.rewrite.proofs.write_rows.Reads as reads
-use Rattle.rewrite.proofs.write_rows.Lts as lts
-use Rattle.rewrite.proofs.write_row.Reads as write-row-reads
 
 abbrev Inv-loop : tie.InvT-loop
 Inv-loop file words out₀ rows done₀ i₀ out done i = (i ≤ rows) × (length out ≡ length out₀) × ((base whole : List ℕ) → Pending file base out₀ (done₀ .from) (done₀ .to) (tablePlaces file words rows 0) whole → Pending file base out (done .from) (done .to) (tablePlaces file words (rows - i) i) whole)

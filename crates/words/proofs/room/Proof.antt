@@ -1,11 +1,8 @@
 use native.Mathlib.Omega.{arith}
-use Prim.Native.Nat.{_/_, min}
 use Rattle.reading.specs.File.{roomOf}
 use borrow.Author.Needs.{needs}
 use Rattle.words.proofs.room.Statement.{statement}
 use Rattle.words.proofs.room.Tie as tie
-use Rattle.words.proofs.room.Reads as reads
-use Rattle.words.proofs.room.Lts as lts
 
 returns : tie.Need-returns
 unfolding roomOf
