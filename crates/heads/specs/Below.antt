@@ -1,17 +1,16 @@
 -- Laws of opening values with children. Assumes nothing.
 use mathlib.Core.Path.{_≡_, refl, sym, ap, _∙_}
-use mathlib.Core.Bool.{Bool, true, false, _&&_}
+use mathlib.Core.Bool.{Bool, true, false}
 use mathlib.Core.List.{List, [], _∷_}
-use mathlib.Core.Logic.{_⊎_, inl, inr}
-use Prim.Native.Nat.{ℕ, zero, suc, _+_, _*_, _-_, _≤_, _<_, _^_}
+use Prim.Native.Nat.{ℕ, zero, suc, _+_, _*_, _-_, _<_}
 use native.Mathlib.Omega.{arith}
-use lib.Dec.{leb, eqb}
-use lib.ListN.{length, take, drop, getD, replicate, length-drop, length-append}
+use lib.Dec.{leb}
+use lib.ListN.{length, drop, getD, replicate, length-drop, length-append}
 use lib.Seq.{drop-cons}
-use borrow.Author.Tests.{le-leb, lt-leb, leb-true, leb-false}
+use borrow.Author.Tests.{lt-leb, leb-true}
 use Rattle.layout.specs.Target.{Target, fixed, char, string, object as anything, texture, texture2D, spriteFont, page, enum, nullable, array, list, dictionary, kindOf}
 use Rattle.layout.specs.Slot as L
-use Rattle.layout.specs.Slot.{Plan, stop, each, raw, slotOf, pairs, fontSlots, pageSlots}
+use Rattle.layout.specs.Slot.{stop, each, raw, slotOf, pairs, fontSlots, pageSlots}
 use Rattle.reading.specs.Answer.{Answer, refused, read, bind, check}
 use Rattle.reading.specs.Reads.{some, field}
 use Rattle.reading.specs.Little.{littleAt, valueOf}
@@ -33,7 +32,7 @@ use Rattle.types.specs.Code.{code, Stands, NoEnum, Throughout}
 use Rattle.types.specs.Place.{placeAfter}
 use Rattle.types.specs.Laws.{nullable-argument, array-argument, list-argument, dictionary-key, dictionary-value}
 use Rattle.heads.specs.Slots.{fixed-sized}
-use Rattle.heads.specs.Opens.{OpenIs, Opens, Stopping, Leafy, of-fixed, of-enum, of-char, of-string, Arguments}
+use Rattle.heads.specs.Opens.{Opens, Stopping, Leafy, of-fixed, of-enum, of-char, of-string, Arguments}
 
 pub alone-refused : (codes : List ℕ) (x : Answer Opening) {n p : ℕ} → refused n p ≡ mute x → Opens codes x (Refused n p)
 unfolding mute

@@ -14,7 +14,7 @@ use Rattle.types.specs.Types.{fixedKind}
 use Rattle.names.specs.Name.{between}
 use Rattle.types.specs.Code.{code, Stands, NoEnum, Throughout}
 use Rattle.leaves.specs.declared.plain.Plain.the-variants.{Fixed, Reference}
-use Rattle.leaves.specs.Plain.{plainSlot, Lawful, referenced}
+use Rattle.leaves.specs.Plain.{referenced}
 use Rattle.leaves.specs.Run.{runSlots, LawfulRun, length-pairs, pair-even, pair-odd}
 use Rattle.heads.specs.declared.slot.Slot.{Slot}
 use Rattle.heads.specs.declared.slot.Slot.the-variants.{Simple, Raw, Object}
@@ -23,7 +23,7 @@ use Rattle.heads.specs.declared.nest.Nest.the-variants.{Each, Pairs, Fon
 use Rattle.heads.specs.declared.nest.Below.{Below}
 use Rattle.heads.specs.declared.nest.Below.the-variants.{Nothing, Nested}
 use Rattle.heads.specs.declared.nest.Below.the-variants.{Simple as SimpleRun}
-use Rattle.heads.specs.Slots.{RawIs, ObjectIs, SlotIs}
+use Rattle.heads.specs.Slots.{ObjectIs, SlotIs}
 
 pub record EachIs (codes : List ℕ) (s : Slot) (n : ℕ) (slots : List L.Slot) : Type 0 where
   pub slot : L.Slot

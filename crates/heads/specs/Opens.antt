@@ -1,21 +1,18 @@
 -- What opening a value answers in code, and the layout's head that it is. Assumes nothing.
-use mathlib.Core.Path.{_≡_, refl, sym, ap, _∙_}
-use mathlib.Core.Bool.{Bool, true, false}
-use mathlib.Core.List.{List, [], _∷_, _++_}
-use Prim.Native.Nat.{ℕ, zero, suc, _+_, _≤_, _<_, _^_, max}
-use native.Mathlib.Omega.{arith}
-use lib.Dec.{leb, eqb}
-use lib.ListN.{length, getD, replicate}
-use borrow.Author.Tests.{le-leb, lt-leb, leb-true}
+use mathlib.Core.Path.{_≡_}
+use mathlib.Core.List.{List, _++_}
+use Prim.Native.Nat.{ℕ, _+_, _<_, max}
+use lib.Dec.{leb}
+use lib.ListN.{getD}
 use Rattle.layout.specs.Number.{little}
-use Rattle.layout.specs.Target.{Target, fixed, char, string, object as anything, texture, texture2D, spriteFont, page, enum, nullable, array, list, dictionary, kindOf}
+use Rattle.layout.specs.Target.{Target, fixed, char, string, object as anything, texture, texture2D, spriteFont, page, enum, nullable, array, list, dictionary}
 use Rattle.layout.specs.Image.{levels, digits}
 use Rattle.layout.specs.Fixed.{sizes}
 use Rattle.layout.specs.Slot as L
-use Rattle.layout.specs.Slot.{Plan, stop, each, leaves}
+use Rattle.layout.specs.Slot.{stop, each, leaves}
 use Rattle.reading.specs.Answer.{Answer, refused, read, bind, check, within}
 use Rattle.reading.specs.Little.{littleAt}
-use Rattle.reading.specs.Heads.{Opening, headAt, imageAt}
+use Rattle.reading.specs.Heads.{Opening}
 use Rattle.types.specs.Code.{NoEnum}
 use Rattle.heads.specs.declared.nest.Below.{Below}
 use Rattle.heads.specs.declared.open.Opened.{Opened}

@@ -1,5 +1,5 @@
 -- Slots in code, whose types are places in an array of codes, and the layout's slots that they are. Assumes nothing.
-use mathlib.Core.Path.{_≡_, refl, sym, ap, _∙_}
+use mathlib.Core.Path.{_≡_, refl}
 use mathlib.Core.Bool.{Bool, true, false}
 use mathlib.Core.List.{List}
 use Prim.Native.Nat.{ℕ, zero, suc, _<_}
@@ -17,7 +17,6 @@ use Rattle.layout.specs.Slot.{raw, object, slotOf, rawOrObject}
 use Rattle.layout.specs.Slot as L
 use Rattle.types.specs.Types.{fixedKind}
 use Rattle.types.specs.Code.{Stands, NoEnum, Lawful as LawfulTarget, Throughout}
-use Rattle.leaves.specs.declared.plain.Plain.the-variants.{Fixed, Char}
 use Rattle.leaves.specs.Plain.{plainSlot, Lawful}
 use Rattle.heads.specs.declared.slot.Slot.{Slot}
 use Rattle.heads.specs.declared.slot.Slot.the-variants.{Simple, Raw, Object}

@@ -15,7 +15,7 @@ ghost use Rattle.layout.specs.Target.{Target, nullable, array, list, dictionary
 ghost use Rattle.layout.specs.Image.{digits};
 ghost use Rattle.reading.specs.Answer.{Answer};
 ghost use Rattle.reading.specs.Little.{littleAt};
-ghost use Rattle.reading.specs.Heads.{Opening, headAt, flagAt};
+ghost use Rattle.reading.specs.Heads.{Opening, headAt};
 ghost use Rattle.table.specs.Leaf.{mute};
 ghost use Rattle.types.specs.Code.{Stands, NoEnum};
 ghost use Rattle.heads.specs.Slots.{SlotIs};

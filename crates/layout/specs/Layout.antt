@@ -1,6 +1,6 @@
 -- Which bytes trees may have (01, "A tree or file tree may have any bytes that 000 and these rules lay out for it, each 7-bit number in any accepted form"). Assumes nothing.
 use mathlib.Core.Path.{_≡_}
-use mathlib.Core.List.{List, [], _∷_, _++_}
+use mathlib.Core.List.{List, [], _++_}
 use mathlib.Core.Logic.{_⊎_}
 use Prim.Native.Nat.{ℕ, suc, _<_, _^_}
 use lib.ListN.{length, getD}

@@ -1,11 +1,9 @@
 -- Laws of loading: each step of the code against what loading answers. Assumes nothing.
 use mathlib.Core.Path.{_≡_, refl, sym, ap, subst, _∙_}
-use mathlib.Core.Bool.{Bool, true, false}
 use mathlib.Core.List.{List, [], _∷_, _++_}
-use Prim.Native.Nat.{ℕ, zero, suc, _+_, _*_, _-_, _≤_, _<_, _^_}
+use Prim.Native.Nat.{ℕ, _+_, _*_, _-_, _≤_}
 use native.Mathlib.Omega.{arith}
 use native.Mathlib.Numerals.{add-one}
-use lib.Dec.{eqb}
 use lib.ListN.{length, take, drop, replicate, set, length-append, take-append-drop}
 use borrow.Author.Tests.{eq-eqb, ne-eqb}
 use Rattle.layout.specs.Target.{Target, object as anything}
@@ -18,27 +16,25 @@ use Rattle.layout.specs.Number.{little}
 use Rattle.reading.specs.Answer.{Answer, refused, read, bind, check, Ok, not-read, is-read}
 use Rattle.reading.specs.Reads.{Small, reads-bounds}
 use Rattle.reading.specs.References.{length-flat}
-use Rattle.reading.specs.Walk.{Taken, Outcome, sequence, walk}
+use Rattle.reading.specs.Walk.{Taken, sequence, walk}
 use Rattle.reading.specs.Bounds.{sequence-bounds}
-use Rattle.reading.specs.File as File
-use Rattle.reading.specs.File.{Loaded as FileLoaded, rootKinds, judged, headerAt, listsAt, objectsAt, finished, fileAt, toLoad, loadOf, tableOf, roomOf}
+use Rattle.reading.specs.File.{Loaded as FileLoaded, rootKinds, headerAt, listsAt, objectsAt, finished, fileAt, toLoad, loadOf, tableOf, roomOf}
 use Rattle.reading.specs.Front.{Headed, header-sound, lists-reads}
 use Rattle.table.specs.declared.Walk.{Walk}
 use Rattle.table.specs.declared.Walk.the-variants.{Done}
 use Rattle.table.specs.declared.Walk.the-variants.{Refused as Walk-refused}
-use Rattle.table.specs.Written.{written, drafts, length-drafts, length-written}
+use Rattle.table.specs.Written.{written, drafts, length-drafts}
 use Rattle.table.specs.Contract.{seen, Walked}
-use Rattle.table.specs.Loop.{Got, got, lost}
+use Rattle.table.specs.Loop.{got, lost}
 use Rattle.table.specs.Leaf.{mute}
 use Rattle.fill.specs.Fill.{cleared}
-use Rattle.leaves.specs.Plain.{Begin}
 use Rattle.readers.specs.Judged.{judgedName, named, judges}
 use Rattle.heads.specs.declared.nest.Nest.the-variants.{Each}
 use Rattle.heads.specs.declared.slot.Slot.the-variants.{Object}
 use Rattle.heads.specs.Nests.{Prelude, prelude, NestIs, object-at}
 use Rattle.resources.specs.declared.Settled.{Settled}
 use Rattle.resources.specs.declared.Settled.the-variants.{Fine, Wrong}
-use Rattle.resources.specs.Settled.{settledOf, answered, judged-is, Drafted, Settles}
+use Rattle.resources.specs.Settled.{settledOf, answered, judged-is, Drafted}
 use Rattle.resources.specs.Objects.{objects-drafted}
 use Rattle.load.specs.declared.Loading.{Loading}
 use Rattle.load.specs.declared.Loading.the-variants.{Refused, Loaded}

@@ -16,7 +16,7 @@ ghost use lib.ListN.{length, take};
 ghost use Rattle.layout.specs.Target.{Target};
 ghost use Rattle.reading.specs.Answer.{bind};
 ghost use Rattle.reading.specs.Walk.{Taken};
-ghost use Rattle.reading.specs.File.{finished, objectsAt, fileAt, roomOf, loadOf, tableOf};
+ghost use Rattle.reading.specs.File.{finished, objectsAt, fileAt, loadOf, tableOf};
 ghost use Rattle.readers.specs.Judged.{judgedName};
 ghost use Rattle.readers.specs.Listed.{Listed};
 ghost use Rattle.resources.specs.Settled.{Drafted};

@@ -3,12 +3,11 @@ use mathlib.Core.Path.{_≡_, refl, sym, ap, subst, _∙_}
 use mathlib.Core.Bool.{Bool, true, false}
 use mathlib.Core.List.{List, [], _∷_}
 use mathlib.Core.Logic.{_⊎_, inl, inr}
-use Prim.Native.Nat.{ℕ, zero, suc, _+_, _-_, _%_, _≤_, _<_}
+use Prim.Native.Nat.{ℕ, zero, suc, _-_, _%_, _≤_, _<_}
 use native.Mathlib.Omega.{arith}
 use lib.ListN.{length, getD}
-use lib.Dec.{ltb}
 use borrow.Author.Tests.{lt-ltb, le-ltb}
-use Rattle.layout.specs.Target.{Target, fixed, char, string, object as anything, texture, texture2D, spriteFont, page, enum, nullable, array, list, dictionary, kindOf, Serves}
+use Rattle.layout.specs.Target.{Target, fixed, char, string, object as anything, texture, texture2D, spriteFont, page, enum, nullable, array, list, dictionary, kindOf}
 use Rattle.layout.specs.Tree.{none, tree}
 use Rattle.layout.specs.Slot as L
 use Rattle.layout.specs.Slot.{Plan, raw, object}
@@ -18,7 +17,7 @@ use Rattle.reading.specs.Seven.{sevenAt, seven-next}
 use Rattle.reading.specs.Reads.{Small}
 use Rattle.ids.specs.Position.{positionOf}
 use Rattle.ids.specs.declared.Position.the-variants.{Null as Null-position, At}
-use Rattle.reading.specs.Rules.{Found, missing, found, invoked, reader, serves, serves-complete, serves-sound}
+use Rattle.reading.specs.Rules.{missing, found, invoked, reader, serves, serves-complete, serves-sound}
 use Rattle.reading.specs.Walk.{Outcome, done, sequence, rawAt, byReader, objectAt, valueAt, walk}
 use Rattle.types.specs.Code.{Stands, NoEnum, Throughout}
 use Rattle.types.specs.Types.{plain, fixedKind}
@@ -32,7 +31,6 @@ use Rattle.heads.specs.Opens.{Arguments}
 use Rattle.heads.specs.declared.slot.Slot.{Slot}
 use Rattle.heads.specs.declared.slot.Slot.the-variants.{Object}
 use Rattle.heads.specs.declared.slot.Slot.the-variants.{Simple as SimpleSlot, Raw as RawSlot}
-use Rattle.heads.specs.Slots.{SlotIs}
 use Rattle.objects.specs.declared.start.Identified.{Identified}
 use Rattle.objects.specs.declared.start.Identified.the-variants.{Null, Reader, Refused}
 use Rattle.objects.specs.declared.start.Started.{Started}

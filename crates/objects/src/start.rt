@@ -6,7 +6,7 @@ use ids::TypeId;
 use leaves::plain::Plain;
 ghost use mathlib.Core.Path.{_≡_};
 ghost use mathlib.Core.List.{List};
-ghost use Prim.Native.Nat.{ℕ, suc, _≤_};
+ghost use Prim.Native.Nat.{suc, _≤_};
 ghost use lib.ListN.{length};
 ghost use Rattle.layout.specs.Target.{Target};
 ghost use Rattle.layout.specs.Slot as L;

@@ -2,10 +2,10 @@
 use answers::Number;
 use types::Resolved;
 ghost use mathlib.Core.Path.{_≡_};
-ghost use Prim.Native.Nat.{_+_, _*_, _≤_, _<_};
+ghost use Prim.Native.Nat.{_+_, _≤_, _<_};
 ghost use lib.ListN.{length};
 ghost use Rattle.answers.specs.Told.{told};
-ghost use Rattle.reading.specs.File.{readerAt, readersAt};
+ghost use Rattle.reading.specs.File.{readerAt};
 ghost use Rattle.readers.specs.Judged.{judgedName};
 ghost use Rattle.readers.specs.Parts.{upTo, versionAt, endOf, namedAt, Takes};
 ghost use Rattle.readers.specs.Contract.{countedAt, listsOf, ReadsLists};

@@ -1,17 +1,17 @@
 -- Where what was read ends, and how many rows it took. Assumes nothing.
-use mathlib.Core.Path.{_≡_, refl, sym, ap, _∙_}
-use mathlib.Core.List.{List, [], _∷_, _++_}
-use mathlib.Core.Logic.{_⊎_, inl, inr}
-use Prim.Native.Nat.{ℕ, zero, suc, _+_, _-_, _≤_}
+use mathlib.Core.Path.{_≡_, refl, ap, _∙_}
+use mathlib.Core.List.{List, _++_}
+use mathlib.Core.Logic.{inl, inr}
+use Prim.Native.Nat.{ℕ, suc, _+_, _-_, _≤_}
 use native.Mathlib.Omega.{arith}
 use lib.ListN.{length, drop, length-append, length-drop}
 use Rattle.layout.specs.Target.{Target}
-use Rattle.layout.specs.Tree.{Trees, none, tree, count, size}
+use Rattle.layout.specs.Tree.{Trees, none, tree, size}
 use Rattle.layout.specs.Slot.{Slot, raw, object, reference, leaf, Plan, stop, put}
 use Rattle.layout.specs.Layout.{Value, Lays}
 use Rattle.layout.specs.Resource.{Within}
-use Rattle.layout.specs.Rows.{Row, Below, rawRows, valueRows, rowsOf}
-use Rattle.reading.specs.Answer.{Answer, refused, read, Ok, not-read, is-read}
+use Rattle.layout.specs.Rows.{Below, rawRows, valueRows, rowsOf}
+use Rattle.reading.specs.Answer.{read, Ok, not-read, is-read}
 use Rattle.reading.specs.Reads.{Small}
 use Rattle.reading.specs.Walk.{Taken, Outcome, sequence, walk}
 use Rattle.reading.specs.Sound.{Read, ReadValue, walk-sound, walks-sound}

@@ -8,7 +8,7 @@ use lib.Dec.{leb}
 use lib.ListN.{length, getD, take, drop, length-append, length-drop, take-append-drop}
 use lib.Seq.{drop-drop, drop-append-seam, take-append-seam, length-take-le}
 use borrow.Author.Tests.{leb-true, le-leb}
-use Rattle.reading.specs.Answer.{Answer, refused, read, bind, check, Ok, not-read, is-read, ok-bind, ok-check, ok-weaken}
+use Rattle.reading.specs.Answer.{Answer, read, bind, check, Ok, not-read, is-read, ok-bind, ok-check, ok-weaken}
 
 -- a file of bytes
 unfoldable pub Small : List ℕ → Type 0

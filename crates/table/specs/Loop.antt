@@ -1,21 +1,20 @@
 -- Values one after the other, as a loop reads them: what is known after i of them. Assumes nothing.
 use mathlib.Core.Path.{_≡_, refl, sym, ap, _∙_}
 use mathlib.Core.List.{List, [], _∷_, _++_, append-assoc, append-nil}
-use Prim.Native.Nat.{ℕ, zero, suc, _+_, _<_, _≤_}
+use Prim.Native.Nat.{ℕ, suc, _+_, _<_, _≤_}
 use native.Mathlib.Omega.{arith}
 use native.Mathlib.Numerals.{add-one}
 use lib.ListN.{length, getD, drop, length-append, drop-of-length-le}
 use lib.Seq.{drop-cons}
 use Rattle.layout.specs.Rows.{Row}
 use Rattle.layout.specs.Slot.{Slot, each}
-use Rattle.layout.specs.Tree.{Trees, none}
 use Rattle.reading.specs.Answer.{Answer, refused, read, bind}
 use Rattle.reading.specs.Walk.{Taken, Outcome, sequence, before}
 use Rattle.reading.specs.Bounds.{Bounds}
 use Rattle.table.specs.declared.Walk.{Walk}
 use Rattle.table.specs.declared.Walk.the-variants.{Done, Refused}
 use Rattle.table.specs.Written.{written, written-none, written-append, length-written}
-use Rattle.table.specs.Contract.{Seen, seen, answerOf, contentOf, Walked}
+use Rattle.table.specs.Contract.{Seen, seen, Walked}
 
 -- what a caller knows of values that were read
 pub record Got (entry exit : List ℕ) (used : ℕ) (o : Outcome) (next u : ℕ) : Type 0 where

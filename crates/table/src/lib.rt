@@ -4,7 +4,7 @@ use ids::RowNumber;
 ghost use mathlib.Core.Path.{_≡_};
 ghost use Prim.Native.Nat.{_-_};
 ghost use Rattle.table.specs.Written.{putRow, rowOf};
-ghost use Rattle.table.specs.Leaf.{inWord, valueRow, leafAnswer, leafWords};
+ghost use Rattle.table.specs.Leaf.{inWord, leafAnswer, leafWords};
 ghost use Rattle.answers.specs.Told.{told};
 
 // What is known of a value before its bytes are read: its row's number, its first byte, its parent's row number plus 1, and its type id or resource id.

@@ -1,16 +1,9 @@
-use mathlib.Core.Path.{_≡_, refl, sym, ap, subst, _∙_}
-use Prim.Native.Nat.{ℕ}
-use Rattle.reading.specs.File.{finished}
+use mathlib.Core.Path.{sym, ap, _∙_}
 use Rattle.fill.specs.Fill.{cleared}
 use Rattle.load.specs.Laws.{not-the-end, wrong-resource, all-well, loads-refused}
 use borrow.Author.Needs.{needs}
 use Rattle.load.proofs.finish.Statement.{statement}
 use Rattle.load.proofs.finish.Tie as tie
-use Rattle.load.proofs.finish.Reads as reads
-use Rattle.load.proofs.finish.Lts as lts
-use Rattle.fill.proofs.clear.Reads as clear-reads
-use Rattle.ids.proofs.RowNumber.position.Reads as position-reads
-use Rattle.resources.proofs.settle.Reads as settle-reads
 
 returns : tie.Need-returns
 returns c =

@@ -1,4 +1,4 @@
-use mathlib.Core.Path.{_≡_, refl, sym, ap, subst, _∙_}
+use mathlib.Core.Path.{sym, _∙_}
 use native.Mathlib.Omega.{arith}
 use Rattle.reading.specs.Reads.{small-by-index}
 use Rattle.readers.specs.Contract.{short-file}
@@ -6,11 +6,6 @@ use Rattle.load.specs.Laws.{kept-prelude, lists-inside, lists-refused, b
 use borrow.Author.Needs.{needs}
 use Rattle.load.proofs.lists.Statement.{statement}
 use Rattle.load.proofs.lists.Tie as tie
-use Rattle.load.proofs.lists.Reads as reads
-use Rattle.load.proofs.lists.Lts as lts
-use Rattle.load.proofs.objects.Reads as objects-reads
-use Rattle.load.proofs.put_prelude.Reads as put-prelude-reads
-use Rattle.readers.proofs.read_lists.Reads as read-lists-reads
 
 slice-aggregate-put-prelude : tie.Need-slice-aggregate-put-prelude
 slice-aggregate-put-prelude c = search needs

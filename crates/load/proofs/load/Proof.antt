@@ -1,16 +1,9 @@
-use mathlib.Core.Path.{_≡_, refl, sym, ap, subst, _∙_}
 use native.Mathlib.Omega.{arith}
-use Prim.Native.Nat.{_*_, _/_, _≤_, min}
-use lib.ListN.{length}
 use Rattle.reading.specs.File.{roomOf}
 use Rattle.load.specs.Laws.{load-refused, load-loaded}
 use borrow.Author.Needs.{needs}
 use Rattle.load.proofs.load.Statement.{statement}
 use Rattle.load.proofs.load.Tie as tie
-use Rattle.load.proofs.load.Reads as reads
-use Rattle.load.proofs.load.Lts as lts
-use Rattle.fill.proofs.clear.Reads as clear-reads
-use Rattle.load.proofs.load_rows.Reads as load-rows-reads
 
 room-requires : tie.Need-room-requires
 room-requires c κs = search needs

@@ -1,4 +1,3 @@
-use mathlib.Core.Path.{_≡_, refl, sym, ap, subst, _∙_}
 use native.Mathlib.Omega.{arith}
 use Rattle.reading.specs.Reads.{small-by-index}
 use Rattle.table.specs.Leaf.{mute}
@@ -6,10 +5,6 @@ use Rattle.load.specs.Laws.{header-read, header-refused, file-behind, lo
 use borrow.Author.Needs.{needs}
 use Rattle.load.proofs.load_rows.Statement.{statement}
 use Rattle.load.proofs.load_rows.Tie as tie
-use Rattle.load.proofs.load_rows.Reads as reads
-use Rattle.load.proofs.load_rows.Lts as lts
-use Rattle.header.proofs.header.Reads as header-reads
-use Rattle.load.proofs.lists.Reads as lists-reads
 
 header-requires : tie.Need-header-requires
 header-requires c κs = search needs

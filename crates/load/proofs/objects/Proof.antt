@@ -1,15 +1,9 @@
-use mathlib.Core.Path.{_≡_, refl, sym, ap, subst, _∙_}
-use Prim.Native.Nat.{ℕ}
 use native.Mathlib.Omega.{arith}
 use Rattle.reading.specs.Reads.{small-by-index}
 use Rattle.load.specs.Laws.{roots, roots-are, objects-lost, objects-got, objects-loaded, loads-refused}
 use borrow.Author.Needs.{needs}
 use Rattle.load.proofs.objects.Statement.{statement}
 use Rattle.load.proofs.objects.Tie as tie
-use Rattle.load.proofs.objects.Reads as reads
-use Rattle.load.proofs.objects.Lts as lts
-use Rattle.load.proofs.finish.Reads as finish-reads
-use Rattle.load.proofs.walk.nested.Reads as nested-reads
 
 add-n : tie.Need-add-n
 add-n c = search needs

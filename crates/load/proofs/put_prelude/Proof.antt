@@ -1,11 +1,9 @@
 use native.Mathlib.Omega.{arith}
-use lib.ListN.{length, set, length-set}
+use lib.ListN.{length-set}
 use Rattle.load.specs.Laws.{prelude-stored}
 use borrow.Author.Needs.{needs}
 use Rattle.load.proofs.put_prelude.Statement.{statement}
 use Rattle.load.proofs.put_prelude.Tie as tie
-use Rattle.load.proofs.put_prelude.Reads as reads
-use Rattle.load.proofs.put_prelude.Lts as lts
 
 slice-write-codes : tie.Need-slice-write-codes
 slice-write-codes c = search needs

@@ -4,10 +4,6 @@ use Rattle.table.specs.Leaf.{inWord}
 use borrow.Author.Needs.{needs}
 use Rattle.table.proofs.leaf.Statement.{statement}
 use Rattle.table.proofs.leaf.Tie as tie
-use Rattle.std.proofs.num.wrapping_add_u32.Reads as wrapping-add-u32-reads
-use Rattle.table.proofs.put_row.Reads as put-row-reads
-use Rattle.table.proofs.span.Reads as span-reads
-use Rattle.table.proofs.word.Reads as word-reads
 
 enum-known-read : tie.Need-enum-known-read
 enum-known-read c = search needs

@@ -3,7 +3,6 @@ use Rattle.table.specs.Leaf.{inWord}
 use borrow.Author.Needs.{needs}
 use Rattle.table.proofs.span.Statement.{statement}
 use Rattle.table.proofs.span.Tie as tie
-use Rattle.table.proofs.word.Reads as word-reads
 
 returns : tie.Need-returns
 unfolding inWord

@@ -1,16 +1,8 @@
-use mathlib.Core.Path.{_≡_, refl, sym, ap, _∙_}
-use Prim.Native.Nat.{ℕ, _<_, _^_}
-use native.Mathlib.Omega.{arith}
-use Rattle.answers.specs.Told.{told}
-use Rattle.reading.specs.Reads.{small-by-index}
-use Rattle.reading.specs.Little.{littleAt, little-next}
 use Rattle.table.specs.Leaf.{mute}
-use Rattle.heads.specs.Below.{alone-refused, alone-read, opens-refused, opens-head, list-refused, list-read, pairs-refused, pairs-read, flag-refused, flag-zero, flag-one, flag-other, array-list}
+use Rattle.heads.specs.Below.{alone-refused, alone-read}
 use borrow.Author.Needs.{needs}
 use Rattle.heads.proofs.open.alone.Statement.{statement}
 use Rattle.heads.proofs.open.alone.Tie as tie
-use Rattle.heads.proofs.open.alone.Reads as reads
-use Rattle.heads.proofs.open.alone.Lts as lts
 
 -- src/open.rt:34:25
 enum-known-read : tie.Need-enum-known-read

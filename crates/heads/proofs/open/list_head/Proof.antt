@@ -1,19 +1,12 @@
-use mathlib.Core.Path.{_≡_, refl, sym, ap, _∙_}
-use Prim.Native.Nat.{ℕ, _<_, _^_}
+use mathlib.Core.Path.{sym, ap, _∙_}
 use native.Mathlib.Omega.{arith}
 use Rattle.answers.specs.Told.{told}
 use Rattle.reading.specs.Reads.{small-by-index}
-use Rattle.reading.specs.Little.{littleAt, little-next}
-use Rattle.table.specs.Leaf.{mute}
-use Rattle.heads.specs.Below.{alone-refused, alone-read, opens-refused, opens-head, list-refused, list-read, pairs-refused, pairs-read, flag-refused, flag-zero, flag-one, flag-other, array-list}
+use Rattle.reading.specs.Little.{little-next}
+use Rattle.heads.specs.Below.{opens-refused, opens-head, list-refused, list-read}
 use borrow.Author.Needs.{needs}
 use Rattle.heads.proofs.open.list_head.Statement.{statement}
 use Rattle.heads.proofs.open.list_head.Tie as tie
-use Rattle.heads.proofs.open.list_head.Reads as reads
-use Rattle.heads.proofs.open.list_head.Lts as lts
-use Rattle.heads.proofs.open.each_of.Reads as each-of-reads
-use Rattle.heads.proofs.slot.slot_of.Reads as slot-of-reads
-use Rattle.numbers.proofs.little.little4.Reads as little4-reads
 
 -- src/open.rt:95:11
 little4-requires : tie.Need-little4-requires

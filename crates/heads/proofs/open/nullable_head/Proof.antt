@@ -1,22 +1,12 @@
 use borrow.Author.Tests.{eq-eqb, ne-eqb}
-use mathlib.Core.Path.{_≡_, refl, sym, ap, _∙_}
+use mathlib.Core.Path.{refl, sym, ap, _∙_}
 use mathlib.Core.List.{[]}
-use Prim.Native.Nat.{ℕ, _<_, _^_}
 use Rattle.heads.specs.declared.nest.Below.the-variants.{Nothing}
-use native.Mathlib.Omega.{arith}
 use Rattle.answers.specs.Told.{told}
-use Rattle.reading.specs.Reads.{small-by-index}
-use Rattle.reading.specs.Little.{littleAt, little-next}
-use Rattle.table.specs.Leaf.{mute}
-use Rattle.heads.specs.Below.{alone-refused, alone-read, opens-refused, opens-head, list-refused, list-read, pairs-refused, pairs-read, flag-refused, flag-zero, flag-one, flag-other, array-list}
+use Rattle.heads.specs.Below.{opens-refused, opens-head, flag-refused, flag-zero, flag-one, flag-other}
 use borrow.Author.Needs.{needs}
 use Rattle.heads.proofs.open.nullable_head.Statement.{statement}
 use Rattle.heads.proofs.open.nullable_head.Tie as tie
-use Rattle.heads.proofs.open.nullable_head.Reads as reads
-use Rattle.heads.proofs.open.nullable_head.Lts as lts
-use Rattle.heads.proofs.open.each_of.Reads as each-of-reads
-use Rattle.heads.proofs.slot.raw_of.Reads as raw-of-reads
-use Rattle.numbers.proofs.little.little1.Reads as little1-reads
 
 -- src/open.rt:78:11
 little1-requires : tie.Need-little1-requires

@@ -1,7 +1,6 @@
 use borrow.Author.Tests.{le-leb, lt-leb, ne-eqb}
 use Rattle.heads.specs.Total.{openAs, kindAs}
-use mathlib.Core.Path.{_≡_, refl, sym, ap, subst, _∙_}
-use Prim.Native.Nat.{ℕ, _+_}
+use mathlib.Core.Path.{refl, sym, subst, _∙_}
 use native.Mathlib.Omega.{arith}
 use Rattle.layout.specs.Fixed.{sizes}
 use Rattle.types.specs.Code.{Stands}
@@ -10,16 +9,6 @@ use Rattle.heads.specs.Below.{stands-inside, by-kind, leafless, never-le
 use borrow.Author.Needs.{needs}
 use Rattle.heads.proofs.open.open.Statement.{statement}
 use Rattle.heads.proofs.open.open.Tie as tie
-use Rattle.heads.proofs.open.open.Reads as reads
-use Rattle.heads.proofs.open.open.Lts as lts
-use Rattle.heads.proofs.open.alone.Reads as alone-reads
-use Rattle.heads.proofs.open.dictionary_head.Reads as dictionary-head-reads
-use Rattle.heads.proofs.open.image_head.Reads as image-head-reads
-use Rattle.heads.proofs.open.leaf_at.Reads as leaf-at-reads
-use Rattle.heads.proofs.open.list_head.Reads as list-head-reads
-use Rattle.heads.proofs.open.nullable_head.Reads as nullable-head-reads
-use Rattle.types.proofs.after.Reads as after-reads
-use Rattle.types.proofs.kind_at.Reads as kind-at-reads
 
 kind-at-requires : tie.Need-kind-at-requires
 kind-at-requires c κs = search needs

@@ -1,9 +1,8 @@
 use borrow.Author.Tests.{eq-eqb, ne-eqb}
 use Rattle.heads.specs.Total.{rawAs}
-use mathlib.Core.Path.{_≡_, refl, sym, ap, _∙_}
+use mathlib.Core.Path.{refl, sym, ap, _∙_}
 use native.Mathlib.Omega.{arith}
 use borrow.Author.Needs.{needs}
-use Rattle.layout.specs.Target.{Target}
 use Rattle.layout.specs.Slot.{raw}
 use Rattle.types.specs.Laws.{kind-is}
 use Rattle.heads.specs.Slots.{raw-char, raw-fixed}

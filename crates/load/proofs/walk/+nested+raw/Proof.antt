@@ -1,4 +1,3 @@
-use Prim.Native.Nat.{ℕ, _<_}
 use Rattle.load.proofs.walk.nested.Reads as nested
 use Rattle.load.proofs.walk.+nested+raw.Lts-nested as nested-lts
 use Rattle.load.proofs.walk.raw.Reads as raw

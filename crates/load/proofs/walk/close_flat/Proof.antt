@@ -10,12 +10,6 @@ use Rattle.load.specs.Steps.{raw-told, raw-ends, nothing-below}
 use borrow.Author.Needs.{needs}
 use Rattle.load.proofs.walk.close_flat.Statement.{statement}
 use Rattle.load.proofs.walk.close_flat.Tie as tie
-use Rattle.load.proofs.walk.close_flat.Reads as reads
-use Rattle.load.proofs.walk.close_flat.Lts as lts
-use Rattle.leaves.proofs.run.read_run.Reads as read-run-reads
-use Rattle.leaves.proofs.run.turns.Reads as turns-reads
-use Rattle.load.proofs.walk.walked_step.Reads as walked-step-reads
-use Rattle.objects.proofs.close.close.Reads as close-reads
 
 add-first : tie.Need-add-first
 add-first c = omega (arith, c .before .before .before .pre .free)

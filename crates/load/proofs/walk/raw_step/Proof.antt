@@ -8,11 +8,6 @@ use Rattle.load.specs.Walks.{opened-as, refused-as}
 use borrow.Author.Needs.{needs}
 use Rattle.load.proofs.walk.raw_step.Statement.{statement}
 use Rattle.load.proofs.walk.raw_step.Tie as tie
-use Rattle.load.proofs.walk.raw_step.Reads as reads
-use Rattle.load.proofs.walk.raw_step.Lts as lts
-use Rattle.heads.proofs.open.open.Reads as open-reads
-use Rattle.load.proofs.walk.close_flat.Reads as close-flat-reads
-use Rattle.types.proofs.kind_at.Reads as kind-at-reads
 
 open-requires : tie.Need-open-requires
 open-requires c κs = search needs

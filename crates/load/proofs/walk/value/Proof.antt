@@ -11,13 +11,6 @@ use Rattle.load.specs.Steps.{value-told, raw-steps}
 use borrow.Author.Needs.{needs}
 use Rattle.load.proofs.walk.value.Statement.{statement}
 use Rattle.load.proofs.walk.value.Tie as tie
-use Rattle.load.proofs.walk.value.Reads as reads
-use Rattle.load.proofs.walk.value.Lts as lts
-use Rattle.leaves.proofs.plain.read_plain.Reads as read-plain-reads
-use Rattle.load.proofs.walk.raw_step.Reads as raw-step-reads
-use Rattle.load.proofs.walk.walked_step.Reads as walked-step-reads
-use Rattle.objects.proofs.start.start.Reads as start-reads
-use Rattle.table.proofs.leaf.Reads as leaf-reads
 
 start-requires : tie.Need-start-requires
 start-requires c κs = search needs

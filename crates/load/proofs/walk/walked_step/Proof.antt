@@ -1,8 +1,6 @@
 use borrow.Author.Needs.{needs}
 use Rattle.load.proofs.walk.walked_step.Statement.{statement}
 use Rattle.load.proofs.walk.walked_step.Tie as tie
-use Rattle.load.proofs.walk.walked_step.Reads as reads
-use Rattle.load.proofs.walk.walked_step.Lts as lts
 
 enum-known-walked : tie.Need-enum-known-walked
 enum-known-walked c = search needs

@@ -3,9 +3,6 @@ use borrow.Author.Tests.{ne-eqb}
 use borrow.Author.Needs.{needs}
 use Rattle.objects.proofs.close.keeps_rule.Statement.{statement}
 use Rattle.objects.proofs.close.keeps_rule.Tie as tie
-use Rattle.objects.proofs.close.keeps_rule.Reads as reads
-use Rattle.objects.proofs.close.keeps_rule.Lts as lts
-use Rattle.fonts.proofs.font_rule.Reads as font-rule-reads
 
 font-rule-requires : tie.Need-font-rule-requires
 font-rule-requires c κs = search needs

@@ -1,16 +1,8 @@
-use mathlib.Core.Path.{_≡_, refl, sym, ap, subst, _∙_}
-use mathlib.Core.Bool.{true, false}
-use mathlib.Core.Logic.{inl, inr}
-use Prim.Native.Nat.{ℕ, suc, _+_}
-use native.Mathlib.Omega.{arith}
+use mathlib.Core.Path.{sym, subst, _∙_}
 use Rattle.objects.specs.Start.{Identifies, null-id, at-id}
 use borrow.Author.Needs.{needs}
 use Rattle.objects.proofs.start.identify.Statement.{statement}
 use Rattle.objects.proofs.start.identify.Tie as tie
-use Rattle.objects.proofs.start.identify.Reads as reads
-use Rattle.objects.proofs.start.identify.Lts as lts
-use Rattle.ids.proofs.TypeId.position.Reads as position-reads
-use Rattle.objects.proofs.start.reader_for.Reads as reader-for-reads
 
 position-requires : tie.Need-position-requires
 position-requires c κs = search needs

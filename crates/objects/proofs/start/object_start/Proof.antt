@@ -1,19 +1,12 @@
-use mathlib.Core.Path.{_≡_, refl, sym, ap, subst, _∙_}
-use mathlib.Core.Bool.{true, false}
-use mathlib.Core.Logic.{inl, inr}
-use Prim.Native.Nat.{ℕ, suc, _+_}
+use mathlib.Core.Path.{sym, ap, _∙_}
 use native.Mathlib.Omega.{arith}
 use Rattle.answers.specs.Told.{told}
 use Rattle.reading.specs.Reads.{small-by-index}
 use Rattle.reading.specs.Seven.{seven-next}
-use Rattle.objects.specs.Start.{Identifies, no-number, null-starts, read-starts, unread}
+use Rattle.objects.specs.Start.{no-number, null-starts, read-starts, unread}
 use borrow.Author.Needs.{needs}
 use Rattle.objects.proofs.start.object_start.Statement.{statement}
 use Rattle.objects.proofs.start.object_start.Tie as tie
-use Rattle.objects.proofs.start.object_start.Reads as reads
-use Rattle.objects.proofs.start.object_start.Lts as lts
-use Rattle.numbers.proofs.seven.seven_at.Reads as seven-at-reads
-use Rattle.objects.proofs.start.identify.Reads as identify-reads
 
 seven-at-requires : tie.Need-seven-at-requires
 seven-at-requires c κs = search needs

@@ -3,9 +3,6 @@ use Rattle.objects.specs.Start.{null-id, at-id}
 use borrow.Author.Needs.{needs}
 use Rattle.objects.proofs.start.position_in.Statement.{statement}
 use Rattle.objects.proofs.start.position_in.Tie as tie
-use Rattle.objects.proofs.start.position_in.Reads as reads
-use Rattle.objects.proofs.start.position_in.Lts as lts
-use Rattle.ids.proofs.TypeId.position.Reads as position-reads
 
 position-requires : tie.Need-position-requires
 position-requires c κs = search needs

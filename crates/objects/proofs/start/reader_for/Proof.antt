@@ -1,18 +1,12 @@
 use borrow.Author.Tests.{le-leb, lt-leb, eq-eqb, ne-eqb}
 use Rattle.objects.specs.Total.{readerAs, placeAs}
-use mathlib.Core.Path.{_≡_, refl, sym, ap, subst, _∙_}
+use mathlib.Core.Path.{sym, _∙_}
 use mathlib.Core.Bool.{true, false}
 use mathlib.Core.Logic.{inl, inr}
-use Prim.Native.Nat.{ℕ, suc, _+_}
-use native.Mathlib.Omega.{arith}
 use Rattle.objects.specs.Start.{beyond-list, beyond-most, never-called, called-by}
 use borrow.Author.Needs.{needs}
 use Rattle.objects.proofs.start.reader_for.Statement.{statement}
 use Rattle.objects.proofs.start.reader_for.Tie as tie
-use Rattle.objects.proofs.start.reader_for.Reads as reads
-use Rattle.objects.proofs.start.reader_for.Lts as lts
-use Rattle.types.proofs.fits.Reads as fits-reads
-use Rattle.types.proofs.kind_at.Reads as kind-at-reads
 
 returns : tie.Need-returns
 unfolding readerAs placeAs

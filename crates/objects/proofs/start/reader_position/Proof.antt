@@ -6,10 +6,6 @@ use Rattle.reading.specs.Seven.{seven-next}
 use borrow.Author.Needs.{needs}
 use Rattle.objects.proofs.start.reader_position.Statement.{statement}
 use Rattle.objects.proofs.start.reader_position.Tie as tie
-use Rattle.objects.proofs.start.reader_position.Reads as reads
-use Rattle.objects.proofs.start.reader_position.Lts as lts
-use Rattle.numbers.proofs.seven.seven_at.Reads as seven-at-reads
-use Rattle.objects.proofs.start.position_in.Reads as position-in-reads
 
 enum-told : tie.Need-enum-told
 enum-told c = search needs

@@ -1,14 +1,9 @@
 use borrow.Author.Tests.{le-leb, lt-leb, eq-eqb, ne-eqb}
-use mathlib.Core.Path.{_≡_, refl, sym, ap, subst, _∙_}
-use Prim.Native.Nat.{ℕ, suc, _+_}
-use native.Mathlib.Omega.{arith}
+use mathlib.Core.Path.{sym, subst}
 use Rattle.objects.specs.Start.{ObjectStarts, too-deep, no-row, raw-starts, object-starts, raw-invoked}
 use borrow.Author.Needs.{needs}
 use Rattle.objects.proofs.start.start.Statement.{statement}
 use Rattle.objects.proofs.start.start.Tie as tie
-use Rattle.objects.proofs.start.start.Reads as reads
-use Rattle.objects.proofs.start.start.Lts as lts
-use Rattle.objects.proofs.start.object_start.Reads as object-start-reads
 
 enum-known-slot : tie.Need-enum-known-slot
 enum-known-slot c = search needs

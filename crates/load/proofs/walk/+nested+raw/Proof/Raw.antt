@@ -2,7 +2,6 @@ use borrow.Author.Needs.{needs}
 use mathlib.Core.Path.{_∙_}
 use Prim.Native.Nat.{ℕ, _-_}
 use native.Mathlib.Omega.{arith}
-use lib.ListN.{length}
 use Rattle.reading.specs.Reads.{small-by-index}
 use Rattle.types.specs.Laws.{kind-is}
 use Rattle.load.specs.Walks.{begin-below}
