@@ -8,6 +8,7 @@ use lib.ListN.{length}
 use mir.Val.{SFits, toZ, ofZ}
 use mir.Syntax.{w64}
 use mir.Facts.{toZ-ofZ}
+use Rattle.laws.specs.Small.{differ}
 use Rattle.reading.specs.Reads.{Small}
 use Rattle.reading.specs.File.{Load, refusal, accepted, loadOf}
 use Rattle.reading.specs.Refusals.{refusal-place}
@@ -35,7 +36,7 @@ refusal-of (refusal m q) {n} {p} e =
     let e₁ : m ≡ n = cc in
     let e₂ : q ≡ p = cc in
     rw (e₁, e₂)
-refusal-of (accepted rows readers shared) e = absurd (let z : _≡_ {A = ℕ} 0 1 = cc in omega arith)
+refusal-of (accepted rows readers shared) e = differ cc
 
 pub load-place : (file : List ℕ) (words : ℕ) {n p : ℕ} → Refused n p ≡ answerOf (loadOf judgedName file words) → p < 4294967296
 load-place file words {n} {p} e = omega (arith, refusal-place judgedName ten-or-eleven file words n p (refusal-of (loadOf judgedName file words) e) .1)
@@ -46,7 +47,7 @@ load-refused x e q = rw (refusal-of x e, q)
 
 pub load-accepted : (x : Load) {n r s : ℕ} → Loaded n r s ≡ answerOf x → _≡_ {A = ℕ × ℕ × ℕ} (n, r, s) (loadTold x)
 unfolding loadTold packed
-load-accepted (refusal m q) e = absurd (let z : _≡_ {A = ℕ} 0 1 = cc in omega arith)
+load-accepted (refusal m q) e = differ cc
 load-accepted (accepted rows readers shared) {n} {r} {s} e =
     let e₁ : n ≡ length rows = cc in
     let e₂ : r ≡ readers = cc in
@@ -59,7 +60,7 @@ rewritten-of (rewritten.refusal m q) {n} {p} e =
     let e₁ : m ≡ n = cc in
     let e₂ : q ≡ p = cc in
     rw (e₁, e₂)
-rewritten-of (rewritten.written bytes) e = absurd (let z : _≡_ {A = ℕ} 0 1 = cc in omega arith)
+rewritten-of (rewritten.written bytes) e = differ cc
 
 pub rewrite-place : (file : List ℕ) → Small file → (words out : ℕ) {n p : ℕ} → rewriting.Refused n p ≡ rewrite.answerOf (rewriteOf judgedName file words out) → p < 4294967296
 rewrite-place file small words out {n} {p} e =
@@ -71,7 +72,7 @@ rewrite-refused x e q = rw (rewritten-of x e, q)
 
 pub rewrite-length : (x : Rewritten) {n : ℕ} → rewriting.Rewritten n ≡ rewrite.answerOf x → n ≡ rewritePacked x
 unfolding rewritePacked
-rewrite-length (rewritten.refusal m q) e = absurd (let z : _≡_ {A = ℕ} 0 1 = cc in omega arith)
+rewrite-length (rewritten.refusal m q) e = differ cc
 rewrite-length (rewritten.written bytes) {n} e = let q : n ≡ length bytes = cc in q
 
 -- the answer of both entries that load is the packed one

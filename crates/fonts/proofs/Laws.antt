@@ -1,25 +1,25 @@
 -- Laws of the font rule over the words. Assumes nothing.
 use mathlib.Core.Path.{_≡_, refl}
-use mathlib.Core.Bool.{Bool, true, false, not}
+use mathlib.Core.Bool.{Bool, true, false, not, _&&_}
 use mathlib.Core.List.{List}
 use Prim.Native.Nat.{ℕ, zero, suc, _+_, _-_, _<_, _≤_}
 use native.Mathlib.Omega.{arith}
 use native.Mathlib.Numerals.{add-one}
 use borrow.Author.Tests.{lt-ltb, le-ltb}
-use Rattle.reading.specs.Rules.{both}
+use Rattle.laws.specs.Small.{differ}
 use Rattle.reading.specs.Answer.{Answer}
 use Rattle.reading.specs.Utf8.{charAt}
 use Rattle.reading.specs.Walk.{valueOr}
 use Rattle.fonts.specs.FontWords.{wordAt, codeAt, nextAbove, risingRows}
 
 -- a test that failed, and one that passed
-pub no : {a r : Bool} (rest : Bool) → r ≡ a → not r ≡ true → false ≡ both a rest
-no {r = true} rest e t = absurd (let z : _≡_ {A = ℕ} 0 1 = cc in omega arith)
+pub no : {a r : Bool} (rest : Bool) → r ≡ a → not r ≡ true → false ≡ (a && rest)
+no {r = true} rest e t = differ cc
 no {r = false} rest e t = rw (← e)
 
-pub yes : {a r x rest : Bool} → r ≡ a → not r ≡ false → x ≡ rest → x ≡ both a rest
+pub yes : {a r x rest : Bool} → r ≡ a → not r ≡ false → x ≡ rest → x ≡ (a && rest)
 yes {r = true} e t q = rw (← e) q
-yes {r = false} e t q = absurd (let z : _≡_ {A = ℕ} 0 1 = cc in omega arith)
+yes {r = false} e t q = differ cc
 
 module _ (file words : List ℕ) where
   -- one character does not fall

@@ -1,12 +1,13 @@
 -- When a font's children were read, the test over the words is the test over the trees. Assumes nothing.
 use mathlib.Core.Path.{_≡_, refl, sym, ap, _∙_}
-use mathlib.Core.Bool.{Bool, true, false}
+use mathlib.Core.Bool.{Bool, true, false, _&&_}
 use mathlib.Core.List.{List}
 use Prim.Native.Nat.{ℕ, suc, _+_, _*_, _<_, _≤_}
 use native.Mathlib.Omega.{arith}
 use native.Mathlib.Numerals.{add-one}
 use lib.Dec.{ltb, eqb}
 use lib.ListN.{length, drop}
+use Rattle.laws.specs.Small.{differ}
 use Rattle.layout.specs.Target.{Target, fixed, char, texture2D, spriteFont, list, isValue, kindOf}
 use Rattle.layout.specs.Tree.{Trees, none, tree, count, size, kindAt, childrenAt}
 use Rattle.layout.specs.Slot.{Slot, raw, object, slotOf, rawOrObject, each, fontSlots}
@@ -15,7 +16,7 @@ use Rattle.layout.specs.Resource.{Within}
 use Rattle.layout.specs.Rows.{rowsOf}
 use Rattle.reading.specs.Answer.{read, Ok, not-read, is-read}
 use Rattle.reading.specs.Reads.{Small}
-use Rattle.reading.specs.Rules.{both, same, same-true, same-refl}
+use Rattle.reading.specs.Rules.{same, same-true, same-refl}
 use Rattle.reading.specs.Font.{rising, fontTest, fontIf, fontOk}
 use Rattle.reading.specs.Walk.{Taken, Outcome, point, sequence, walk}
 use Rattle.reading.specs.Sound.{Read, walks-sound}
@@ -26,7 +27,7 @@ use Rattle.fonts.specs.Children.{childRow, row-next, lays-count, Flat, f
 use Rattle.fonts.specs.Characters.{map-rising}
 
 -- the tests of objects, of counts and of characters, one after the other
-regroup : (a b c d e f g h r : Bool) → both (both a (both b (both c (both d e)))) (both (both f (both g h)) r) ≡ both a (both b (both c (both d (both e (both f (both g (both h r)))))))
+regroup : (a b c d e f g h r : Bool) → ((a && (b && (c && (d && e)))) && ((f && (g && h)) && r)) ≡ (a && (b && (c && (d && (e && (f && (g && (h && r))))))))
 regroup false b c d e f g h r = refl
 regroup true false c d e f g h r = refl
 regroup true true false d e f g h r = refl
@@ -102,7 +103,7 @@ font-words file small readers shared room d at used a e q w w′ ew h =
     go (sequence (λ y b v. walk file readers shared room d y b v (suc used)) (each fontSlots) at (suc used))
     (walks-sound file readers shared room small d (each fontSlots) at (suc used) (suc used)) q where
       go : (o : Outcome) → Ok (Read file readers shared room small d (each fontSlots) at (suc used) (suc used)) o → o ≡ read a e → fontWords file w′ used ≡ fontTest point (a .2)
-      go o not-read p = absurd (let z : _≡_ {A = ℕ} 0 1 = cc in omega arith)
+      go o not-read p = differ cc
       go o (is-read {a = b} {e = f} v) p =
           let qb : b ≡ a = cc in
           let s : Stands w′ (suc used) (a .1) = rw ew (written-stands w (suc used) (a .1) (rw ew at h)) in

@@ -1,11 +1,10 @@
 -- The font rule by the rows of a font's children in the words (01: "No object in it is null, the four lists have equal counts, and characters rise strictly"). Assumes nothing.
 use mathlib.Core.Path.{_≡_}
-use mathlib.Core.Bool.{Bool, true}
+use mathlib.Core.Bool.{Bool, true, _&&_}
 use mathlib.Core.List.{List}
 use Prim.Native.Nat.{ℕ, zero, suc, _+_, _*_}
 use lib.Dec.{ltb, eqb}
 use lib.ListN.{getD}
-use Rattle.reading.specs.Rules.{both}
 use Rattle.reading.specs.Utf8.{charAt}
 use Rattle.reading.specs.Walk.{valueOr}
 
@@ -37,17 +36,17 @@ nextAbove file words (suc n) row = ltb (codeAt file words row) (codeAt file word
 -- 01: "characters rise strictly": those of n rows from `row` on
 unfoldable pub risingRows : (file words : List ℕ) → (n row : ℕ) → Bool
 risingRows file words zero row = true
-risingRows file words (suc n) row = both (nextAbove file words n row) (risingRows file words n (suc row))
+risingRows file words (suc n) row = nextAbove file words n row && risingRows file words n (suc row)
 
 -- of a font's objects by their rows, 01: "No object in it is null"
 unfoldable pub allThere : List ℕ → (texture glyphs cropping characters kerning : ℕ) → Bool
 allThere words texture glyphs cropping characters kerning =
-    both (some words texture) (both (some words glyphs) (both (some words cropping) (both (some words characters) (some words kerning))))
+    some words texture && (some words glyphs && (some words cropping && (some words characters && some words kerning)))
 
 -- of a font's lists by their rows, 01: "the four lists have equal counts"
 unfoldable pub allEqual : List ℕ → (glyphs cropping characters kerning : ℕ) → Bool
 allEqual words glyphs cropping characters kerning =
-    both (equal words glyphs characters) (both (equal words cropping characters) (equal words kerning characters))
+    equal words glyphs characters && (equal words cropping characters && equal words kerning characters)
 
 -- the font rule of a font whose row has the number `row`, by the rows of its children, which come after it; between characters and kerning stand line spacing and spacing, a row each
 unfoldable pub fontWords : (file words : List ℕ) (row : ℕ) → Bool
@@ -57,12 +56,12 @@ fontWords file words row =
     let cropping = after words glyphs in
     let characters = after words cropping in
     let kerning = after words characters + 2 in
-    both (allThere words texture glyphs cropping characters kerning)
-    (both (allEqual words glyphs cropping characters kerning)
-    (risingRows file words (wordAt words characters 3) (characters + 1)))
+    (allThere words texture glyphs cropping characters kerning
+    && (allEqual words glyphs cropping characters kerning
+    && risingRows file words (wordAt words characters 3) (characters + 1)))
 
 -- the rule by the rows of glyphs, cropping and characters, and the row after the characters
 pub by-rows : (file words : List ℕ) (row : ℕ) {g p c k : ℕ} → g ≡ after words (row + 1) → p ≡ after words g → c ≡ after words p → k ≡ after words c
-    → fontWords file words row ≡ both (allThere words (row + 1) g p c (k + 2)) (both (allEqual words g p c (k + 2)) (risingRows file words (wordAt words c 3) (c + 1)))
+    → fontWords file words row ≡ (allThere words (row + 1) g p c (k + 2) && (allEqual words g p c (k + 2) && risingRows file words (wordAt words c 3) (c + 1)))
 unfolding fontWords
 by-rows file words row e f h i = rw (i, h, f, e)

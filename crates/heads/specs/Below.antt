@@ -8,6 +8,7 @@ use lib.Dec.{leb}
 use lib.ListN.{length, drop, getD, replicate, length-drop, length-append}
 use lib.Seq.{drop-cons}
 use borrow.Author.Tests.{lt-leb, leb-true}
+use Rattle.laws.specs.Small.{differ}
 use Rattle.layout.specs.Target.{Target, fixed, char, string, object as anything, texture, texture2D, spriteFont, page, enum, nullable, array, list, dictionary, kindOf}
 use Rattle.layout.specs.Slot as L
 use Rattle.layout.specs.Slot.{stop, each, raw, slotOf, pairs, fontSlots, pageSlots}
@@ -40,11 +41,11 @@ alone-refused codes (refused m q) {n} {p} e =
     let e₁ : n ≡ m = cc in
     let e₂ : p ≡ q = cc in
     rw (e₁, e₂)
-alone-refused codes (read o e′) e = absurd (let z : _≡_ {A = ℕ} 0 1 = cc in omega arith)
+alone-refused codes (read o e′) e = differ cc
 
 pub alone-read : (codes : List ℕ) (x : Answer Opening) {e : ℕ} → read tt e ≡ mute x → Stopping x → Opens codes x (Head e Nothing)
 unfolding mute each
-alone-read codes (refused m q) q′ s = absurd (let z : _≡_ {A = ℕ} 0 1 = cc in omega arith)
+alone-read codes (refused m q) q′ s = differ cc
 alone-read codes (read o f) {e} q s =
     let e₁ : e ≡ f = cc in
     rw e₁ (record { below = Nothing; is = refl; slots = []; plan = s o f refl; stands = refl })
@@ -113,12 +114,12 @@ module _ (file : List ℕ) (at : ℕ) where
         let e₁ : 1 ≡ n = cc in
         let e₂ : at ≡ p = cc in
         rw (← e₁, ← e₂) h
-    go (present h l) = absurd (let z : _≡_ {A = ℕ} 0 1 = cc in omega arith)
+    go (present h l) = differ cc
 
   flag-read : (t : Target) {b e : ℕ} → littleAt file 1 at at ≡ read b e → headAt file (nullable t) at ≡ check (isBoolean (b ∷ [])) 15 at (read (b ∷ [], flagPlan t (b ∷ [])) e)
   flag-read t {b} {e} q = go (flag-of t (leb 1 (length (drop at file))) refl) where
     go : Flag t → headAt file (nullable t) at ≡ check (isBoolean (b ∷ [])) 15 at (read (b ∷ [], flagPlan t (b ∷ [])) e)
-    go (absent h l) = absurd (let z : _≡_ {A = ℕ} 0 1 = cc in omega arith)
+    go (absent h l) = differ cc
     go (present h l) =
         let p : _≡_ {A = Answer ℕ} (read (getD file at 0) (at + 1)) (read b e) = sym l ∙ q in
         let e₁ : getD file at 0 ≡ b = cc in
@@ -144,7 +145,7 @@ module _ (file : List ℕ) (at : ℕ) where
 -- nothing stands below a leaf
 whole-stops : (file : List ℕ) (r : Answer (List ℕ)) → Stopping (whole file r)
 unfolding whole bind
-whole-stops file (refused n p) o e q = absurd (let z : _≡_ {A = ℕ} 0 1 = cc in omega arith)
+whole-stops file (refused n p) o e q = differ cc
 whole-stops file (read own f) o e q =
     let w : (own, stop) ≡ o = cc in
     ap (λ (x : Opening). x .1) (sym w)
@@ -152,16 +153,16 @@ whole-stops file (read own f) o e q =
 check-stops : (b : Bool) (n p : ℕ) (x : Answer Opening) → Stopping x → Stopping (check b n p x)
 unfolding check
 check-stops true n p x s o e q = s o e q
-check-stops false n p x s o e q = absurd (let z : _≡_ {A = ℕ} 0 1 = cc in omega arith)
+check-stops false n p x s o e q = differ cc
 
 field-stops : (file : List ℕ) (r : Answer (List ℕ)) (place : ℕ) → Stopping (bind r (λ a e. check (utf8s a) 15 place (read (a, stop) e)))
 unfolding bind
-field-stops file (refused n p) place o e q = absurd (let z : _≡_ {A = ℕ} 0 1 = cc in omega arith)
+field-stops file (refused n p) place o e q = differ cc
 field-stops file (read a f) place o e q = check-stops (utf8s a) 15 place (read (a, stop) f) (λ o′ e′ q′. let w : (a, stop) ≡ o′ = cc in ap (λ (x : Opening). x .1) (sym w)) o e q
 
 text-stops : (file : List ℕ) (at : ℕ) (r : Answer ℕ) → Stopping (bind r (λ n e. field file (some file n at) utf8s (λ own. (own, stop)) at e))
 unfolding bind field
-text-stops file at (refused n p) o e q = absurd (let z : _≡_ {A = ℕ} 0 1 = cc in omega arith)
+text-stops file at (refused n p) o e q = differ cc
 text-stops file at (read n f) o e q = field-stops file (some file n at f) at o e q
 
 pub leaf-stops : (file : List ℕ) (at : ℕ) {t : Target} → Leafy t → Stopping (headAt file t at)

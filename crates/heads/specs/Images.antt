@@ -8,6 +8,7 @@ use native.Mathlib.Nat.{pow-succ'}
 use lib.Dec.{leb}
 use lib.ListN.{getD, take, drop}
 use borrow.Author.Tests.{le-leb, lt-leb, leb-true, lt-ltb}
+use Rattle.laws.specs.Small.{differ}
 use Rattle.layout.specs.Target.{Target, fixed, char, string, texture2D, enum, kindOf}
 use Rattle.layout.specs.Image.{levels, digits}
 use Rattle.layout.specs.Fixed.{sizes}
@@ -102,12 +103,12 @@ module _ (file : List ℕ) where
     unfolding rangedAt bind check
     ranged-bounds {n} {e} q = go (littleAt file 4 at at) q where
       go : (x : Answer ℕ) → bind x (λ m f. check (leb low m) 15 at (check (leb m high) 15 at (read m f))) ≡ read n e → (low ≤ n) × (n ≤ high)
-      go (refused i p) r = absurd (let z : _≡_ {A = ℕ} 0 1 = cc in omega arith)
+      go (refused i p) r = differ cc
       go (read m f) r = tests (leb low m) (leb m high) refl refl r where
         tests : (s t : Bool) → leb low m ≡ s → leb m high ≡ t → check s 15 at (check t 15 at (read m f)) ≡ read n e → (low ≤ n) × (n ≤ high)
         tests true true a b r = let z : m ≡ n = cc in (rw z at (leb-true low m a), rw z at (leb-true m high b))
-        tests true false a b r = absurd (let z : _≡_ {A = ℕ} 0 1 = cc in omega arith)
-        tests false t a b r = absurd (let z : _≡_ {A = ℕ} 0 1 = cc in omega arith)
+        tests true false a b r = differ cc
+        tests false t a b r = differ cc
 
     ranged-then : {A : Type 0} (k : ℕ → ℕ → Answer A) → bind (littleAt file 4 at at) (λ n e. judged low high at n (k n e)) ≡ bind (rangedAt file low high at) k
     unfolding rangedAt judged

@@ -63,16 +63,13 @@ pub record Prelude (codes : List ℕ) : Type 0 where
   pub rest : List ℕ
   pub begins : codes ≡ prelude ++ rest
 
-abbrev pub pick : Bool → Slot → Slot → Slot
-pick b x y = cond b x y
-
 unfoldable pub fontChild : ℕ → Slot
 fontChild i =
-    pick (eqb i 0) (Object 0) (pick (eqb i 1) (Object 1) (pick (eqb i 2) (Object 1) (pick (eqb i 3) (Object 3)
-    (pick (eqb i 4) (Simple (Fixed 5 4)) (pick (eqb i 5) (Simple (Fixed 9 4)) (pick (eqb i 6) (Object 5) (Raw 8)))))))
+    cond (eqb i 0) (Object 0) (cond (eqb i 1) (Object 1) (cond (eqb i 2) (Object 1) (cond (eqb i 3) (Object 3)
+    (cond (eqb i 4) (Simple (Fixed 5 4)) (cond (eqb i 5) (Simple (Fixed 9 4)) (cond (eqb i 6) (Object 5) (Raw 8)))))))
 
 unfoldable pub pageChild : ℕ → Slot
-pageChild i = pick (eqb i 0) (Object 7) (pick (eqb i 1) (Simple (Fixed 30 16)) (pick (eqb i 2) (Simple (Reference 32)) (Simple (Reference 34))))
+pageChild i = cond (eqb i 0) (Object 7) (cond (eqb i 1) (Simple (Fixed 30 16)) (cond (eqb i 2) (Simple (Reference 32)) (Simple (Reference 34))))
 
 module _ (codes : List ℕ) (p : Prelude codes) where
   stands : (a : ℕ) (t : Target) (rest : List ℕ) → Throughout (λ k. fixedKind k ≡ true) (Unit {0}) t → drop a (prelude ++ p .rest) ≡ code t ++ rest → Stands codes a t

@@ -1,14 +1,13 @@
 -- Slots in code, whose types are places in an array of codes, and the layout's slots that they are. Assumes nothing.
 use mathlib.Core.Path.{_≡_, refl}
-use mathlib.Core.Bool.{Bool, true, false}
+use mathlib.Core.Bool.{Bool, true, false, _&&_}
 use mathlib.Core.List.{List}
 use Prim.Native.Nat.{ℕ, zero, suc, _<_}
 use native.Mathlib.Omega.{arith}
 use lib.Dec.{eqb, ltb}
 use lib.ListN.{getD}
 use borrow.Author.Tests.{eqb-true, eqb-false, ltb-true}
-use Rattle.reading.specs.Rules.{both}
-use Rattle.reading.specs.Font.{both-true}
+use Rattle.laws.specs.Small.{differ, both}
 use Rattle.names.specs.Name.{between}
 use Rattle.types.specs.Decode.{fixed-small}
 use Rattle.layout.specs.Target.{Target, fixed, char, string, object as anything, texture, texture2D, spriteFont, page, enum, nullable, array, list, dictionary, kindOf, isValue}
@@ -43,12 +42,12 @@ SlotIs codes (Object a) x = ObjectIs codes a x
 -- a test that holds of each number below a bound
 unfoldable allBelow : ℕ → (ℕ → Bool) → Bool
 allBelow zero P = true
-allBelow (suc n) P = both (P n) (allBelow n P)
+allBelow (suc n) P = P n && allBelow n P
 
 at-each : (n : ℕ) (P : ℕ → Bool) → allBelow n P ≡ true → (k : ℕ) → k < n → P k ≡ true
 unfolding allBelow
 at-each zero P t k h = absurd (omega arith)
-at-each (suc n) P t k h = go (eqb k n) refl (both-true (P n) (allBelow n P) t) (at-each n P) where
+at-each (suc n) P t k h = go (eqb k n) refl (both (P n) (allBelow n P) t) (at-each n P) where
   go : (b : Bool) → eqb k n ≡ b → (P n ≡ true) × (allBelow n P ≡ true) → (allBelow n P ≡ true → (k : ℕ) → k < n → P k ≡ true) → P k ≡ true
   go true e w rest = rw (eqb-true k n e) (w .0)
   go false e w rest = rest (w .1) k (omega (arith, eqb-false k n e))
@@ -68,7 +67,7 @@ fixed-sized k f =
 -- by the kind of a lawful type: a character
 pub raw-char : (t : Target) → LawfulTarget t → kindOf t ≡ 12 → t ≡ char
 unfolding Throughout kindOf fixedKind between
-raw-char (fixed k) l e = absurd (let q : _≡_ {A = Bool} false true = rw e at l in let z : _≡_ {A = ℕ} 0 1 = cc in omega arith)
+raw-char (fixed k) l e = absurd (let q : _≡_ {A = Bool} false true = rw e at l in differ cc)
 raw-char char l e = refl
 raw-char string l e = absurd (omega arith)
 raw-char anything l e = absurd (omega arith)
@@ -89,7 +88,7 @@ char-slot t l e = rw (raw-char t l e)
 
 pub nullable-slot : {codes : List ℕ} {a : ℕ} (t : Target) → Stands codes a t → NoEnum t → kindOf t ≡ 16 → RawIs codes a (slotOf t)
 unfolding Throughout kindOf slotOf rawOrObject isValue fixedKind between
-nullable-slot (fixed k) s n e = absurd (let q : _≡_ {A = Bool} false true = rw e at (s .lawful) in let z : _≡_ {A = ℕ} 0 1 = cc in omega arith)
+nullable-slot (fixed k) s n e = absurd (let q : _≡_ {A = Bool} false true = rw e at (s .lawful) in differ cc)
 nullable-slot char s n e = absurd (omega arith)
 nullable-slot string s n e = absurd (omega arith)
 nullable-slot anything s n e = absurd (omega arith)

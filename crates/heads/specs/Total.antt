@@ -25,7 +25,7 @@ use Rattle.heads.specs.declared.nest.Below.the-variants.{Simple as Simpl
 use Rattle.heads.specs.declared.open.Opened.{Opened}
 use Rattle.heads.specs.declared.open.Opened.the-variants.{Refused, Head}
 use Rattle.heads.specs.Opens.{rangedAt}
-use Rattle.heads.specs.Nests.{pick, fontChild, pageChild}
+use Rattle.heads.specs.Nests.{fontChild, pageChild}
 
 -- how many values stand below, and how value i stands
 abbrev pub countOf : Nest → ℕ
@@ -36,21 +36,21 @@ countOf Page = 4
 
 abbrev pub childOf : Nest → ℕ → Slot
 childOf (Each s n) i = s
-childOf (Pairs s t n) i = pick (eqb (i % 2) 0) s t
+childOf (Pairs s t n) i = cond (eqb (i % 2) 0) s t
 childOf Font i = fontChild i
 childOf Page i = pageChild i
 
 -- a raw value, and an element or a field, of the type at a place
 unfoldable pub rawAs : (codes : List ℕ) (a : ℕ) → Slot
 rawAs codes a =
-    pick (eqb (kindAt codes a) 12) (Simple Char)
-    (pick (eqb (getD sizes (kindAt codes a) 0) 0) (Raw a) (Simple (Fixed (kindAt codes a) (getD sizes (kindAt codes a) 0))))
+    cond (eqb (kindAt codes a) 12) (Simple Char)
+    (cond (eqb (getD sizes (kindAt codes a) 0) 0) (Raw a) (Simple (Fixed (kindAt codes a) (getD sizes (kindAt codes a) 0))))
 
 unfoldable pub slotAs : (codes : List ℕ) (a : ℕ) → Slot
 slotAs codes a =
-    pick (eqb (kindAt codes a) 12) (Simple Char)
-    (pick (eqb (kindAt codes a) 16) (Raw a)
-    (pick (eqb (getD sizes (kindAt codes a) 0) 0) (Object a) (Simple (Fixed (kindAt codes a) (getD sizes (kindAt codes a) 0)))))
+    cond (eqb (kindAt codes a) 12) (Simple Char)
+    (cond (eqb (kindAt codes a) 16) (Raw a)
+    (cond (eqb (getD sizes (kindAt codes a) 0) 0) (Object a) (Simple (Fixed (kindAt codes a) (getD sizes (kindAt codes a) 0)))))
 
 -- n values that stand alike, and n keys and values in turn
 abbrev pub eachAs : Slot → ℕ → Below

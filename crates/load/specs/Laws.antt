@@ -6,6 +6,7 @@ use native.Mathlib.Omega.{arith}
 use native.Mathlib.Numerals.{add-one}
 use lib.ListN.{length, take, drop, replicate, set, length-append, take-append-drop}
 use borrow.Author.Tests.{eq-eqb, ne-eqb}
+use Rattle.laws.specs.Small.{differ}
 use Rattle.layout.specs.Target.{Target, object as anything}
 use Rattle.layout.specs.Slot as L
 use Rattle.layout.specs.Slot.{each, object}
@@ -147,7 +148,7 @@ pub header-read : (file : List ℕ) → Small file → {at : ℕ} → read tt at
 unfolding mute
 header-read file s {at} e = go (headerAt file) refl (header-sound file s) e where
   go : (x : Answer (ℕ × ℕ)) → headerAt file ≡ x → Ok (λ h e. (e ≡ 10) × Headed file (h .0) (h .1)) x → read tt at ≡ mute x → HeaderRead file at
-  go x q not-read e = absurd (let z : _≡_ {A = ℕ} 0 1 = cc in omega arith)
+  go x q not-read e = differ cc
   go x q (is-read {a = h} {e = f} v) e =
       let z : f ≡ at = cc in
       record { h = h; is = q ∙ ap (read h) z; short = v .1 .short; inside = omega (arith, z, v .0, ap length (v .1 .parts) ∙ length-append (header (h .0) (h .1) (length file)) (drop 10 file), header-length (h .0) (h .1) (length file)) }
@@ -161,7 +162,7 @@ header-refused file room {n} {p} e = go (headerAt file) refl e where
       let e₁ : n ≡ m = cc in
       let e₂ : p ≡ q = cc in
       rw (h, e₁, e₂)
-  go (read h f) q e = absurd (let z : _≡_ {A = ℕ} 0 1 = cc in omega arith)
+  go (read h f) q e = differ cc
 
 pub file-behind : (file : List ℕ) (room : ℕ) {at : ℕ} (h : HeaderRead file at) → fileAt judgedName file room ≡ behindHeader file room (h .h .0) (h .h .1) at
 unfolding fileAt behindHeader bind
@@ -206,12 +207,12 @@ module _ (file entry : List ℕ) where
   load-refused mid {exit} {n} {p} l m e = go (fileAt judgedName file (roomOf (length entry))) l where
     go : (x : Answer FileLoaded) → Loads x entry mid (Refused n p) → (Refused n p ≡ answerOf (toLoad x)) × (exit ≡ tableOf (toLoad x) (length entry))
     go (refused a b) l = (l, e ∙ none-kept mid (length entry) m)
-    go (read a f) l = absurd (let q : Refused n p ≡ Loaded (length (a .rows)) (a .readers) (a .shared) = l .0 in let z : _≡_ {A = ℕ} 0 1 = cc in omega arith)
+    go (read a f) l = absurd (let q : Refused n p ≡ Loaded (length (a .rows)) (a .readers) (a .shared) = l .0 in differ cc)
 
   pub load-loaded : {exit : List ℕ} {rows readers shared : ℕ} → Loads (fileAt judgedName file (roomOf (length entry))) entry exit (Loaded rows readers shared)
       → (Loaded rows readers shared ≡ answerOf (loadOf judgedName file (length entry))) × (exit ≡ tableOf (loadOf judgedName file (length entry)) (length entry))
   unfolding loadOf toLoad tableOf
   load-loaded {exit} {rows} {readers} {shared} l = go (fileAt judgedName file (roomOf (length entry))) l where
     go : (x : Answer FileLoaded) → Loads x entry exit (Loaded rows readers shared) → (Loaded rows readers shared ≡ answerOf (toLoad x)) × (exit ≡ tableOf (toLoad x) (length entry))
-    go (refused a b) l = absurd (let z : _≡_ {A = ℕ} 0 1 = cc in omega arith)
+    go (refused a b) l = differ cc
     go (read a f) l = l

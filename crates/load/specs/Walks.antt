@@ -5,6 +5,7 @@ use Prim.Native.Nat.{ℕ, suc, _+_, _≤_}
 use native.Mathlib.Omega.{arith}
 use native.Mathlib.Numerals.{add-one}
 use lib.ListN.{length}
+use Rattle.laws.specs.Small.{differ}
 use Rattle.layout.specs.Target.{Target}
 use Rattle.layout.specs.Slot as L
 use Rattle.layout.specs.Slot.{each}
@@ -36,7 +37,7 @@ pub record OpenedAs (codes : List ℕ) (x : Answer Opening) (next : ℕ) (below 
   pub stands : BelowIs codes below slots
 
 pub opened-as : {codes : List ℕ} {next : ℕ} {below : Below} {r : Opened} (x : Answer Opening) → Opens codes x r → r ≡ Opened-head next below → OpenedAs codes x next below
-opened-as (refused n p) w e = absurd (let z : _≡_ {A = ℕ} 0 1 = cc in omega arith)
+opened-as (refused n p) w e = differ cc
 opened-as {codes} {next} {below} {r} (read o f) w e =
     let q : Opened-head f (w .below) ≡ Opened-head next below = sym (w .is) ∙ e in
     let e₁ : f ≡ next = cc in
@@ -51,7 +52,7 @@ refused-as codes {n} {p} (refused m q) w e =
     rw (e₁, e₂)
 refused-as codes {n} {p} (read o f) w e =
     let q : Opened-head f (w .below) ≡ Opened-refused n p = sym (w .is) ∙ e in
-    absurd (let z : _≡_ {A = ℕ} 0 1 = cc in omega arith)
+    differ cc
 
 -- the children begin inside the file and have rows left
 pub begin-below : {file words : List ℕ} {room : ℕ} {h : Head} {at next : ℕ} (t : Target) {o : Opening} → Small file → Ready file words room h at → headAt file t at ≡ read o next → Begin file words room next (h .row + 1)

@@ -8,6 +8,7 @@ use lib.Dec.{ltb, leb}
 use lib.ListN.{length, getD, take, drop, length-drop}
 use lib.Seq.{length-take-le}
 use borrow.Author.Tests.{le-leb, lt-leb, le-ltb, lt-ltb, leb-true, eq-eqb, ne-eqb}
+use Rattle.laws.specs.Small.{differ}
 use Rattle.reading.specs.Answer.{Answer, refused, read, bind}
 use Rattle.reading.specs.Reads.{Small}
 use Rattle.reading.specs.Seven.{sevenAt, seven-next}
@@ -54,9 +55,9 @@ unfolding partOf orRefused
 inside file words row {first} {size} = go (ltb row (roomOf (length words))) (ltb 0 (lengthOf words row)) (leb (firstOf words row + lengthOf words row) (length file)) refl where
   go : (a b d : Bool) → leb (firstOf words row + lengthOf words row) (length file) ≡ d
       → Found first size ≡ orRefused a 23 row (orRefused b 23 row (orRefused d 23 row (Found (firstOf words row) (lengthOf words row)))) → first + size ≤ length file
-  go false b d q e = absurd (let z : _≡_ {A = ℕ} 0 1 = cc in omega arith)
-  go true false d q e = absurd (let z : _≡_ {A = ℕ} 0 1 = cc in omega arith)
-  go true true false q e = absurd (let z : _≡_ {A = ℕ} 0 1 = cc in omega arith)
+  go false b d q e = differ cc
+  go true false d q e = differ cc
+  go true true false q e = differ cc
   go true true true q e =
       let f : first ≡ firstOf words row = cc in
       let s : size ≡ lengthOf words row = cc in
@@ -76,7 +77,7 @@ pub count-next : (bytes : List ℕ) → Small bytes → {n start : ℕ} → coun
 unfolding countAt bind
 count-next bytes s {n} {start} = go (sevenAt bytes 0) where
   go : (x : Answer ℕ) → bind x (λ id at. sevenAt bytes at) ≡ read n start → (start ≤ length bytes) × (n < 2 ^ 32)
-  go (refused m p) e = absurd (let z : _≡_ {A = ℕ} 0 1 = cc in omega arith)
+  go (refused m p) e = differ cc
   go (read v at) e =
       let h = seven-next bytes s at e in
       (h .1, h .2)

@@ -8,6 +8,7 @@ use lib.Dec.{eqb}
 use lib.ListN.{length, take, drop, length-drop, take-append-drop}
 use lib.Seq.{length-take-le}
 use borrow.Author.Tests.{eqb-true}
+use Rattle.laws.specs.Small.{differ}
 use Rattle.reading.specs.Answer.{Answer, refused, read}
 use Rattle.reading.specs.Reads.{Small, small-drop, small-left}
 use Rattle.lookups.specs.declared.Span.{Span}
@@ -35,15 +36,15 @@ module _ (bytes : List ℕ) (small : Small bytes) (first kind row : ℕ) {f z : 
   unfolding textIn orRefused behind
   text-in-part = go (eqb kind 13) (countAt bytes) refl where
     counted : (n start : ℕ) → start ≤ length bytes → (d : Bool) → eqb n (length bytes - start) ≡ d → Found f z ≡ orRefused d 24 row (Found (first + start) n) → f + z ≤ first + length bytes
-    counted n start h false q e = absurd (let w : _≡_ {A = ℕ} 0 1 = cc in omega arith)
+    counted n start h false q e = differ cc
     counted n start h true q e =
         let a : f ≡ first + start = cc in
         let b : z ≡ n = cc in
         omega (arith, eqb-true n (length bytes - start) q)
 
     go : (b : Bool) (x : Answer ℕ) → countAt bytes ≡ x → Found f z ≡ orRefused b 24 row (behind first (length bytes) row x) → f + z ≤ first + length bytes
-    go false x q e = absurd (let w : _≡_ {A = ℕ} 0 1 = cc in omega arith)
-    go true (refused n p) q e = absurd (let w : _≡_ {A = ℕ} 0 1 = cc in omega arith)
+    go false x q e = differ cc
+    go true (refused n p) q e = differ cc
     go true (read n start) q e = counted n start (count-next bytes small q .0) (eqb n (length bytes - start)) refl e
 
 module _ (file words : List ℕ) (row : ℕ) where
@@ -55,7 +56,7 @@ module _ (file words : List ℕ) (row : ℕ) where
   unfolding textOf lookup inPart
   text-inside small {f} {z} = go (partOf file words row) refl where
     go : (p : Span) → p ≡ partOf file words row → Found f z ≡ inPart Refused p (λ first size. textIn (take size (drop first file)) first (kindOf words row) row) → f + z ≤ length file
-    go (Refused number at) q e = absurd (let w : _≡_ {A = ℕ} 0 1 = cc in omega arith)
+    go (Refused number at) q e = differ cc
     go (Found first size) q e =
         let h = inside file words row q in
         let l : length (take size (drop first file)) ≡ size = length-take-le size (drop first file) (rw length-drop (omega arith)) in

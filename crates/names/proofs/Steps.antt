@@ -1,17 +1,18 @@
 -- What the parser's steps come to. Assumes nothing.
 use mathlib.Core.Path.{_≡_, refl, sym, ap, _∙_}
-use mathlib.Core.Bool.{Bool, true, false}
+use mathlib.Core.Bool.{Bool, true, false, cond}
 use mathlib.Core.List.{List, [], _∷_, _++_}
 use Prim.Native.Nat.{ℕ, suc, _+_, _-_, _≤_}
 use native.Mathlib.Omega.{arith}
 use lib.ListN.{length, take, drop, set, length-append, length-drop}
 use lib.Seq.{sets}
+use Rattle.laws.specs.Small.{differ}
 use Rattle.layout.specs.Text.{ascii}
 use Rattle.names.specs.declared.Parsed.{Parsed}
 use Rattle.names.specs.declared.Parsed.the-variants.{Name as Parsed-name, Broken as Parsed-broken}
 use Rattle.names.specs.Name.{Name, Tail, none, simple, one, two, headByte, Heading, heading, headings}
 use Rattle.names.specs.Kind.{codes, node, lookup, listed}
-use Rattle.names.specs.Parse.{Read, broken, name, pick, span, starts, tailOf, ended, closed, opening, onOnly, onSecond, onFirst, afterHead, headed, nameIn}
+use Rattle.names.specs.Parse.{Read, broken, name, span, starts, tailOf, ended, closed, opening, onOnly, onSecond, onFirst, afterHead, headed, nameIn}
 use Rattle.names.specs.Complete.{length-write}
 use Rattle.names.specs.Sound.{Ok, read, Stands, span-le, sound}
 use Rattle.names.specs.Contract.{answer, met, Parses, Inside, tailed, passed, tailedAfter, closing}
@@ -20,7 +21,7 @@ use Rattle.names.specs.Codes.{heads-short, codes-append, codes-length}
 
 -- what follows a head: at most 3, and four bytes where arguments are opened
 abbrev by : (a b c : Bool) → ℕ
-by a b c = pick a 1 (pick b 2 (pick c 3 0))
+by a b c = cond a 1 (cond b 2 (cond c 3 0))
 
 opens : (s : List ℕ) (h : ℕ) (a b c : Bool) → starts (ascii "`1[[") (drop h s) ≡ a → starts (ascii "`2[[") (drop h s) ≡ b → h ≤ length s
     → (by a b c ≤ 3) × ((by a b c ≡ 0 → ⊥) → (by a b c ≡ 3 → ⊥) → h + 4 ≤ length s)
@@ -73,7 +74,7 @@ pub record Took (s : List ℕ) (a used l k u : ℕ) : Type 0 where
   pub most : length (headings n) ≤ k
 
 took-as : (s : List ℕ) (a used l k u : ℕ) → a ≤ length s → (r : Read) → nameIn l (drop a s) ≡ r → Ok (Stands l (drop a s)) r → Parsed-name k u ≡ answer used r → Took s a used l k u
-took-as s a used l k u h (broken hs) q o e = absurd (let z : _≡_ {A = ℕ} 0 1 = cc in omega arith)
+took-as s a used l k u h (broken hs) q o e = differ cc
 took-as s a used l k u h (name n j) q (Ok.read p) e =
     let i : k ≡ j = cc in
     let v : u ≡ used + length (headings n) = cc in
@@ -108,12 +109,12 @@ module _ (own : Bool) (s : List ℕ) (h : ℕ) where
   -- a name that n makes of its tail ends, or its brackets are missing: the same heads were met
   closed-met : (n : Tail → Name) (hs : List Heading) (e : ℕ) → ((t : Tail) → headings (n t) ≡ hs) → met (closed n s e) ≡ hs
   unfolding closed
-  closed-met n hs e f = elim (starts (ascii "]]") (drop e s)) as (λ b. met (pick b (ended n s (e + 2)) (broken (headings (n none)))) ≡ hs) [ true ↦ f (tailOf (drop (e + 2) s)) | false ↦ f none ]
+  closed-met n hs e f = elim (starts (ascii "]]") (drop e s)) as (λ b. met (cond b (ended n s (e + 2)) (broken (headings (n none)))) ≡ hs) [ true ↦ f (tailOf (drop (e + 2) s)) | false ↦ f none ]
 
   closed-answer : (n : Tail → Name) (hs : List Heading) (a k u used : ℕ) → ((t : Tail) → headings (n t) ≡ hs) → u ≡ used + length hs → closing s a (Parsed-name k u) ≡ answer used (closed n s (a + k))
   unfolding closed ascii
   closed-answer n hs a k u used f v =
-      elim (starts (ascii "]]") (drop (a + k) s)) as (λ b. tailedAfter s (pick b (Parsed-name (a + k + 2) u) Parsed-broken) ≡ answer used (pick b (ended n s (a + k + 2)) (broken (headings (n none)))))
+      elim (starts (ascii "]]") (drop (a + k) s)) as (λ b. tailedAfter s (cond b (Parsed-name (a + k + 2) u) Parsed-broken) ≡ answer used (cond b (ended n s (a + k + 2)) (broken (headings (n none)))))
       [ true ↦ rw (f (tailOf (drop (a + k + 2) s)), v) | false ↦ refl ]
 
   only-met : (a : ℕ) (r : Read) → codes own (met (onOnly s h a r)) ≡ first 1 ∷ codes false (met r)
@@ -138,9 +139,9 @@ module _ (own : Bool) (s : List ℕ) (h : ℕ) where
       closed-answer (two (take h s) x y) (heading (take h s) 2 ∷ (headings x ++ headings y)) b k (u + length (headings y)) used (λ t. refl) (omega (arith, length-append (headings x) (headings y)))
 
   -- no comma follows the first of two arguments, or it is broken
-  comma-lost : (second : Read) (hs : List Heading) (b u used : ℕ) (y : Bool) → pick y (Parsed-name b u) Parsed-broken ≡ Parsed-broken
-      → (answer used (pick y second (broken hs)) ≡ Parsed-broken) × (met (pick y second (broken hs)) ≡ hs)
-  comma-lost second hs b u used true e = absurd (let z : _≡_ {A = ℕ} 0 1 = cc in omega arith)
+  comma-lost : (second : Read) (hs : List Heading) (b u used : ℕ) (y : Bool) → cond y (Parsed-name b u) Parsed-broken ≡ Parsed-broken
+      → (answer used (cond y second (broken hs)) ≡ Parsed-broken) × (met (cond y second (broken hs)) ≡ hs)
+  comma-lost second hs b u used true e = differ cc
   comma-lost second hs b u used false e = (refl, refl)
 
   first-lost : (below : List ℕ → Read) (a u used : ℕ) (r : Read) → passed (ascii "],[") s a (answer u r) ≡ Parsed-broken
@@ -176,16 +177,16 @@ pub record Passed (w s : List ℕ) (a b u : ℕ) (argument : Parsed) : Type 0 wh
   pub next : b ≡ a + k + length w
 
 module _ (w s : List ℕ) (a b u : ℕ) where
-  passed-as : (argument : Parsed) (k v : ℕ) (x : Bool) → argument ≡ Parsed-name k v → starts w (drop (a + k) s) ≡ x → pick x (Parsed-name (a + k + length w) v) Parsed-broken ≡ Parsed-name b u
+  passed-as : (argument : Parsed) (k v : ℕ) (x : Bool) → argument ≡ Parsed-name k v → starts w (drop (a + k) s) ≡ x → cond x (Parsed-name (a + k + length w) v) Parsed-broken ≡ Parsed-name b u
       → Passed w s a b u argument
-  passed-as argument k v false q c e = absurd (let z : _≡_ {A = ℕ} 0 1 = cc in omega arith)
+  passed-as argument k v false q c e = differ cc
   passed-as argument k v true q c e =
       let i : v ≡ u = cc in
       let j : b ≡ a + k + length w = cc in
       record { k = k; is = q ∙ ap (Parsed-name k) i; stands = c; next = j }
 
   pub has-passed : (argument : Parsed) → passed w s a argument ≡ Parsed-name b u → Passed w s a b u argument
-  has-passed Parsed-broken e = absurd (let z : _≡_ {A = ℕ} 0 1 = cc in omega arith)
+  has-passed Parsed-broken e = differ cc
   has-passed (Parsed-name k v) e = passed-as (Parsed-name k v) k v (starts w (drop (a + k) s)) refl refl e
 
   pub passed-fits : (argument : Parsed) → Inside (length s) a argument → passed w s a argument ≡ Parsed-name b u → b ≤ length s

@@ -3,10 +3,10 @@ use mathlib.Core.Path.{_≡_, refl, sym, _∙_}
 use mathlib.Core.Bool.{true}
 use mathlib.Core.List.{List}
 use Prim.Native.Nat.{ℕ, _+_, _<_, _≤_}
-use native.Mathlib.Omega.{arith}
 use lib.ListN.{length}
 use lib.Seq.{sets}
 use borrow.Author.Tests.{lt-leb, le-leb, eq-eqb, ne-eqb}
+use Rattle.laws.specs.Small.{differ}
 use Rattle.names.specs.declared.Parsed.{Parsed}
 use Rattle.names.specs.declared.Parsed.the-variants.{Name as Parsed-name, Broken as Parsed-broken}
 use Rattle.names.specs.declared.Named.the-variants.{Codes, Broken, NoRoom}
@@ -28,12 +28,12 @@ module _ (s c c′ : List ℕ) (used : ℕ) (h : used + length s ≤ length c) w
   broken-as (broken hs) i a w =
       let b = le-leb (used + length s) (length c) h in
       record { answers = rw (b, i); writes = w ∙ rw (b, i) }
-  broken-as (name n j) i a w = absurd (let z : _≡_ {A = ℕ} 0 1 = cc in omega arith)
+  broken-as (name n j) i a w = differ cc
 
   named-as : (k u : ℕ) (r : Read) → nameIn 8 s ≡ r → Parsed-name k u ≡ answer used r → c′ ≡ sets c used (codes true (met r))
       → ((k ≡ length s) → ReadsName s c c′ used (Codes u)) × ((k ≡ length s → ⊥) → ReadsName s c c′ used Broken)
   unfolding roomy answerOf contentOf nameOf whole
-  named-as k u (broken hs) i a w = absurd (let z : _≡_ {A = ℕ} 0 1 = cc in omega arith)
+  named-as k u (broken hs) i a w = differ cc
   named-as k u (name n j) i a w =
       let b = le-leb (used + length s) (length c) h in
       let p : k ≡ j = cc in

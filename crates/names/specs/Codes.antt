@@ -1,17 +1,18 @@
 -- The codes of a name's heads: how many, and that each fits a byte. Assumes nothing.
 use mathlib.Core.Path.{_≡_, refl, ap}
-use mathlib.Core.Bool.{Bool, true, false, _&&_}
+use mathlib.Core.Bool.{Bool, true, false, _&&_, cond}
 use mathlib.Core.List.{List, [], _∷_, _++_}
 use Prim.Native.Nat.{ℕ, zero, suc, _<_, _≤_}
 use native.Mathlib.Omega.{arith}
 use lib.Dec.{eqb, ltb}
 use lib.ListN.{length, length-append}
 use borrow.Author.Tests.{eqb-true, eq-eqb, ltb-true}
+use Rattle.laws.specs.Small.{differ, both}
 use Rattle.layout.specs.Text.{ascii}
 use Rattle.names.specs.Name.{Name, simple, one, two, Head, Formed, Heading, heading, headings}
-use Rattle.names.specs.Parse.{name, pick, nameOf}
+use Rattle.names.specs.Parse.{name, nameOf}
 use Rattle.names.specs.Kind.{Entry, entry, reader, readers, target, targets, listed, alike, lookup, codes}
-use Rattle.names.specs.Complete.{long, length-write, both}
+use Rattle.names.specs.Complete.{long, length-write}
 use Rattle.names.specs.Laws.{read-is-text}
 
 -- a lawful name has a byte for each head
@@ -35,8 +36,8 @@ read-has-room s n k e =
 pub alike-then : (a b : List ℕ) → alike a b ≡ true → a ≡ b
 unfolding alike
 alike-then [] [] e = refl
-alike-then [] (y ∷ b) e = absurd (let z : _≡_ {A = ℕ} 0 1 = cc in omega arith)
-alike-then (x ∷ a) [] e = absurd (let z : _≡_ {A = ℕ} 0 1 = cc in omega arith)
+alike-then [] (y ∷ b) e = differ cc
+alike-then (x ∷ a) [] e = differ cc
 alike-then (x ∷ a) (y ∷ b) e =
     let q = both (eqb x y) (alike a b) e in
     rw (eqb-true x y (q .0), alike-then a b (q .1))
@@ -61,7 +62,7 @@ small : List Entry → Bool
 small [] = true
 small (entry h k ∷ es) = ltb k 64 && small es
 
-found-small : (b : Bool) (k m : ℕ) → k < 64 → m < 64 → pick b k m < 64
+found-small : (b : Bool) (k m : ℕ) → k < 64 → m < 64 → cond b k m < 64
 found-small true k m h g = h
 found-small false k m h g = g
 

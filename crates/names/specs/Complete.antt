@@ -7,6 +7,7 @@ use native.Mathlib.Omega.{arith}
 use Prim.Native.Char.{code}
 use lib.ListN.{length, drop, length-append}
 use lib.Seq.{drop-drop, drop-append-seam, drop-append-add, take-append-seam}
+use Rattle.laws.specs.Small.{both}
 use Rattle.layout.specs.Text.{ascii}
 use Rattle.names.specs.Name.{Tail, none, some, Name, simple, one, two, writeTail, write, between, headByte, tailByte, all, Head, Tailed, Formed}
 use Rattle.names.specs.Parse.{Read, name, span, starts, tailSize, tailOf, ended, closed, opening, onOnly, onSecond, onFirst, afterHead, headed, nameIn}
@@ -37,10 +38,6 @@ length-write (simple h t) rest = simp (length-append, length-tail t rest) (omega
 length-write (one h a t) rest = simp (length-append, length-write a (ascii "]]" ++ writeTail t rest), length-tail t rest) (omega arith)
 length-write (two h a b t) rest =
     simp (length-append, length-write a (ascii "],[" ++ write b (ascii "]]" ++ writeTail t rest)), length-write b (ascii "]]" ++ writeTail t rest), length-tail t rest) (omega arith)
-
-pub both : (a b : Bool) → (a && b) ≡ true → (a ≡ true) × (b ≡ true)
-both true b e = (refl, e)
-both false b e = (e, absurd (let z : _≡_ {A = ℕ} 0 1 = cc in omega arith))
 
 pub span-all : (p : ℕ → Bool) (h rest : List ℕ) → all p h ≡ true → span p rest ≡ 0 → span p (h ++ rest) ≡ length h
 unfolding all span

@@ -1,6 +1,6 @@
 -- What the parser answers and which codes it leaves. Assumes nothing.
 use mathlib.Core.Path.{_≡_}
-use mathlib.Core.Bool.{Bool, true, false}
+use mathlib.Core.Bool.{Bool, true, false, cond}
 use mathlib.Core.List.{List}
 use Prim.Native.Nat.{ℕ, _+_, _≤_}
 use lib.Dec.{leb}
@@ -13,7 +13,7 @@ use Rattle.names.specs.declared.Named.{Named}
 use Rattle.names.specs.declared.Named.the-variants.{Codes, Broken, NoRoom}
 use Rattle.names.specs.Name.{headByte, tailByte, Heading, headings}
 use Rattle.names.specs.Kind.{codes}
-use Rattle.names.specs.Parse.{Read, broken, name, pick, starts, tailSize, nameIn, nameOf}
+use Rattle.names.specs.Parse.{Read, broken, name, starts, tailSize, nameIn, nameOf}
 
 -- the classes of bytes: those of a tail, or those of a head
 abbrev pub class : (tail : Bool) → ℕ → Bool
@@ -47,7 +47,7 @@ tailed s e used = Parsed-name (e + tailSize (drop e s)) used
 -- after an argument that was read from `at` on: the text w stands there, and this is where it ends
 abbrev pub passed : (w s : List ℕ) (at : ℕ) → Parsed → Parsed
 passed w s at Parsed-broken = Parsed-broken
-passed w s at (Parsed-name k u) = pick (starts w (drop (at + k) s)) (Parsed-name (at + k + length w) u) Parsed-broken
+passed w s at (Parsed-name k u) = cond (starts w (drop (at + k) s)) (Parsed-name (at + k + length w) u) Parsed-broken
 
 abbrev pub tailedAfter : List ℕ → Parsed → Parsed
 tailedAfter s Parsed-broken = Parsed-broken

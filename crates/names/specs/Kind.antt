@@ -1,5 +1,5 @@
 -- Which kinds heads name: the readers' heads, and the target names that stand as arguments (01, "Reader names"). Assumes nothing.
-use mathlib.Core.Bool.{Bool, true, false, _&&_}
+use mathlib.Core.Bool.{Bool, true, false, _&&_, cond}
 use mathlib.Core.List.{List, [], _∷_, _++_}
 use Prim.Native.Nat.{ℕ, _+_, _*_}
 use Prim.Native.String.{String}
@@ -7,7 +7,6 @@ use lib.Dec.{eqb}
 use lib.ListN.{length}
 use Rattle.layout.specs.Text.{ascii}
 use Rattle.names.specs.Name.{Heading, heading}
-use Rattle.names.specs.Parse.{pick}
 
 -- a head and the kind that it names
 pub data Entry : Type 0 where
@@ -63,7 +62,7 @@ alike (a ∷ s) (b ∷ t) = eqb a b && alike s t
 -- the kind that a head names, 0 if it is not listed
 unfoldable pub lookup : List ℕ → List Entry → ℕ
 lookup h [] = 0
-lookup h (entry n k ∷ es) = pick (alike h n) k (lookup h es)
+lookup h (entry n k ∷ es) = cond (alike h n) k (lookup h es)
 
 -- entries as the code has them, in bytes: for each the head's length, the kind and the head
 unfoldable pub flat : List Entry → List ℕ

@@ -1,6 +1,6 @@
 -- What reading a name means: the names that are read are exactly those that keep 01's rules, each from its own text. Assumes nothing.
 use mathlib.Core.Path.{_≡_, refl, ap, _∙_}
-use mathlib.Core.Bool.{Bool, true, false}
+use mathlib.Core.Bool.{Bool, true, false, cond}
 use mathlib.Core.List.{List, []}
 use Prim.Native.Nat.{ℕ}
 use native.Mathlib.Omega.{arith}
@@ -8,8 +8,9 @@ use lib.Dec.{eqb}
 use lib.ListN.{length}
 use lib.Seq.{drop-length}
 use borrow.Author.Tests.{eq-eqb, eqb-true}
+use Rattle.laws.specs.Small.{differ}
 use Rattle.names.specs.Name.{Name, write, text, Formed, Heading, headings}
-use Rattle.names.specs.Parse.{Read, broken, name, pick, nameIn, whole, nameOf}
+use Rattle.names.specs.Parse.{Read, broken, name, nameIn, whole, nameOf}
 use Rattle.names.specs.Complete.{long, length-write, complete, end}
 use Rattle.names.specs.Sound.{Ok, not-read, read, got, Stands, sound}
 
@@ -23,7 +24,7 @@ text-is-read n f =
 abbrev Whole : List ℕ → Name → ℕ → Type 0
 Whole s n k = Formed 8 n × (s ≡ text n) × (k ≡ length s)
 
-whole-sound : (s : List ℕ) (n : Name) (k : ℕ) → Stands 8 s n k → (b : Bool) → eqb k (length s) ≡ b → Ok (Whole s) (pick b (name n k) (broken (headings n)))
+whole-sound : (s : List ℕ) (n : Name) (k : ℕ) → Stands 8 s n k → (b : Bool) → eqb k (length s) ≡ b → Ok (Whole s) (cond b (name n k) (broken (headings n)))
 whole-sound s n k p true b =
     let z : k ≡ length s = eqb-true k (length s) b in
     Ok.read (p .0, p .1 ∙ ap (write n) (rw z (drop-length s)), z)
@@ -43,8 +44,7 @@ read-is-text s n k e = got (read-sound s (nameIn 8 s) (sound 8 s)) e
 pub broken-is-no-text : (s : List ℕ) (hs : List Heading) → nameOf s ≡ broken hs → (n : Name) → Formed 8 n → s ≡ text n → ⊥
 broken-is-no-text s hs e n f q =
     let p : nameOf s ≡ name n (length (text n)) = ap nameOf q ∙ text-is-read n f in
-    let z : _≡_ {A = ℕ} 0 1 = cc in
-    omega arith
+    differ cc
 
 -- two lawful names with one text are one name
 pub text-is-unique : (m n : Name) → Formed 8 m → Formed 8 n → text m ≡ text n → m ≡ n

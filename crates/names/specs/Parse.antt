@@ -1,5 +1,5 @@
 -- Reading a name from left to right (01, "Reader names"; "Broken: 10"). Assumes nothing.
-use mathlib.Core.Bool.{Bool, true, false, _&&_}
+use mathlib.Core.Bool.{Bool, true, false, _&&_, cond}
 use mathlib.Core.List.{List, [], _∷_, _++_}
 use Prim.Native.Nat.{ℕ, zero, suc, _+_}
 use lib.Dec.{eqb}
@@ -12,15 +12,10 @@ pub data Read : Type 0 where
   broken : List Heading → Read
   name : Name → ℕ → Read
 
--- the first where the test holds, else the second
-abbrev pub pick : {A : Type 0} → Bool → A → A → A
-pick true a b = a
-pick false a b = b
-
 -- how many bytes from the first on are of a class
 unfoldable pub span : (ℕ → Bool) → List ℕ → ℕ
 span p [] = 0
-span p (b ∷ s) = pick (p b) (suc (span p s)) 0
+span p (b ∷ s) = cond (p b) (suc (span p s)) 0
 
 -- the text t stands first in s
 unfoldable pub starts : List ℕ → List ℕ → Bool
@@ -30,11 +25,11 @@ starts (a ∷ t) (b ∷ s) = eqb a b && starts t s
 
 -- perhaps a comma and a tail: how many bytes they have
 unfoldable pub tailSize : List ℕ → ℕ
-tailSize s = pick (starts (ascii ",") s) (suc (span tailByte (drop 1 s))) 0
+tailSize s = cond (starts (ascii ",") s) (suc (span tailByte (drop 1 s))) 0
 
 -- the tail itself
 unfoldable pub tailOf : List ℕ → Tail
-tailOf s = pick (starts (ascii ",") s) (some (take (span tailByte (drop 1 s)) (drop 1 s))) none
+tailOf s = cond (starts (ascii ",") s) (some (take (span tailByte (drop 1 s)) (drop 1 s))) none
 
 -- the name that n makes of the tail at e
 abbrev pub ended : (Tail → Name) → List ℕ → ℕ → Read
@@ -42,11 +37,11 @@ ended n s e = name (n (tailOf (drop e s))) (e + tailSize (drop e s))
 
 -- two brackets at e, and perhaps a tail
 unfoldable pub closed : (Tail → Name) → List ℕ → ℕ → Read
-closed n s e = pick (starts (ascii "]]") (drop e s)) (ended n s (e + 2)) (broken (headings (n none)))
+closed n s e = cond (starts (ascii "]]") (drop e s)) (ended n s (e + 2)) (broken (headings (n none)))
 
 -- what follows a head: no argument, one argument, two arguments, or (3) a backquote that opens none of these
 unfoldable pub opening : List ℕ → ℕ
-opening s = pick (starts (ascii "`1[[") s) 1 (pick (starts (ascii "`2[[") s) 2 (pick (starts (ascii "`") s) 3 0))
+opening s = cond (starts (ascii "`1[[") s) 1 (cond (starts (ascii "`2[[") s) 2 (cond (starts (ascii "`") s) 3 0))
 
 -- the only argument was read from a on
 unfoldable pub onOnly : List ℕ → (h a : ℕ) → Read → Read
@@ -62,7 +57,7 @@ onSecond s h x b (name y k) = closed (two (take h s) x y) s (b + k)
 unfoldable pub onFirst : (List ℕ → Read) → List ℕ → (h a : ℕ) → Read → Read
 onFirst below s h a (broken hs) = broken (heading (take h s) 2 ∷ hs)
 onFirst below s h a (name x k) =
-    pick (starts (ascii "],[") (drop (a + k) s)) (onSecond s h x (a + k + 3) (below (drop (a + k + 3) s))) (broken (heading (take h s) 2 ∷ headings x))
+    cond (starts (ascii "],[") (drop (a + k) s)) (onSecond s h x (a + k + 3) (below (drop (a + k + 3) s))) (broken (heading (take h s) 2 ∷ headings x))
 
 -- after a head of h bytes, by what follows it; an argument is a name of one level less
 unfoldable pub afterHead : (List ℕ → Read) → List ℕ → (h n : ℕ) → Read
@@ -84,7 +79,7 @@ nameIn (suc l) s = headed (nameIn l) s (span headByte s)
 -- nothing stands after the name
 unfoldable pub whole : List ℕ → Read → Read
 whole s (broken hs) = broken hs
-whole s (name n k) = pick (eqb k (length s)) (name n k) (broken (headings n))
+whole s (name n k) = cond (eqb k (length s)) (name n k) (broken (headings n))
 
 -- a reader's name; 01: "Names nest at most 8 levels, the reader's own being level 1"
 unfoldable pub nameOf : List ℕ → Read

@@ -1,6 +1,6 @@
 -- A name that is read stands there, and is lawful. Assumes nothing.
 use mathlib.Core.Path.{_≡_, refl, sym, ap, _∙_}
-use mathlib.Core.Bool.{Bool, true, false}
+use mathlib.Core.Bool.{Bool, true, false, cond}
 use mathlib.Core.List.{List, [], _∷_, _++_}
 use Prim.Native.Nat.{ℕ, zero, suc, _+_, _≤_}
 use native.Mathlib.Omega.{arith}
@@ -8,10 +8,11 @@ use lib.Dec.{eqb}
 use lib.ListN.{length, take, drop, take-append-drop}
 use lib.Seq.{drop-drop, length-take-le}
 use borrow.Author.Tests.{eqb-true}
+use Rattle.laws.specs.Small.{differ, both}
 use Rattle.layout.specs.Text.{ascii}
 use Rattle.names.specs.Name.{Tail, none, some, Name, simple, one, two, writeTail, write, headByte, tailByte, all, Head, Tailed, Formed, Heading}
-use Rattle.names.specs.Parse.{Read, broken, name, pick, span, starts, tailSize, tailOf, ended, closed, opening, onOnly, onSecond, onFirst, afterHead, headed, nameIn}
-use Rattle.names.specs.Complete.{long, longTail, both}
+use Rattle.names.specs.Parse.{Read, broken, name, span, starts, tailSize, tailOf, ended, closed, opening, onOnly, onSecond, onFirst, afterHead, headed, nameIn}
+use Rattle.names.specs.Complete.{long, longTail}
 
 -- what holds of a name that was read
 pub data Ok (P : Name → ℕ → Type 0) : Read → Type 0 where
@@ -19,12 +20,12 @@ pub data Ok (P : Name → ℕ → Type 0) : Read → Type 0 where
   read : {n : Name} {k : ℕ} → P n k → Ok P (name n k)
 
 module _ {P : Name → ℕ → Type 0} where
-  ok-pick : (b : Bool) {x y : Read} → (b ≡ true → Ok P x) → Ok P y → Ok P (pick b x y)
+  ok-pick : (b : Bool) {x y : Read} → (b ≡ true → Ok P x) → Ok P y → Ok P (cond b x y)
   ok-pick true f g = f refl
   ok-pick false f g = g
 
   pub got : {r : Read} {n : Name} {k : ℕ} → Ok P r → r ≡ name n k → P n k
-  got Ok.not-read e = absurd (let z : _≡_ {A = ℕ} 0 1 = cc in omega arith)
+  got Ok.not-read e = differ cc
   got {n} {k} (Ok.read {n = m} {k = j} p) e =
       let a : m ≡ n = cc in
       let b : j ≡ k = cc in
@@ -33,9 +34,9 @@ module _ {P : Name → ℕ → Type 0} where
 pub span-le : (p : ℕ → Bool) (s : List ℕ) → span p s ≤ length s
 unfolding span
 span-le p [] = omega arith
-span-le p (b ∷ s) = elim (p b) as (λ x. pick x (suc (span p s)) 0 ≤ suc (length s)) [ true ↦ omega (arith, span-le p s) | false ↦ omega arith ]
+span-le p (b ∷ s) = elim (p b) as (λ x. cond x (suc (span p s)) 0 ≤ suc (length s)) [ true ↦ omega (arith, span-le p s) | false ↦ omega arith ]
 
-cons-all : (p : ℕ → Bool) (b : ℕ) (s : List ℕ) (x : Bool) → p b ≡ x → all p (take (span p s) s) ≡ true → all p (take (pick x (suc (span p s)) 0) (b ∷ s)) ≡ true
+cons-all : (p : ℕ → Bool) (b : ℕ) (s : List ℕ) (x : Bool) → p b ≡ x → all p (take (span p s) s) ≡ true → all p (take (cond x (suc (span p s)) 0) (b ∷ s)) ≡ true
 unfolding all
 cons-all p b s true e h = rw (e, h)
 cons-all p b s false e h = refl
@@ -48,7 +49,7 @@ span-is p (b ∷ s) = cons-all p b s (p b) refl (span-is p s)
 pub starts-is : (w s : List ℕ) → starts w s ≡ true → s ≡ w ++ drop (length w) s
 unfolding starts
 starts-is [] s e = refl
-starts-is (a ∷ w) [] e = absurd (let z : _≡_ {A = ℕ} 0 1 = cc in omega arith)
+starts-is (a ∷ w) [] e = differ cc
 starts-is (a ∷ w) (b ∷ s) e =
     let q = both (eqb a b) (starts w s) e in
     let i : a ≡ b = eqb-true a b (q .0) in
@@ -58,7 +59,7 @@ abbrev TailRead : List ℕ → Tail → ℕ → Type 0
 TailRead s t k = Tailed t × (s ≡ writeTail t (drop k s)) × (k ≡ longTail t)
 
 tail-of : (s : List ℕ) (b : Bool) → starts (ascii ",") s ≡ b
-    → TailRead s (pick b (some (take (span tailByte (drop 1 s)) (drop 1 s))) none) (pick b (suc (span tailByte (drop 1 s))) 0)
+    → TailRead s (cond b (some (take (span tailByte (drop 1 s)) (drop 1 s))) none) (cond b (suc (span tailByte (drop 1 s))) 0)
 unfolding Tailed writeTail longTail ascii
 tail-of s false e = (tt, refl, refl)
 tail-of s true e =
@@ -134,7 +135,7 @@ module _ (l : ℕ) (s : List ℕ) (h : ℕ) (head : Head (take h s)) (size : len
       ok-pick (starts (ascii "],[") (drop (h + 4 + k) s)) (λ c. second-sound x k p b c (below (drop (h + 4 + k + 3) s)) (sound-below (drop (h + 4 + k + 3) s))) Ok.not-read
 
   -- by what follows the head
-  by-opening : (b₁ b₂ b₃ : Bool) → starts (ascii "`1[[") (drop h s) ≡ b₁ → starts (ascii "`2[[") (drop h s) ≡ b₂ → Ok (Stands (suc l) s) (afterHead below s h (pick b₁ 1 (pick b₂ 2 (pick b₃ 3 0))))
+  by-opening : (b₁ b₂ b₃ : Bool) → starts (ascii "`1[[") (drop h s) ≡ b₁ → starts (ascii "`2[[") (drop h s) ≡ b₂ → Ok (Stands (suc l) s) (afterHead below s h (cond b₁ 1 (cond b₂ 2 (cond b₃ 3 0))))
   unfolding afterHead
   by-opening true b₂ b₃ e₁ e₂ = only-sound e₁ (below (drop (h + 4) s)) (sound-below (drop (h + 4) s))
   by-opening false true b₃ e₁ e₂ = first-sound e₂ (below (drop (h + 4) s)) (sound-below (drop (h + 4) s))

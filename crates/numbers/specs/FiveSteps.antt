@@ -1,6 +1,6 @@
 -- The five steps, one after the other, read a seven-bit number. Assumes nothing.
 use mathlib.Core.Path.{_≡_, refl, _∙_}
-use mathlib.Core.Bool.{Bool, true, false}
+use mathlib.Core.Bool.{Bool, true, false, cond}
 use mathlib.Core.List.{List}
 use Prim.Native.Nat.{ℕ, suc, _+_, _*_, _-_, _<_, _≤_, _^_}
 use native.Mathlib.Omega.{arith}
@@ -13,7 +13,7 @@ use Rattle.reading.specs.Answer.{Answer, refused, read, bind, check}
 use Rattle.reading.specs.Seven.{group as groupRead, groups, sevenAt}
 use Rattle.numbers.specs.declared.seven.Step.{Step}
 use Rattle.numbers.specs.declared.seven.Step.the-variants.{Ends, HandsOn, Refuses}
-use Rattle.numbers.specs.Steps.{pick, group, step, lastGroup, lastStep, Below}
+use Rattle.numbers.specs.Steps.{group, step, lastGroup, lastStep, Below}
 
 -- the groups read so far have the value `low`; those still to come count by the weight
 abbrev whole : (start low weight : ℕ) → Answer ℕ → Answer ℕ
@@ -40,7 +40,7 @@ module _ (s : List ℕ) (start : ℕ) (bytes : (i : ℕ) → i < length s → ge
 
   -- the fifth byte, where it is there
   last-there : (low : ℕ) → low < 128 ^ 4 → (b : ℕ) → b < 256 → (t u : Bool) → leb b 0x0F ≡ t → ltb b 128 ≡ u
-      → pick t (read (low + 128 ^ 4 * b) (start + 5)) (refused 8 start) ≡ whole start low (128 ^ 4) (groupRead u b (start + 4) (from 0 5))
+      → cond t (read (low + 128 ^ 4 * b) (start + 5)) (refused 8 start) ≡ whole start low (128 ^ 4) (groupRead u b (start + 4) (from 0 5))
   unfolding bind check groupRead groups
   last-there low h b hb true true p q =
       let l = leb-true b 15 p in

@@ -1,6 +1,6 @@
 -- The shortest form of a seven-bit number (01: the rewriter changes "these numbers, each to its shortest form"). Assumes nothing.
 use mathlib.Core.Path.{_≡_, refl, ap}
-use mathlib.Core.Bool.{Bool, true, false}
+use mathlib.Core.Bool.{Bool, true, false, cond}
 use mathlib.Core.List.{List, [], _∷_, _++_}
 use Prim.Native.Nat.{ℕ, zero, suc, _+_, _*_, _-_, _/_, _%_, _<_, _≤_, _^_}
 use native.Mathlib.Omega.{arith}
@@ -12,14 +12,13 @@ use lib.Seq.{sets}
 use borrow.Author.Tests.{ltb-true, ltb-false, lt-ltb, le-ltb}
 use Rattle.layout.specs.Number.{Groups, last, more, Seven}
 use Rattle.reading.specs.Seven.{some-bytes}
-use Rattle.numbers.specs.Steps.{pick}
 use Rattle.numbers.specs.declared.shortest.Placed.{Placed}
 use Rattle.numbers.specs.declared.shortest.Placed.the-variants.{Next, NoRoom}
 
 -- n in as few groups as it takes, at most k
 unfoldable pub fewest : (k n : ℕ) → List ℕ
 fewest zero n = []
-fewest (suc k) n = pick (ltb n 128) (n ∷ []) ((n % 128 + 128) ∷ fewest k (n / 128))
+fewest (suc k) n = cond (ltb n 128) (n ∷ []) ((n % 128 + 128) ∷ fewest k (n / 128))
 
 unfoldable pub shortest : ℕ → List ℕ
 shortest n = fewest 5 n
@@ -114,8 +113,8 @@ rest-last {out} {i} {x} {whole} {end} r l = go (r .groups) (r .some) (r .ends) (
 
 -- where a number's shortest form ends, written from a place on, and what the lent bytes then hold; where it has no room, nothing is written
 abbrev pub placedAt : (out : List ℕ) (at n : ℕ) → Placed
-placedAt out at n = pick (leb (at + length (shortest n)) (length out)) (Next (at + length (shortest n))) NoRoom
+placedAt out at n = cond (leb (at + length (shortest n)) (length out)) (Next (at + length (shortest n))) NoRoom
 
 abbrev pub writtenAt : (out : List ℕ) (at n : ℕ) → List ℕ
 writtenAt out at n =
-    pick (leb (at + length (shortest n)) (length out)) (take at out ++ shortest n ++ drop (at + length (shortest n)) out) out
+    cond (leb (at + length (shortest n)) (length out)) (take at out ++ shortest n ++ drop (at + length (shortest n)) out) out

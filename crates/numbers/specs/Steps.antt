@@ -1,5 +1,5 @@
 -- The five steps of reading a seven-bit number (000, "7BitEncodedInt", and 01's rule of five bytes). Assumes nothing.
-use mathlib.Core.Bool.{Bool, true, false}
+use mathlib.Core.Bool.{Bool, true, false, cond}
 use mathlib.Core.List.{List}
 use Prim.Native.Nat.{ℕ, _+_, _*_, _-_, _^_, _<_}
 use lib.Dec.{ltb, leb}
@@ -8,15 +8,11 @@ use Rattle.reading.specs.Answer.{Answer, read, refused}
 use Rattle.numbers.specs.declared.seven.Step.{Step}
 use Rattle.numbers.specs.declared.seven.Step.the-variants.{Ends, HandsOn, Refuses}
 
-abbrev pub pick {ℓ} : {A : Type ℓ} → Bool → A → A → A
-pick true a b = a
-pick false a b = b
-
 -- the byte with index k of the number at `start`, after groups of the value `low`: missing it is refused 1; below 80 hex it ends the number; else its low seven bits are handed on
 unfoldable pub group : (k : ℕ) → List ℕ → (start low : ℕ) → Step
 group k s start low =
-    pick (leb (length s) (start + k)) (Refuses 1 start)
-    (pick (ltb (getD s (start + k) 0) 128)
+    cond (leb (length s) (start + k)) (Refuses 1 start)
+    (cond (ltb (getD s (start + k) 0) 128)
     (Ends (low + 128 ^ k * getD s (start + k) 0) (start + k + 1))
     (HandsOn (low + 128 ^ k * (getD s (start + k) 0 - 128))))
 
@@ -29,8 +25,8 @@ step k s start (Refuses number place) = Refuses number place
 -- the fifth byte: missing it is refused 1, above 0F hex refused 8, else it ends the number
 unfoldable pub lastGroup : List ℕ → (start low : ℕ) → Answer ℕ
 lastGroup s start low =
-    pick (leb (length s) (start + 4)) (refused 1 start)
-    (pick (leb (getD s (start + 4) 0) 0x0F)
+    cond (leb (length s) (start + 4)) (refused 1 start)
+    (cond (leb (getD s (start + 4) 0) 0x0F)
     (read (low + 128 ^ 4 * getD s (start + 4) 0) (start + 5))
     (refused 8 start))
 

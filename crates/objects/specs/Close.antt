@@ -7,6 +7,7 @@ use native.Mathlib.Omega.{arith}
 use lib.Dec.{eqb}
 use lib.ListN.{length}
 use borrow.Author.Tests.{eqb-true, eqb-false}
+use Rattle.laws.specs.Small.{differ}
 use Rattle.layout.specs.Target.{Target, spriteFont, kindOf}
 use Rattle.layout.specs.Tree.{Trees, none, tree, count, size}
 use Rattle.layout.specs.Slot as L
@@ -70,7 +71,7 @@ module _ (file : List ℕ) (small : Small file) (readers : List Target) (shared 
       → (count (a .2) ≡ length slots) × (used + length slots ≤ a .0)
   counted slots at used parent a e q = go (sequence (λ y b v. walk file readers shared room below y b v parent) (each slots) at used) (walks-sound file readers shared room small below (each slots) at used parent) q where
     go : (o : Outcome) → Ok (Read file readers shared room small below (each slots) at used parent) o → o ≡ read a e → (count (a .2) ≡ length slots) × (used + length slots ≤ a .0)
-    go o not-read p = absurd (let z : _≡_ {A = ℕ} 0 1 = cc in omega arith)
+    go o not-read p = differ cc
     go o (is-read {a = b} {e = f} v) p =
         let qb : b ≡ a = cc in
         let c = laid-count readers (Within shared) slots (b .2) (v .bytes) (v .laid) in

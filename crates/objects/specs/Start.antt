@@ -7,6 +7,7 @@ use Prim.Native.Nat.{ℕ, zero, suc, _-_, _%_, _≤_, _<_}
 use native.Mathlib.Omega.{arith}
 use lib.ListN.{length, getD}
 use borrow.Author.Tests.{lt-ltb, le-ltb}
+use Rattle.laws.specs.Small.{differ}
 use Rattle.layout.specs.Target.{Target, fixed, char, string, object as anything, texture, texture2D, spriteFont, page, enum, nullable, array, list, dictionary, kindOf}
 use Rattle.layout.specs.Tree.{none, tree}
 use Rattle.layout.specs.Slot as L
@@ -195,8 +196,8 @@ module _ {codes : List ℕ} {rd : Readers} {count i target : ℕ} (has : Has rd 
     serving : (b c : Bool) → fitsAt codes declared target ≡ b → serves d t ≡ c → c ≡ b
     serving true true f c = refl
     serving false false f c = refl
-    serving true false f c = absurd (let z : _≡_ {A = Bool} true false = sym (serves-complete (fits-then n s there f)) ∙ c in let y : _≡_ {A = ℕ} 0 1 = cc in omega arith)
-    serving false true f c = absurd (let z : _≡_ {A = Bool} true false = sym (then-fits n s there (serves-sound d t c)) ∙ f in let y : _≡_ {A = ℕ} 0 1 = cc in omega arith)
+    serving true false f c = absurd (let z : _≡_ {A = Bool} true false = sym (serves-complete (fits-then n s there f)) ∙ c in differ cc)
+    serving false true f c = absurd (let z : _≡_ {A = Bool} true false = sym (then-fits n s there (serves-sound d t c)) ∙ f in differ cc)
 
     go : (b : Bool) → fitsAt codes declared target ≡ b → Identifies codes readers d (suc i) (by b target)
     go true f = (omega arith, record { type = t; at = record { stands = there; plain = arguments t (l .plain i g) }; named = named; serving = serving true (serves d t) f refl })
@@ -205,10 +206,10 @@ module _ {codes : List ℕ} {rd : Readers} {count i target : ℕ} (has : Has rd 
 -- an id and its position
 pub null-id : {id : ℕ} → Null-position ≡ positionOf id → id ≡ 0
 null-id {id = zero} e = refl
-null-id {id = suc i} e = absurd (let z : _≡_ {A = ℕ} 0 1 = cc in omega arith)
+null-id {id = suc i} e = differ cc
 
 pub at-id : {id i : ℕ} → At i ≡ positionOf id → id ≡ suc i
-at-id {id = zero} e = absurd (let z : _≡_ {A = ℕ} 0 1 = cc in omega arith)
+at-id {id = zero} e = differ cc
 at-id {id = suc j} {i = i} e = let q : i ≡ j = cc in ap suc (sym q)
 
 -- the row and the tree of a null

@@ -1,12 +1,12 @@
 -- The refusal of each line of a text, a line being a reader name. Assumes nothing.
 use mathlib.Core.Path.{_≡_}
-use mathlib.Core.Bool.{Bool, not}
+use mathlib.Core.Bool.{Bool, not, cond}
 use mathlib.Core.List.{List, [], _∷_}
 use Prim.Native.Nat.{ℕ, zero, suc, _+_}
 use lib.Dec.{eqb, leb}
 use lib.ListN.{length, take, drop}
 use lib.Seq.{sets}
-use Rattle.names.specs.Parse.{pick, span, nameOf}
+use Rattle.names.specs.Parse.{span, nameOf}
 use Rattle.names.specs.Contract.{Answer, coded, refused, no-room}
 use Rattle.types.specs.Contract.{resolution}
 
@@ -18,7 +18,7 @@ number no-room = 9
 
 -- 01: a name has 1 to 1,024 bytes, and is judged in full (9, 10, 11)
 unfoldable pub refusal : List ℕ → ℕ
-refusal s = pick (eqb (length s) 0) 9 (number (resolution (leb (length s) 1024) 0 (nameOf s)))
+refusal s = cond (eqb (length s) 0) 9 (number (resolution (leb (length s) 1024) 0 (nameOf s)))
 
 -- a line ends before a byte 0A hex
 abbrev pub inLine : ℕ → Bool

@@ -8,6 +8,7 @@ use lib.Dec.{leb, eqb}
 use lib.ListN.{length, take, drop}
 use lib.Seq.{length-take-le}
 use borrow.Author.Tests.{leb-true, le-leb, lt-leb, eq-eqb, ne-eqb}
+use Rattle.laws.specs.Small.{differ}
 use Rattle.names.specs.Contract.{refused as told-refused, no-room}
 use Rattle.types.specs.declared.Resolved.{Resolved}
 use Rattle.types.specs.Contract.{Resolves, told as resolved}
@@ -39,13 +40,13 @@ module _ (most : ℕ) (file : List ℕ) (at : ℕ) where
   tested : (n v e f : ℕ) (b : Bool) → leb v most ≡ b → check b 9 at (read v f) ≡ read n e → n ≤ most
   unfolding check
   tested n v e f true t q = let z : v ≡ n = cc in omega (arith, leb-true v most t)
-  tested n v e f false t q = absurd (let z : _≡_ {A = ℕ} 0 1 = cc in omega arith)
+  tested n v e f false t q = differ cc
 
   pub up-to-bound : {n e : ℕ} → upTo most file at ≡ read n e → n ≤ most
   unfolding upTo bind
   up-to-bound {n} {e} q = go (sevenAt file at) q where
     go : (x : Answer ℕ) → bind x (λ n e. check (leb n most) 9 at (read n e)) ≡ read n e → n ≤ most
-    go (refused k p) q = absurd (let z : _≡_ {A = ℕ} 0 1 = cc in omega arith)
+    go (refused k p) q = differ cc
     go (read v f) q = tested n v e f (leb v most) refl q
 
 module _ (file : List ℕ) (at : ℕ) where

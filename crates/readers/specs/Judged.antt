@@ -3,7 +3,7 @@ use mathlib.Core.Path.{_≡_, refl, sym, ap, _∙_}
 use mathlib.Core.List.{List}
 use mathlib.Core.Logic.{_⊎_, inl, inr}
 use Prim.Native.Nat.{ℕ}
-use native.Mathlib.Omega.{arith}
+use Rattle.laws.specs.Small.{differ}
 use Rattle.layout.specs.Target.{Target}
 use Rattle.names.specs.Name.{Name, text, Formed}
 use Rattle.names.specs.Parse.{Read, broken, name, nameOf}
@@ -49,12 +49,12 @@ ten-name s none = go (nameOf s) refl where
 
 typed-sound : (n : Name) (t : Target) (k : Typed) → readerOf n ≡ k → typedName k ≡ known t → readerOf n ≡ has-type t
 unfolding typedName
-typed-sound n t no-type e q = absurd (let z : _≡_ {A = ℕ} 0 1 = cc in omega arith)
+typed-sound n t no-type e q = differ cc
 typed-sound n t (has-type u) e q = let z : u ≡ t = cc in e ∙ ap has-type z
 
 read-sound : (s : List ℕ) (t : Target) (r : Read) → nameOf s ≡ r → readName r ≡ known t → named s t
 unfolding readName named
-read-sound s t (broken hs) e q = absurd (let z : _≡_ {A = ℕ} 0 1 = cc in omega arith)
+read-sound s t (broken hs) e q = differ cc
 read-sound s t (name n k) e q = let g = read-is-text s n k e in (n, g .0, sym (g .1), typed-sound n t (readerOf n) refl q)
 
 -- the judgement says just what is written
@@ -71,7 +71,7 @@ unfolding judgedName readName typedName
 ten-or-eleven s number e = go (nameOf s) e where
   typed : (k : Typed) → typedName k ≡ unknown number → (number ≡ 10) ⊎ (number ≡ 11)
   typed no-type q = inr cc
-  typed (has-type t) q = absurd (let z : _≡_ {A = ℕ} 0 1 = cc in omega arith)
+  typed (has-type t) q = differ cc
 
   go : (r : Read) → readName r ≡ unknown number → (number ≡ 10) ⊎ (number ≡ 11)
   go (broken hs) q = inl cc

@@ -5,6 +5,7 @@ use Prim.Native.Nat.{ℕ, zero, suc, _≤_}
 use native.Mathlib.Omega.{arith}
 use lib.Dec.{leb}
 use borrow.Author.Tests.{leb-true, le-leb}
+use Rattle.laws.specs.Small.{differ}
 
 -- refused with a number and a place, or a value and the next byte
 pub data Answer (A : Type 0) : Type 0 where
@@ -45,7 +46,7 @@ within m (suc n) = leb (suc n) m
 
 pub within-true : (m n : ℕ) → within m n ≡ true → (1 ≤ n) × (n ≤ m)
 unfolding within
-within-true m zero q = let z : _≡_ {A = ℕ} 0 1 = cc in absurd (omega arith)
+within-true m zero q = differ cc
 within-true m (suc n) q = (omega arith, leb-true (suc n) m q)
 
 pub true-within : (m n : ℕ) → 1 ≤ n → n ≤ m → within m n ≡ true

@@ -5,6 +5,7 @@ use mathlib.Core.Logic.{inl, inr}
 use Prim.Native.Nat.{ℕ, suc, _+_, _-_, _≤_}
 use native.Mathlib.Omega.{arith}
 use lib.ListN.{length, drop, length-append, length-drop}
+use Rattle.laws.specs.Small.{differ}
 use Rattle.layout.specs.Target.{Target}
 use Rattle.layout.specs.Tree.{Trees, none, tree, size}
 use Rattle.layout.specs.Slot.{Slot, raw, object, reference, leaf, Plan, stop, put}
@@ -65,7 +66,7 @@ module _ (file : List ℕ) (readers : List Target) (shared room : ℕ) (small : 
   pub walk-bounds : (d : ℕ) (x : Slot) (at used parent : ℕ) (a : Taken) (e : ℕ) → walk file readers shared room d x at used parent ≡ read a e → Bounds file room at used a e
   walk-bounds d x at used parent a e q = go (walk file readers shared room d x at used parent) (walk-sound file readers shared room small d x at used parent) q where
     go : (o : Outcome) → Ok (ReadValue file readers shared room small d x at used parent) o → o ≡ read a e → Bounds file room at used a e
-    go o not-read p = absurd (let z : _≡_ {A = ℕ} 0 1 = cc in omega arith)
+    go o not-read p = differ cc
     go o (is-read {a = b} {e = f} v) p =
         let qb : b ≡ a = cc in
         let qf : f ≡ e = cc in
@@ -76,7 +77,7 @@ module _ (file : List ℕ) (readers : List Target) (shared room : ℕ) (small : 
   sequence-bounds d plan at used parent a e q =
       go (sequence (λ y b v. walk file readers shared room d y b v parent) plan at used) (walks-sound file readers shared room small d plan at used parent) q where
         go : (o : Outcome) → Ok (Read file readers shared room small d plan at used parent) o → o ≡ read a e → Bounds file room at used a e
-        go o not-read p = absurd (let z : _≡_ {A = ℕ} 0 1 = cc in omega arith)
+        go o not-read p = differ cc
         go o (is-read {a = b} {e = f} v) p =
             let qb : b ≡ a = cc in
             let qf : f ≡ e = cc in

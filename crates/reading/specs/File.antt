@@ -1,6 +1,6 @@
 -- What loading a file answers: the first fault in file order with its number and place, or the rows, the number of readers and the shared count (01, "File header", "The row table" and "Refusals"). Assumes nothing.
 use mathlib.Core.Path.{_≡_}
-use mathlib.Core.Bool.{Bool}
+use mathlib.Core.Bool.{Bool, _||_}
 use mathlib.Core.List.{List, [], _∷_, _++_}
 use Prim.Native.Nat.{ℕ, zero, suc, _*_, _-_, _/_, min}
 use lib.Dec.{ltb, leb, eqb}
@@ -12,13 +12,12 @@ use Rattle.reading.specs.Answer.{Answer, refused, read, bind, check, wit
 use Rattle.reading.specs.Reads.{some}
 use Rattle.reading.specs.Seven.{sevenAt}
 use Rattle.reading.specs.Little.{littleAt, valueOf}
-use Rattle.reading.specs.Rules.{either}
 use Rattle.reading.specs.Resource.{suits}
 use Rattle.reading.specs.Walk.{Taken, Outcome, sequence, walk}
 
 -- 01, offset 3: "`w`, `m` or `x`"
 unfoldable pub isPlatform : ℕ → Bool
-isPlatform b = either (eqb b 0x77) (either (eqb b 0x6D) (eqb b 0x78))
+isPlatform b = eqb b 0x77 || (eqb b 0x6D || eqb b 0x78)
 
 -- header bytes 3 and 5, and where the header ends. 01: "Before these: longer than 16,777,216 bytes is 9 at 0; shorter than 10 is 1 at 0. Then in table order".
 unfoldable pub headerAt : List ℕ → Answer (ℕ × ℕ)

@@ -1,6 +1,6 @@
 -- The test of the font rule over a font's children, and that it says just what the layout's rule says. Assumes nothing.
 use mathlib.Core.Path.{_≡_, refl}
-use mathlib.Core.Bool.{Bool, true, false}
+use mathlib.Core.Bool.{Bool, true, false, _&&_}
 use mathlib.Core.List.{List, [], _∷_}
 use mathlib.Core.Logic.{_⊎_, inl, inr}
 use Prim.Native.Nat.{ℕ, zero, suc, _<_}
@@ -8,6 +8,7 @@ use native.Mathlib.Omega.{arith}
 use lib.Dec.{ltb, eqb}
 use lib.ListN.{length, getD, replicate}
 use borrow.Author.Tests.{ltb-true, lt-ltb, eqb-true, eq-eqb}
+use Rattle.laws.specs.Small.{both}
 use Rattle.layout.specs.Text.{Character}
 use Rattle.layout.specs.Target.{Target, char, list, spriteFont, Serves, same as serves-same}
 use Rattle.layout.specs.Tree.{Trees, none, tree, count, kindAt, childrenAt}
@@ -16,16 +17,12 @@ use Rattle.layout.specs.Target.{isValue}
 use Rattle.layout.specs.Head.{Head, Counted}
 use Rattle.layout.specs.Font.{Above, Rising, FontRule}
 use Rattle.layout.specs.Layout.{Raw, Null, Object, Value, Lays}
-use Rattle.reading.specs.Rules.{both, same, same-true, same-refl}
+use Rattle.reading.specs.Rules.{same, same-true, same-refl}
 
 -- each of some trees is a character
 unfoldable pub Characters : Trees → Type 0
 Characters none = Unit {0}
 Characters (tree k i own cs rest) = ((c : ℕ) × Character c own) × Characters rest
-
-pub both-true : (a b : Bool) → both a b ≡ true → (a ≡ true) × (b ≡ true)
-both-true true b e = (refl, e)
-both-true false b e = absurd (let z : _≡_ {A = ℕ} 0 1 = cc in omega arith)
 
 -- not null
 abbrev some : ℕ → Bool
@@ -45,14 +42,14 @@ module _ (point : List ℕ → ℕ) where
 
   unfoldable pub rising : Trees → Bool
   rising none = true
-  rising (tree k i own cs rest) = both (above own rest) (rising rest)
+  rising (tree k i own cs rest) = above own rest && rising rest
 
   -- the five objects are there, the four lists have equal counts, and the characters rise
   unfoldable pub fontTest : Trees → Bool
   fontTest cs =
-      both (some (kindAt 0 cs)) (both (some (kindAt 1 cs)) (both (some (kindAt 2 cs)) (both (some (kindAt 3 cs)) (both (some (kindAt 6 cs))
-      (both (eqb (count (childrenAt 1 cs)) (count (childrenAt 3 cs))) (both (eqb (count (childrenAt 2 cs)) (count (childrenAt 3 cs)))
-      (both (eqb (count (childrenAt 6 cs)) (count (childrenAt 3 cs))) (rising (childrenAt 3 cs)))))))))
+      some (kindAt 0 cs) && (some (kindAt 1 cs) && (some (kindAt 2 cs) && (some (kindAt 3 cs) && (some (kindAt 6 cs)
+      && (eqb (count (childrenAt 1 cs)) (count (childrenAt 3 cs)) && (eqb (count (childrenAt 2 cs)) (count (childrenAt 3 cs))
+      && (eqb (count (childrenAt 6 cs)) (count (childrenAt 3 cs)) && rising (childrenAt 3 cs))))))))
 
   -- only a font has the rule
   unfoldable pub fontIf : Bool → Trees → Bool
@@ -86,7 +83,7 @@ module _ (point : List ℕ → ℕ) where
     unfolding Rising rising Characters
     rising-sound none c t = tt
     rising-sound (tree k i own cs rest) c t =
-        let b = both-true (above own rest) (rising rest) t in
+        let b = both (above own rest) (rising rest) t in
         (above-sound own rest (c .0) (c .1) (b .0), rising-sound rest (c .1) (b .1))
 
     test-complete : (cs : Trees) → FontRule cs → fontTest cs ≡ true
@@ -107,14 +104,14 @@ module _ (point : List ℕ → ℕ) where
     test-sound : (cs : Trees) → Characters (childrenAt 3 cs) → fontTest cs ≡ true → FontRule cs
     unfolding fontTest
     test-sound cs c t =
-        let a₀ = both-true _ _ t in
-        let a₁ = both-true _ _ (a₀ .1) in
-        let a₂ = both-true _ _ (a₁ .1) in
-        let a₃ = both-true _ _ (a₂ .1) in
-        let a₄ = both-true _ _ (a₃ .1) in
-        let a₅ = both-true _ _ (a₄ .1) in
-        let a₆ = both-true _ _ (a₅ .1) in
-        let a₇ = both-true _ _ (a₆ .1) in
+        let a₀ = both _ _ t in
+        let a₁ = both _ _ (a₀ .1) in
+        let a₂ = both _ _ (a₁ .1) in
+        let a₃ = both _ _ (a₂ .1) in
+        let a₄ = both _ _ (a₃ .1) in
+        let a₅ = both _ _ (a₄ .1) in
+        let a₆ = both _ _ (a₅ .1) in
+        let a₇ = both _ _ (a₆ .1) in
         record {
           texture = some-true _ (a₀ .0);
           glyphs = some-true _ (a₁ .0);

@@ -1,6 +1,6 @@
 -- What stands before the objects, the header and the lists: what is laid down is read, and what is read is laid down. Assumes nothing.
 use mathlib.Core.Path.{_≡_, refl, sym, ap, _∙_}
-use mathlib.Core.Bool.{Bool, true, false}
+use mathlib.Core.Bool.{Bool, true, false, _||_}
 use mathlib.Core.List.{List, [], _∷_, _++_, append-nil}
 use mathlib.Core.Logic.{_⊎_, inl, inr}
 use Prim.Native.Nat.{ℕ, zero, suc, _≤_}
@@ -9,6 +9,7 @@ use lib.Dec.{ltb, leb, eqb}
 use lib.ListN.{length, take, drop, getD, length-drop, take-append-drop}
 use lib.Seq.{drop-cons, drop-drop, length-take-le}
 use borrow.Author.Tests.{leb-true, le-leb, lt-ltb, eqb-true, eq-eqb}
+use Rattle.laws.specs.Small.{differ}
 use Rattle.layout.specs.Number.{little}
 use Rattle.layout.specs.Text.{ascii}
 use Rattle.layout.specs.Target.{Target}
@@ -17,7 +18,6 @@ use Rattle.reading.specs.Answer.{read, check, Ok, not-read, is-read, ok-
 use Rattle.reading.specs.Reads.{Small, small-drop, small-left, Reads, pure-reads, bind-reads, check-reads, here-reads, convert, some-reads}
 use Rattle.reading.specs.Seven.{seven-reads}
 use Rattle.reading.specs.Little.{little-reads, valueOf, little-value, value-little}
-use Rattle.reading.specs.Rules.{either}
 use Rattle.reading.specs.File.{isPlatform, headerAt, Named, unknown, known, Judges, judge, readerAt, readersAt, listsAt}
 
 -- ---- the header
@@ -25,11 +25,11 @@ use Rattle.reading.specs.File.{isPlatform, headerAt, Named, unknown, kno
 platform-sound : (b : ℕ) → isPlatform b ≡ true → Platform b
 unfolding isPlatform Platform ascii
 platform-sound b t = go (eqb b 0x77) (eqb b 0x6D) (eqb b 0x78) refl refl refl t where
-  go : (p q r : Bool) → eqb b 0x77 ≡ p → eqb b 0x6D ≡ q → eqb b 0x78 ≡ r → either p (either q r) ≡ true → Platform b
+  go : (p q r : Bool) → eqb b 0x77 ≡ p → eqb b 0x6D ≡ q → eqb b 0x78 ≡ r → (p || (q || r)) ≡ true → Platform b
   go true q r ep eq er e = inl (ap (λ (n : ℕ). n ∷ []) (eqb-true b 0x77 ep))
   go false true r ep eq er e = inr (inl (ap (λ (n : ℕ). n ∷ []) (eqb-true b 0x6D eq)))
   go false false true ep eq er e = inr (inr (ap (λ (n : ℕ). n ∷ []) (eqb-true b 0x78 er)))
-  go false false false ep eq er e = absurd (let z : _≡_ {A = ℕ} 0 1 = cc in omega arith)
+  go false false false ep eq er e = differ cc
 
 platform-complete : (b : ℕ) → Platform b → isPlatform b ≡ true
 unfolding isPlatform Platform ascii
@@ -123,7 +123,7 @@ module _ (named : List ℕ → Target → Type 0) (nameOf : List ℕ → Named) 
   pub judge-reads : (x : Named) (place : ℕ) → Reads file (λ t bs. (x ≡ known t) × (bs ≡ [])) (judge x place)
   unfolding judge
   judge-reads (unknown n) place = record {
-    complete = λ t bs rest at w q. absurd (let z : _≡_ {A = ℕ} 0 1 = cc (w .0) in omega arith);
+    complete = λ t bs rest at w q. differ (cc (w .0));
     sound = λ h at. not-read;
   }
   judge-reads (known u) place =

@@ -8,6 +8,7 @@ use lib.Dec.{leb}
 use lib.ListN.{length, getD, take, drop, length-append, length-drop, take-append-drop}
 use lib.Seq.{drop-drop, drop-append-seam, take-append-seam, length-take-le}
 use borrow.Author.Tests.{leb-true, le-leb}
+use Rattle.laws.specs.Small.{differ}
 use Rattle.reading.specs.Answer.{Answer, read, bind, check, Ok, not-read, is-read, ok-bind, ok-check, ok-weaken}
 
 -- a file of bytes
@@ -144,7 +145,7 @@ pub next-of : {file : List ℕ} {A : Type 0} {F : A → List ℕ → Type 0} {r 
     → (at : ℕ) {a : A} {e : ℕ} → r at ≡ read a e → Next file F at a e
 next-of {file} {F = F} {r = r} x s at {a} {e} q = go (r at) (x .sound s at) q where
   go : (o : Answer _) → Ok (Spans file F at) o → o ≡ read a e → Next file F at a e
-  go o not-read p = absurd (let z : _≡_ {A = ℕ} 0 1 = cc in omega arith)
+  go o not-read p = differ cc
   go o (is-read {a = b} {e = f} v) p =
       let eq : b ≡ a = cc in
       let ef : f ≡ e = cc in
@@ -161,7 +162,7 @@ pub reads-bounds : {file : List ℕ} {A : Type 0} {F : A → List ℕ → Type 0
     → (at : ℕ) → at ≤ length file → {a : A} {e : ℕ} → r at ≡ read a e → (at ≤ e) × (e ≤ length file)
 reads-bounds {file} {A} {F} {r} x s at h {a} {e} q = go (r at) (x .sound s at) q where
   go : (o : Answer A) → Ok (Spans file F at) o → o ≡ read a e → (at ≤ e) × (e ≤ length file)
-  go o not-read p = absurd (let z : _≡_ {A = ℕ} 0 1 = cc in omega arith)
+  go o not-read p = differ cc
   go o (is-read {a = b} {e = f} v) p =
       let ef : f ≡ e = cc in
       let l : length file - at ≡ length (v .0) + (length file - f) = omega (arith, length-drop at file, length-drop f file, simp length-append at (ap length (v .2))) in

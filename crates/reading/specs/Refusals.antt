@@ -9,6 +9,7 @@ use native.Mathlib.Omega.{arith}
 use lib.Dec.{ltb, leb}
 use lib.ListN.{length, drop, length-drop}
 use borrow.Author.Tests.{leb-true}
+use Rattle.laws.specs.Small.{differ}
 use Rattle.layout.specs.Target.{Target, fixed, char, string, object, texture, texture2D, spriteFont, page, enum, nullable, array, list, dictionary}
 use Rattle.layout.specs.Slot.{Leaf, level, Slot, raw, reference, leaf, object as an-object, Plan, stop, put}
 use Rattle.layout.specs.Rows.{Wants, Row, row}
@@ -297,7 +298,7 @@ module _ (nameOf : List ℕ → Named) (numbers : TenOrEleven nameOf) (file : Li
           let a : n ≡ number = cc in
           let b : p ≡ place = cc in
           rw (← a, ← b) f
-      go (read a e) (of-read h) q = absurd (let z : _≡_ {A = ℕ} 0 1 = cc in omega arith)
+      go (read a e) (of-read h) q = differ cc
 
     -- a refusal has a number from 1 to 22, as in 01's table
     pub refusal-number : (1 ≤ number) × (number ≤ 22)

@@ -1,6 +1,6 @@
 -- The tests of resource ids, and that they say just what the layout's rules say. Assumes nothing.
 use mathlib.Core.Path.{_≡_, refl, ap}
-use mathlib.Core.Bool.{Bool, true, false}
+use mathlib.Core.Bool.{Bool, true, false, _||_}
 use mathlib.Core.List.{List, [], _∷_}
 use mathlib.Core.Logic.{_⊎_, inl, inr}
 use Prim.Native.Nat.{ℕ, zero, suc, _≤_}
@@ -11,7 +11,6 @@ use Rattle.layout.specs.Target.{Target, kindOf}
 use Rattle.layout.specs.Tree.{Trees, none, tree, count, kindAt}
 use Rattle.layout.specs.Resource.{Resource}
 use Rattle.layout.specs.Rows.{Wants, nothing, resource}
-use Rattle.reading.specs.Rules.{either}
 
 -- the kinds of trees, in order
 unfoldable pub kinds : Trees → List ℕ
@@ -20,7 +19,7 @@ kinds (tree k i own cs rest) = k ∷ kinds rest
 
 -- a resource of a kind suits one that wants a kind: null suits every reference
 unfoldable pub suit : (wanted kind : ℕ) → Bool
-suit wanted kind = either (eqb kind 0) (eqb kind wanted)
+suit wanted kind = eqb kind 0 || eqb kind wanted
 
 -- resource id 0 is null; the others count the shared objects, of these kinds, from 1
 unfoldable pub suits : (shared : List ℕ) → Wants → (id : ℕ) → Bool
@@ -41,7 +40,7 @@ kind-at (suc i) (tree k d own cs rest) = kind-at i rest
 suit-sound : (wanted kind : ℕ) → suit wanted kind ≡ true → (kind ≡ 0) ⊎ (kind ≡ wanted)
 unfolding suit
 suit-sound wanted kind t = go (eqb kind 0) refl t where
-  go : (b : Bool) → eqb kind 0 ≡ b → either (eqb kind 0) (eqb kind wanted) ≡ true → (kind ≡ 0) ⊎ (kind ≡ wanted)
+  go : (b : Bool) → eqb kind 0 ≡ b → (eqb kind 0 || eqb kind wanted) ≡ true → (kind ≡ 0) ⊎ (kind ≡ wanted)
   go true e q = inl (eqb-true kind 0 e)
   go false e q = inr (eqb-true kind wanted (rw e at q))
 
@@ -49,7 +48,7 @@ suit-complete : (wanted kind : ℕ) → (kind ≡ 0) ⊎ (kind ≡ wanted) → s
 unfolding suit
 suit-complete wanted kind (inl e) = rw (eq-eqb kind 0 e)
 suit-complete wanted kind (inr e) = rw (eq-eqb kind wanted e) (always (eqb kind 0)) where
-  always : (b : Bool) → either b true ≡ true
+  always : (b : Bool) → (b || true) ≡ true
   always true = refl
   always false = refl
 

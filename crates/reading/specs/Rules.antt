@@ -1,23 +1,16 @@
 -- The tests that reading makes of types, and that each says just what the layout's relation says. Assumes nothing.
 use mathlib.Core.Path.{_≡_, refl, ap}
-use mathlib.Core.Bool.{Bool, true, false}
+use mathlib.Core.Bool.{Bool, true, false, _&&_, _||_}
 use mathlib.Core.List.{List, [], _∷_, List-discrete}
 use Prim.Native.Nat.{ℕ, zero, suc, _<_}
 use native.Mathlib.Omega.{arith}
 use native.Mathlib.Decide.{ℕ-discrete}
 use lib.ListN.{length, getD}
+use Rattle.laws.specs.Small.{differ}
 use Rattle.layout.specs.Target.{Target, target-discrete, fixed, char, string, object, texture, texture2D, spriteFont, page, enum, nullable, array, list, dictionary, Serves, same as serves-same, any as serves-any, picture as serves-picture}
 use Rattle.layout.specs.Slot.{Plan}
 use Rattle.layout.specs.Head.{Head}
 use Rattle.layout.specs.Layout.{Reader}
-
-abbrev pub either : Bool → Bool → Bool
-either true b = true
-either false b = b
-
-abbrev pub both : Bool → Bool → Bool
-both true b = b
-both false b = false
 
 unfoldable pub decided : {P : Type 0} → Dec P → Bool
 decided (yes p) = true
@@ -26,7 +19,7 @@ decided (no n) = false
 decided-true : {P : Type 0} (d : Dec P) → decided d ≡ true → P
 unfolding decided
 decided-true (yes p) e = p
-decided-true (no n) e = absurd (let z : _≡_ {A = ℕ} 0 1 = cc in omega arith)
+decided-true (no n) e = differ cc
 
 true-decided : {P : Type 0} (d : Dec P) → P → decided d ≡ true
 unfolding decided
@@ -47,19 +40,19 @@ same-refl t = true-decided (target-discrete ℕ-discrete (List-discrete ℕ-disc
 
 -- a reader of t serves the declaration d
 unfoldable pub serves : Target → Target → Bool
-serves d t = either (same d t) (either (same d object) (both (same d texture) (same t texture2D)))
+serves d t = same d t || (same d object || (same d texture && same t texture2D))
 
 pub serves-complete : {d t : Target} → Serves d t → serves d t ≡ true
 unfolding serves
 serves-complete (serves-same {t = t}) = rw (same-refl t)
 serves-complete (serves-any {t = t}) = rw (same-refl object) (either-true (same object t))
   where
-    either-true : (b : Bool) → either b true ≡ true
+    either-true : (b : Bool) → (b || true) ≡ true
     either-true true = refl
     either-true false = refl
 serves-complete serves-picture = rw (same-refl texture, same-refl texture2D) (either-true (same texture texture2D) (same texture object))
   where
-    either-true : (a b : Bool) → either a (either b true) ≡ true
+    either-true : (a b : Bool) → (a || (b || true)) ≡ true
     either-true true b = refl
     either-true false true = refl
     either-true false false = refl
@@ -67,12 +60,12 @@ serves-complete serves-picture = rw (same-refl texture, same-refl texture2D) (ei
 pub serves-sound : (d t : Target) → serves d t ≡ true → Serves d t
 unfolding serves
 serves-sound d t e = go (same d t) (same d object) (same d texture) (same t texture2D) refl refl refl refl e where
-  go : (a b p q : Bool) → same d t ≡ a → same d object ≡ b → same d texture ≡ p → same t texture2D ≡ q → either a (either b (both p q)) ≡ true → Serves d t
+  go : (a b p q : Bool) → same d t ≡ a → same d object ≡ b → same d texture ≡ p → same t texture2D ≡ q → (a || (b || (p && q))) ≡ true → Serves d t
   go true b p q ea eb ep eq e = rw (same-true d t ea) serves-same
   go false true p q ea eb ep eq e = rw (same-true d object eb) serves-any
   go false false true true ea eb ep eq e = rw (same-true d texture ep, same-true t texture2D eq) serves-picture
-  go false false true false ea eb ep eq e = absurd (let z : _≡_ {A = ℕ} 0 1 = cc in omega arith)
-  go false false false q ea eb ep eq e = absurd (let z : _≡_ {A = ℕ} 0 1 = cc in omega arith)
+  go false false true false ea eb ep eq e = differ cc
+  go false false false q ea eb ep eq e = differ cc
 
 -- the reader that a type id names, unless it is never invoked
 pub data Found : Type 0 where
@@ -106,21 +99,21 @@ unfolding invoked
 invoked-is (fixed k) u e = cc
 invoked-is char u e = cc
 invoked-is string u e = cc
-invoked-is object u e = absurd (let z : _≡_ {A = ℕ} 0 1 = cc in omega arith)
+invoked-is object u e = differ cc
 invoked-is (enum name) u e = cc
 invoked-is (nullable t) u e = cc
 invoked-is (array t) u e = cc
 invoked-is (list t) u e = cc
 invoked-is (dictionary k v) u e = cc
-invoked-is texture u e = absurd (let z : _≡_ {A = ℕ} 0 1 = cc in omega arith)
+invoked-is texture u e = differ cc
 invoked-is texture2D u e = cc
 invoked-is spriteFont u e = cc
 invoked-is page u e = cc
 
 pub reader-sound : (readers : List Target) (id : ℕ) (u : Target) → reader readers id ≡ found u → Reader readers id u
 unfolding reader Reader
-reader-sound readers zero u e = absurd (let z : _≡_ {A = ℕ} 0 1 = cc in omega arith)
-reader-sound [] (suc i) u e = absurd (let z : _≡_ {A = ℕ} 0 1 = cc in omega arith)
+reader-sound readers zero u e = differ cc
+reader-sound [] (suc i) u e = differ cc
 reader-sound (t ∷ readers) (suc zero) u e = (0, refl, omega arith, invoked-is t u e)
 reader-sound (t ∷ readers) (suc (suc i)) u e =
     let r = reader-sound readers (suc i) u e in

@@ -1,6 +1,6 @@
 -- UTF-8 by the syntax of RFC 3629, section 4: reading one character, deciding a text, and their laws. Assumes nothing.
 use mathlib.Core.Path.{_≡_, refl, sym, ap, subst, _∙_}
-use mathlib.Core.Bool.{Bool, true, false, _&&_, and-true, and-assoc}
+use mathlib.Core.Bool.{Bool, true, false, _&&_, and-true, and-assoc, cond}
 use mathlib.Core.List.{List, [], _∷_, _++_}
 use mathlib.Core.Logic.{_⊎_, inl, inr}
 use Prim.Native.Nat.{ℕ, zero, suc, pred, _+_, _*_, _-_, _/_, _%_, _<_, _≤_}
@@ -10,26 +10,22 @@ use lib.Dec.{ltb, leb, eqb}
 use lib.ListN.{length, getD, take, drop, length-append, take-append-drop}
 use lib.Seq.{drop-drop, drop-append-seam, drop-nil, length-take-le}
 use borrow.Author.Tests.{ltb-true, ltb-false, lt-ltb, le-ltb, leb-true, le-leb, eqb-true, eqb-false}
+use Rattle.laws.specs.Small.{differ, both}
 use Rattle.layout.specs.Text.{Utf8, one, two, three, four, Utf8s, end, then}
 use Rattle.reading.specs.Answer.{Answer, refused, read, check, Ok, not-read, is-read, ok-check, ok-weaken, within, within-true, true-within}
 use Rattle.reading.specs.Reads.{Reads}
 
--- a where the test holds, else b
-abbrev pub pick : Bool → ℕ → ℕ → ℕ
-pick true a b = a
-pick false a b = b
-
 -- how many bytes the character has that the lead byte b starts (00 to 7F hex: 1, C2 to DF: 2, E0 to EF: 3, F0 to F4: 4); 0 where b starts none
 unfoldable pub size : ℕ → ℕ
-size b = pick (ltb b 0x80) 1 (pick (ltb b 0xC2) 0 (pick (ltb b 0xE0) 2 (pick (ltb b 0xF0) 3 (pick (ltb b 0xF5) 4 0))))
+size b = cond (ltb b 0x80) 1 (cond (ltb b 0xC2) 0 (cond (ltb b 0xE0) 2 (cond (ltb b 0xF0) 3 (cond (ltb b 0xF5) 4 0))))
 
 -- the least second byte after the lead byte b: A0 after E0 and 90 after F0, so that no form is overlong, else 80
 unfoldable pub least : ℕ → ℕ
-least b = pick (eqb b 0xE0) 0xA0 (pick (eqb b 0xF0) 0x90 0x80)
+least b = cond (eqb b 0xE0) 0xA0 (cond (eqb b 0xF0) 0x90 0x80)
 
 -- the greatest second byte after the lead byte b: 9F after ED, so that there is no surrogate, 8F after F4, so that nothing is above 10FFFF, else BF
 unfoldable pub most : ℕ → ℕ
-most b = pick (eqb b 0xED) 0x9F (pick (eqb b 0xF4) 0x8F 0xBF)
+most b = cond (eqb b 0xED) 0x9F (cond (eqb b 0xF4) 0x8F 0xBF)
 
 -- a byte from low to high
 abbrev pub between : (low high x : ℕ) → Bool
@@ -44,7 +40,7 @@ follow (suc k) low high (x ∷ l) = between low high x && follow k 0x80 0xBF l
 -- the size of the character that the list begins with (UTF8-char); 0 where it begins with none
 unfoldable pub charSize : List ℕ → ℕ
 charSize [] = 0
-charSize (b ∷ l) = pick (follow (pred (size b)) (least b) (most b) l) (size b) 0
+charSize (b ∷ l) = cond (follow (pred (size b)) (least b) (most b) l) (size b) 0
 
 -- size 0 is no character; after one of size suc k, what f says of the list k bytes past the lead byte
 abbrev pub after : ℕ → (ℕ → Bool) → Bool
@@ -128,7 +124,7 @@ unfolding size
 size-high b g =
     rw (le-ltb b 0x80 (omega arith), le-ltb b 0xC2 (omega arith), le-ltb b 0xE0 (omega arith), le-ltb b 0xF0 (omega arith), le-ltb b 0xF5 g)
 
-pick-by : (P : ℕ → Type 0) (t : Bool) {a b : ℕ} → (t ≡ true → P a) → (t ≡ false → P b) → P (pick t a b)
+pick-by : (P : ℕ → Type 0) (t : Bool) {a b : ℕ} → (t ≡ true → P a) → (t ≡ false → P b) → P (cond t a b)
 pick-by P true f g = f refl
 pick-by P false f g = g refl
 
@@ -182,14 +178,10 @@ data Follow : (k low high : ℕ) → List ℕ → Type 0 where
   done : {low high : ℕ} {l : List ℕ} → Follow zero low high l
   next : {k low high x : ℕ} {l : List ℕ} → low ≤ x → x ≤ high → Follow k 0x80 0xBF l → Follow (suc k) low high (x ∷ l)
 
-pub both : (s t : Bool) → (s && t) ≡ true → (s ≡ true) × (t ≡ true)
-both true t e = (refl, e)
-both false t e = let z : _≡_ {A = ℕ} 0 1 = cc in absurd (omega arith)
-
 follow-is : (k low high : ℕ) (l : List ℕ) → follow k low high l ≡ true → Follow k low high l
 unfolding follow
 follow-is zero low high l e = done
-follow-is (suc k) low high [] e = let z : _≡_ {A = ℕ} 0 1 = cc in absurd (omega arith)
+follow-is (suc k) low high [] e = differ cc
 follow-is (suc k) low high (x ∷ l) e =
     let p = both (between low high x) (follow k 0x80 0xBF l) e in
     let q = both (leb low x) (leb x high) (p .0) in
@@ -399,7 +391,7 @@ chars-drop zero l = refl
 chars-drop (suc k) [] = refl
 chars-drop (suc k) (x ∷ l) = chars-drop k l
 
-pub sized : (b k : ℕ) (l : List ℕ) → size b ≡ suc k → charSize (b ∷ l) ≡ pick (follow k (least b) (most b) l) (suc k) 0
+pub sized : (b k : ℕ) (l : List ℕ) → size b ≡ suc k → charSize (b ∷ l) ≡ cond (follow k (least b) (most b) l) (suc k) 0
 unfolding charSize
 sized b k l e = rw e
 
@@ -416,7 +408,7 @@ utf8s-steps k (b ∷ l) e = rw e (chars-drop k l)
 size-is : (b k : ℕ) (l : List ℕ) → charSize (b ∷ l) ≡ suc k → (size b ≡ suc k) × (follow (pred (size b)) (least b) (most b) l ≡ true)
 unfolding charSize
 size-is b k l e = go (follow (pred (size b)) (least b) (most b) l) e where
-  go : (t : Bool) → pick t (size b) 0 ≡ suc k → (size b ≡ suc k) × (t ≡ true)
+  go : (t : Bool) → cond t (size b) 0 ≡ suc k → (size b ≡ suc k) × (t ≡ true)
   go true q = (q, refl)
   go false q = absurd (omega arith)
 
@@ -442,7 +434,7 @@ text-sound [] k e = rw drop-nil end
 text-sound (b ∷ l) (suc k) e = text-sound l k e
 text-sound (b ∷ l) zero e = go (charSize (b ∷ l)) refl (λ k. text-sound l k) where
   go : (n : ℕ) → charSize (b ∷ l) ≡ n → ((k : ℕ) → utf8s (drop k l) ≡ true → Utf8s (drop k l)) → Utf8s (b ∷ l)
-  go zero q f = let z : _≡_ {A = ℕ} 0 1 = cc (utf8s-stops (b ∷ l) (omega arith) q) in absurd (omega arith)
+  go zero q f = differ (cc (utf8s-stops (b ∷ l) (omega arith) q))
   go (suc k) q f =
       let u = character b k l q in
       let r : Utf8s (drop k l) = f k (sym (utf8s-steps k (b ∷ l) q) ∙ e) in

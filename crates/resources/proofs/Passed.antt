@@ -7,6 +7,7 @@ use native.Mathlib.Omega.{arith}
 use native.Mathlib.Numerals.{add-one}
 use lib.ListN.{length, getD, take, drop, take-append-drop, drop-of-length-le}
 use lib.Seq.{drop-cons, take-suc, take-all, length-take-le}
+use Rattle.laws.specs.Small.{differ}
 use Rattle.layout.specs.Rows.{nothing, Row, row, words, flat}
 use Rattle.reading.specs.Resource.{suits}
 use Rattle.reading.specs.File.{rootKinds}
@@ -98,13 +99,13 @@ module _ (shared : List ℕ) where
   fine-first (row kind first z children parent id wants) more e = go (suits shared wants id) e where
     go : (b : Bool) → Fine ≡ orWrong b first Fine → orWrong b first (settledOf shared more) ≡ settledOf shared more
     go true q = refl
-    go false q = absurd (let z : _≡_ {A = ℕ} 0 1 = cc in omega arith)
+    go false q = differ cc
 
   wrong-first : (x : Row) (more : List Row) (p : ℕ) → Wrong p ≡ settledOf shared (x ∷ []) → Wrong p ≡ settledOf shared (x ∷ more)
   unfolding settledOf
   wrong-first (row kind first z children parent id wants) more p e = go (suits shared wants id) e where
     go : (b : Bool) → Wrong p ≡ orWrong b first Fine → Wrong p ≡ orWrong b first (settledOf shared more)
-    go true q = absurd (let z : _≡_ {A = ℕ} 0 1 = cc in omega arith)
+    go true q = differ cc
     go false q = q
 
   -- the first i rows are judged and cleared, and the rest gives the answer

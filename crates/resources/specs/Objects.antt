@@ -5,6 +5,7 @@ use Prim.Native.Nat.{ℕ, suc, _+_, _*_, _≤_}
 use native.Mathlib.Omega.{arith}
 use lib.ListN.{length, drop, replicate, length-replicate}
 use lib.Seq.{sets-eq}
+use Rattle.laws.specs.Small.{differ}
 use Rattle.layout.specs.Target.{Target, object as anything}
 use Rattle.layout.specs.Resource.{Within}
 use Rattle.layout.specs.Rows.{Row}
@@ -55,7 +56,7 @@ module _ (file : List ℕ) (readers : List Target) (shared room : ℕ) (small : 
   unfolding objectsAt
   objects-drafted w at a e q h = go (objectsAt file room readers shared at) (walks-sound file readers shared room small 32 (objectsPlan shared) at 0 0) q where
     go : (o : Outcome) → Ok (Read file readers shared room small 32 (objectsPlan shared) at 0 0) o → o ≡ read a e → Drafted (written w 0 (a .1)) (a .0) (a .1) (drop (6 * a .0) w)
-    go o not-read p = absurd (let z : _≡_ {A = ℕ} 0 1 = cc in omega arith)
+    go o not-read p = differ cc
     go o (is-read {a = b} {e = f} v) p =
         let qb : b ≡ a = cc in
         let k : 6 * b .0 ≤ length w = rw qb h in

@@ -2,8 +2,8 @@
 use mathlib.Core.Path.{_≡_, refl, sym, ap, _∙_}
 use mathlib.Core.List.{List, _++_}
 use Prim.Native.Nat.{ℕ, _*_, _-_}
-use native.Mathlib.Omega.{arith}
 use lib.ListN.{length, replicate, length-replicate}
+use Rattle.laws.specs.Small.{differ}
 use Rattle.layout.specs.Rows.{Row, flat}
 use Rattle.reading.specs.Answer.{Answer, refused, read}
 use Rattle.reading.specs.Reads.{Small}
@@ -36,7 +36,7 @@ module _ (file : List ℕ) (words : ℕ) where
         let e₁ : n ≡ m = cc in
         let e₂ : p ≡ q = cc in
         (rw (e₁, e₂), refl, sym (ap (λ (k : ℕ). replicate k 0) (length-replicate words 0)))
-    go (read a f) e = absurd (let z : _≡_ {A = ℕ} 0 1 = cc in omega arith)
+    go (read a f) e = differ cc
 
   accepted-table : (rs : List Row) (rd sh : ℕ) → tableOf (accepted rs rd sh) words ≡ flat rs ++ replicate (words - 6 * length rs) 0
   unfolding tableOf
@@ -50,7 +50,7 @@ module _ (file : List ℕ) (words : ℕ) where
   pub loaded : {rows readers shared : ℕ} → Small file → Loaded rows readers shared ≡ load.answerOf (loadOf judgedName file words) → Good readers rows
   loaded {rows} {readers} {shared} small e = go (loadOf judgedName file words) refl e where
     go : (x : Load) → loadOf judgedName file words ≡ x → Loaded rows readers shared ≡ load.answerOf x → Good readers rows
-    go (refusal n p) q e = absurd (let z : _≡_ {A = ℕ} 0 1 = cc in omega arith)
+    go (refusal n p) q e = differ cc
     go (accepted rs rd sh) q e =
         let e₁ : rows ≡ length rs = cc in
         let e₂ : readers ≡ rd = cc in

@@ -8,6 +8,7 @@ use lib.Dec.{leb}
 use lib.ListN.{length, take, drop, set, length-append, length-drop}
 use lib.Seq.{drop-drop, drop-append-seam, take-append-seam, take-all, length-take-le}
 use borrow.Author.Tests.{le-leb, leb-true}
+use Rattle.laws.specs.Small.{differ}
 use Rattle.layout.specs.Number.{little}
 use Rattle.layout.specs.Text.{ascii}
 use Rattle.layout.specs.File.{header}
@@ -114,14 +115,13 @@ module _ (file base out : List ℕ) (from to : ℕ) (whole : List ℕ) where
     not-behind h = omega (arith, wrote at value next places ev en p .ahead)
 
     pub not-copied : false ≡ inside out to file from (at - from) → ⊥
-    not-copied e = let q : false ≡ true = e ∙ wrote at value next places ev en p .copies in let z : _≡_ {A = ℕ} 0 1 = cc in omega arith
+    not-copied e = let q : false ≡ true = e ∙ wrote at value next places ev en p .copies in differ cc
 
     pub has-room : {mid : List ℕ} {r : Placed} → mid ≡ copied out to file from (at - from) → r ≡ placedAt mid (to + (at - from)) value → r ≡ NoRoom → ⊥
     has-room {mid} {r} c e n =
         let w = wrote at value next places ev en p in
         let q : NoRoom ≡ Next (to + (at - from) + length (shortest value)) = sym n ∙ rw c at e ∙ w .puts in
-        let z : _≡_ {A = ℕ} 0 1 = cc in
-        omega arith
+        differ cc
 
     pub number-written : {mid exit : List ℕ} {r : Placed} {end : ℕ} → mid ≡ copied out to file from (at - from) → r ≡ placedAt mid (to + (at - from)) value → exit ≡ writtenAt mid (to + (at - from)) value
         → r ≡ Next end → Pending file base exit next end places whole

@@ -5,6 +5,7 @@ use mathlib.Core.List.{List}
 use Prim.Native.Nat.{ℕ, _+_, _≤_}
 use native.Mathlib.Omega.{arith}
 use lib.ListN.{length, take, length-append}
+use Rattle.laws.specs.Small.{differ}
 use Rattle.layout.specs.Target.{Target}
 use Rattle.layout.specs.Tree.{count}
 use Rattle.layout.specs.File.{sharedOf, FileLays}
@@ -63,7 +64,7 @@ module _ (named : List ℕ → Target → Type 0) (nameOf : List ℕ → Named) 
   unfolding fitted
   fitted-refusal bytes out {n} {p} e = go (leb (length bytes) out) e where
     go : (t : Bool) → cond t (written bytes) (refusal 21 (length bytes)) ≡ refusal n p → (n ≡ 21) × (p ≡ length bytes)
-    go true e = absurd (let z : _≡_ {A = ℕ} 0 1 = cc in omega arith)
+    go true e = differ cc
     go false e = (cc, cc)
 
   -- a refusal's number and place are small: the place is in the file, or the bytes needed, which are no more than the file's

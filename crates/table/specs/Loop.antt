@@ -6,6 +6,7 @@ use native.Mathlib.Omega.{arith}
 use native.Mathlib.Numerals.{add-one}
 use lib.ListN.{length, getD, drop, length-append, drop-of-length-le}
 use lib.Seq.{drop-cons}
+use Rattle.laws.specs.Small.{differ}
 use Rattle.layout.specs.Rows.{Row}
 use Rattle.layout.specs.Slot.{Slot, each}
 use Rattle.reading.specs.Answer.{Answer, refused, read, bind}
@@ -27,7 +28,7 @@ got-of : (o : Outcome) {entry exit : List ℕ} {used next u : ℕ} → Walked en
 unfolding seen
 got-of (refused n p) {next = next} {u = u} m =
     let a : Done u next ≡ Refused n p = m .answers in
-    let z : _≡_ {A = ℕ} 0 1 = cc in absurd (omega arith)
+    differ cc
 got-of (read a e) {next = next} {u = u} m =
     let q : Done u next ≡ Done (a .0) e = m .answers in
     let e₁ : e ≡ next = cc in
@@ -46,7 +47,7 @@ lost-of (refused m q) {n = n} {p = p} h =
     rw (e₁, e₂)
 lost-of (read a e) {n = n} {p = p} h =
     let q : Refused n p ≡ Done (a .0) e = h .answers in
-    let z : _≡_ {A = ℕ} 0 1 = cc in absurd (omega arith)
+    differ cc
 
 pub lost : {o : Outcome} {entry exit : List ℕ} {used : ℕ} {r : Walk} {n p : ℕ} → Walked entry exit used (seen o) r → r ≡ Refused n p → o ≡ refused n p
 lost {o = o} m e = lost-of o (record { answers = sym e ∙ m .answers; writes = m .writes })

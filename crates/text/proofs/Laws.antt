@@ -1,6 +1,6 @@
 -- The laws of characters at a place of a list, as the code meets them. Assumes nothing.
 use mathlib.Core.Path.{_≡_, refl, sym, ap, _∙_}
-use mathlib.Core.Bool.{Bool, true, false, _||_, and-true}
+use mathlib.Core.Bool.{Bool, true, false, _||_, and-true, cond}
 use mathlib.Core.List.{List, _∷_}
 use Prim.Native.Nat.{ℕ, zero, suc, _+_, _*_, _-_, _<_, _≤_}
 use native.Mathlib.Nat.{add-zero}
@@ -11,13 +11,10 @@ use lib.ListN.{length, getD, drop, length-drop, drop-of-length-le}
 use lib.Seq.{drop-cons, drop-drop, getD-drop}
 use lib.Dec.{leb}
 use borrow.Author.Tests.{le-leb, lt-leb, leb-false}
+use Rattle.laws.specs.Small.{both, neither}
 use Rattle.reading.specs.Answer.{refused, read, check, within, true-within}
-use Rattle.reading.specs.Utf8.{pick, size, size-one, size-low, size-four, size-high, least, most, between, follow, follow-fits, follow-first, follow-last, both, least-known, charSize, sized, char-fits, bits, mark, charOf, charAt, chars, utf8s, utf8s-stops, utf8s-steps}
+use Rattle.reading.specs.Utf8.{size, size-one, size-low, size-four, size-high, least, most, between, follow, follow-fits, follow-first, follow-last, least-known, charSize, sized, char-fits, bits, mark, charOf, charAt, chars, utf8s, utf8s-stops, utf8s-steps}
 use Rattle.text.specs.Passed.{Passed, Ran}
-
-pub neither : (s t : Bool) → (s || t) ≡ false → (s ≡ false) × (t ≡ false)
-neither true t e = let z : _≡_ {A = ℕ} 0 1 = cc in absurd (omega arith)
-neither false t e = (refl, e)
 
 module _ (s : List ℕ) (i : ℕ) where
   pub at-byte : i < length s → drop i s ≡ getD s i 0 ∷ drop (i + 1) s
@@ -47,7 +44,7 @@ module _ (s : List ℕ) (i : ℕ) where
   no-char h e = rw (at-byte h, e)
 
   pub char-here : (k : ℕ) (t : Bool) → i < length s → size (getD s i 0) ≡ suc k
-      → follow k (least (getD s i 0)) (most (getD s i 0)) (drop (i + 1) s) ≡ t → charSize (drop i s) ≡ pick t (suc k) 0
+      → follow k (least (getD s i 0)) (most (getD s i 0)) (drop (i + 1) s) ≡ t → charSize (drop i s) ≡ cond t (suc k) 0
   char-here k t h e f = rw (at-byte h) (sized (getD s i 0) k (drop (i + 1) s) e ∙ rw f)
 
   -- ---- one character

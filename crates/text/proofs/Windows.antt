@@ -1,6 +1,6 @@
 -- Bytes that fit after the three before them make characters. Assumes nothing.
 use mathlib.Core.Path.{_≡_, refl, sym, _∙_}
-use mathlib.Core.Bool.{Bool, true, false, _||_, xor, or-true, true≢false}
+use mathlib.Core.Bool.{Bool, true, false, _||_, xor, or-true, true≢false, cond}
 use mathlib.Core.List.{List}
 use mathlib.Core.Logic.{_⊎_, inl, inr, ⊎-elim}
 use Prim.Native.Nat.{ℕ, zero, suc, _+_, _<_, _≤_}
@@ -10,19 +10,20 @@ use native.Mathlib.Decide.{decLt}
 use lib.Dec.{leb, eqb}
 use lib.ListN.{length, getD, drop}
 use borrow.Author.Tests.{leb-true, leb-false, le-leb, lt-leb, eqb-false, ne-eqb}
-use Rattle.reading.specs.Utf8.{size, size-two, size-three, size-four, pick, between, least, most, least-known, both, follow}
+use Rattle.laws.specs.Small.{both, neither}
+use Rattle.reading.specs.Utf8.{size, size-two, size-three, size-four, between, least, most, least-known, follow}
 use Rattle.text.specs.Passed.{Passed}
 use Rattle.text.specs.Window.{Fits, AllFit, Part, Before, whole, one, two, three, Three}
-use Rattle.text.proofs.Laws.{neither, range-at, goes-on, char-here, passed-none, pass-ascii, pass-char}
+use Rattle.text.proofs.Laws.{range-at, goes-on, char-here, passed-none, pass-ascii, pass-char}
 
 -- ---- a byte that fits
-pick-le : (t : Bool) (x y n : ℕ) → x ≤ n → y ≤ n → pick t x y ≤ n
+pick-le : (t : Bool) (x y n : ℕ) → x ≤ n → y ≤ n → cond t x y ≤ n
 pick-le true x y n p q = p
 pick-le false x y n p q = q
 
 most-high : (b : ℕ) → most b ≤ 0xBF
 unfolding most
-most-high b = pick-le (eqb b 0xED) 0x9F (pick (eqb b 0xF4) 0x8F 0xBF) 0xBF (omega arith) (pick-le (eqb b 0xF4) 0x8F 0xBF 0xBF (omega arith) (omega arith))
+most-high b = pick-le (eqb b 0xED) 0x9F (cond (eqb b 0xF4) 0x8F 0xBF) 0xBF (omega arith) (pick-le (eqb b 0xF4) 0x8F 0xBF 0xBF (omega arith) (omega arith))
 
 below-leads : (b d : ℕ) → b < 0xC0 → between (least b) (most b) d ≡ between 0x80 0xBF d
 unfolding least most

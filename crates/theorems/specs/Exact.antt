@@ -5,6 +5,7 @@ use mathlib.Core.Logic.{_↔_}
 use Prim.Native.Nat.{ℕ, _*_, _-_, _≤_}
 use native.Mathlib.Omega.{arith}
 use lib.ListN.{length, replicate}
+use Rattle.laws.specs.Small.{differ}
 use Rattle.layout.specs.Target.{Target}
 use Rattle.layout.specs.Tree.{Trees, count}
 use Rattle.layout.specs.Slot.{Slot, each}
@@ -75,4 +76,4 @@ module _ {file entry exit : List ℕ} {r : Loading} (p : Promised file entry exi
         let e₁ : number ≡ m = cc in
         let e₂ : place ≡ q = cc in
         (omega (arith, a .0), omega (arith, a .1), omega (arith, b .0))
-    go (accepted rows readers shared) f e = absurd (let z : _≡_ {A = ℕ} 0 1 = cc in omega arith)
+    go (accepted rows readers shared) f e = differ cc

@@ -8,6 +8,7 @@ use lib.Signed.{ltZ, quotZ, remZ}
 use borrow.Author.Tests.{le-ltb, ltb-true}
 use mir.Val.{SFits}
 use mir.Syntax.{w64}
+use Rattle.laws.specs.Small.{differ}
 use Rattle.ticks.specs.Split.{floorDiv, floorMod}
 
 negated-fits : (q : ℕ) → q < 9223372036854775808 → SFits w64 (negℤ (pos q))
@@ -35,13 +36,13 @@ less d s h = rw (le-ltb d s h)
 
 low : (a q r : ℕ) → q ≡ suc a / 10000000 → r ≡ suc a % 10000000 → ltZ (negℤ (pos r)) (pos 0) ≡ true
     → (negℤ (pos q) -ℤ pos 1 ≡ negsuc (a / 10000000)) × (negℤ (pos r) +ℤ pos 10000000 ≡ pos (9999999 - a % 10000000))
-low a q zero eq er t = absurd (let z : _≡_ {A = ℕ} 0 1 = cc in omega arith)
+low a q zero eq er t = differ cc
 low a zero (suc r) eq er t = (ap negsuc (omega arith), less 10000000 (suc r) (omega arith) ∙ ap pos (omega arith))
 low a (suc q) (suc r) eq er t = (ap negsuc (omega arith), less 10000000 (suc r) (omega arith) ∙ ap pos (omega arith))
 
 high : (a q r : ℕ) → q ≡ suc a / 10000000 → r ≡ suc a % 10000000 → ltZ (negℤ (pos r)) (pos 0) ≡ false
     → (negℤ (pos q) ≡ negsuc (a / 10000000)) × (negℤ (pos r) ≡ pos (9999999 - a % 10000000))
-high a q (suc r) eq er t = absurd (let z : _≡_ {A = ℕ} 0 1 = cc in omega arith)
+high a q (suc r) eq er t = differ cc
 high a zero zero eq er t = absurd (omega arith)
 high a (suc q) zero eq er t = (ap negsuc (omega arith), ap pos (omega arith))
 

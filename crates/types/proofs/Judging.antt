@@ -1,6 +1,6 @@
 -- The heads of a name pass exactly when it has a target. Assumes nothing.
 use mathlib.Core.Path.{_≡_, refl, sym, ap, _∙_}
-use mathlib.Core.Bool.{Bool, true, false, not, _&&_, _||_, and-true}
+use mathlib.Core.Bool.{Bool, true, false, not, _&&_, _||_, and-true, cond}
 use mathlib.Core.List.{List, [], _++_, append-assoc, append-nil}
 use Prim.Native.Nat.{ℕ, _+_, _*_, _<_}
 use native.Mathlib.Omega.{arith}
@@ -9,7 +9,6 @@ use borrow.Author.Tests.{eqb-true, eqb-false, eq-eqb, ne-eqb, lt-ltb, le-ltb, lt
 use Rattle.layout.specs.Target.{Target, enum, nullable, list, dictionary, kindOf, isValue}
 use Rattle.names.specs.Name.{Name, simple, one, two, between, headings}
 use Rattle.names.specs.Kind.{codes, lookup, listed, targets, readers, node}
-use Rattle.names.specs.Parse.{pick}
 use Rattle.types.specs.Types.{Typed, unknown, known, fixedKind, plain, nullableOf, wrapped, paired, typeOf, enumOf, arrayOf, readerOf}
 use Rattle.types.specs.Finite.{allBelow, below-is, agrees, agree}
 use Rattle.types.specs.Judge.{isKnown, headOk, valueOk, argumentsOk, enumOk, readerOk}
@@ -47,7 +46,7 @@ module _ (k : ℕ) (small : k < 64) where
   unfolding headOk
   none-head = let z : k + 64 * 0 ≡ k = omega arith in rw (z, lt-ltb k 64 small)
 
-  one-head : headOk (node k 1) ≡ pick (eqb k 16) true (eqb k 18)
+  one-head : headOk (node k 1) ≡ cond (eqb k 16) true (eqb k 18)
   unfolding headOk
   one-head =
       rw (
@@ -56,7 +55,7 @@ module _ (k : ℕ) (small : k < 64) where
         eqb-as (k + 64 * 1) 82 k 18 (eqb k 18) (λ q. omega arith) (λ q. omega arith) refl,
         ne-eqb (k + 64 * 1) 147 (λ q. omega arith),
       ) (last (eqb k 16) (eqb k 18)) where
-        last : (a b : Bool) → pick a true (pick b true false) ≡ pick a true b
+        last : (a b : Bool) → cond a true (cond b true false) ≡ cond a true b
         last true b = refl
         last false true = refl
         last false false = refl
@@ -78,7 +77,7 @@ module _ (k : ℕ) (small : k < 64) where
 no-value : (b : ℕ) → 63 < b → valueOk b ≡ false
 unfolding valueOk fixedKind between
 no-value b h = rw (lt-leb b 11 (omega arith), lt-leb b 30 (omega arith), ne-eqb b 12 (λ q. omega arith)) (no-both (leb 1 b) (leb 20 b)) where
-  no-both : (x y : Bool) → pick ((x && false) || (y && false)) true false ≡ false
+  no-both : (x y : Bool) → cond ((x && false) || (y && false)) true false ≡ false
   no-both true true = refl
   no-both true false = refl
   no-both false true = refl
@@ -86,20 +85,20 @@ no-value b h = rw (lt-leb b 11 (omega arith), lt-leb b 30 (omega arith), ne-eqb 
 
 -- an argument's type is known, and a value type other than Nullable where Nullable is before it
 abbrev pub fitting : (after : Bool) → Typed → Bool
-fitting after r = pick after (valuable r) (isKnown r)
+fitting after r = cond after (valuable r) (isKnown r)
 
-nullable-known : (v : Bool) (t : Target) → (isKnown (pick v (known (nullable t)) unknown) ≡ v) × (valuable (pick v (known (nullable t)) unknown) ≡ false)
+nullable-known : (v : Bool) (t : Target) → (isKnown (cond v (known (nullable t)) unknown) ≡ v) × (valuable (cond v (known (nullable t)) unknown) ≡ false)
 unfolding isKnown valuable isValue kindOf
 nullable-known true t = (refl, refl)
 nullable-known false t = (refl, refl)
 
-pick-known : (p : Bool) (t : Target) → isKnown (pick p (known t) unknown) ≡ p
+pick-known : (p : Bool) (t : Target) → isKnown (cond p (known t) unknown) ≡ p
 unfolding isKnown
 pick-known true t = refl
 pick-known false t = refl
 
 one-known : (after p q more : Bool) (t : Target)
-    → (pick after false (pick p true q) && (fitting p (known t) && more)) ≡ (fitting after (pick p (nullableOf t) (pick q (known (list t)) unknown)) && more)
+    → (cond after false (cond p true q) && (fitting p (known t) && more)) ≡ (fitting after (cond p (nullableOf t) (cond q (known (list t)) unknown)) && more)
 unfolding fitting nullableOf valuable isKnown isValue kindOf
 one-known true true q more t = rw (nullable-known (isValue t && not (eqb (kindOf t) 16)) t .1)
 one-known true false true more t = refl
@@ -109,29 +108,29 @@ one-known false false true more t = refl
 one-known false false false more t = refl
 
 -- an argument that is unknown
-none-known : (after p more : Bool) → (pick after false p && false) ≡ (pick after false false && more)
+none-known : (after p more : Bool) → (cond after false p && false) ≡ (cond after false false && more)
 none-known true p more = refl
 none-known false true more = refl
 none-known false false more = refl
 
-same-false : (p : Bool) → pick p false false ≡ false
+same-false : (p : Bool) → cond p false false ≡ false
 same-false true = refl
 same-false false = refl
 
 one-is : (after : Bool) (k : ℕ) (more : Bool) (r : Typed)
-    → (pick after false (pick (eqb k 16) true (eqb k 18)) && (fitting (eqb k 16) r && more)) ≡ (fitting after (wrapped k r) && more)
+    → (cond after false (cond (eqb k 16) true (eqb k 18)) && (fitting (eqb k 16) r && more)) ≡ (fitting after (wrapped k r) && more)
 unfolding wrapped fitting valuable isKnown
-one-is after k more unknown = rw (same-false (eqb k 16)) (none-known after (pick (eqb k 16) true (eqb k 18)) more)
+one-is after k more unknown = rw (same-false (eqb k 16)) (none-known after (cond (eqb k 16) true (eqb k 18)) more)
 one-is after k more (known t) = one-known after (eqb k 16) (eqb k 18) more t
 
-two-known : (after p more : Bool) (t u : Target) → (pick after false p && (fitting false (known t) && (fitting false (known u) && more))) ≡ (fitting after (pick p (known (dictionary t u)) unknown) && more)
+two-known : (after p more : Bool) (t u : Target) → (cond after false p && (fitting false (known t) && (fitting false (known u) && more))) ≡ (fitting after (cond p (known (dictionary t u)) unknown) && more)
 unfolding fitting valuable isKnown isValue kindOf
 two-known true true more t u = refl
 two-known true false more t u = refl
 two-known false true more t u = refl
 two-known false false more t u = refl
 
-two-is : (after : Bool) (k : ℕ) (more : Bool) (r s : Typed) → (pick after false (eqb k 19) && (fitting false r && (fitting false s && more))) ≡ (fitting after (paired k r s) && more)
+two-is : (after : Bool) (k : ℕ) (more : Bool) (r s : Typed) → (cond after false (eqb k 19) && (fitting false r && (fitting false s && more))) ≡ (fitting after (paired k r s) && more)
 unfolding paired fitting valuable isKnown
 two-is after k more unknown s = none-known after (eqb k 19) more
 two-is after k more (known t) unknown = none-known after (eqb k 19) more
@@ -161,7 +160,7 @@ alone : (n : Name) (after : Bool) → argumentsOk after (codes false (headings n
 unfolding argumentsOk
 alone n after = ap (argumentsOk after) (sym (append-nil (codes false (headings n)))) ∙ argument-judged n after [] ∙ and-true (fitting after (typeOf n))
 
-pick-apart : (p : Bool) (x y : Typed) → isKnown (pick p x y) ≡ pick p (isKnown x) (isKnown y)
+pick-apart : (p : Bool) (x y : Typed) → isKnown (cond p x y) ≡ cond p (isKnown x) (isKnown y)
 pick-apart true x y = refl
 pick-apart false x y = refl
 
@@ -188,8 +187,8 @@ reader-judged (one h a t) =
     let k = lookup h readers in
     let b : k < 64 = kind-is-small true h in
     let r = typeOf a in
-    let w : (pick (eqb k 16) true (eqb k 18) && fitting (eqb k 16) r) ≡ isKnown (wrapped k r)
-    = ap (λ (y : Bool). pick (eqb k 16) true (eqb k 18) && y) (sym (and-true (fitting (eqb k 16) r))) ∙ one-is false k true r ∙ and-true (isKnown (wrapped k r)) in
+    let w : (cond (eqb k 16) true (eqb k 18) && fitting (eqb k 16) r) ≡ isKnown (wrapped k r)
+    = ap (λ (y : Bool). cond (eqb k 16) true (eqb k 18) && y) (sym (and-true (fitting (eqb k 16) r))) ∙ one-is false k true r ∙ and-true (isKnown (wrapped k r)) in
     rw (
       same-node k 15 1,
       same-node k 17 1,
@@ -199,7 +198,7 @@ reader-judged (one h a t) =
       alone a false,
       enum-judged a,
       w,
-      pick-apart (eqb k 15) (enumOf a) (pick (eqb k 17) (arrayOf r) (wrapped k r)),
+      pick-apart (eqb k 15) (enumOf a) (cond (eqb k 17) (arrayOf r) (wrapped k r)),
       pick-apart (eqb k 17) (arrayOf r) (wrapped k r),
       array-known r,
     )

@@ -1,13 +1,12 @@
 -- Loops over codes. Assumes nothing.
 use mathlib.Core.Path.{_≡_, refl, sym, ap, _∙_}
-use mathlib.Core.Bool.{Bool, true, false, _&&_}
+use mathlib.Core.Bool.{Bool, true, false, _&&_, cond}
 use mathlib.Core.List.{List, [], _∷_}
 use Prim.Native.Nat.{ℕ, suc, _+_, _-_, _/_, _≤_, _<_}
 use native.Mathlib.Omega.{arith}
 use lib.Dec.{eqb}
 use lib.ListN.{length, drop, getD, drop-of-length-le}
 use borrow.Author.Tests.{eq-eqb, ne-eqb}
-use Rattle.names.specs.Parse.{pick}
 use Rattle.names.proofs.Laws.{cons-at}
 use Rattle.types.specs.Place.{extent, agree}
 use Rattle.types.specs.Judge.{headOk, valueOk, argumentsOk, enumOk, readerOk}
@@ -72,14 +71,14 @@ module _ (s : List ℕ) (i : ℕ) (nullable : Bool) {all : Bool} (e : all ≡ ar
   unfolding argumentsOk
   arguments-end h = sym (e ∙ ap (argumentsOk nullable) (drop-of-length-le s h))
 
-  opened : i < length s → all ≡ (pick nullable (valueOk (getD s i 0)) (headOk (getD s i 0)) && argumentsOk (eqb (getD s i 0) 80) (drop (i + 1) s))
+  opened : i < length s → all ≡ (cond nullable (valueOk (getD s i 0)) (headOk (getD s i 0)) && argumentsOk (eqb (getD s i 0) 80) (drop (i + 1) s))
   unfolding argumentsOk
   opened h = e ∙ ap (argumentsOk nullable) (cons-at s i h)
 
-  pub arguments-no : i < length s → pick nullable (valueOk (getD s i 0)) (headOk (getD s i 0)) ≡ false → false ≡ all
+  pub arguments-no : i < length s → cond nullable (valueOk (getD s i 0)) (headOk (getD s i 0)) ≡ false → false ≡ all
   arguments-no h d = sym (opened h ∙ rw d)
 
-  pub arguments-step : i < length s → pick nullable (valueOk (getD s i 0)) (headOk (getD s i 0)) ≡ true → all ≡ argumentsOk (eqb (getD s i 0) 80) (drop (i + 1) s)
+  pub arguments-step : i < length s → cond nullable (valueOk (getD s i 0)) (headOk (getD s i 0)) ≡ true → all ≡ argumentsOk (eqb (getD s i 0) 80) (drop (i + 1) s)
   arguments-step h d = opened h ∙ rw d
 
 -- a list of codes by its first
@@ -99,7 +98,7 @@ reader-none [] e = refl
 reader-none (b ∷ s) e = absurd (omega arith)
 
 pub reader-some : (s : List ℕ) → (length s ≡ 0 → ⊥)
-    → readerOk s ≡ pick (eqb (getD s 0 0) 79) (enumOk (drop 1 s)) (pick (eqb (getD s 0 0) 81) (argumentsOk false (drop 1 s)) (headOk (getD s 0 0) && argumentsOk (eqb (getD s 0 0) 80) (drop 1 s)))
+    → readerOk s ≡ cond (eqb (getD s 0 0) 79) (enumOk (drop 1 s)) (cond (eqb (getD s 0 0) 81) (argumentsOk false (drop 1 s)) (headOk (getD s 0 0) && argumentsOk (eqb (getD s 0 0) 80) (drop 1 s)))
 unfolding readerOk
 reader-some [] f = absurd (f refl)
 reader-some (b ∷ s) f = refl

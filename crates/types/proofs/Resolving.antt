@@ -7,6 +7,7 @@ use native.Mathlib.Omega.{arith}
 use lib.ListN.{length, take, drop}
 use lib.Seq.{sets, sets-eq, length-sets, length-take-le, drop-append-seam, take-append-seam}
 use borrow.Author.Tests.{leb-true}
+use Rattle.laws.specs.Small.{differ}
 use Rattle.names.specs.declared.Named.{Named}
 use Rattle.names.specs.declared.Named.the-variants.{Codes, Broken as Named-broken, NoRoom as Named-no-room}
 use Rattle.names.specs.Name.{Name, headings}
@@ -35,14 +36,14 @@ module _ (s c c′ : List ℕ) (used : ℕ) where
   no-room-as : (b : Bool) (r : Read) → roomy s c used ≡ b → nameOf s ≡ r → no-room ≡ answerOf b used r → c′ ≡ contentOf b c used r → Resolves s c c′ used NoRoom
   unfolding answerOf contentOf resolution content
   no-room-as false r q i a w = record { answers = rw q; writes = w ∙ rw q }
-  no-room-as true (broken hs) q i a w = absurd (let z : _≡_ {A = ℕ} 0 1 = cc in omega arith)
-  no-room-as true (name n k) q i a w = absurd (let z : _≡_ {A = ℕ} 0 1 = cc in omega arith)
+  no-room-as true (broken hs) q i a w = differ cc
+  no-room-as true (name n k) q i a w = differ cc
 
   broken-as : (b : Bool) (r : Read) → roomy s c used ≡ b → nameOf s ≡ r → refused 10 ≡ answerOf b used r → c′ ≡ contentOf b c used r → Resolves s c c′ used Broken
   unfolding answerOf contentOf resolution content
-  broken-as false r q i a w = absurd (let z : _≡_ {A = ℕ} 0 1 = cc in omega arith)
+  broken-as false r q i a w = differ cc
   broken-as true (broken hs) q i a w = record { answers = rw (q, i); writes = w ∙ rw (q, i) }
-  broken-as true (name n k) q i a w = absurd (let z : _≡_ {A = ℕ} 0 1 = cc in omega arith)
+  broken-as true (name n k) q i a w = differ cc
 
   -- a whole name was read
   pub record Got (end : ℕ) : Type 0 where
@@ -57,8 +58,8 @@ module _ (s c c′ : List ℕ) (used : ℕ) where
 
   got-as : (end : ℕ) (b : Bool) (r : Read) → roomy s c used ≡ b → nameOf s ≡ r → coded end ≡ answerOf b used r → c′ ≡ contentOf b c used r → Got end
   unfolding answerOf contentOf roomy
-  got-as end false r q i a w = absurd (let z : _≡_ {A = ℕ} 0 1 = cc in omega arith)
-  got-as end true (broken hs) q i a w = absurd (let z : _≡_ {A = ℕ} 0 1 = cc in omega arith)
+  got-as end false r q i a w = differ cc
+  got-as end true (broken hs) q i a w = differ cc
   got-as end true (name n k) q i a w =
       let ws = codes true (headings n) in
       let e : end ≡ used + length (headings n) = cc in
@@ -80,11 +81,11 @@ module _ (s c c′ : List ℕ) (used : ℕ) where
   unknown-as : {end : ℕ} (g : Got end) (r : Typed) → readerOf (g .n) ≡ r → isKnown r ≡ false → Resolves s c c′ used Unknown
   unfolding resolution content judged left isKnown
   unknown-as g unknown q e = record { answers = rw (g .room, g .is, q); writes = g .writes ∙ rw (g .room, g .is, q) }
-  unknown-as g (known t) q e = absurd (let z : _≡_ {A = ℕ} 0 1 = cc in omega arith)
+  unknown-as g (known t) q e = differ cc
 
   known-as : {end : ℕ} (g : Got end) (r : Typed) → readerOf (g .n) ≡ r → Ok (λ t. codes true (headings (g .n)) ≡ code t) r → isKnown r ≡ true → Resolves s c c′ used (Target end)
   unfolding resolution content judged left isKnown
-  known-as g unknown q o e = absurd (let z : _≡_ {A = ℕ} 0 1 = cc in omega arith)
+  known-as g unknown q o e = differ cc
   known-as {end} g (known t) q (Ok.some p) e =
       let l : end ≡ used + length (code t) = omega (arith, g .ends, codes-length true (headings (g .n)), ap length p) in
       record { answers = rw (g .room, g .is, q, l); writes = g .writes ∙ rw (g .room, g .is, q, p) }

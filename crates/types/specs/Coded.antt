@@ -1,16 +1,16 @@
 -- The heads' codes of a name that has a target are that target's codes. Assumes nothing.
 use mathlib.Core.Path.{_≡_, refl, ap}
-use mathlib.Core.Bool.{Bool, true, false, not, _&&_}
+use mathlib.Core.Bool.{Bool, true, false, not, _&&_, cond}
 use mathlib.Core.List.{List, [], _∷_, _++_}
 use mathlib.Core.Logic.{_⊎_, inl, inr}
 use Prim.Native.Nat.{ℕ, _+_, _*_}
 use native.Mathlib.Omega.{arith}
 use lib.Dec.{eqb}
 use borrow.Author.Tests.{eqb-true}
+use Rattle.laws.specs.Small.{differ}
 use Rattle.layout.specs.Target.{Target, fixed, char, string, object, texture, texture2D, spriteFont, page, enum, nullable, array, list, dictionary, kindOf, isValue}
 use Rattle.names.specs.Name.{Name, simple, one, two, headings}
 use Rattle.names.specs.Kind.{codes, lookup, listed, targets, readers, node}
-use Rattle.names.specs.Parse.{pick}
 use Rattle.types.specs.Types.{Typed, unknown, known, fixedKind, plain, nullableOf, wrapped, paired, typeOf, enumOf, arrayOf, readerOf}
 use Rattle.types.specs.Code.{code, Throughout}
 use Rattle.names.specs.Codes.{codes-append}
@@ -21,12 +21,12 @@ pub data Ok (P : Target → Type 0) : Typed → Type 0 where
   some : {t : Target} → P t → Ok P (known t)
 
 module _ {P : Target → Type 0} where
-  pub ok-pick : (b : Bool) {x y : Typed} → (b ≡ true → Ok P x) → Ok P y → Ok P (pick b x y)
+  pub ok-pick : (b : Bool) {x y : Typed} → (b ≡ true → Ok P x) → Ok P y → Ok P (cond b x y)
   ok-pick true f g = f refl
   ok-pick false f g = g
 
   pub got : {r : Typed} {t : Target} → Ok P r → r ≡ known t → P t
-  got Ok.none e = absurd (let z : _≡_ {A = ℕ} 0 1 = cc in omega arith)
+  got Ok.none e = differ cc
   got {t} (Ok.some {t = u} p) e =
       let a : u ≡ t = cc in
       rw a at p

@@ -1,21 +1,16 @@
 -- Codes begin with those of one type only, but for the names of enums. Assumes nothing.
 use mathlib.Core.Path.{_≡_, refl, sym, ap, _∙_}
-use mathlib.Core.Bool.{Bool, true, false, _||_}
+use mathlib.Core.Bool.{Bool, true, false, _||_, cond}
 use mathlib.Core.List.{List, [], _∷_, _++_, append-assoc}
 use Prim.Native.Nat.{ℕ, _<_}
 use native.Mathlib.Omega.{arith}
 use lib.Dec.{eqb, ltb, leb}
 use borrow.Author.Tests.{lt-ltb, leb-true}
+use Rattle.laws.specs.Small.{either, both}
 use Rattle.layout.specs.Target.{Target, fixed, char, string, object, texture, texture2D, spriteFont, page, enum, nullable, array, list, dictionary}
 use Rattle.names.specs.Name.{between}
-use Rattle.names.specs.Parse.{pick}
-use Rattle.names.specs.Complete.{both}
 use Rattle.types.specs.Types.{Typed, unknown, known, fixedKind, plain}
 use Rattle.types.specs.Code.{code, Throughout, Lawful, NoEnum}
-
-either : (a b : Bool) → (a || b) ≡ true → {Q : Type 0} → (a ≡ true → Q) → (b ≡ true → Q) → Q
-either true b e f g = f refl
-either false b e f g = g e
 
 -- the kinds of `fixed` targets are below 64
 pub fixed-small : (k : ℕ) → fixedKind k ≡ true → k < 64
@@ -40,8 +35,8 @@ two-made (t ∷ u ∷ ts) = dictionary t u ∷ ts
 decode : List ℕ → List Target
 decode [] = []
 decode (b ∷ s) =
-    pick (ltb b 64) (leafOf (plain b) ∷ decode s) (pick (eqb b 79) (one-made (λ _. enum []) (decode s)) (pick (eqb b 80) (one-made nullable (decode s))
-    (pick (eqb b 81) (one-made array (decode s)) (pick (eqb b 82) (one-made list (decode s)) (two-made (decode s))))))
+    cond (ltb b 64) (leafOf (plain b) ∷ decode s) (cond (eqb b 79) (one-made (λ _. enum []) (decode s)) (cond (eqb b 80) (one-made nullable (decode s))
+    (cond (eqb b 81) (one-made array (decode s)) (cond (eqb b 82) (one-made list (decode s)) (two-made (decode s))))))
 
 -- a type without the names of its enums
 nameless : Target → Target

@@ -5,7 +5,7 @@ use Prim.Native.Nat.{ℕ, zero, suc, _<_}
 use native.Mathlib.Omega.{arith}
 use lib.Dec.{eqb}
 use borrow.Author.Tests.{eqb-true, eqb-false}
-use Rattle.names.specs.Complete.{both}
+use Rattle.laws.specs.Small.{both}
 
 -- a test of every number below n
 unfoldable pub allBelow : (ℕ → Bool) → ℕ → Bool

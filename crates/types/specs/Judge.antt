@@ -1,10 +1,9 @@
 -- Whether the codes of a well-formed name's heads are those of a target, from left to right. Assumes nothing.
-use mathlib.Core.Bool.{Bool, true, false, _&&_}
+use mathlib.Core.Bool.{Bool, true, false, _&&_, cond}
 use mathlib.Core.List.{List, [], _∷_}
 use Prim.Native.Nat.{ℕ}
 use lib.Dec.{eqb, ltb}
 use Rattle.names.specs.Kind.{node}
-use Rattle.names.specs.Parse.{pick}
 use Rattle.types.specs.Types.{Typed, unknown, known, fixedKind, plain}
 
 -- a name has a target
@@ -14,16 +13,16 @@ isKnown (known t) = true
 
 -- an argument's head: a kind with no argument, Nullable or List with one, Dictionary with two
 unfoldable pub headOk : ℕ → Bool
-headOk b = pick (ltb b 64) (isKnown (plain b)) (pick (eqb b (node 16 1)) true (pick (eqb b (node 18 1)) true (eqb b (node 19 2))))
+headOk b = cond (ltb b 64) (isKnown (plain b)) (cond (eqb b (node 16 1)) true (cond (eqb b (node 18 1)) true (eqb b (node 19 2))))
 
 -- 01: "a value type other than Nullable", among arguments
 unfoldable pub valueOk : ℕ → Bool
-valueOk b = pick (fixedKind b) true (eqb b 12)
+valueOk b = cond (fixedKind b) true (eqb b 12)
 
 -- the heads of arguments; `nullable` says that the head before was Nullable
 unfoldable pub argumentsOk : (nullable : Bool) → List ℕ → Bool
 argumentsOk nullable [] = true
-argumentsOk nullable (b ∷ s) = pick nullable (valueOk b) (headOk b) && argumentsOk (eqb b (node 16 1)) s
+argumentsOk nullable (b ∷ s) = cond nullable (valueOk b) (headOk b) && argumentsOk (eqb b (node 16 1)) s
 
 -- Enum's own argument has no listed head and no arguments
 unfoldable pub enumOk : List ℕ → Bool
@@ -34,4 +33,4 @@ enumOk (b ∷ s) = eqb b 0
 unfoldable pub readerOk : List ℕ → Bool
 readerOk [] = false
 readerOk (b ∷ s) =
-    pick (eqb b (node 15 1)) (enumOk s) (pick (eqb b (node 17 1)) (argumentsOk false s) (headOk b && argumentsOk (eqb b (node 16 1)) s))
+    cond (eqb b (node 15 1)) (enumOk s) (cond (eqb b (node 17 1)) (argumentsOk false s) (headOk b && argumentsOk (eqb b (node 16 1)) s))

@@ -1,6 +1,6 @@
 -- What the codes say of the types that stand in them. Assumes nothing.
 use mathlib.Core.Path.{_≡_, refl, sym, ap, _∙_}
-use mathlib.Core.Bool.{Bool, true, false, _&&_}
+use mathlib.Core.Bool.{Bool, true, false, _&&_, cond}
 use mathlib.Core.List.{List, [], _∷_, _++_, append-assoc}
 use mathlib.Core.Logic.{_⊎_, inl, inr}
 use Prim.Native.Nat.{ℕ, suc, _+_, _-_, _%_, _≤_, _<_}
@@ -9,13 +9,13 @@ use lib.Dec.{eqb, ltb}
 use lib.ListN.{length, take, drop, getD, set}
 use lib.Seq.{drop-drop, drop-append-seam, getD-drop, drop-set-add, length-take-le, sets, sets-eq}
 use borrow.Author.Tests.{eqb-true, eq-eqb, ltb-true}
+use Rattle.laws.specs.Small.{differ, both}
 use Rattle.layout.specs.Target.{Target, fixed, char, string, object, texture, texture2D, spriteFont, page, enum, nullable, array, list, dictionary, kindOf, isValue, Serves, same, any, picture}
 use Rattle.layout.specs.Fixed.{sizes}
 use Rattle.names.specs.Name.{Name, simple, one, two, between}
 use Rattle.names.specs.Codes.{alike-then, alike-self}
 use Rattle.names.specs.Kind.{alike, lookup, readers, targets}
-use Rattle.names.specs.Parse.{pick, starts}
-use Rattle.names.specs.Complete.{both}
+use Rattle.names.specs.Parse.{starts}
 use Rattle.names.specs.Sound.{starts-is}
 use Rattle.types.specs.Finite.{allBelow, below-is}
 use Rattle.types.specs.Types.{Typed, known, fixedKind, plain, wrapped, paired, typeOf, enumOf, readerOf}
@@ -100,11 +100,11 @@ kind-type (fixed k) t w e = let h : known (fixed k) ≡ known t = rw w at e in c
 kind-type char t w e = cc
 kind-type string t w e = cc
 kind-type object t w e = cc
-kind-type (enum name) t w e = absurd (let z : _≡_ {A = ℕ} 0 1 = cc in omega arith)
-kind-type (nullable u) t w e = absurd (let z : _≡_ {A = ℕ} 0 1 = cc in omega arith)
-kind-type (array u) t w e = absurd (let z : _≡_ {A = ℕ} 0 1 = cc in omega arith)
-kind-type (list u) t w e = absurd (let z : _≡_ {A = ℕ} 0 1 = cc in omega arith)
-kind-type (dictionary k v) t w e = absurd (let z : _≡_ {A = ℕ} 0 1 = cc in omega arith)
+kind-type (enum name) t w e = differ cc
+kind-type (nullable u) t w e = differ cc
+kind-type (array u) t w e = differ cc
+kind-type (list u) t w e = differ cc
+kind-type (dictionary k v) t w e = differ cc
 kind-type texture t w e = cc
 kind-type texture2D t w e = cc
 kind-type spriteFont t w e = cc
@@ -113,14 +113,14 @@ kind-type page t w e = cc
 pub of-kind : (d t : Target) (k : ℕ) → Lawful d → kindOf d ≡ k → plain k ≡ known t → d ≡ t
 of-kind d t k w e q = kind-type d t w (ap plain e ∙ q)
 
-last-true : (a b : Bool) → pick a true (pick b true true) ≡ true
+last-true : (a b : Bool) → cond a true (cond b true true) ≡ true
 last-true true b = refl
 last-true false true = refl
 last-true false false = refl
 
 -- at two places, the first of a declared type: the test says exactly what 01 says of declared types (`Serves`)
 module _ {c : List ℕ} {a b : ℕ} {d t : Target} (n : NoEnum d) (p : Stands c a d) (q : Stands c b t) where
-  serves : (x y : Bool) → eqb (kindAt c a) 14 ≡ x → (eqb (kindAt c a) 31 && eqb (kindAt c b) 32) ≡ y → pick x true (pick y true (equalAt c a b)) ≡ true → Serves d t
+  serves : (x y : Bool) → eqb (kindAt c a) 14 ≡ x → (eqb (kindAt c a) 31 && eqb (kindAt c b) 32) ≡ y → cond x true (cond y true (equalAt c a b)) ≡ true → Serves d t
   unfolding plain fixedKind between
   serves true y ex ey e =
       let z : d ≡ object = of-kind d object 14 (p .lawful) (sym (kind-is p) ∙ eqb-true (kindAt c a) 14 ex) refl in
@@ -144,7 +144,7 @@ module _ {c : List ℕ} {a b : ℕ} where
   then-fits n p q picture = rw (kind-is p, kind-is q)
 
 fixed-tested : ℕ → Bool
-fixed-tested k = pick (fixedKind k) (ltb 0 (getD sizes k 0) && valueKind k) true
+fixed-tested k = cond (fixedKind k) (ltb 0 (getD sizes k 0) && valueKind k) true
 
 fixed-test : (k : ℕ) → fixedKind k ≡ true → (ltb 0 (getD sizes k 0) && valueKind k) ≡ true
 unfolding fixed-tested allBelow fixedKind valueKind between sizes

@@ -7,6 +7,7 @@ use native.Mathlib.Omega.{arith}
 use lib.ListN.{length}
 use lib.Seq.{sets}
 use borrow.Author.Tests.{leb-true, leb-false}
+use Rattle.laws.specs.Small.{differ}
 use Rattle.layout.specs.Target.{Target}
 use Rattle.names.specs.Name.{Name, text, Formed, headings}
 use Rattle.names.specs.Parse.{Read, broken, name, nameOf}
@@ -35,7 +36,7 @@ pub record HasTarget (s c c′ : List ℕ) (used end : ℕ) : Type 0 where
 module _ (s c c′ : List ℕ) (used : ℕ) where
   known-as : (end : ℕ) (n : Name) (j : ℕ) → roomy s c used ≡ true → nameOf s ≡ name n j → (k : Typed) → readerOf n ≡ k → coded end ≡ judged used k → c′ ≡ sets c used (left k (headings n)) → HasTarget s c c′ used end
   unfolding roomy judged left
-  known-as end n j q i unknown e a w = absurd (let z : _≡_ {A = ℕ} 0 1 = cc in omega arith)
+  known-as end n j q i unknown e a w = differ cc
   known-as end n j q i (known t) e a w =
       let g = read-is-text s n j i in
       let z : end ≡ used + length (code t) = cc in
@@ -55,8 +56,8 @@ module _ (s c c′ : List ℕ) (used : ℕ) where
 
   named-as : (end : ℕ) (b : Bool) (r : Read) → roomy s c used ≡ b → nameOf s ≡ r → coded end ≡ resolution b used r → c′ ≡ content b c used r → HasTarget s c c′ used end
   unfolding resolution content
-  named-as end false r q i a w = absurd (let z : _≡_ {A = ℕ} 0 1 = cc in omega arith)
-  named-as end true (broken hs) q i a w = absurd (let z : _≡_ {A = ℕ} 0 1 = cc in omega arith)
+  named-as end false r q i a w = differ cc
+  named-as end true (broken hs) q i a w = differ cc
   named-as end true (name n j) q i a w = known-as end n j q i (readerOf n) refl a w
 
   -- an answer with codes: the name is lawful and has a target, whose codes were written
@@ -66,11 +67,11 @@ module _ (s c c′ : List ℕ) (used : ℕ) where
   unknown-as : (n : Name) (j : ℕ) → nameOf s ≡ name n j → (k : Typed) → readerOf n ≡ k → refused 11 ≡ judged used k → (n : Name) × Formed 8 n × (s ≡ text n) × (readerOf n ≡ unknown)
   unfolding judged
   unknown-as n j i unknown e a = let g = read-is-text s n j i in (n, g .0, g .1, e)
-  unknown-as n j i (known t) e a = absurd (let z : _≡_ {A = ℕ} 0 1 = cc in omega arith)
+  unknown-as n j i (known t) e a = differ cc
 
   eleven-as : (b : Bool) (r : Read) → nameOf s ≡ r → refused 11 ≡ resolution b used r → (n : Name) × Formed 8 n × (s ≡ text n) × (readerOf n ≡ unknown)
   unfolding resolution
-  eleven-as false r i a = absurd (let z : _≡_ {A = ℕ} 0 1 = cc in omega arith)
+  eleven-as false r i a = differ cc
   eleven-as true (broken hs) i a = absurd (let z : _≡_ {A = ℕ} 11 10 = cc in omega arith)
   eleven-as true (name n j) i a = unknown-as n j i (readerOf n) refl a
 
@@ -81,11 +82,11 @@ module _ (s c c′ : List ℕ) (used : ℕ) where
   not-ten : (k : Typed) → refused 10 ≡ judged used k → ⊥
   unfolding judged
   not-ten unknown a = let z : _≡_ {A = ℕ} 10 11 = cc in omega arith
-  not-ten (known t) a = let z : _≡_ {A = ℕ} 0 1 = cc in omega arith
+  not-ten (known t) a = differ cc
 
   ten-as : (b : Bool) (r : Read) → nameOf s ≡ r → refused 10 ≡ resolution b used r → (n : Name) → Formed 8 n → s ≡ text n → ⊥
   unfolding resolution
-  ten-as false r i a = absurd (let z : _≡_ {A = ℕ} 0 1 = cc in omega arith)
+  ten-as false r i a = differ cc
   ten-as true (broken hs) i a = broken-is-no-text s hs i
   ten-as true (name n j) i a = absurd (not-ten (readerOf n) a)
 
@@ -95,13 +96,13 @@ module _ (s c c′ : List ℕ) (used : ℕ) where
 
   some-room : (k : Typed) → no-room ≡ judged used k → ⊥
   unfolding judged
-  some-room unknown a = let z : _≡_ {A = ℕ} 0 1 = cc in omega arith
-  some-room (known t) a = let z : _≡_ {A = ℕ} 0 1 = cc in omega arith
+  some-room unknown a = differ cc
+  some-room (known t) a = differ cc
 
   no-room-as : (b : Bool) (r : Read) → roomy s c used ≡ b → no-room ≡ resolution b used r → length c < used + length s
   unfolding roomy resolution
   no-room-as false r q a = leb-false (used + length s) (length c) q
-  no-room-as true (broken hs) q a = absurd (let z : _≡_ {A = ℕ} 0 1 = cc in omega arith)
+  no-room-as true (broken hs) q a = differ cc
   no-room-as true (name n j) q a = absurd (some-room (readerOf n) a)
 
   -- no room: the codes from `used` on are fewer than the name's bytes

@@ -1,11 +1,10 @@
 -- What the code asks of types at places of an array of codes. Laws.antt says what it means of the types that stand there. Assumes nothing.
-use mathlib.Core.Bool.{Bool, true, false, _&&_, _||_}
+use mathlib.Core.Bool.{Bool, true, false, _&&_, _||_, cond}
 use mathlib.Core.List.{List, [], _∷_}
 use Prim.Native.Nat.{ℕ, zero, suc, _+_, _/_, _%_}
 use lib.Dec.{eqb}
 use lib.ListN.{drop, getD}
 use Rattle.names.specs.Name.{between}
-use Rattle.names.specs.Parse.{pick}
 
 -- the kind of the type at a place
 unfoldable pub kindAt : List ℕ → ℕ → ℕ
@@ -39,4 +38,4 @@ equalAt codes a b = agree (drop a codes) 1 (drop b codes)
 
 -- an object declared as the type at d may be read by a reader of the type at t: Object takes every target, Texture takes Texture2D
 unfoldable pub fitsAt : List ℕ → (d t : ℕ) → Bool
-fitsAt codes d t = pick (eqb (kindAt codes d) 14) true (pick (eqb (kindAt codes d) 31 && eqb (kindAt codes t) 32) true (equalAt codes d t))
+fitsAt codes d t = cond (eqb (kindAt codes d) 14) true (cond (eqb (kindAt codes d) 31 && eqb (kindAt codes t) 32) true (equalAt codes d t))

@@ -1,18 +1,18 @@
 -- A name that has a target has at least 11 bytes for each of its codes, so that 64 names of 1,024 bytes have fewer than 6,000 codes. Assumes nothing.
 use mathlib.Core.Path.{_≡_, refl, sym, ap, _∙_}
-use mathlib.Core.Bool.{Bool, true, false, _&&_}
+use mathlib.Core.Bool.{Bool, true, false, _&&_, cond}
 use mathlib.Core.List.{List, [], _∷_}
 use Prim.Native.Nat.{ℕ, suc, _*_, _≤_}
 use native.Mathlib.Omega.{arith}
 use lib.Dec.{eqb, leb}
 use lib.ListN.{length, length-append}
 use borrow.Author.Tests.{leb-true, eqb-true}
+use Rattle.laws.specs.Small.{differ, both}
 use Rattle.layout.specs.Text.{ascii}
 use Rattle.layout.specs.Target.{Target}
 use Rattle.names.specs.Name.{Name, simple, one, two, between, text, headings}
 use Rattle.names.specs.Kind.{Entry, entry, alike, lookup, reader, readers, target, targets, codes}
-use Rattle.names.specs.Parse.{pick}
-use Rattle.names.specs.Complete.{both, long, length-write}
+use Rattle.names.specs.Complete.{long, length-write}
 use Rattle.types.specs.Types.{Typed, known, fixedKind, plain, wrapped, paired, typeOf, enumOf, readerOf}
 use Rattle.types.specs.Code.{code}
 use Rattle.types.specs.Coded.{Ok, none, some, ok-pick, got, ok-plain, ok-wrapped, ok-paired, ok-array, reader-coded}
@@ -23,7 +23,7 @@ longs : ℕ → List Entry → Bool
 longs m [] = true
 longs m (entry h k ∷ es) = leb m (length h) && longs m es
 
-found-long : (m : ℕ) (h n : List ℕ) (k other : ℕ) (x : Bool) → alike h n ≡ x → m ≤ length n → ((other ≡ 0 → ⊥) → m ≤ length h) → (pick x k other ≡ 0 → ⊥) → m ≤ length h
+found-long : (m : ℕ) (h n : List ℕ) (k other : ℕ) (x : Bool) → alike h n ≡ x → m ≤ length n → ((other ≡ 0 → ⊥) → m ≤ length h) → (cond x k other ≡ 0 → ⊥) → m ≤ length h
 found-long m h n k other true e l f z = omega (arith, ap length (alike-then h n e))
 found-long m h n k other false e l f z = f z
 
@@ -49,7 +49,7 @@ module _ {Q : Type 0} (k : ℕ) where
   unfolding fixedKind between
   plain-some f =
       let g : (m : ℕ) → k ≡ suc m → Q = λ m e. f (λ z. omega arith) in
-      ok-plain k (λ b. f (λ z. let y : false ≡ true = ap fixedKind (sym z) ∙ b in let x : _≡_ {A = ℕ} 0 1 = cc in omega arith)) (g 11) (g 12) (g 13) (g 30) (g 31) (g 32) (g 33)
+      ok-plain k (λ b. f (λ z. let y : false ≡ true = ap fixedKind (sym z) ∙ b in differ cc)) (g 11) (g 12) (g 13) (g 30) (g 31) (g 32) (g 33)
 
   wrapped-some : {A : Type 0} {r : Typed} → Ok (λ _. A) r → ((k ≡ 0 → ⊥) → A → Q) → Ok (λ _. Q) (wrapped k r)
   wrapped-some o f = ok-wrapped k o (λ t e a. f (λ z. omega arith) a) (λ t e a. f (λ z. omega arith) a)

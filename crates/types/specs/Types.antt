@@ -1,11 +1,10 @@
 -- The target of a reader's name (01, "Reader names"). Assumes nothing.
-use mathlib.Core.Bool.{Bool, not, _&&_, _||_}
+use mathlib.Core.Bool.{Bool, not, _&&_, _||_, cond}
 use Prim.Native.Nat.{ℕ}
 use lib.Dec.{eqb}
 use Rattle.layout.specs.Target.{Target, fixed, char, string, object, texture, texture2D, spriteFont, page, enum, nullable, array, list, dictionary, kindOf, isValue}
 use Rattle.names.specs.Name.{Name, simple, one, two, between}
 use Rattle.names.specs.Kind.{lookup, targets, readers}
-use Rattle.names.specs.Parse.{pick}
 
 -- 01: "A head that is not listed, or a wrong argument count: 11": such a name is unknown
 pub data Typed : Type 0 where
@@ -19,23 +18,23 @@ fixedKind k = between 1 11 k || between 20 30 k
 -- 01: "Enum, Nullable, Array and List take one argument, Dictionary two, the rest none": a kind with no argument
 unfoldable pub plain : ℕ → Typed
 plain k =
-    pick (fixedKind k) (known (fixed k)) (pick (eqb k 12) (known char) (pick (eqb k 13) (known string) (pick (eqb k 14) (known object)
-    (pick (eqb k 31) (known texture) (pick (eqb k 32) (known texture2D) (pick (eqb k 33) (known spriteFont) (pick (eqb k 34) (known page) unknown)))))))
+    cond (fixedKind k) (known (fixed k)) (cond (eqb k 12) (known char) (cond (eqb k 13) (known string) (cond (eqb k 14) (known object)
+    (cond (eqb k 31) (known texture) (cond (eqb k 32) (known texture2D) (cond (eqb k 33) (known spriteFont) (cond (eqb k 34) (known page) unknown)))))))
 
 -- 01: "Nullable's argument must be a value type other than Nullable"
 unfoldable pub nullableOf : Target → Typed
-nullableOf t = pick (isValue t && not (eqb (kindOf t) 16)) (known (nullable t)) unknown
+nullableOf t = cond (isValue t && not (eqb (kindOf t) 16)) (known (nullable t)) unknown
 
 -- a kind with one argument: Nullable or List
 unfoldable pub wrapped : ℕ → Typed → Typed
 wrapped k unknown = unknown
-wrapped k (known t) = pick (eqb k 16) (nullableOf t) (pick (eqb k 18) (known (list t)) unknown)
+wrapped k (known t) = cond (eqb k 16) (nullableOf t) (cond (eqb k 18) (known (list t)) unknown)
 
 -- a kind with two arguments: Dictionary
 unfoldable pub paired : ℕ → Typed → Typed → Typed
 paired k unknown b = unknown
 paired k (known t) unknown = unknown
-paired k (known t) (known u) = pick (eqb k 19) (known (dictionary t u)) unknown
+paired k (known t) (known u) = cond (eqb k 19) (known (dictionary t u)) unknown
 
 -- the type of an argument; 01: "Arguments are target type names as 000 gives them"
 unfoldable pub typeOf : Name → Typed
@@ -45,7 +44,7 @@ typeOf (two h a b t) = paired (lookup h targets) (typeOf a) (typeOf b)
 
 -- 01: "Array and enum types are not known as arguments, but Enum's own has any head that is no target name above and no arguments"
 unfoldable pub enumOf : Name → Typed
-enumOf (simple h t) = pick (eqb (lookup h targets) 0) (known (enum h)) unknown
+enumOf (simple h t) = cond (eqb (lookup h targets) 0) (known (enum h)) unknown
 enumOf (one h a t) = unknown
 enumOf (two h a b t) = unknown
 
@@ -57,5 +56,5 @@ arrayOf (known t) = known (array t)
 -- the target of a reader's name: Enum and Array take their argument here alone, the other kinds as arguments do
 unfoldable pub readerOf : Name → Typed
 readerOf (simple h t) = plain (lookup h readers)
-readerOf (one h a t) = pick (eqb (lookup h readers) 15) (enumOf a) (pick (eqb (lookup h readers) 17) (arrayOf (typeOf a)) (wrapped (lookup h readers) (typeOf a)))
+readerOf (one h a t) = cond (eqb (lookup h readers) 15) (enumOf a) (cond (eqb (lookup h readers) 17) (arrayOf (typeOf a)) (wrapped (lookup h readers) (typeOf a)))
 readerOf (two h a b t) = paired (lookup h readers) (typeOf a) (typeOf b)

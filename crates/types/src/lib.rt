@@ -1,10 +1,10 @@
 // The types of reader names. In code a type is a place in an array of codes: its own code stands there, and its arguments' codes after it.
 ghost use mathlib.Core.Path.{_≡_};
+ghost use mathlib.Core.Bool.{cond};
 ghost use Prim.Native.Nat.{_<_};
 ghost use Rattle.types.specs.Types.{plain};
 ghost use Rattle.types.specs.Place.{kindAt, valueKind, placeAfter, equalAt, fitsAt};
 ghost use Rattle.types.specs.Judge.{isKnown, headOk, valueOk, argumentsOk, enumOk, readerOk};
-ghost use Rattle.names.specs.Parse.{pick};
 ghost use Rattle.types.specs.Contract.{Resolves};
 use names::Named;
 
@@ -127,7 +127,7 @@ fn value_ok(b: u8) -> bool
 }
 
 fn argument_ok(nullable: bool, b: u8) -> bool
-    ensures { λ r. ⌜ r ≡ pick nullable (valueOk b) (headOk b) ⌝ }
+    ensures { λ r. ⌜ r ≡ cond nullable (valueOk b) (headOk b) ⌝ }
 {
     if nullable {
         return value_ok(b);

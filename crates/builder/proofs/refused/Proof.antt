@@ -4,15 +4,12 @@ use borrow.Author.Needs.{needs}
 use Rattle.builder.proofs.refused.Statement.{statement}
 use Rattle.builder.proofs.refused.Tie as tie
 
--- src/lib.rt:26:5
 mul-result : tie.Need-mul-result
 mul-result c = search needs
 
--- src/lib.rt:26:5
 add-result : tie.Need-add-result
 add-result c = search needs
 
--- src/lib.rt:22:1
 returns : tie.Need-returns
 unfolding code
 returns c = refl

@@ -5,39 +5,30 @@ use borrow.Author.Needs.{needs}
 use Rattle.builder.proofs.xnb_load_rows.Statement.{statement}
 use Rattle.builder.proofs.xnb_load_rows.Tie as tie
 
--- src/lib.rt:51:11
 load-requires : tie.Need-load-requires
 load-requires c κs = search needs
 
--- src/lib.rt:52:28
 enum-known-number : tie.Need-enum-known-number
 enum-known-number c = search needs
 
--- src/lib.rt:55:13
 refused-requires : tie.Need-refused-requires
 refused-requires c κs = load-place (c .before .before .before .before .before .before .before .before .before .args .file .now) (length (c .before .before .before .before .before .before .before .before .before .args .words .now)) (sym (c .before .number .given .1) ∙ c .before .before .before .before .before .load .ensures .0)
 
--- src/lib.rt:58:13
 enum-known-rows : tie.Need-enum-known-rows
 enum-known-rows c = search needs
 
--- src/lib.rt:64:13
 cast-result : tie.Need-cast-result
 cast-result c = search needs
 
--- src/lib.rt:41:1
 same-length : tie.Need-same-length
 same-length c = search needs
 
--- src/lib.rt:41:1
 returns : tie.Need-returns
 returns c = (load-refused _ (sym (c .before .before .number .given .1) ∙ c .before .before .before .before .before .before .load .ensures .0) (c .refused .ensures), c .before .before .before .before .before .before .load .ensures .1)
 
--- src/lib.rt:41:1
 same-length-2 : tie.Need-same-length-2
 same-length-2 c = search needs
 
--- src/lib.rt:41:1
 returns-2 : tie.Need-returns-2
 returns-2 c = (load-accepted _ (sym (c .before .rows .given .1) ∙ c .before .before .before .before .before .load .ensures .0), c .before .before .before .before .before .load .ensures .1)
 

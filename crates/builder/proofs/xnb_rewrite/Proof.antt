@@ -7,47 +7,37 @@ use borrow.Author.Needs.{needs}
 use Rattle.builder.proofs.xnb_rewrite.Statement.{statement}
 use Rattle.builder.proofs.xnb_rewrite.Tie as tie
 
--- src/lib.rt:76:11
 rewrite-requires : tie.Need-rewrite-requires
 rewrite-requires c κs = search needs
 
--- src/lib.rt:77:30
 enum-known-number : tie.Need-enum-known-number
 enum-known-number c = search needs
 
--- src/lib.rt:77:49
 refused-requires : tie.Need-refused-requires
 refused-requires c κs =
     let s = c .before .before .before .before .before .before .before .before .before .before .before .before .before .args .file .now in
     rewrite-place s (small-by-index s (λ i h. omega (arith, c .before .before .before .before .before .before .before .before .before .before .before .before .shared-slice-known .given i))) (length (c .before .before .before .before .before .before .before .before .before .before .before .before .before .args .words .now)) (length (c .before .before .before .before .before .before .before .before .before .before .before .before .before .args .out .now)) (sym (c .before .number .given .1) ∙ c .before .before .before .before .before .before .before .rewrite .ensures .0)
 
--- src/lib.rt:78:32
 enum-known-length : tie.Need-enum-known-length
 enum-known-length c = search needs
 
--- src/lib.rt:70:1
 same-length : tie.Need-same-length
 same-length c = search needs
 
--- src/lib.rt:70:1
 same-length-2 : tie.Need-same-length-2
 same-length-2 c = search needs
 
--- src/lib.rt:70:1
 returns : tie.Need-returns
 returns c =
     let e = c .before .before .before .before .before .before .before .before .rewrite .ensures in
     (rewrite-refused _ (sym (c .before .before .number .given .1) ∙ e .0) (c .refused .ensures), e .1)
 
--- src/lib.rt:70:1
 same-length-3 : tie.Need-same-length-3
 same-length-3 c = search needs
 
--- src/lib.rt:70:1
 same-length-4 : tie.Need-same-length-4
 same-length-4 c = search needs
 
--- src/lib.rt:70:1
 returns-2 : tie.Need-returns-2
 returns-2 c =
     let e = c .before .before .before .before .before .before .before .rewrite .ensures in

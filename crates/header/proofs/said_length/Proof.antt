@@ -1,7 +1,7 @@
 -- `header::said_length` meets its contract. Assumes nothing.
 use mathlib.Core.Path.{_≡_, sym, ap, _∙_}
 use Prim.Native.Nat.{ℕ}
-use native.Mathlib.Omega.{arith}
+use Rattle.laws.specs.Small.{differ}
 use Rattle.answers.specs.Told.{told}
 use Rattle.header.proofs.Laws.{length-read}
 use borrow.Author.Needs.{needs}
@@ -21,7 +21,7 @@ returns : tie.Need-returns
 returns c =
     let e = c .before .before .before .before in
     let q = sym (ap told (c .enum-told .given .1)) ∙ c .before .before .little4 .ensures ∙ length-read (e .args .file .now) (e .pre) in
-    absurd (let z : _≡_ {A = ℕ} 0 1 = cc in omega arith)
+    differ cc
 
 returns-2 : tie.Need-returns-2
 returns-2 c =

@@ -5,29 +5,24 @@ use borrow.Author.Needs.{needs}
 use Rattle.padding.proofs.all_padding.Statement.{statement}
 use Rattle.padding.proofs.all_padding.Tie as tie
 
--- src/lib.rt:155:9
 measure-requires : tie.Need-measure-requires
 measure-requires c κs = search needs
 
--- src/lib.rt:156:9
 entries-padding-requires : tie.Need-entries-padding-requires
 entries-padding-requires c κs =
     let s = c .before .before .before .args .file .now in
     let f = found s (small-by-index s (λ i h. omega (arith, c .before .before .shared-slice-known .given i))) 10 (c .measure .result) (c .measure .ensures) in
     (c .before .before .before .pre, omega (arith, f .end-small, c .before .before .before .pre))
 
--- src/lib.rt:157:9
 measure-requires-2 : tie.Need-measure-requires-2
 measure-requires-2 c κs = search needs
 
--- src/lib.rt:158:5
 add-result : tie.Need-add-result
 add-result c =
     let s = c .before .before .before .before .before .before .before .args .file .now in
     let f = found s (small-by-index s (λ i h. omega (arith, c .before .before .before .before .before .before .shared-slice-known .given i))) 10 (c .before .before .before .before .measure .result) (c .before .before .before .before .measure .ensures) in
     omega (arith, f .padding-small, c .before .before .before .before .before .before .before .pre, c .before .before .before .entries-padding .ensures .1, c .before .before .before .before .before .before .before .fits .readers .fits)
 
--- src/lib.rt:158:5
 add-result-2 : tie.Need-add-result-2
 add-result-2 c =
     let s = c .before .before .before .before .before .before .before .before .args .file .now in
@@ -35,11 +30,9 @@ add-result-2 c =
     let g = found s (small-by-index s (λ i h. omega (arith, c .before .before .before .before .before .before .before .shared-slice-known .given i))) (c .before .before .before .before .entries-padding .result .at) (c .before .before .before .measure2 .result) (c .before .before .before .measure2 .ensures) in
     omega (arith, f .padding-small, g .padding-small, c .before .before .before .before .before .before .before .before .pre, c .before .before .before .before .entries-padding .ensures .1, c .before .before .before .before .before .before .before .before .fits .readers .fits)
 
--- src/lib.rt:158:56
 rows-padding-requires : tie.Need-rows-padding-requires
 rows-padding-requires c κs = search needs
 
--- src/lib.rt:158:5
 add-result-3 : tie.Need-add-result-3
 add-result-3 c =
     let s = c .before .before .before .before .before .before .before .before .before .args .file .now in
@@ -47,7 +40,6 @@ add-result-3 c =
     let g = found s (small-by-index s (λ i h. omega (arith, c .before .before .before .before .before .before .before .before .shared-slice-known .given i))) (c .before .before .before .before .before .entries-padding .result .at) (c .before .before .before .before .measure2 .result) (c .before .before .before .before .measure2 .ensures) in
     omega (arith, f .padding-small, g .padding-small, c .before .before .before .before .before .before .before .before .before .pre, c .before .before .before .before .before .entries-padding .ensures .1, c .before .before .before .before .before .before .before .before .before .fits .readers .fits, c .rows-padding .ensures .1, c .before .before .before .before .before .before .before .before .before .fits .rows .fits)
 
--- src/lib.rt:151:1
 returns : tie.Need-returns
 returns c =
     let s = c .before .before .before .before .before .before .before .before .before .args .file .now in

@@ -5,17 +5,14 @@ use borrow.Author.Needs.{needs}
 use Rattle.padding.proofs.count_padding.Statement.{statement}
 use Rattle.padding.proofs.count_padding.Tie as tie
 
--- src/lib.rt:89:13
 measure-requires : tie.Need-measure-requires
 measure-requires c κs = search needs
 
--- src/lib.rt:90:9
 returns : tie.Need-returns
 returns c =
     let s = c .before .before .before .args .file .now in
     count-padding s (small-by-index s (λ i h. omega (arith, c .before .before .shared-slice-known .given i))) (c .before .before .before .args .kind) (c .before .before .before .args .at) (c .measure .result) (c .before .if1 .taken) (c .measure .ensures)
 
--- src/lib.rt:85:1
 returns-2 : tie.Need-returns-2
 returns-2 c =
     let s = c .before .before .args .file .now in

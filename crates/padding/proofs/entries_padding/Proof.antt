@@ -11,15 +11,12 @@ Inv-loop file readers at total₀ place₀ left₀ total place left = (s : Small
 abbrev μ-loop : tie.MeasureT-loop
 μ-loop file readers at total₀ place₀ left₀ total place left = left
 
--- src/lib.rt:138:5
 loop-holds : tie.Need-loop-holds Inv-loop μ-loop
 loop-holds c = λ s. (none-passed (c .before .args .file .now) s (c .before .args .readers) (c .before .args .at) (c .before .fits .readers .fits) (c .before .pre .1), none-added (c .before .args .file .now) s (c .before .args .readers) (c .before .args .at))
 
--- src/lib.rt:139:13
 measure-requires : tie.Need-measure-requires Inv-loop μ-loop
 measure-requires c κs = search needs
 
--- src/lib.rt:140:9
 add-total : tie.Need-add-total Inv-loop μ-loop
 add-total c =
     let s = c .before .before .before .before .before .args .file .now in
@@ -27,33 +24,27 @@ add-total c =
     let a = c .before .before .before .loop .inv small in
     omega (arith, one-added s small (c .before .before .before .before .before .args .readers) (c .before .before .before .before .before .args .at) (c .before .before .before .loop .left) (c .before .before .before .loop .place) (c .before .before .before .loop .total) (c .before .measure .result) (c .before .before .before .before .before .pre .0) (c .before .measure .ensures) (a .0) (c .before .before .loop-test .taken) (a .1) .1)
 
--- src/lib.rt:141:26
 cast-place : tie.Need-cast-place Inv-loop μ-loop
 cast-place c = search needs
 
--- src/lib.rt:141:17
 add-place : tie.Need-add-place Inv-loop μ-loop
 add-place c =
     let s = c .before .before .before .before .before .before .before .args .file .now in
     let small = small-by-index s (λ i h. omega (arith, c .before .before .before .before .before .before .shared-slice-known .given i)) in
     omega (arith, end-fits s small (c .before .before .before .before .before .before .before .args .readers) (c .before .before .before .before .before .before .before .args .at) (c .before .before .before .before .before .loop .left) (c .before .before .before .before .before .loop .place) (c .before .before .before .measure .result) (c .before .before .before .before .before .before .before .pre .0) (c .before .before .before .measure .ensures) (c .before .before .before .before .before .loop .inv small .0))
 
--- src/lib.rt:141:17
 add-place-2 : tie.Need-add-place-2 Inv-loop μ-loop
 add-place-2 c =
     let s = c .before .before .before .before .before .before .before .args .file .now in
     let small = small-by-index s (λ i h. omega (arith, c .before .before .before .before .before .before .shared-slice-known .given i)) in
     omega (arith, end-fits s small (c .before .before .before .before .before .before .before .args .readers) (c .before .before .before .before .before .before .before .args .at) (c .before .before .before .before .before .loop .left) (c .before .before .before .before .before .loop .place) (c .before .before .before .measure .result) (c .before .before .before .before .before .before .before .pre .0) (c .before .before .before .measure .ensures) (c .before .before .before .before .before .loop .inv small .0))
 
--- src/lib.rt:142:9
 sub-left : tie.Need-sub-left Inv-loop μ-loop
 sub-left c = search needs
 
--- src/lib.rt:138:5
 loop-less : tie.Need-loop-less Inv-loop μ-loop
 loop-less c = search needs
 
--- src/lib.rt:138:5
 loop-again : tie.Need-loop-again Inv-loop μ-loop
 loop-again c =
     λ s. let a = c .before .before .before .before .before .loop .inv s in (
@@ -61,7 +52,6 @@ loop-again c =
       one-added (c .before .before .before .before .before .before .before .args .file .now) s (c .before .before .before .before .before .before .before .args .readers) (c .before .before .before .before .before .before .before .args .at) (c .before .before .before .before .before .loop .left) (c .before .before .before .before .before .loop .place) (c .before .before .before .before .before .loop .total) (c .before .before .before .measure .result) (c .before .before .before .before .before .before .before .pre .0) (c .before .before .before .measure .ensures) (a .0) (c .before .before .before .before .loop-test .taken) (a .1) .0,
     )
 
--- src/lib.rt:131:1
 returns : tie.Need-returns Inv-loop μ-loop
 returns c =
     let s = c .before .before .before .args .file .now in

@@ -8,48 +8,39 @@ use borrow.Author.Needs.{needs}
 use Rattle.padding.proofs.measure.Statement.{statement}
 use Rattle.padding.proofs.measure.Tie as tie
 
--- src/lib.rt:42:11
 seven-at-requires : tie.Need-seven-at-requires
 seven-at-requires c κs = search needs
 
--- src/lib.rt:43:34
 enum-told : tie.Need-enum-told
 enum-told c = search needs
 
--- src/lib.rt:48:22
 enum-known-n : tie.Need-enum-known-n
 enum-known-n c = search needs
 
--- src/lib.rt:49:25
 cast-value : tie.Need-cast-value
 cast-value c =
     let s = c .before .before .before .before .before .args .file .now in
     let b = seven-long s (small-by-index s (λ i h. omega (arith, c .before .before .before .before .shared-slice-known .given i))) (c .before .before .before .before .before .args .at) (sym (c .before .before .before .seven-at .ensures) ∙ ap told (c .before .n .given .1)) in
     omega (arith, b .2)
 
--- src/lib.rt:50:17
 shortest-len-requires : tie.Need-shortest-len-requires
 shortest-len-requires c κs = search needs
 
--- src/lib.rt:51:27
 sub-padding : tie.Need-sub-padding
 sub-padding c =
     let s = c .before .before .before .before .before .before .args .file .now in
     let b = seven-long s (small-by-index s (λ i h. omega (arith, c .before .before .before .before .before .shared-slice-known .given i))) (c .before .before .before .before .before .before .args .at) (sym (c .before .before .before .before .seven-at .ensures) ∙ ap told (c .before .before .n .given .1)) in
     omega (arith, b .0)
 
--- src/lib.rt:51:27
 sub-padding-2 : tie.Need-sub-padding-2
 sub-padding-2 c =
     let s = c .before .before .before .before .before .before .args .file .now in
     let b = seven-long s (small-by-index s (λ i h. omega (arith, c .before .before .before .before .before .shared-slice-known .given i))) (c .before .before .before .before .before .before .args .at) (sym (c .before .before .before .before .seven-at .ensures) ∙ ap told (c .before .before .n .given .1)) in
     omega (arith, b .0, c .shortest-len .ensures)
 
--- src/lib.rt:39:1
 returns : tie.Need-returns
 returns c = measured-none (sevenAt (c .before .before .before .before .args .file .now) (c .before .before .before .before .args .at)) (c .before .before .before .before .args .at) (ap told (sym (c .enum-told .given .1)) ∙ c .before .before .seven-at .ensures)
 
--- src/lib.rt:39:1
 returns-2 : tie.Need-returns-2
 returns-2 c = measured-read (sevenAt (c .before .before .before .before .before .before .args .file .now) (c .before .before .before .before .before .before .args .at)) (c .before .before .before .before .before .before .args .at) (c .shortest-len .result) (ap told (sym (c .before .before .n .given .1)) ∙ c .before .before .before .before .seven-at .ensures) (c .shortest-len .ensures)
 

@@ -2,15 +2,12 @@ use Rattle.padding.specs.Steps.{has-detail, kind-null, kind-reference}
 use Rattle.padding.proofs.numbered.Statement.{statement}
 use Rattle.padding.proofs.numbered.Tie as tie
 
--- src/lib.rt:76:9
 returns : tie.Need-returns
 returns c = has-detail (c .before .args .kind) (c .before .args .detail) (c .if1 .taken)
 
--- src/lib.rt:79:9
 returns-2 : tie.Need-returns-2
 returns-2 c = kind-null (c .before .before .args .kind) (c .before .before .args .detail) (c .before .if1 .left) (c .if2 .taken)
 
--- src/lib.rt:72:1
 returns-3 : tie.Need-returns-3
 returns-3 c = kind-reference (c .before .before .args .kind) (c .before .before .args .detail) (c .before .if1 .left) (c .if2 .left)
 

@@ -3,15 +3,12 @@ use Rattle.padding.specs.Table.{too-long, not-too-long}
 use Rattle.padding.proofs.padding.Statement.{statement}
 use Rattle.padding.proofs.padding.Tie as tie
 
--- src/lib.rt:140:9
 returns : tie.Need-returns
 returns c = too-long (c .before .before .before .args .file .now) (c .before .before .before .args .words .now) (c .before .before .before .args .readers) (c .before .before .before .args .rows) (c .if1 .taken)
 
--- src/lib.rt:142:5
 all-padding-requires : tie.Need-all-padding-requires
 all-padding-requires c κs = c .if1 .left
 
--- src/lib.rt:136:1
 returns-2 : tie.Need-returns-2
 returns-2 c = c .all-padding .ensures ∙ not-too-long (c .before .before .before .before .args .file .now) (c .before .before .before .before .args .words .now) (c .before .before .before .before .args .readers) (c .before .before .before .before .args .rows) (c .before .if1 .left)
 

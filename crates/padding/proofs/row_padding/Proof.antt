@@ -7,47 +7,36 @@ use borrow.Author.Needs.{needs}
 use Rattle.padding.proofs.row_padding.Statement.{statement}
 use Rattle.padding.proofs.row_padding.Tie as tie
 
--- src/lib.rt:100:9
 position-requires : tie.Need-position-requires
 position-requires c κs = search needs
 
--- src/lib.rt:101:9
 word-requires : tie.Need-word-requires
 word-requires c κs = search needs
 
--- src/lib.rt:102:29
 add-word : tie.Need-add-word
 add-word c = search needs
 
--- src/lib.rt:102:17
 word-requires-2 : tie.Need-word-requires-2
 word-requires-2 c κs = search needs
 
--- src/lib.rt:102:17
 cast-first : tie.Need-cast-first
 cast-first c = search needs
 
--- src/lib.rt:103:35
 add-word-2 : tie.Need-add-word-2
 add-word-2 c = search needs
 
--- src/lib.rt:103:23
 word-requires-3 : tie.Need-word-requires-3
 word-requires-3 c κs = search needs
 
--- src/lib.rt:103:8
 numbered-requires : tie.Need-numbered-requires
 numbered-requires c κs = search needs
 
--- src/lib.rt:104:13
 measure-requires : tie.Need-measure-requires
 measure-requires c κs = search needs
 
--- src/lib.rt:105:29
 count-padding-requires : tie.Need-count-padding-requires
 count-padding-requires c κs = search needs
 
--- src/lib.rt:105:16
 add-result : tie.Need-add-result
 add-result c =
     let s = c .before .before .before .before .before .before .before .before .before .before .before .args .file .now in
@@ -56,7 +45,6 @@ add-result c =
     let b = id-padding s small (c .before .before .before .before .before .before .before .before .before .before .before .pre) (c .before .before .before .before .before .before .before .before .before .before .before .args .words .now) (c .before .before .before .before .before .before .before .before .before .before .before .args .row) (c .before .before .before .before .before .before .before .word .result) (c .before .before .before .before .before .before .word2 .result) (c .before .count-padding .result) (c .before .before .measure .result) p (c .before .before .measure .ensures) (c .before .count-padding .ensures .0) (c .before .count-padding .ensures .1) in
     omega (arith, b .1)
 
--- src/lib.rt:105:9
 returns : tie.Need-returns
 returns c =
     let s = c .before .before .before .before .before .before .before .before .before .before .before .args .file .now in
@@ -64,11 +52,9 @@ returns c =
     let p = with-id s (c .before .before .before .before .before .before .before .before .before .before .before .args .words .now) (c .before .before .before .before .before .before .before .before .before .before .before .args .row) (c .before .before .before .before .before .before .before .before .position .result) (c .before .before .before .before .before .before .before .word .result) (c .before .before .before .before .before .before .word2 .result) (c .before .before .before .before .before .word3 .result) (c .before .before .before .before .before .before .before .before .position .ensures) (c .before .before .before .before .before .before .before .word .ensures) (c .before .before .before .before .before .before .word2 .ensures) (c .before .before .before .before .before .word3 .ensures) (sym (c .before .before .before .if1 .taken) ∙ c .before .before .before .before .numbered .ensures) in
     id-padding s small (c .before .before .before .before .before .before .before .before .before .before .before .pre) (c .before .before .before .before .before .before .before .before .before .before .before .args .words .now) (c .before .before .before .before .before .before .before .before .before .before .before .args .row) (c .before .before .before .before .before .before .before .word .result) (c .before .before .before .before .before .before .word2 .result) (c .before .count-padding .result) (c .before .before .measure .result) p (c .before .before .measure .ensures) (c .before .count-padding .ensures .0) (c .before .count-padding .ensures .1)
 
--- src/lib.rt:107:5
 count-padding-requires-2 : tie.Need-count-padding-requires-2
 count-padding-requires-2 c κs = search needs
 
--- src/lib.rt:96:1
 returns-2 : tie.Need-returns-2
 returns-2 c =
     let s = c .before .before .before .before .before .before .before .before .before .args .file .now in

@@ -15,37 +15,30 @@ Inv-loop file words rows total₀ i₀ total i = (i ≤ rows) × (total + paddin
 abbrev μ-loop : tie.MeasureT-loop
 μ-loop file words rows total₀ i₀ total i = rows - i
 
--- src/lib.rt:117:5
 loop-holds : tie.Need-loop-holds Inv-loop μ-loop
 loop-holds c =
     let s = c .before .before .args .file .now in
     let small = small-by-index s (λ i h. omega (arith, c .before .shared-slice-known .given i)) in
     (omega arith, rows-start s small (c .before .before .args .words .now) (c .before .before .args .rows), omega arith)
 
--- src/lib.rt:118:18
 row-padding-requires : tie.Need-row-padding-requires Inv-loop μ-loop
 row-padding-requires c κs = c .before .before .before .before .pre
 
--- src/lib.rt:118:9
 add-total : tie.Need-add-total Inv-loop μ-loop
 add-total c = omega (arith, c .before .before .loop .inv .2, c .row-padding .ensures .1)
 
--- src/lib.rt:119:9
 add-i : tie.Need-add-i Inv-loop μ-loop
 add-i c = search needs
 
--- src/lib.rt:117:5
 loop-less : tie.Need-loop-less Inv-loop μ-loop
 loop-less c = search needs
 
--- src/lib.rt:117:5
 loop-again : tie.Need-loop-again Inv-loop μ-loop
 loop-again c =
     let s = c .before .before .before .before .before .args .file .now in
     let small = small-by-index s (λ i h. omega (arith, c .before .before .before .before .shared-slice-known .given i)) in
     (omega arith, row-added s small (c .before .before .before .before .before .args .words .now) (c .before .before .before .before .before .args .rows) (c .before .before .loop .i) (c .before .before .loop .total) (c .row-padding .result) (c .before .loop-test .taken) (c .row-padding .ensures .0) (c .before .before .loop .inv .1), omega (arith, c .before .before .loop .inv .2, c .row-padding .ensures .1))
 
--- src/lib.rt:111:1
 returns : tie.Need-returns Inv-loop μ-loop
 returns c =
     let s = c .before .before .before .before .args .file .now in

@@ -6,6 +6,7 @@ use Prim.Native.Nat.{ℕ, zero, suc, _+_}
 use native.Mathlib.Omega.{arith}
 use lib.ListN.{getD, drop}
 use lib.Seq.{getD-drop}
+use Rattle.laws.specs.Small.{differ}
 use Rattle.ids.specs.Position.{positionOf}
 use Rattle.ids.specs.declared.Position.the-variants.{Null, At}
 use Rattle.layout.specs.Rows.{resource}
@@ -38,11 +39,11 @@ suits-kind-requires c κs = search needs
 null-suits : (kinds : List ℕ) (wanted id : ℕ) → positionOf id ≡ Null → true ≡ suits (drop 1 kinds) (resource wanted) id
 unfolding suits suit
 null-suits kinds wanted zero e = refl
-null-suits kinds wanted (suc i) e = absurd (let z : _≡_ {A = ℕ} 0 1 = cc in omega arith)
+null-suits kinds wanted (suc i) e = differ cc
 
 at-suits : (kinds : List ℕ) (wanted id i : ℕ) → positionOf id ≡ At i → suit wanted (getD kinds (i + 1) 0) ≡ suits (drop 1 kinds) (resource wanted) id
 unfolding suits
-at-suits kinds wanted zero i e = absurd (let z : _≡_ {A = ℕ} 0 1 = cc in omega arith)
+at-suits kinds wanted zero i e = differ cc
 at-suits kinds wanted (suc n) i e =
     let q : n ≡ i = cc in
     let p : i + 1 ≡ 1 + i = omega arith in

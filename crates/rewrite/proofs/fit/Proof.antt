@@ -4,39 +4,30 @@ use borrow.Author.Needs.{needs}
 use Rattle.rewrite.proofs.fit.Statement.{statement}
 use Rattle.rewrite.proofs.fit.Tie as tie
 
--- src/lib.rt:328:9
 padding-requires : tie.Need-padding-requires
 padding-requires c κs = search needs
 
--- src/lib.rt:329:18
 sub-needed : tie.Need-sub-needed
 sub-needed c = omega (arith, needed-is (c .before .before .before .before .before .args .file .now) (c .before .before .before .before .before .args .words .now) (c .before .before .before .before .before .args .readers) (c .before .before .before .before .before .args .rows) (c .before .before .before .before .before .pre), c .padding .ensures)
 
--- src/lib.rt:331:9
 clear-requires : tie.Need-clear-requires
 clear-requires c κs = search needs
 
--- src/lib.rt:332:9
 same-length : tie.Need-same-length
 same-length c = search needs
 
--- src/lib.rt:332:9
 returns : tie.Need-returns
 returns c = record { holds = λ w. too-small (c .before .before .before .before .before .before .before .before .before .before .args .file .now) (c .before .before .before .before .before .before .before .before .before .before .args .words .now) (c .before .before .before .before .before .before .before .before .before .before .args .readers) (c .before .before .before .before .before .before .before .before .before .before .args .rows) w (c .before .before .before .before .before .before .before .before .before .before .args .out .now) (c .before .before .before .before .before .padding .result) (c .before .before .before .before .before .padding .ensures) (c .before .before .before .before .if1 .taken) (c .before .before .clear .ensures) }
 
--- src/lib.rt:337:5
 write-requires : tie.Need-write-requires
 write-requires c κs = c .before .before .before .before .before .before .before .before .pre .small
 
--- src/lib.rt:324:1
 same-length-2 : tie.Need-same-length-2
 same-length-2 c = search needs
 
--- src/lib.rt:324:1
 same-length-3 : tie.Need-same-length-3
 same-length-3 c = search needs
 
--- src/lib.rt:324:1
 returns-2 : tie.Need-returns-2
 returns-2 c = record { holds = λ w. fits-in (c .before .before .before .before .before .before .before .before .before .before .before .args .file .now) (c .before .before .before .before .before .before .before .before .before .before .before .args .words .now) (c .before .before .before .before .before .before .before .before .before .before .before .args .readers) (c .before .before .before .before .before .before .before .before .before .before .before .args .rows) w (c .before .before .before .before .before .before .before .before .before .before .before .args .out .now) (c .before .before .before .before .before .before .padding .result) (c .before .before .before .before .before .before .padding .ensures) (c .before .before .before .before .before .if1 .left) (c .before .before .write .ensures) }
 

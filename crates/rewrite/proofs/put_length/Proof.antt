@@ -5,47 +5,36 @@ use borrow.Author.Needs.{needs}
 use Rattle.rewrite.proofs.put_length.Statement.{statement}
 use Rattle.rewrite.proofs.put_length.Tie as tie
 
--- src/lib.rt:287:9
 returns : tie.Need-returns
 returns c = too-short (c .before .args .length) (c .before .args .out .now) (c .if1 .taken)
 
--- src/lib.rt:289:14
 cast-out : tie.Need-cast-out
 cast-out c = search needs
 
--- src/lib.rt:289:5
 slice-write-out : tie.Need-slice-write-out
 slice-write-out c = search needs
 
--- src/lib.rt:290:14
 cast-out-2 : tie.Need-cast-out-2
 cast-out-2 c = search needs
 
--- src/lib.rt:290:5
 slice-write-out-2 : tie.Need-slice-write-out-2
 slice-write-out-2 c = simp length-set (omega (arith, c .if1 .left))
 
--- src/lib.rt:291:14
 cast-out-3 : tie.Need-cast-out-3
 cast-out-3 c = search needs
 
--- src/lib.rt:291:5
 slice-write-out-3 : tie.Need-slice-write-out-3
 slice-write-out-3 c = simp length-set (omega (arith, c .if1 .left))
 
--- src/lib.rt:292:14
 cast-out-4 : tie.Need-cast-out-4
 cast-out-4 c = search needs
 
--- src/lib.rt:292:5
 slice-write-out-4 : tie.Need-slice-write-out-4
 slice-write-out-4 c = search needs
 
--- src/lib.rt:283:1
 same-length : tie.Need-same-length
 same-length c = search needs
 
--- src/lib.rt:283:1
 returns-2 : tie.Need-returns-2
 returns-2 c = length-stored (c .before .args .length) (c .before .args .out .now)
 

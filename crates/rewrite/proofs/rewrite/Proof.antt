@@ -7,44 +7,35 @@ use borrow.Author.Needs.{needs}
 use Rattle.rewrite.proofs.rewrite.Statement.{statement}
 use Rattle.rewrite.proofs.rewrite.Tie as tie
 
--- src/lib.rt:347:11
 load-requires : tie.Need-load-requires
 load-requires c κs = search needs
 
--- src/lib.rt:348:28
 enum-known-number : tie.Need-enum-known-number
 enum-known-number c = search needs
 
--- src/lib.rt:350:13
 enum-known-rows : tie.Need-enum-known-rows
 enum-known-rows c = search needs
 
--- src/lib.rt:353:14
 fit-requires : tie.Need-fit-requires
 fit-requires c κs =
     let s = c .before .before .before .before .before .before .before .before .before .before .before .before .args .file .now in
     let g = loaded s (length (c .before .before .before .before .before .before .before .before .before .before .before .before .args .words .now)) (small-by-index s (λ i h. omega (arith, c .before .before .before .before .before .before .before .before .before .before .before .shared-slice-known .given i))) (sym (c .before .before .before .rows .given .1) ∙ c .before .before .before .before .before .before .before .load .ensures .0) in
     rw (c .before .before .before .before .before .before .before .load .ensures .1) (g .ready)
 
--- src/lib.rt:342:1
 same-length : tie.Need-same-length
 same-length c = search needs
 
--- src/lib.rt:342:1
 returns : tie.Need-returns
 returns c =
     let r = load-refused (c .before .before .before .before .before .before .before .before .before .before .args .file .now) (length (c .before .before .before .before .before .before .before .before .before .before .args .words .now)) (c .before .before .before .before .before .before .before .before .before .before .args .out .now) (sym (c .before .number .given .1) ∙ c .before .before .before .before .before .load .ensures .0) in
     (r .0, (r .1, c .before .before .before .before .before .load .ensures .1 ∙ r .2))
 
--- src/lib.rt:342:1
 same-length-2 : tie.Need-same-length-2
 same-length-2 c = search needs
 
--- src/lib.rt:342:1
 same-length-3 : tie.Need-same-length-3
 same-length-3 c = search needs
 
--- src/lib.rt:342:1
 returns-2 : tie.Need-returns-2
 returns-2 c =
     let s = c .before .before .before .before .before .before .before .before .before .before .before .before .before .before .before .before .before .args .file .now in

@@ -9,46 +9,36 @@ use borrow.Author.Needs.{needs}
 use Rattle.rewrite.proofs.write.Statement.{statement}
 use Rattle.rewrite.proofs.write.Tie as tie
 
--- src/lib.rt:307:9
 measure-requires : tie.Need-measure-requires
 measure-requires c κs = search needs
 
--- src/lib.rt:309:9
 write-number-requires : tie.Need-write-number-requires
 write-number-requires c κs = search needs
 
--- src/lib.rt:310:9
 write-entries-requires : tie.Need-write-entries-requires
 write-entries-requires c κs =
     let s = c .before .before .before .before .before .before .before .before .before .args .file .now in
     let f = found s (small-by-index s (λ i h. omega (arith, c .before .before .before .before .before .before .before .before .shared-slice-known .given i))) 10 (c .before .before .before .before .before .measure .result) (c .before .before .before .before .before .measure .ensures) in
     (c .before .before .before .before .before .before .before .before .before .pre, omega (arith, f .end-small, c .before .before .before .before .before .before .before .before .before .pre))
 
--- src/lib.rt:312:9
 measure-requires-2 : tie.Need-measure-requires-2
 measure-requires-2 c κs = search needs
 
--- src/lib.rt:317:9
 write-number-requires-2 : tie.Need-write-number-requires-2
 write-number-requires-2 c κs = search needs
 
--- src/lib.rt:318:9
 write-rows-requires : tie.Need-write-rows-requires
 write-rows-requires c κs = search needs
 
--- src/lib.rt:319:5
 write-rest-requires : tie.Need-write-rest-requires
 write-rest-requires c κs = search needs
 
--- src/lib.rt:320:5
 put-length-requires : tie.Need-put-length-requires
 put-length-requires c κs = search needs
 
--- src/lib.rt:296:1
 same-length : tie.Need-same-length
 same-length c = omega (arith, c .before .before .put-length .kept, c .before .before .before .before .before .before .write-rest .kept, c .before .before .before .before .before .before .before .before .before .before .write-rows .kept, c .before .before .before .before .before .before .before .before .before .before .before .before .before .before .write-number2 .kept, c .before .before .before .before .before .before .before .before .before .before .before .before .before .before .before .before .before .before .before .write-entries .kept, c .before .before .before .before .before .before .before .before .before .before .before .before .before .before .before .before .before .before .before .before .before .before .before .write-number .kept)
 
--- src/lib.rt:296:1
 returns : tie.Need-returns
 returns c =
     λ w n h.

@@ -6,19 +6,15 @@ use borrow.Author.Needs.{needs}
 use Rattle.rewrite.proofs.write_count.Statement.{statement}
 use Rattle.rewrite.proofs.write_count.Tie as tie
 
--- src/lib.rt:204:13
 measure-requires : tie.Need-measure-requires
 measure-requires c κs = search needs
 
--- src/lib.rt:205:9
 write-number-requires : tie.Need-write-number-requires
 write-number-requires c κs = search needs
 
--- src/lib.rt:205:9
 same-length : tie.Need-same-length
 same-length c = search needs
 
--- src/lib.rt:205:9
 returns : tie.Need-returns
 returns c =
     λ base places whole p.
@@ -26,7 +22,6 @@ returns c =
     let f = found s (small-by-index s (λ i h. omega (arith, c .before .before .before .before .before .before .before .shared-slice-known .given i))) (c .before .before .before .before .before .before .before .before .args .at) (c .before .before .before .before .measure .result) (c .before .before .before .before .measure .ensures) in
     c .before .before .write-number .ensures base places whole (f .value-is) (f .next-is) (rw (count-there s (c .before .before .before .before .before .before .before .before .args .kind) (c .before .before .before .before .before .before .before .before .args .at) (c .before .before .before .before .before .if1 .taken)) at p)
 
--- src/lib.rt:200:1
 returns-2 : tie.Need-returns-2
 returns-2 c =
     λ base places whole p.

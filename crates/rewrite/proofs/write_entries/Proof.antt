@@ -18,45 +18,36 @@ Inv-loop file out₀ readers at done₀ place₀ left₀ out done place left = (
 abbrev μ-loop : tie.MeasureT-loop
 μ-loop file out₀ readers at done₀ place₀ left₀ out done place left = left
 
--- src/lib.rt:254:5
 loop-holds : tie.Need-loop-holds Inv-loop μ-loop
 loop-holds c = (refl, λ s. (none-passed (c .before .before .args .file .now) s (c .before .before .args .readers) (c .before .before .args .at) (c .before .before .fits .readers .fits) (c .before .before .pre .1), λ base places whole p. p))
 
--- src/lib.rt:255:13
 measure-requires : tie.Need-measure-requires Inv-loop μ-loop
 measure-requires c κs = search needs
 
--- src/lib.rt:258:9
 write-number-requires : tie.Need-write-number-requires Inv-loop μ-loop
 write-number-requires c κs = search needs
 
--- src/lib.rt:259:24
 cast-place : tie.Need-cast-place Inv-loop μ-loop
 cast-place c = search needs
 
--- src/lib.rt:259:17
 add-place : tie.Need-add-place Inv-loop μ-loop
 add-place c =
     let s = c .before .before .before .before .before .before .before .before .before .args .file .now in
     let small = small-by-index s (λ i h. omega (arith, c .before .before .before .before .before .before .before .before .shared-slice-known .given i)) in
     omega (arith, end-fits s small (c .before .before .before .before .before .before .before .before .before .args .readers) (c .before .before .before .before .before .before .before .before .before .args .at) (c .before .before .before .before .before .before .loop .left) (c .before .before .before .before .before .before .loop .place) (c .before .before .before .before .measure .result) (c .before .before .before .before .before .before .before .before .before .pre .0) (c .before .before .before .before .measure .ensures) (c .before .before .before .before .before .before .loop .inv .1 small .0))
 
--- src/lib.rt:259:17
 add-place-2 : tie.Need-add-place-2 Inv-loop μ-loop
 add-place-2 c =
     let s = c .before .before .before .before .before .before .before .before .before .args .file .now in
     let small = small-by-index s (λ i h. omega (arith, c .before .before .before .before .before .before .before .before .shared-slice-known .given i)) in
     omega (arith, end-fits s small (c .before .before .before .before .before .before .before .before .before .args .readers) (c .before .before .before .before .before .before .before .before .before .args .at) (c .before .before .before .before .before .before .loop .left) (c .before .before .before .before .before .before .loop .place) (c .before .before .before .before .measure .result) (c .before .before .before .before .before .before .before .before .before .pre .0) (c .before .before .before .before .measure .ensures) (c .before .before .before .before .before .before .loop .inv .1 small .0))
 
--- src/lib.rt:260:9
 sub-left : tie.Need-sub-left Inv-loop μ-loop
 sub-left c = search needs
 
--- src/lib.rt:254:5
 loop-less : tie.Need-loop-less Inv-loop μ-loop
 loop-less c = search needs
 
--- src/lib.rt:254:5
 loop-again : tie.Need-loop-again Inv-loop μ-loop
 loop-again c = (
   search needs,
@@ -68,11 +59,9 @@ loop-again c = (
       ),
 )
 
--- src/lib.rt:247:1
 same-length : tie.Need-same-length Inv-loop μ-loop
 same-length c = search needs
 
--- src/lib.rt:247:1
 returns : tie.Need-returns Inv-loop μ-loop
 returns c =
     let s = c .before .before .before .before .args .file .now in

@@ -6,33 +6,26 @@ use borrow.Author.Needs.{needs}
 use Rattle.rewrite.proofs.write_number.Statement.{statement}
 use Rattle.rewrite.proofs.write_number.Tie as tie
 
--- src/lib.rt:181:9
 returns : tie.Need-returns
 returns c =
     λ base places whole ev en p.
     absurd (not-behind (c .before .before .before .args .file .now) base (c .before .before .before .args .out .now) (c .before .before .before .args .c .from) (c .before .before .before .args .c .to) whole (c .before .before .before .args .at) (c .before .before .before .args .value) (c .before .before .before .args .next) places ev en p (c .if1 .taken))
 
--- src/lib.rt:184:8
 copy-requires : tie.Need-copy-requires
 copy-requires c κs = search needs
 
--- src/lib.rt:185:19
 add-mid : tie.Need-add-mid
 add-mid c = omega (arith, copy-inside (c .before .before .before .before .before .before .before .before .args .out .now) (c .before .before .before .before .before .before .before .before .args .c .to) (c .before .before .before .before .before .before .before .before .args .file .now) (c .before .before .before .before .before .before .before .before .args .c .from) (c .before .before .before .before .before .before .before .before .args .at - c .before .before .before .before .before .before .before .before .args .c .from) (sym (c .if2 .taken) ∙ c .before .before .before .copy .ensures .0))
 
--- src/lib.rt:186:15
 write-shortest-requires : tie.Need-write-shortest-requires
 write-shortest-requires c κs = search needs
 
--- src/lib.rt:187:26
 enum-known-end : tie.Need-enum-known-end
 enum-known-end c = search needs
 
--- src/lib.rt:188:17
 same-length : tie.Need-same-length
 same-length c = search needs
 
--- src/lib.rt:188:17
 returns-2 : tie.Need-returns-2
 returns-2 c =
     λ base places whole ev en p.
@@ -41,21 +34,17 @@ returns-2 c =
 enum-told : tie.Need-enum-told
 enum-told c = search needs
 
--- src/lib.rt:168:1
 same-length-2 : tie.Need-same-length-2
 same-length-2 c = search needs
 
--- src/lib.rt:168:1
 returns-3 : tie.Need-returns-3
 returns-3 c =
     λ base places whole ev en p.
     absurd (has-room (c .before .before .before .before .before .before .before .before .before .before .before .before .before .before .args .file .now) base (c .before .before .before .before .before .before .before .before .before .before .before .before .before .before .args .out .now) (c .before .before .before .before .before .before .before .before .before .before .before .before .before .before .args .c .from) (c .before .before .before .before .before .before .before .before .before .before .before .before .before .before .args .c .to) whole (c .before .before .before .before .before .before .before .before .before .before .before .before .before .before .args .at) (c .before .before .before .before .before .before .before .before .before .before .before .before .before .before .args .value) (c .before .before .before .before .before .before .before .before .before .before .before .before .before .before .args .next) places ev en p (c .before .before .before .before .before .before .before .before .before .copy .ensures .1) (c .before .before .before .before .write-shortest .ensures .0) (c .enum-told .given .1))
 
--- src/lib.rt:168:1
 same-length-3 : tie.Need-same-length-3
 same-length-3 c = search needs
 
--- src/lib.rt:168:1
 returns-4 : tie.Need-returns-4
 returns-4 c =
     λ base places whole ev en p.

@@ -5,25 +5,20 @@ use borrow.Author.Needs.{needs}
 use Rattle.rewrite.proofs.write_rest.Statement.{statement}
 use Rattle.rewrite.proofs.write_rest.Tie as tie
 
--- src/lib.rt:276:9
 returns : tie.Need-returns
 returns c =
     λ base whole p.
     absurd (omega (arith, rest-copied (c .before .before .before .args .file .now) base (c .before .before .before .args .out .now) (c .before .before .before .args .c .from) (c .before .before .before .args .c .to) whole p .0, c .if1 .taken))
 
--- src/lib.rt:278:13
 sub-n : tie.Need-sub-n
 sub-n c = search needs
 
--- src/lib.rt:279:5
 copy-requires : tie.Need-copy-requires
 copy-requires c κs = search needs
 
--- src/lib.rt:270:1
 same-length : tie.Need-same-length
 same-length c = search needs
 
--- src/lib.rt:270:1
 returns-2 : tie.Need-returns-2
 returns-2 c =
     λ base whole p.

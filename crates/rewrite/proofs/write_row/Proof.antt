@@ -10,55 +10,42 @@ use borrow.Author.Needs.{needs}
 use Rattle.rewrite.proofs.write_row.Statement.{statement}
 use Rattle.rewrite.proofs.write_row.Tie as tie
 
--- src/lib.rt:214:9
 position-requires : tie.Need-position-requires
 position-requires c κs = search needs
 
--- src/lib.rt:215:9
 word-requires : tie.Need-word-requires
 word-requires c κs = search needs
 
--- src/lib.rt:216:29
 add-word : tie.Need-add-word
 add-word c = search needs
 
--- src/lib.rt:216:17
 word-requires-2 : tie.Need-word-requires-2
 word-requires-2 c κs = search needs
 
--- src/lib.rt:216:17
 cast-first : tie.Need-cast-first
 cast-first c = search needs
 
--- src/lib.rt:217:35
 add-word-2 : tie.Need-add-word-2
 add-word-2 c = search needs
 
--- src/lib.rt:217:23
 word-requires-3 : tie.Need-word-requires-3
 word-requires-3 c κs = search needs
 
--- src/lib.rt:217:8
 numbered-requires : tie.Need-numbered-requires
 numbered-requires c κs = search needs
 
--- src/lib.rt:218:13
 measure-requires : tie.Need-measure-requires
 measure-requires c κs = search needs
 
--- src/lib.rt:220:13
 write-number-requires : tie.Need-write-number-requires
 write-number-requires c κs = search needs
 
--- src/lib.rt:221:9
 write-count-requires : tie.Need-write-count-requires
 write-count-requires c κs = search needs
 
--- src/lib.rt:221:9
 same-length : tie.Need-same-length
 same-length c = search needs
 
--- src/lib.rt:221:9
 returns : tie.Need-returns
 returns c =
     λ base places whole p.
@@ -68,15 +55,12 @@ returns c =
     let q = c .before .before .before .before .before .before .write-number .ensures base (countPlaces s (c .before .before .before .before .before .before .before .before .before .before .before .before .before .word .result) (past (sevenAt s (c .before .before .before .before .before .before .before .before .before .before .before .before .word2 .result)) (c .before .before .before .before .before .before .before .before .before .before .before .before .word2 .result)) ++ places) whole (f .value-is) (f .next-is) (rw e at p) in
     c .before .before .write-count .ensures base places whole (rw (← f .next-is) at q)
 
--- src/lib.rt:223:5
 write-count-requires-2 : tie.Need-write-count-requires-2
 write-count-requires-2 c κs = search needs
 
--- src/lib.rt:211:1
 same-length-2 : tie.Need-same-length-2
 same-length-2 c = search needs
 
--- src/lib.rt:211:1
 returns-2 : tie.Need-returns-2
 returns-2 c =
     λ base places whole p.

@@ -16,31 +16,24 @@ Inv-loop file words out₀ rows done₀ i₀ out done i = (i ≤ rows) × (lengt
 abbrev μ-loop : tie.MeasureT-loop
 μ-loop file words out₀ rows done₀ i₀ out done i = rows - i
 
--- src/lib.rt:232:5
 loop-holds : tie.Need-loop-holds Inv-loop μ-loop
 loop-holds c = (omega arith, refl, λ base whole p. rw (all-rows (c .before .before .before .args .file .now) (c .before .before .before .args .words .now) (c .before .before .before .args .rows)) p)
 
--- src/lib.rt:233:9
 write-row-requires : tie.Need-write-row-requires Inv-loop μ-loop
 write-row-requires c κs = search needs
 
--- src/lib.rt:234:9
 add-i : tie.Need-add-i Inv-loop μ-loop
 add-i c = search needs
 
--- src/lib.rt:232:5
 loop-less : tie.Need-loop-less Inv-loop μ-loop
 loop-less c = search needs
 
--- src/lib.rt:232:5
 loop-again : tie.Need-loop-again Inv-loop μ-loop
 loop-again c = (omega arith, search needs, λ base whole p. c .before .before .write-row .ensures base (tablePlaces (c .before .before .before .before .before .before .before .before .before .args .file .now) (c .before .before .before .before .before .before .before .before .before .args .words .now) (c .before .before .before .before .before .before .before .before .before .args .rows - (c .before .before .before .before .before .loop .i + 1)) (c .before .before .before .before .before .loop .i + 1)) whole (rw (next-row (c .before .before .before .before .before .before .before .before .before .args .file .now) (c .before .before .before .before .before .before .before .before .before .args .words .now) (c .before .before .before .before .before .before .before .before .before .args .rows) (c .before .before .before .before .before .loop .i) (c .before .before .before .before .loop-test .taken)) at (c .before .before .before .before .before .loop .inv .2 base whole p)))
 
--- src/lib.rt:227:1
 same-length : tie.Need-same-length Inv-loop μ-loop
 same-length c = search needs
 
--- src/lib.rt:227:1
 returns : tie.Need-returns Inv-loop μ-loop
 returns c = λ base whole p. rw (no-row (c .before .before .before .before .before .args .file .now) (c .before .before .before .before .before .args .words .now) (c .before .before .before .before .before .args .rows) (c .before .loop .i) (c .loop-test .left)) at (c .before .loop .inv .2 base whole p)
 

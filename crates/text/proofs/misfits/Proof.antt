@@ -1,6 +1,6 @@
 use borrow.Author.Needs.{needs}
 use mathlib.Core.Bool.{_||_}
-use Rattle.text.proofs.Laws.{neither}
+use Rattle.laws.specs.Small.{neither}
 use Rattle.text.proofs.Windows.{three-first}
 use Rattle.text.proofs.misfits.Statement.{statement}
 use Rattle.text.proofs.misfits.Tie as tie

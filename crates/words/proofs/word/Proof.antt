@@ -4,19 +4,15 @@ use borrow.Author.Needs.{needs}
 use Rattle.words.proofs.word.Statement.{statement}
 use Rattle.words.proofs.word.Tie as tie
 
--- src/lib.rt:66:16
 mul-result : tie.Need-mul-result
 mul-result c = search needs
 
--- src/lib.rt:66:16
 shared-slice-read-result : tie.Need-shared-slice-read-result
 shared-slice-read-result c = search needs
 
--- src/lib.rt:66:9
 returns : tie.Need-returns
 returns c = search needs
 
--- src/lib.rt:62:1
 returns-2 : tie.Need-returns-2
 returns-2 c = sym (List·getD-eq-default (c .before .args .words .now) 0 (c .if1 .left))
 

@@ -4,15 +4,12 @@ use borrow.Author.Needs.{needs}
 use Rattle.heads.proofs.open.alone.Statement.{statement}
 use Rattle.heads.proofs.open.alone.Tie as tie
 
--- src/open.rt:34:25
 enum-known-read : tie.Need-enum-known-read
 enum-known-read c = search needs
 
--- src/open.rt:35:25
 enum-known-read-2 : tie.Need-enum-known-read-2
 enum-known-read-2 c = search needs
 
--- src/open.rt:30:1
 returns : tie.Need-returns
 unfolding mute
 returns c = (
@@ -20,7 +17,6 @@ returns c = (
   rw (c .before .read .given .1),
 )
 
--- src/open.rt:30:1
 returns-2 : tie.Need-returns-2
 unfolding mute
 returns-2 c = (

@@ -8,45 +8,36 @@ use borrow.Author.Needs.{needs}
 use Rattle.heads.proofs.open.dictionary_head.Statement.{statement}
 use Rattle.heads.proofs.open.dictionary_head.Tie as tie
 
--- src/open.rt:105:11
 little4-requires : tie.Need-little4-requires
 little4-requires c κs = search needs
 
--- src/open.rt:106:25
 enum-known-number : tie.Need-enum-known-number
 enum-known-number c = search needs
 
--- src/open.rt:107:22
 enum-known-n : tie.Need-enum-known-n
 enum-known-n c = search needs
 
--- src/open.rt:109:22
 slot-of-requires : tie.Need-slot-of-requires
 slot-of-requires c κs = search needs
 
--- src/open.rt:109:54
 slot-of-requires-2 : tie.Need-slot-of-requires-2
 slot-of-requires-2 c κs = search needs
 
--- src/open.rt:109:86
 cast-pairs-of : tie.Need-cast-pairs-of
 cast-pairs-of c =
     let start = c .before .before .before .before .before .before .before in
     let s = start .before .args .file .now in
     omega (arith, little-next s (small-by-index s (λ i h. omega (arith, start .shared-slice-known .given i))) 4 _ _ (omega arith) (sym (c .before .before .before .before .before .little4 .ensures) ∙ ap told (c .before .before .before .n .given .1)) .2)
 
--- src/open.rt:109:13
 pairs-of-requires : tie.Need-pairs-of-requires
 pairs-of-requires c κs = search needs
 
--- src/open.rt:102:1
 returns : tie.Need-returns
 returns c = (
   λ t u s n v m. opens-refused _ _ (pairs-refused _ _ t u (sym (c .before .before .before .little4 .ensures) ∙ ap told (c .before .number .given .1))),
   rw (sym (c .before .before .before .little4 .ensures) ∙ ap told (c .before .number .given .1)),
 )
 
--- src/open.rt:102:1
 returns-2 : tie.Need-returns-2
 returns-2 c = (
   λ t u s n v m. opens-head _ _ _ _ (pairs-read _ _ t u (sym (c .before .before .before .before .before .before .little4 .ensures) ∙ ap told (c .before .before .before .before .n .given .1))) (c .pairs-of .ensures .0 _ _ _ (c .before .before .slot-of .ensures .0 t s n) (c .before .slot-of2 .ensures .0 u v m)),

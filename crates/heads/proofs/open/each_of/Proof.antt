@@ -3,19 +3,15 @@ use borrow.Author.Needs.{needs}
 use Rattle.heads.proofs.open.each_of.Statement.{statement}
 use Rattle.heads.proofs.open.each_of.Tie as tie
 
--- src/open.rt:55:22
 enum-known-slot : tie.Need-enum-known-slot
 enum-known-slot c = search needs
 
--- src/open.rt:56:19
 enum-known-slot-2 : tie.Need-enum-known-slot-2
 enum-known-slot-2 c = search needs
 
--- src/open.rt:57:22
 enum-known-slot-3 : tie.Need-enum-known-slot-3
 enum-known-slot-3 c = search needs
 
--- src/open.rt:51:1
 returns : tie.Need-returns
 returns c = (
   λ codes x s.
@@ -24,14 +20,12 @@ returns c = (
   rw (c .before .slot .given .1),
 )
 
--- src/open.rt:51:1
 returns-2 : tie.Need-returns-2
 returns-2 c = (
   λ codes x s. record { slot = x; are = refl; is = rw (c .before .slot2 .given .1) at s },
   rw (c .before .slot2 .given .1),
 )
 
--- src/open.rt:51:1
 returns-3 : tie.Need-returns-3
 returns-3 c = (
   λ codes x s. record { slot = x; are = refl; is = rw (c .before .slot3 .given .1) at s },

@@ -8,41 +8,33 @@ use borrow.Author.Needs.{needs}
 use Rattle.heads.proofs.open.list_head.Statement.{statement}
 use Rattle.heads.proofs.open.list_head.Tie as tie
 
--- src/open.rt:95:11
 little4-requires : tie.Need-little4-requires
 little4-requires c κs = search needs
 
--- src/open.rt:96:25
 enum-known-number : tie.Need-enum-known-number
 enum-known-number c = search needs
 
--- src/open.rt:97:22
 enum-known-n : tie.Need-enum-known-n
 enum-known-n c = search needs
 
--- src/open.rt:97:61
 slot-of-requires : tie.Need-slot-of-requires
 slot-of-requires c κs = search needs
 
--- src/open.rt:97:93
 cast-each-of : tie.Need-cast-each-of
 cast-each-of c =
     let start = c .before .before .before .before .before .before in
     let s = start .before .args .file .now in
     omega (arith, little-next s (small-by-index s (λ i h. omega (arith, start .shared-slice-known .given i))) 4 _ _ (omega arith) (sym (c .before .before .before .before .little4 .ensures) ∙ ap told (c .before .before .n .given .1)) .2)
 
--- src/open.rt:97:53
 each-of-requires : tie.Need-each-of-requires
 each-of-requires c κs = search needs
 
--- src/open.rt:92:1
 returns : tie.Need-returns
 returns c = (
   λ t s n. opens-refused _ _ (list-refused _ _ t (sym (c .before .before .before .little4 .ensures) ∙ ap told (c .before .number .given .1))),
   rw (sym (c .before .before .before .little4 .ensures) ∙ ap told (c .before .number .given .1)),
 )
 
--- src/open.rt:92:1
 returns-2 : tie.Need-returns-2
 returns-2 c = (
   λ t s n. opens-head _ _ _ _ (list-read _ _ t (sym (c .before .before .before .before .before .little4 .ensures) ∙ ap told (c .before .before .before .n .given .1))) (c .each-of .ensures .0 _ _ (c .before .slot-of .ensures .0 t s n)),

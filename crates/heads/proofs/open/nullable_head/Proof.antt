@@ -8,48 +8,39 @@ use borrow.Author.Needs.{needs}
 use Rattle.heads.proofs.open.nullable_head.Statement.{statement}
 use Rattle.heads.proofs.open.nullable_head.Tie as tie
 
--- src/open.rt:78:11
 little1-requires : tie.Need-little1-requires
 little1-requires c κs = search needs
 
--- src/open.rt:79:25
 enum-known-number : tie.Need-enum-known-number
 enum-known-number c = search needs
 
--- src/open.rt:80:22
 enum-known-flag : tie.Need-enum-known-flag
 enum-known-flag c = search needs
 
--- src/open.rt:82:17
 returns : tie.Need-returns
 returns c = (
   λ t s n. opens-head _ _ [] Nothing (flag-zero _ _ t (sym (c .before .before .before .before .little1 .ensures) ∙ ap told (c .before .before .flag .given .1)) (c .if1 .taken)) refl,
   rw (sym (c .before .before .before .before .little1 .ensures) ∙ ap told (c .before .before .flag .given .1), eq-eqb _ 0 (c .if1 .taken)),
 )
 
--- src/open.rt:85:51
 raw-of-requires : tie.Need-raw-of-requires
 raw-of-requires c κs = search needs
 
--- src/open.rt:85:43
 each-of-requires : tie.Need-each-of-requires
 each-of-requires c κs = search needs
 
--- src/open.rt:85:17
 returns-2 : tie.Need-returns-2
 returns-2 c = (
   λ t s n. opens-head _ _ _ _ (flag-one _ _ t (sym (c .before .before .before .before .before .before .before .little1 .ensures) ∙ ap told (c .before .before .before .before .before .flag .given .1)) (c .before .before .if2 .taken)) (c .each-of .ensures .0 _ _ (c .before .raw-of .ensures .0 t s n)),
   rw (sym (c .before .before .before .before .before .before .before .little1 .ensures) ∙ ap told (c .before .before .before .before .before .flag .given .1), ne-eqb _ 0 (c .before .before .before .if1 .left), eq-eqb _ 1 (c .before .before .if2 .taken), c .each-of .ensures .1, c .before .raw-of .ensures .1),
 )
 
--- src/open.rt:75:1
 returns-3 : tie.Need-returns-3
 returns-3 c = (
   λ t s n. opens-refused _ _ (flag-refused _ _ t (sym (c .before .before .before .little1 .ensures) ∙ ap told (c .before .number .given .1))),
   rw (sym (c .before .before .before .little1 .ensures) ∙ ap told (c .before .number .given .1)),
 )
 
--- src/open.rt:75:1
 returns-4 : tie.Need-returns-4
 returns-4 c = (
   λ t s n. opens-refused _ _ (flag-other _ _ t (sym (c .before .before .before .before .before .little1 .ensures) ∙ ap told (c .before .before .before .flag .given .1)) (c .before .if1 .left) (c .if2 .left)),

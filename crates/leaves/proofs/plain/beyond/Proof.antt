@@ -4,6 +4,7 @@ use Prim.Native.Nat.{ℕ, zero, suc}
 use native.Mathlib.Omega.{arith}
 use lib.Dec.{ltb, leb, leb·suc-suc}
 use borrow.Author.Tests.{le-ltb}
+use Rattle.laws.specs.Small.{differ}
 use Rattle.ids.specs.Position.{positionOf}
 use Rattle.ids.specs.declared.Position.the-variants.{Null, At}
 use borrow.Author.Needs.{needs}
@@ -12,10 +13,10 @@ use Rattle.leaves.proofs.plain.beyond.Tie as tie
 
 null : (n shared : ℕ) → positionOf n ≡ Null → false ≡ ltb shared n
 null zero shared e = sym (le-ltb shared 0 (omega arith))
-null (suc n) shared e = absurd (let z : _≡_ {A = ℕ} 0 1 = cc in omega arith)
+null (suc n) shared e = differ cc
 
 at : (n shared i : ℕ) → positionOf n ≡ At i → leb shared i ≡ ltb shared n
-at zero shared i e = absurd (let z : _≡_ {A = ℕ} 0 1 = cc in omega arith)
+at zero shared i e = differ cc
 at (suc n) shared i e = let q : n ≡ i = cc in rw q (sym (leb·suc-suc shared i))
 
 position-requires : tie.Need-position-requires

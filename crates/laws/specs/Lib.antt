@@ -1,0 +1,2 @@
+-- Small laws that the other crates share. They speak of nothing of ours.
+pub mod Small

@@ -1,0 +1,1 @@
+// Small laws that the other crates share: specs/Small.antt.
