@@ -9,10 +9,10 @@ use mir.Val.{SFits, toZ, ofZ}
 use mir.Syntax.{w64}
 use mir.Facts.{toZ-ofZ}
 use Rattle.laws.specs.Small.{differ}
+use Rattle.layout.specs.Named.{named}
 use Rattle.reading.specs.Reads.{Small}
 use Rattle.reading.specs.File.{Load, refusal, accepted, loadOf}
 use Rattle.reading.specs.Refusals.{refusal-place}
-use Rattle.readers.specs.Judged.{judgedName, named, judges, ten-or-eleven}
 use Rattle.shortest.specs.Rewrite as rewritten
 use Rattle.shortest.specs.Rewrite.{Rewritten, rewriteOf}
 use Rattle.shortest.specs.Theorems.{rewrite-refusal}
@@ -29,6 +29,7 @@ use Rattle.lookups.specs.declared.Moment.{Moment}
 use Rattle.lookups.specs.declared.Moment.the-variants as moment
 use Rattle.builder.specs.Packed.{code, packed, rewritePacked}
 use Rattle.builder.specs.Told.{loadTold, spanTold, signedTold, timeTold}
+use Rattle.readers.specs.Judged.{judgedName, judges, ten-or-eleven}
 
 -- an answer that refuses is a refusal
 refusal-of : (x : Load) {n p : ℕ} → Refused n p ≡ answerOf x → x ≡ refusal n p

@@ -7,12 +7,15 @@ use lib.ListN.{take}
 use Rattle.layout.specs.Target.{kindOf, isValue}
 use Rattle.layout.specs.Tree.{count, kindAt, childrenAt}
 use Rattle.layout.specs.Slot.{each, slotOf, rawOrObject, pairs, leaves, fontSlots, pageSlots}
-use Rattle.layout.specs.Number.{little}
+use Rattle.layout.specs.Number.{little, between}
 use Rattle.layout.specs.Text.{ascii}
 use Rattle.layout.specs.Image.{levels, levelBytes, pixelBytes, blockBytes, digits}
 use Rattle.layout.specs.Fixed.{sizes}
 use Rattle.layout.specs.File.{sharedOf, header, objectsPlan}
 use Rattle.layout.specs.Rows.{row, nothing}
+use Rattle.layout.specs.Name.{headByte, tailByte}
+use Rattle.layout.specs.Kind.{lookup, alike, reader, readers, target as target-entry, targets}
+use Rattle.layout.specs.Named.{fixedKind, plain, nullableOf, wrapped, paired, typeOf, enumOf, arrayOf, readerOf}
 use Rattle.reading.specs.Answer.{Answer, read, refused, bind, check, within}
 use Rattle.reading.specs.Reads.{some, field}
 use Rattle.reading.specs.Seven.{group, groups, sevenAt}
@@ -25,10 +28,7 @@ use Rattle.reading.specs.Resource.{suit, suits}
 use Rattle.reading.specs.Walk.{ownOf, before, sequence, rawAt, byReader, objectAt, valueAt, walk}
 use Rattle.reading.specs.Heads.{headAt, fixedHeadAt, whole as whole-value, textAt, countAt, imageAt, leafAt, always}
 use Rattle.reading.specs.File.{isPlatform, headerAt, judge, rootKind, rootKinds, judged, readerAt, readersAt, listsAt, objectsAt, finished, fileAt, Load, refusal, accepted, toLoad, roomOf, loadOf}
-use Rattle.names.specs.Name.{between, headByte, tailByte, headings}
-use Rattle.names.specs.Kind.{lookup, alike, listed, reader, readers, target as target-entry, targets}
 use Rattle.names.specs.Parse.{span, starts, tailSize, tailOf, closed, opening, onOnly, onSecond, onFirst, afterHead, headed, nameIn, whole, nameOf}
-use Rattle.types.specs.Types.{fixedKind, plain, nullableOf, wrapped, paired, typeOf, enumOf, arrayOf, readerOf}
 use Rattle.readers.specs.Judged.{typedName, readName, judgedName}
 use Rattle.numbers.specs.Shortest.{fewest, shortest}
 use Rattle.shortest.specs.Short.{numbered, idBytes, body, short}
@@ -38,6 +38,8 @@ use Rattle.ticks.specs.declared.Time.{Time}
 use Rattle.ticks.specs.Split.{splitOf}
 use Rattle.ticks.specs.Laws.{p12}
 use Rattle.images.specs.Laws.{p13}
+use Rattle.names.specs.Heading.{headings}
+use Rattle.names.specs.Kind.{listed}
 
 -- what an example gives, and what it says of it
 pub data Example : Type 0 where
@@ -112,5 +114,5 @@ listed-examples =
     ∷ []
 
 pub examples : Hold listed-examples
-unfolding Hold listed-examples A B paddedB start texted rewriteOf byLoad fitted shortFile shortBody shortLists shortEntries shortEntry short body idBytes numbered shortest fewest header follow size isPlatform headerAt judge rootKind rootKinds judged readerAt readersAt listsAt objectsAt finished fileAt toLoad roomOf loadOf headAt fixedHeadAt whole-value textAt countAt imageAt leafAt always ownOf before sequence rawAt byReader objectAt valueAt walk suit suits fontOk fontIf fontTest rule isBoolean isDateTime isDecimal fixedAt utf8s chars charSize decided same serves invoked reader-of valueOf littleAt group groups sevenAt some field bind check within sharedOf objectsPlan sizes levels levelBytes pixelBytes blockBytes digits ascii little each slotOf rawOrObject pairs leaves fontSlots pageSlots count kindAt childrenAt kindOf isValue between headByte tailByte headings lookup alike listed reader readers target-entry targets span starts tailSize tailOf closed opening onOnly onSecond onFirst afterHead headed nameIn whole nameOf fixedKind plain nullableOf wrapped paired typeOf enumOf arrayOf readerOf typedName readName judgedName
+unfolding Hold listed-examples A B paddedB start texted rewriteOf byLoad fitted shortFile shortBody shortLists shortEntries shortEntry short body idBytes numbered shortest fewest header follow size isPlatform headerAt judge rootKind rootKinds judged readerAt readersAt listsAt objectsAt finished fileAt toLoad roomOf loadOf headAt fixedHeadAt whole-value textAt countAt imageAt leafAt always ownOf before sequence rawAt byReader objectAt valueAt walk suit suits fontOk fontIf fontTest rule isBoolean isDateTime isDecimal fixedAt utf8s chars charSize decided same serves invoked reader-of valueOf littleAt group groups sevenAt some field bind check within sharedOf objectsPlan sizes levels levelBytes pixelBytes blockBytes digits ascii little each slotOf rawOrObject pairs leaves fontSlots pageSlots count kindAt childrenAt kindOf isValue headByte tailByte headings lookup alike listed reader readers target-entry targets span starts tailSize tailOf closed opening onOnly onSecond onFirst afterHead headed nameIn whole nameOf fixedKind plain nullableOf wrapped paired typeOf enumOf arrayOf readerOf typedName readName judgedName
 examples = (refl, (refl, (refl, (refl, (refl, (refl, (refl, (refl, (refl, (refl, (refl, (refl, (refl, (refl, (refl, (p12 .0, (p12 .1, (p13 .0, (p13 .1, (p13 .2, (euro, (surrogate, (of-four, tt)))))))))))))))))))))))

@@ -10,8 +10,8 @@ use Rattle.layout.specs.Target.{Target, fixed, char, string, object as anything
 use Rattle.layout.specs.Fixed.{sizes}
 use Rattle.layout.specs.Slot as L
 use Rattle.layout.specs.Slot.{raw, object, reference, pairs, fontSlots, pageSlots}
-use Rattle.types.specs.Types.{fixedKind}
-use Rattle.names.specs.Name.{between}
+use Rattle.layout.specs.Named.{fixedKind}
+use Rattle.layout.specs.Number.{between}
 use Rattle.types.specs.Code.{code, Stands, NoEnum, Throughout}
 use Rattle.leaves.specs.declared.plain.Plain.the-variants.{Fixed, Reference}
 use Rattle.leaves.specs.Plain.{referenced}
@@ -79,7 +79,7 @@ module _ (codes : List ℕ) (p : Prelude codes) where
   declared a t rest l n e = record { type = t; is = refl; stands = stands a t rest l e; plain = n }
 
   pub font-child : (i : ℕ) → i < length fontSlots → ChildIs codes fontSlots i (fontChild i)
-  unfolding fontSlots fontChild prelude code Throughout fixedKind between sizes
+  unfolding fontSlots fontChild prelude code Throughout fixedKind sizes
   font-child zero h = record { slot = object texture2D; at = refl; is = declared 0 texture2D _ tt tt refl }
   font-child (suc zero) h = record { slot = object (list (fixed 30)); at = refl; is = declared 1 (list (fixed 30)) _ refl tt refl }
   font-child (suc (suc zero)) h = record { slot = object (list (fixed 30)); at = refl; is = declared 1 (list (fixed 30)) _ refl tt refl }
@@ -92,7 +92,7 @@ module _ (codes : List ℕ) (p : Prelude codes) where
   font-child (suc (suc (suc (suc (suc (suc (suc (suc i)))))))) h = absurd (omega arith)
 
   pub page-child : (i : ℕ) → i < length pageSlots → ChildIs codes pageSlots i (pageChild i)
-  unfolding pageSlots pageChild prelude code Throughout fixedKind between sizes referenced kindOf
+  unfolding pageSlots pageChild prelude code Throughout fixedKind sizes referenced kindOf
   page-child zero h = record { slot = object string; at = refl; is = declared 7 string _ tt tt refl }
   page-child (suc zero) h = record { slot = raw (fixed 30); at = refl; is = (refl, (refl, omega arith)) }
   page-child (suc (suc zero)) h = record { slot = reference texture2D; at = refl; is = (refl, refl) }

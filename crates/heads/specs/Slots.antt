@@ -8,13 +8,13 @@ use lib.Dec.{eqb, ltb}
 use lib.ListN.{getD}
 use borrow.Author.Tests.{eqb-true, eqb-false, ltb-true}
 use Rattle.laws.specs.Small.{differ, both}
-use Rattle.names.specs.Name.{between}
 use Rattle.types.specs.Decode.{fixed-small}
 use Rattle.layout.specs.Target.{Target, fixed, char, string, object as anything, texture, texture2D, spriteFont, page, enum, nullable, array, list, dictionary, kindOf, isValue}
 use Rattle.layout.specs.Fixed.{sizes}
 use Rattle.layout.specs.Slot.{raw, object, slotOf, rawOrObject}
 use Rattle.layout.specs.Slot as L
-use Rattle.types.specs.Types.{fixedKind}
+use Rattle.layout.specs.Number.{between}
+use Rattle.layout.specs.Named.{fixedKind}
 use Rattle.types.specs.Code.{Stands, NoEnum, Lawful as LawfulTarget, Throughout}
 use Rattle.leaves.specs.Plain.{plainSlot, Lawful}
 use Rattle.heads.specs.declared.slot.Slot.{Slot}
@@ -58,7 +58,7 @@ sizedIf false k = true
 
 -- each kind of a fixed type has a size
 pub fixed-sized : (k : ℕ) → fixedKind k ≡ true → 0 < getD sizes k 0
-unfolding sizedIf allBelow fixedKind between sizes
+unfolding sizedIf allBelow fixedKind sizes
 fixed-sized k f =
     let small : k < 64 = fixed-small k f in
     let t : sizedIf (fixedKind k) k ≡ true = at-each 64 (λ n. sizedIf (fixedKind n) n) refl k small in
@@ -66,7 +66,7 @@ fixed-sized k f =
 
 -- by the kind of a lawful type: a character
 pub raw-char : (t : Target) → LawfulTarget t → kindOf t ≡ 12 → t ≡ char
-unfolding Throughout kindOf fixedKind between
+unfolding Throughout kindOf fixedKind
 raw-char (fixed k) l e = absurd (let q : _≡_ {A = Bool} false true = rw e at l in differ cc)
 raw-char char l e = refl
 raw-char string l e = absurd (omega arith)
@@ -87,7 +87,7 @@ unfolding slotOf rawOrObject isValue
 char-slot t l e = rw (raw-char t l e)
 
 pub nullable-slot : {codes : List ℕ} {a : ℕ} (t : Target) → Stands codes a t → NoEnum t → kindOf t ≡ 16 → RawIs codes a (slotOf t)
-unfolding Throughout kindOf slotOf rawOrObject isValue fixedKind between
+unfolding Throughout kindOf slotOf rawOrObject isValue fixedKind
 nullable-slot (fixed k) s n e = absurd (let q : _≡_ {A = Bool} false true = rw e at (s .lawful) in differ cc)
 nullable-slot char s n e = absurd (omega arith)
 nullable-slot string s n e = absurd (omega arith)

@@ -3,6 +3,9 @@
 pub mod Number
 pub mod Text
 pub mod Target
+pub mod Name
+pub mod Kind
+pub mod Named
 pub mod Fixed
 pub mod Image
 pub mod Tree

@@ -1,6 +1,8 @@
 -- Numbers as bytes (01, "Seven-bit numbers", and "Numbers are little endian"). Assumes nothing.
+use mathlib.Core.Bool.{Bool, _&&_}
 use mathlib.Core.List.{List, [], _∷_}
 use Prim.Native.Nat.{ℕ, zero, suc, _+_, _*_, _/_, _%_, _<_, _^_}
+use lib.Dec.{leb}
 
 -- 01: "Groups of seven bits, low first; the top bit says more follow": n in at most k groups
 pub data Groups : ℕ → ℕ → List ℕ → Type 0 where
@@ -15,3 +17,7 @@ Seven n bs = (n < 2 ^ 32) × Groups 5 n bs
 unfoldable pub little : ℕ → ℕ → List ℕ
 little zero n = []
 little (suc k) n = n % 256 ∷ little k (n / 256)
+
+-- whether a number is from `low` to `high`
+abbrev pub between : (low high : ℕ) → ℕ → Bool
+between low high b = leb low b && leb b high

@@ -14,6 +14,7 @@ use Rattle.layout.specs.Rows.{Row, flat}
 use Rattle.layout.specs.File.{objectsPlan, header}
 use Rattle.layout.specs.Text.{ascii}
 use Rattle.layout.specs.Number.{little}
+use Rattle.layout.specs.Named.{named}
 use Rattle.reading.specs.Answer.{Answer, refused, read, bind, check, Ok, not-read, is-read}
 use Rattle.reading.specs.Reads.{Small, reads-bounds}
 use Rattle.reading.specs.References.{length-flat}
@@ -29,7 +30,6 @@ use Rattle.table.specs.Contract.{seen, Walked}
 use Rattle.table.specs.Loop.{got, lost}
 use Rattle.table.specs.Leaf.{mute}
 use Rattle.fill.specs.Fill.{cleared}
-use Rattle.readers.specs.Judged.{judgedName, named, judges}
 use Rattle.heads.specs.declared.nest.Nest.the-variants.{Each}
 use Rattle.heads.specs.declared.slot.Slot.the-variants.{Object}
 use Rattle.heads.specs.Nests.{Prelude, prelude, NestIs, object-at}
@@ -40,6 +40,7 @@ use Rattle.resources.specs.Objects.{objects-drafted}
 use Rattle.load.specs.declared.Loading.{Loading}
 use Rattle.load.specs.declared.Loading.the-variants.{Refused, Loaded}
 use Rattle.load.specs.Loads.{Loads, behindHeader, answerOf}
+use Rattle.readers.specs.Judged.{judgedName, judges}
 
 module _ (file : List ℕ) (platform flags : ℕ) (names : List (List ℕ)) (readers shared : ℕ) (a : Taken) (next : ℕ) where
   -- 01: "20 after the last object"

@@ -9,7 +9,7 @@ use lib.ListN.{length, take, drop, getD, length-drop, length-append, drop-of-len
 use lib.Seq.{drop-cons, take-all}
 use borrow.Author.Tests.{eq-eqb, ne-eqb}
 use Rattle.layout.specs.Text.{ascii}
-use Rattle.names.specs.Name.{tailByte}
+use Rattle.layout.specs.Name.{tailByte}
 use Rattle.names.specs.Parse.{span, starts, tailSize}
 use Rattle.names.specs.Sound.{starts-is, span-le}
 

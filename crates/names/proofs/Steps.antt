@@ -8,16 +8,18 @@ use lib.ListN.{length, take, drop, set, length-append, length-drop}
 use lib.Seq.{sets}
 use Rattle.laws.specs.Small.{differ}
 use Rattle.layout.specs.Text.{ascii}
+use Rattle.layout.specs.Name.{Name, Tail, none, simple, one, two, headByte}
+use Rattle.layout.specs.Kind.{lookup}
 use Rattle.names.specs.declared.Parsed.{Parsed}
 use Rattle.names.specs.declared.Parsed.the-variants.{Name as Parsed-name, Broken as Parsed-broken}
-use Rattle.names.specs.Name.{Name, Tail, none, simple, one, two, headByte, Heading, heading, headings}
-use Rattle.names.specs.Kind.{codes, node, lookup, listed}
 use Rattle.names.specs.Parse.{Read, broken, name, span, starts, tailOf, ended, closed, opening, onOnly, onSecond, onFirst, afterHead, headed, nameIn}
 use Rattle.names.specs.Complete.{length-write}
 use Rattle.names.specs.Sound.{Ok, read, Stands, span-le, sound}
 use Rattle.names.specs.Contract.{answer, met, Parses, Inside, tailed, passed, tailedAfter, closing}
 use Rattle.names.proofs.Laws.{rest, starts-fits}
 use Rattle.names.specs.Codes.{heads-short, codes-append, codes-length}
+use Rattle.names.specs.Heading.{Heading, heading, headings}
+use Rattle.names.specs.Kind.{codes, node, listed}
 
 -- what follows a head: at most 3, and four bytes where arguments are opened
 abbrev by : (a b c : Bool) → ℕ

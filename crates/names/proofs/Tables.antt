@@ -7,8 +7,9 @@ use native.Mathlib.Omega.{arith}
 use lib.Dec.{eqb}
 use lib.ListN.{length, take, drop, getD, length-drop, length-append}
 use lib.Seq.{getD-drop, drop-drop, drop-append-seam, take-append-seam}
+use Rattle.layout.specs.Kind.{Entry, entry, alike, lookup}
 use Rattle.names.specs.Parse.{starts}
-use Rattle.names.specs.Kind.{Entry, entry, alike, lookup, flat}
+use Rattle.names.specs.Kind.{flat}
 
 pub alike-length : (h n : List ℕ) → (length h ≡ length n → ⊥) → false ≡ alike h n
 unfolding alike

@@ -10,10 +10,10 @@ use Rattle.laws.specs.Small.{differ}
 use Rattle.names.specs.declared.Parsed.{Parsed}
 use Rattle.names.specs.declared.Parsed.the-variants.{Name as Parsed-name, Broken as Parsed-broken}
 use Rattle.names.specs.declared.Named.the-variants.{Codes, Broken, NoRoom}
-use Rattle.names.specs.Kind.{codes}
-use Rattle.names.specs.Name.{headings}
 use Rattle.names.specs.Parse.{Read, broken, name, nameIn, whole, nameOf}
 use Rattle.names.specs.Contract.{answer, met, Parses, roomy, answerOf, contentOf, ReadsName}
+use Rattle.names.specs.Kind.{codes}
+use Rattle.names.specs.Heading.{headings}
 
 pub no-room-is : {s c : List ℕ} {used : ℕ} → length c < used + length s → ReadsName s c c used NoRoom
 unfolding roomy answerOf contentOf

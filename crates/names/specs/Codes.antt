@@ -9,11 +9,13 @@ use lib.ListN.{length, length-append}
 use borrow.Author.Tests.{eqb-true, eq-eqb, ltb-true}
 use Rattle.laws.specs.Small.{differ, both}
 use Rattle.layout.specs.Text.{ascii}
-use Rattle.names.specs.Name.{Name, simple, one, two, Head, Formed, Heading, heading, headings}
+use Rattle.layout.specs.Name.{Name, simple, one, two, Head, Formed}
+use Rattle.layout.specs.Kind.{Entry, entry, reader, readers, target, targets, alike, lookup}
 use Rattle.names.specs.Parse.{name, nameOf}
-use Rattle.names.specs.Kind.{Entry, entry, reader, readers, target, targets, listed, alike, lookup, codes}
 use Rattle.names.specs.Complete.{long, length-write}
 use Rattle.names.specs.Laws.{read-is-text}
+use Rattle.names.specs.Heading.{Heading, heading, headings}
+use Rattle.names.specs.Kind.{listed, codes}
 
 -- a lawful name has a byte for each head
 pub heads-short : (l : ℕ) (n : Name) → Formed l n → length (headings n) ≤ long n

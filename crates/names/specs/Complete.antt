@@ -9,7 +9,8 @@ use lib.ListN.{length, drop, length-append}
 use lib.Seq.{drop-drop, drop-append-seam, drop-append-add, take-append-seam}
 use Rattle.laws.specs.Small.{both}
 use Rattle.layout.specs.Text.{ascii}
-use Rattle.names.specs.Name.{Tail, none, some, Name, simple, one, two, writeTail, write, between, headByte, tailByte, all, Head, Tailed, Formed}
+use Rattle.layout.specs.Name.{Tail, none, some, Name, simple, one, two, writeTail, write, headByte, tailByte, all, Head, Tailed, Formed}
+use Rattle.layout.specs.Number.{between}
 use Rattle.names.specs.Parse.{Read, name, span, starts, tailSize, tailOf, ended, closed, opening, onOnly, onSecond, onFirst, afterHead, headed, nameIn}
 
 -- what may follow a name: nothing, or a closing bracket
@@ -48,25 +49,25 @@ span-all p (b ∷ h) rest a e =
 
 -- a closing bracket goes on with no head and no tail
 stops-head : {rest : List ℕ} → Stops rest → span headByte rest ≡ 0
-unfolding span headByte between ascii
+unfolding span headByte ascii
 stops-head end = refl
 stops-head bracket = refl
 
 stops-tail : {rest : List ℕ} → Stops rest → span tailByte rest ≡ 0
-unfolding span tailByte between ascii
+unfolding span tailByte ascii
 stops-tail end = refl
 stops-tail bracket = refl
 
 one-opens : (r : List ℕ) → (span headByte (ascii "`1[[" ++ r) ≡ 0) × (opening (ascii "`1[[" ++ r) ≡ 1)
-unfolding span headByte between opening starts ascii
+unfolding span headByte opening starts ascii
 one-opens r = (refl, refl)
 
 two-opens : (r : List ℕ) → (span headByte (ascii "`2[[" ++ r) ≡ 0) × (opening (ascii "`2[[" ++ r) ≡ 2)
-unfolding span headByte between opening starts ascii
+unfolding span headByte opening starts ascii
 two-opens r = (refl, refl)
 
 tail-opens : (t : Tail) {rest : List ℕ} → Stops rest → (span headByte (writeTail t rest) ≡ 0) × (opening (writeTail t rest) ≡ 0)
-unfolding span headByte between opening starts writeTail ascii
+unfolding span headByte opening starts writeTail ascii
 tail-opens none end = (refl, refl)
 tail-opens none bracket = (refl, refl)
 tail-opens (some t) w = (refl, refl)

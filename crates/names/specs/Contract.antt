@@ -7,13 +7,14 @@ use lib.Dec.{leb}
 use lib.ListN.{length, drop}
 use lib.Seq.{sets}
 use Rattle.layout.specs.Text.{ascii}
+use Rattle.layout.specs.Name.{headByte, tailByte}
 use Rattle.names.specs.declared.Parsed.{Parsed}
 use Rattle.names.specs.declared.Parsed.the-variants.{Name as Parsed-name, Broken as Parsed-broken}
 use Rattle.names.specs.declared.Named.{Named}
 use Rattle.names.specs.declared.Named.the-variants.{Codes, Broken, NoRoom}
-use Rattle.names.specs.Name.{headByte, tailByte, Heading, headings}
-use Rattle.names.specs.Kind.{codes}
 use Rattle.names.specs.Parse.{Read, broken, name, starts, tailSize, nameIn, nameOf}
+use Rattle.names.specs.Heading.{Heading, headings}
+use Rattle.names.specs.Kind.{codes}
 
 -- the classes of bytes: those of a tail, or those of a head
 abbrev pub class : (tail : Bool) → ℕ → Bool

@@ -9,10 +9,11 @@ use lib.ListN.{length}
 use lib.Seq.{drop-length}
 use borrow.Author.Tests.{eq-eqb, eqb-true}
 use Rattle.laws.specs.Small.{differ}
-use Rattle.names.specs.Name.{Name, write, text, Formed, Heading, headings}
+use Rattle.layout.specs.Name.{Name, write, text, Formed}
 use Rattle.names.specs.Parse.{Read, broken, name, nameIn, whole, nameOf}
 use Rattle.names.specs.Complete.{long, length-write, complete, end}
 use Rattle.names.specs.Sound.{Ok, not-read, read, got, Stands, sound}
+use Rattle.names.specs.Heading.{Heading, headings}
 
 -- the text of a lawful name is read as that name
 pub text-is-read : (n : Name) → Formed 8 n → nameOf (text n) ≡ name n (length (text n))

@@ -1,5 +1,5 @@
--- Reader names (01, "Reader names"): how they are written, how they are read, and which kinds their heads name.
-pub mod Name
+-- How reader names are read, and the kinds of their heads as codes. How they are written stands in the layout.
+pub mod Heading
 pub mod Parse
 pub mod Complete
 pub mod Sound

@@ -5,7 +5,8 @@ use Prim.Native.Nat.{ℕ, zero, suc, _+_}
 use lib.Dec.{eqb}
 use lib.ListN.{length, take, drop}
 use Rattle.layout.specs.Text.{ascii}
-use Rattle.names.specs.Name.{Tail, none, some, Name, simple, one, two, headByte, tailByte, Heading, heading, headings}
+use Rattle.layout.specs.Name.{Tail, none, some, Name, simple, one, two, headByte, tailByte}
+use Rattle.names.specs.Heading.{Heading, heading, headings}
 
 -- broken, with the heads that stand before the fault; or the name that stands first, and how many bytes it has
 pub data Read : Type 0 where

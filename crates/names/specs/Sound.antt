@@ -10,9 +10,10 @@ use lib.Seq.{drop-drop, length-take-le}
 use borrow.Author.Tests.{eqb-true}
 use Rattle.laws.specs.Small.{differ, both}
 use Rattle.layout.specs.Text.{ascii}
-use Rattle.names.specs.Name.{Tail, none, some, Name, simple, one, two, writeTail, write, headByte, tailByte, all, Head, Tailed, Formed, Heading}
+use Rattle.layout.specs.Name.{Tail, none, some, Name, simple, one, two, writeTail, write, headByte, tailByte, all, Head, Tailed, Formed}
 use Rattle.names.specs.Parse.{Read, broken, name, span, starts, tailSize, tailOf, ended, closed, opening, onOnly, onSecond, onFirst, afterHead, headed, nameIn}
 use Rattle.names.specs.Complete.{long, longTail}
+use Rattle.names.specs.Heading.{Heading}
 
 -- what holds of a name that was read
 pub data Ok (P : Name → ℕ → Type 0) : Read → Type 0 where

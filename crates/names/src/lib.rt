@@ -2,10 +2,12 @@
 ghost use mathlib.Core.Path.{_≡_};
 ghost use Prim.Native.Nat.{_≤_, _+_};
 ghost use lib.ListN.{length, drop};
-ghost use Rattle.names.specs.Name.{between, headByte, tailByte};
-ghost use Rattle.names.specs.Kind.{alike, flat, listed, lookup, node};
+ghost use Rattle.layout.specs.Number.{between};
+ghost use Rattle.layout.specs.Name.{headByte, tailByte};
+ghost use Rattle.layout.specs.Kind.{alike, lookup};
 ghost use Rattle.names.specs.Parse.{span, starts, tailSize, opening};
 ghost use Rattle.names.specs.Contract.{class, Inside, tailed, passed, closing, Parses, ReadsName};
+ghost use Rattle.names.specs.Kind.{flat, listed, node};
 
 // A byte from `low` to `high`.
 pub fn within(low: u8, high: u8, b: u8) -> bool

@@ -15,6 +15,8 @@ use Rattle.layout.specs.Slot.{each, fontSlots}
 use Rattle.layout.specs.Layout.{Lays}
 use Rattle.layout.specs.Resource.{Within}
 use Rattle.layout.specs.Rows.{Row, row, nothing}
+use Rattle.layout.specs.Named.{plain, fixedKind}
+use Rattle.layout.specs.Number.{between}
 use Rattle.reading.specs.Answer.{Answer, refused, read, bind, check, Ok, not-read, is-read}
 use Rattle.reading.specs.Reads.{Small}
 use Rattle.reading.specs.Font.{fontOk}
@@ -22,8 +24,6 @@ use Rattle.reading.specs.Heads.{Opening, headAt}
 use Rattle.reading.specs.Walk.{Taken, Outcome, point, sequence, rawAt, walk}
 use Rattle.reading.specs.Sound.{Read, walks-sound}
 use Rattle.reading.specs.Bounds.{sequence-bounds}
-use Rattle.types.specs.Types.{plain, fixedKind}
-use Rattle.names.specs.Name.{between}
 use Rattle.types.specs.Code.{Lawful}
 use Rattle.types.specs.Laws.{of-kind}
 use Rattle.fonts.specs.FontWords.{fontWords}
@@ -92,7 +92,7 @@ module _ (file : List ℕ) (small : Small file) (readers : List Target) (shared 
 
       -- the font rule over the words is that over the trees
       rule : (a : Taken) (e : ℕ) (w₁ : List ℕ) → seq ≡ read a e → w₁ ≡ written w₀ (suc (h .row)) (a .1) → (b : Bool) → eqb (kindOf t) 33 ≡ b → fontOk point t (a .2) ≡ cond b (fontWords file w₁ (h .row)) true
-      unfolding plain fixedKind between
+      unfolding plain fixedKind
       rule a e w₁ q words false z = other-kind t (a .2) (eqb-false (kindOf t) 33 z)
       rule a e w₁ q words true z =
           let s : t ≡ spriteFont = of-kind t spriteFont 33 lawful (eqb-true (kindOf t) 33 z) refl in

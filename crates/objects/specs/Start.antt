@@ -13,6 +13,8 @@ use Rattle.layout.specs.Tree.{none, tree}
 use Rattle.layout.specs.Slot as L
 use Rattle.layout.specs.Slot.{Plan, raw, object}
 use Rattle.layout.specs.Rows.{row, nothing}
+use Rattle.layout.specs.Named.{plain, fixedKind}
+use Rattle.layout.specs.Number.{between}
 use Rattle.reading.specs.Answer.{Answer, refused, read, bind, check}
 use Rattle.reading.specs.Seven.{sevenAt, seven-next}
 use Rattle.reading.specs.Reads.{Small}
@@ -21,8 +23,6 @@ use Rattle.ids.specs.declared.Position.the-variants.{Null as Null-position, At}
 use Rattle.reading.specs.Rules.{missing, found, invoked, reader, serves, serves-complete, serves-sound}
 use Rattle.reading.specs.Walk.{Outcome, done, sequence, rawAt, byReader, objectAt, valueAt, walk}
 use Rattle.types.specs.Code.{Stands, NoEnum, Throughout}
-use Rattle.types.specs.Types.{plain, fixedKind}
-use Rattle.names.specs.Name.{between}
 use Rattle.types.specs.Place.{kindAt, fitsAt}
 use Rattle.types.specs.Laws.{kind-is, fits-then, then-fits, of-kind}
 use Rattle.readers.specs.declared.Readers.{Readers}
@@ -160,7 +160,7 @@ module _ {codes : List ℕ} {rd : Readers} {count i target : ℕ} (has : Has rd 
       rw p at (has .at)
 
   pub never-called : {k : ℕ} → i < count → k ≡ kindAt codes target → (k ≡ 14) ⊎ (k ≡ 31) → Identifies codes readers d (suc i) (Refused 13)
-  unfolding plain fixedKind between invoked
+  unfolding plain fixedKind invoked
   never-called {k} h q w = inl (refl, omega arith, reader-at readers i g ∙ go w) where
     g : i < length readers
     g = omega (arith, l .counts, has .counts)

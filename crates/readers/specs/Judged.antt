@@ -5,10 +5,10 @@ use mathlib.Core.Logic.{_⊎_, inl, inr}
 use Prim.Native.Nat.{ℕ}
 use Rattle.laws.specs.Small.{differ}
 use Rattle.layout.specs.Target.{Target}
-use Rattle.names.specs.Name.{Name, text, Formed}
+use Rattle.layout.specs.Name.{Name, text, Formed}
+use Rattle.layout.specs.Named.{Typed, unknown as no-type, known as has-type, readerOf, named}
 use Rattle.names.specs.Parse.{Read, broken, name, nameOf}
 use Rattle.names.specs.Laws.{text-is-read, read-is-text}
-use Rattle.types.specs.Types.{Typed, unknown as no-type, known as has-type, readerOf}
 use Rattle.reading.specs.File.{Named, unknown, known, Judges}
 use Rattle.reading.specs.Refusals.{TenOrEleven}
 
@@ -25,10 +25,6 @@ readName (name n k) = typedName (readerOf n)
 -- what the bytes of a reader's name are judged to be
 unfoldable pub judgedName : List ℕ → Named
 judgedName s = readName (nameOf s)
-
--- the bytes are the text of a name that keeps 01's grammar and names a reader of this target
-unfoldable pub named : List ℕ → Target → Type 0
-named s t = (n : Name) × Formed 8 n × (text n ≡ s) × (readerOf n ≡ has-type t)
 
 -- the target of a formed name's text, and that it has none
 pub known-name : (s : List ℕ) (n : Name) (t : Target) → Formed 8 n → s ≡ text n → readerOf n ≡ has-type t → judgedName s ≡ known t

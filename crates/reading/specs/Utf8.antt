@@ -12,6 +12,7 @@ use lib.Seq.{drop-drop, drop-append-seam, drop-nil, length-take-le}
 use borrow.Author.Tests.{ltb-true, ltb-false, lt-ltb, le-ltb, leb-true, le-leb, eqb-true, eqb-false}
 use Rattle.laws.specs.Small.{differ, both}
 use Rattle.layout.specs.Text.{Utf8, one, two, three, four, Utf8s, end, then}
+use Rattle.layout.specs.Number.{between}
 use Rattle.reading.specs.Answer.{Answer, refused, read, check, Ok, not-read, is-read, ok-check, ok-weaken, within, within-true, true-within}
 use Rattle.reading.specs.Reads.{Reads}
 
@@ -26,10 +27,6 @@ least b = cond (eqb b 0xE0) 0xA0 (cond (eqb b 0xF0) 0x90 0x80)
 -- the greatest second byte after the lead byte b: 9F after ED, so that there is no surrogate, 8F after F4, so that nothing is above 10FFFF, else BF
 unfoldable pub most : ℕ → ℕ
 most b = cond (eqb b 0xED) 0x9F (cond (eqb b 0xF4) 0x8F 0xBF)
-
--- a byte from low to high
-abbrev pub between : (low high x : ℕ) → Bool
-between low high x = leb low x && leb x high
 
 -- whether the list begins with k bytes, the first from low to high and the others from 80 to BF (UTF8-tail)
 unfoldable pub follow : (k low high : ℕ) → List ℕ → Bool

@@ -5,11 +5,11 @@ use Prim.Native.Nat.{ℕ, _*_, _-_}
 use lib.ListN.{length, replicate, length-replicate}
 use Rattle.laws.specs.Small.{differ}
 use Rattle.layout.specs.Rows.{Row, flat}
+use Rattle.layout.specs.Named.{named}
 use Rattle.reading.specs.Answer.{Answer, refused, read}
 use Rattle.reading.specs.Reads.{Small}
 use Rattle.reading.specs.File.{Load, refusal, accepted, Loaded as FileLoaded, fileAt, toLoad, roomOf, loadOf, tableOf}
 use Rattle.reading.specs.Theorems.{rowsIn, accepted-is}
-use Rattle.readers.specs.Judged.{judgedName, named, judges}
 use Rattle.load.specs.declared.Loading.the-variants.{Refused, Loaded}
 use Rattle.load.specs.Loads as load
 use Rattle.shortest.specs.File.{shortFile, header-is}
@@ -20,6 +20,7 @@ use Rattle.rewrite.specs.declared.Rewriting.{Rewriting}
 use Rattle.rewrite.specs.declared.Rewriting.the-variants as rewriting
 use Rattle.padding.specs.Table.{placesOf, table-places}
 use Rattle.rewrite.specs.Contract.{answerOf, Ready, Fits}
+use Rattle.readers.specs.Judged.{judgedName, judges}
 
 module _ (file : List ℕ) (words : ℕ) where
   -- a refusal is handed on, and the words are all zero

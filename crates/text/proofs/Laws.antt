@@ -12,9 +12,10 @@ use lib.Seq.{drop-cons, drop-drop, getD-drop}
 use lib.Dec.{leb}
 use borrow.Author.Tests.{le-leb, lt-leb, leb-false}
 use Rattle.laws.specs.Small.{both, neither}
+use Rattle.layout.specs.Number.{between}
 use Rattle.reading.specs.Answer.{refused, read, check, within, true-within}
-use Rattle.reading.specs.Utf8.{size, size-one, size-low, size-four, size-high, least, most, between, follow, follow-fits, follow-first, follow-last, least-known, charSize, sized, char-fits, bits, mark, charOf, charAt, chars, utf8s, utf8s-stops, utf8s-steps}
 use Rattle.text.specs.Passed.{Passed, Ran}
+use Rattle.reading.specs.Utf8.{size, size-one, size-low, size-four, size-high, least, most, follow, follow-fits, follow-first, follow-last, least-known, charSize, sized, char-fits, bits, mark, charOf, charAt, chars, utf8s, utf8s-stops, utf8s-steps}
 
 module _ (s : List ℕ) (i : ℕ) where
   pub at-byte : i < length s → drop i s ≡ getD s i 0 ∷ drop (i + 1) s

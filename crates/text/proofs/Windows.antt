@@ -11,10 +11,11 @@ use lib.Dec.{leb, eqb}
 use lib.ListN.{length, getD, drop}
 use borrow.Author.Tests.{leb-true, leb-false, le-leb, lt-leb, eqb-false, ne-eqb}
 use Rattle.laws.specs.Small.{both, neither}
-use Rattle.reading.specs.Utf8.{size, size-two, size-three, size-four, between, least, most, least-known, follow}
+use Rattle.layout.specs.Number.{between}
 use Rattle.text.specs.Passed.{Passed}
 use Rattle.text.specs.Window.{Fits, AllFit, Part, Before, whole, one, two, three, Three}
 use Rattle.text.proofs.Laws.{range-at, goes-on, char-here, passed-none, pass-ascii, pass-char}
+use Rattle.reading.specs.Utf8.{size, size-two, size-three, size-four, least, most, least-known, follow}
 
 -- ---- a byte that fits
 pick-le : (t : Bool) (x y n : ℕ) → x ≤ n → y ≤ n → cond t x y ≤ n

@@ -13,15 +13,16 @@ use Rattle.layout.specs.Layout.{Lays}
 use Rattle.layout.specs.Resource.{Within}
 use Rattle.layout.specs.Rows.{flat}
 use Rattle.layout.specs.File.{FileTree, sharedOf, FileLays, fileRows}
+use Rattle.layout.specs.Named.{named}
 use Rattle.reading.specs.Reads.{Small}
 use Rattle.reading.specs.File.{Load, refusal, accepted, loadOf, tableOf}
 use Rattle.reading.specs.Refusals.{refusal-number, refusal-place}
 use Rattle.reading.specs.Theorems as T
 use Rattle.reading.specs.Theorems.{Accepts, Fitting, rowsIn}
-use Rattle.readers.specs.Judged.{named, judgedName, judges, ten-or-eleven}
 use Rattle.load.specs.declared.Loading.{Loading}
 use Rattle.load.specs.declared.Loading.the-variants.{Refused, Loaded}
 use Rattle.load.specs.Loads.{answerOf}
+use Rattle.readers.specs.Judged.{judgedName, judges, ten-or-eleven}
 
 -- ---- Unique reading
 

@@ -7,10 +7,10 @@ use lib.Dec.{leb}
 use lib.ListN.{length, drop, replicate}
 use borrow.Author.Tests.{le-leb, lt-leb}
 use Rattle.layout.specs.File.{FileLays}
+use Rattle.layout.specs.Named.{named}
 use Rattle.reading.specs.Reads.{Small}
 use Rattle.reading.specs.File.{loadOf, tableOf}
 use Rattle.reading.specs.Theorems.{Fitting, rowsIn, table-length}
-use Rattle.readers.specs.Judged.{named, judgedName, judges}
 use Rattle.numbers.specs.Shortest.{Shortens}
 use Rattle.shortest.specs.File.{shortFile}
 use Rattle.shortest.specs.Rewrites.{padding}
@@ -20,6 +20,7 @@ use Rattle.shortest.specs.Theorems as T
 use Rattle.rewrite.specs.declared.Rewriting.{Rewriting}
 use Rattle.rewrite.specs.declared.Rewriting.the-variants as rewriting
 use Rattle.rewrite.specs.Contract.{answerOf}
+use Rattle.readers.specs.Judged.{judgedName, judges}
 
 -- ---- The rewritten file, for a file that some file tree may have and a table with room for it
 

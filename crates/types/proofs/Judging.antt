@@ -7,12 +7,15 @@ use native.Mathlib.Omega.{arith}
 use lib.Dec.{eqb, leb}
 use borrow.Author.Tests.{eqb-true, eqb-false, eq-eqb, ne-eqb, lt-ltb, le-ltb, lt-leb}
 use Rattle.layout.specs.Target.{Target, enum, nullable, list, dictionary, kindOf, isValue}
-use Rattle.names.specs.Name.{Name, simple, one, two, between, headings}
-use Rattle.names.specs.Kind.{codes, lookup, listed, targets, readers, node}
-use Rattle.types.specs.Types.{Typed, unknown, known, fixedKind, plain, nullableOf, wrapped, paired, typeOf, enumOf, arrayOf, readerOf}
+use Rattle.layout.specs.Name.{Name, simple, one, two}
+use Rattle.layout.specs.Number.{between}
+use Rattle.layout.specs.Kind.{lookup, targets, readers}
+use Rattle.layout.specs.Named.{Typed, unknown, known, fixedKind, plain, nullableOf, wrapped, paired, typeOf, enumOf, arrayOf, readerOf}
 use Rattle.types.specs.Finite.{allBelow, below-is, agrees, agree}
 use Rattle.types.specs.Judge.{isKnown, headOk, valueOk, argumentsOk, enumOk, readerOk}
 use Rattle.names.specs.Codes.{kind-is-small, codes-append}
+use Rattle.names.specs.Heading.{headings}
+use Rattle.names.specs.Kind.{codes, listed, node}
 
 -- 01: "a value type other than Nullable"
 abbrev pub valuable : Typed → Bool
@@ -23,14 +26,14 @@ plain-tested : ℕ → Bool
 plain-tested k = agrees (isKnown (plain k)) (between 1 14 k || between 20 34 k)
 
 pub plain-test : (k : ℕ) → k < 64 → (between 1 14 k || between 20 34 k) ≡ isKnown (plain k)
-unfolding plain-tested agrees allBelow isKnown plain fixedKind between
+unfolding plain-tested agrees allBelow isKnown plain fixedKind
 plain-test k h = agree (isKnown (plain k)) (between 1 14 k || between 20 34 k) (below-is plain-tested 64 k refl h)
 
 value-tested : ℕ → Bool
 value-tested k = agrees (valuable (plain k)) (valueOk k)
 
 value-test : (k : ℕ) → k < 64 → valueOk k ≡ valuable (plain k)
-unfolding value-tested agrees allBelow valuable valueOk plain fixedKind between isValue kindOf
+unfolding value-tested agrees allBelow valuable valueOk plain fixedKind isValue kindOf
 value-test k h = agree (valuable (plain k)) (valueOk k) (below-is value-tested 64 k refl h)
 
 eqb-as : (a b c d : ℕ) (x : Bool) → (a ≡ b → c ≡ d) → (c ≡ d → a ≡ b) → eqb c d ≡ x → eqb a b ≡ x
@@ -75,7 +78,7 @@ module _ (k : ℕ) (small : k < 64) where
 
 -- a head with arguments is no value type's but Nullable's
 no-value : (b : ℕ) → 63 < b → valueOk b ≡ false
-unfolding valueOk fixedKind between
+unfolding valueOk fixedKind
 no-value b h = rw (lt-leb b 11 (omega arith), lt-leb b 30 (omega arith), ne-eqb b 12 (λ q. omega arith)) (no-both (leb 1 b) (leb 20 b)) where
   no-both : (x y : Bool) → cond ((x && false) || (y && false)) true false ≡ false
   no-both true true = refl

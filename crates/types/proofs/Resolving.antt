@@ -8,20 +8,21 @@ use lib.ListN.{length, take, drop}
 use lib.Seq.{sets, sets-eq, length-sets, length-take-le, drop-append-seam, take-append-seam}
 use borrow.Author.Tests.{leb-true}
 use Rattle.laws.specs.Small.{differ}
+use Rattle.layout.specs.Name.{Name}
+use Rattle.layout.specs.Named.{Typed, unknown, known, readerOf}
 use Rattle.names.specs.declared.Named.{Named}
 use Rattle.names.specs.declared.Named.the-variants.{Codes, Broken as Named-broken, NoRoom as Named-no-room}
-use Rattle.names.specs.Name.{Name, headings}
-use Rattle.names.specs.Kind.{codes}
 use Rattle.names.specs.Parse.{Read, broken, name, nameOf}
 use Rattle.names.specs.Contract.{coded, refused, no-room, roomy, answerOf, contentOf, ReadsName}
 use Rattle.types.specs.declared.Resolved.the-variants.{Target, Broken, Unknown, NoRoom}
-use Rattle.types.specs.Types.{Typed, unknown, known, readerOf}
 use Rattle.types.specs.Code.{code}
 use Rattle.types.specs.Coded.{Ok, some, reader-coded}
 use Rattle.types.specs.Judge.{isKnown, readerOk}
 use Rattle.types.specs.Contract.{judged, resolution, left, content, Resolves}
 use Rattle.types.proofs.Judging.{reader-judged}
 use Rattle.names.specs.Codes.{read-has-room, codes-length}
+use Rattle.names.specs.Heading.{headings}
+use Rattle.names.specs.Kind.{codes}
 
 -- the part of a list that was just written
 part-is : (c ws : List ℕ) (used : ℕ) → used + length ws ≤ length c → take (length ws) (drop used (sets c used ws)) ≡ ws

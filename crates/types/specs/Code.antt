@@ -5,8 +5,8 @@ use mathlib.Core.List.{List, [], _∷_, _++_}
 use Prim.Native.Nat.{ℕ}
 use lib.ListN.{drop}
 use Rattle.layout.specs.Target.{Target, fixed, char, string, object, texture, texture2D, spriteFont, page, enum, nullable, array, list, dictionary}
+use Rattle.layout.specs.Named.{fixedKind}
 use Rattle.names.specs.Kind.{node}
-use Rattle.types.specs.Types.{fixedKind}
 
 -- a type's kind and number of arguments, then the codes of its arguments; the name of an enum is not in its codes
 unfoldable pub code : Target → List ℕ

@@ -9,11 +9,13 @@ use lib.Dec.{eqb}
 use borrow.Author.Tests.{eqb-true}
 use Rattle.laws.specs.Small.{differ}
 use Rattle.layout.specs.Target.{Target, fixed, char, string, object, texture, texture2D, spriteFont, page, enum, nullable, array, list, dictionary, kindOf, isValue}
-use Rattle.names.specs.Name.{Name, simple, one, two, headings}
-use Rattle.names.specs.Kind.{codes, lookup, listed, targets, readers, node}
-use Rattle.types.specs.Types.{Typed, unknown, known, fixedKind, plain, nullableOf, wrapped, paired, typeOf, enumOf, arrayOf, readerOf}
+use Rattle.layout.specs.Name.{Name, simple, one, two}
+use Rattle.layout.specs.Kind.{lookup, targets, readers}
+use Rattle.layout.specs.Named.{Typed, unknown, known, fixedKind, plain, nullableOf, wrapped, paired, typeOf, enumOf, arrayOf, readerOf}
 use Rattle.types.specs.Code.{code, Throughout}
 use Rattle.names.specs.Codes.{codes-append}
+use Rattle.names.specs.Heading.{headings}
+use Rattle.names.specs.Kind.{codes, listed, node}
 
 -- what holds of a target that is known
 pub data Ok (P : Target → Type 0) : Typed → Type 0 where

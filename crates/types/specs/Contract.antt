@@ -5,14 +5,14 @@ use mathlib.Core.List.{List}
 use Prim.Native.Nat.{ℕ, _+_}
 use lib.ListN.{length}
 use lib.Seq.{sets}
-use Rattle.names.specs.Kind.{codes}
-use Rattle.names.specs.Name.{Heading, headings}
+use Rattle.layout.specs.Named.{Typed, unknown, known, readerOf}
 use Rattle.names.specs.Parse.{Read, broken, name, nameOf}
 use Rattle.names.specs.Contract.{Answer, coded, refused, no-room, roomy}
 use Rattle.types.specs.declared.Resolved.{Resolved}
 use Rattle.types.specs.declared.Resolved.the-variants.{Target as Resolved-target, Broken, Unknown, NoRoom}
-use Rattle.types.specs.Types.{Typed, unknown, known, readerOf}
 use Rattle.types.specs.Code.{code}
+use Rattle.names.specs.Kind.{codes}
+use Rattle.names.specs.Heading.{Heading, headings}
 
 -- 01: "Broken: 10. A head that is not listed, or a wrong argument count: 11."
 abbrev pub told : Resolved → Answer

@@ -8,13 +8,13 @@ use lib.Dec.{eqb, ltb, leb}
 use borrow.Author.Tests.{lt-ltb, leb-true}
 use Rattle.laws.specs.Small.{either, both}
 use Rattle.layout.specs.Target.{Target, fixed, char, string, object, texture, texture2D, spriteFont, page, enum, nullable, array, list, dictionary}
-use Rattle.names.specs.Name.{between}
-use Rattle.types.specs.Types.{Typed, unknown, known, fixedKind, plain}
+use Rattle.layout.specs.Number.{between}
+use Rattle.layout.specs.Named.{Typed, unknown, known, fixedKind, plain}
 use Rattle.types.specs.Code.{code, Throughout, Lawful, NoEnum}
 
 -- the kinds of `fixed` targets are below 64
 pub fixed-small : (k : ℕ) → fixedKind k ≡ true → k < 64
-unfolding fixedKind between
+unfolding fixedKind
 fixed-small k e =
     either (between 1 11 k) (between 20 30 k) e (λ b. omega (arith, leb-true k 11 (both (leb 1 k) (leb k 11) b .1))) (λ b. omega (arith, leb-true k 30 (both (leb 20 k) (leb k 30) b .1)))
 
@@ -55,7 +55,7 @@ nameless spriteFont = spriteFont
 nameless page = page
 
 decode-code : (t : Target) (rest : List ℕ) → Lawful t → decode (code t ++ rest) ≡ nameless t ∷ decode rest
-unfolding decode code nameless leafOf one-made two-made Throughout plain fixedKind between
+unfolding decode code nameless leafOf one-made two-made Throughout plain fixedKind
 decode-code (fixed k) rest w = rw (lt-ltb k 64 (fixed-small k w), w)
 decode-code char rest w = refl
 decode-code string rest w = refl

@@ -5,10 +5,13 @@ use Prim.Native.Nat.{ℕ}
 use Prim.Native.String.{String}
 use Rattle.layout.specs.Text.{ascii}
 use Rattle.layout.specs.Target.{Target, fixed, char, string, object, texture, texture2D, spriteFont, page, enum, nullable, array, list, dictionary, kindOf, isValue}
-use Rattle.names.specs.Name.{between, headByte, tailByte, headings}
-use Rattle.names.specs.Kind.{lookup, alike, listed, reader, readers, target as target-entry, targets}
+use Rattle.layout.specs.Number.{between}
+use Rattle.layout.specs.Name.{headByte, tailByte}
+use Rattle.layout.specs.Kind.{lookup, alike, reader, readers, target as target-entry, targets}
+use Rattle.layout.specs.Named.{Typed, unknown, known, fixedKind, plain, nullableOf, wrapped, paired, typeOf, enumOf, arrayOf, readerOf}
 use Rattle.names.specs.Parse.{Read, broken, name, span, starts, tailSize, tailOf, closed, opening, onOnly, onSecond, onFirst, afterHead, headed, nameIn, whole, nameOf}
-use Rattle.types.specs.Types.{Typed, unknown, known, fixedKind, plain, nullableOf, wrapped, paired, typeOf, enumOf, arrayOf, readerOf}
+use Rattle.names.specs.Heading.{headings}
+use Rattle.names.specs.Kind.{listed}
 
 -- refused with a number, or the reader's target
 pub data Outcome : Type 0 where
@@ -94,5 +97,5 @@ pub examples : outcomes names ≡
     ∷ target (list (list (list (list (list (list (list char)))))))
     ∷ refused 10
     ∷ []
-unfolding names ascii nameOf whole nameIn headed afterHead onFirst onSecond onOnly closed opening starts span headByte tailByte between tailOf tailSize headings readerOf typeOf enumOf arrayOf plain fixedKind wrapped nullableOf paired isValue kindOf lookup alike listed readers reader targets target-entry
+unfolding names ascii nameOf whole nameIn headed afterHead onFirst onSecond onOnly closed opening starts span headByte tailByte tailOf tailSize headings readerOf typeOf enumOf arrayOf plain fixedKind wrapped nullableOf paired isValue kindOf lookup alike listed readers reader targets target-entry
 examples = refl

@@ -3,8 +3,8 @@ use mathlib.Core.Bool.{Bool, true, false, _&&_, cond}
 use mathlib.Core.List.{List, [], _∷_}
 use Prim.Native.Nat.{ℕ}
 use lib.Dec.{eqb, ltb}
+use Rattle.layout.specs.Named.{Typed, unknown, known, fixedKind, plain}
 use Rattle.names.specs.Kind.{node}
-use Rattle.types.specs.Types.{Typed, unknown, known, fixedKind, plain}
 
 -- a name has a target
 unfoldable pub isKnown : Typed → Bool

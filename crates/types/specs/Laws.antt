@@ -12,13 +12,14 @@ use borrow.Author.Tests.{eqb-true, eq-eqb, ltb-true}
 use Rattle.laws.specs.Small.{differ, both}
 use Rattle.layout.specs.Target.{Target, fixed, char, string, object, texture, texture2D, spriteFont, page, enum, nullable, array, list, dictionary, kindOf, isValue, Serves, same, any, picture}
 use Rattle.layout.specs.Fixed.{sizes}
-use Rattle.names.specs.Name.{Name, simple, one, two, between}
+use Rattle.layout.specs.Name.{Name, simple, one, two}
+use Rattle.layout.specs.Number.{between}
+use Rattle.layout.specs.Kind.{alike, lookup, readers, targets}
+use Rattle.layout.specs.Named.{Typed, known, fixedKind, plain, wrapped, paired, typeOf, enumOf, readerOf}
 use Rattle.names.specs.Codes.{alike-then, alike-self}
-use Rattle.names.specs.Kind.{alike, lookup, readers, targets}
 use Rattle.names.specs.Parse.{starts}
 use Rattle.names.specs.Sound.{starts-is}
 use Rattle.types.specs.Finite.{allBelow, below-is}
-use Rattle.types.specs.Types.{Typed, known, fixedKind, plain, wrapped, paired, typeOf, enumOf, readerOf}
 use Rattle.types.specs.Code.{code, Throughout, Lawful, NoEnum, Stands}
 use Rattle.types.specs.Place.{kindAt, valueKind, extent, placeAfter, equalAt, fitsAt}
 use Rattle.types.specs.Coded.{Ok, none, some, got, any-type, ok-pick, ok-plain, ok-wrapped, ok-paired, ok-array, type-keeps, reader-keeps}
@@ -95,7 +96,7 @@ module _ {c : List ℕ} {a b : ℕ} {d t : Target} (n : NoEnum d) (p : Stands c 
 
 -- a lawful type whose kind takes no argument is the type of that kind
 kind-type : (d t : Target) → Lawful d → plain (kindOf d) ≡ known t → d ≡ t
-unfolding Throughout plain kindOf fixedKind between
+unfolding Throughout plain kindOf fixedKind
 kind-type (fixed k) t w e = let h : known (fixed k) ≡ known t = rw w at e in cc
 kind-type char t w e = cc
 kind-type string t w e = cc
@@ -121,7 +122,7 @@ last-true false false = refl
 -- at two places, the first of a declared type: the test says exactly what 01 says of declared types (`Serves`)
 module _ {c : List ℕ} {a b : ℕ} {d t : Target} (n : NoEnum d) (p : Stands c a d) (q : Stands c b t) where
   serves : (x y : Bool) → eqb (kindAt c a) 14 ≡ x → (eqb (kindAt c a) 31 && eqb (kindAt c b) 32) ≡ y → cond x true (cond y true (equalAt c a b)) ≡ true → Serves d t
-  unfolding plain fixedKind between
+  unfolding plain fixedKind
   serves true y ex ey e =
       let z : d ≡ object = of-kind d object 14 (p .lawful) (sym (kind-is p) ∙ eqb-true (kindAt c a) 14 ex) refl in
       rw z any
@@ -147,7 +148,7 @@ fixed-tested : ℕ → Bool
 fixed-tested k = cond (fixedKind k) (ltb 0 (getD sizes k 0) && valueKind k) true
 
 fixed-test : (k : ℕ) → fixedKind k ≡ true → (ltb 0 (getD sizes k 0) && valueKind k) ≡ true
-unfolding fixed-tested allBelow fixedKind valueKind between sizes
+unfolding fixed-tested allBelow fixedKind valueKind sizes
 fixed-test k e = rw e at (below-is fixed-tested 64 k refl (fixed-small k e))
 
 -- a kind that is a `fixed` target has a size in 01
@@ -156,7 +157,7 @@ fixed-has-size k e = ltb-true 0 (getD sizes k 0) (both (ltb 0 (getD sizes k 0)) 
 
 -- a type is a value type exactly if its kind is one of 01's
 pub value-is : (t : Target) → Lawful t → valueKind (kindOf t) ≡ isValue t
-unfolding Throughout valueKind between kindOf isValue
+unfolding Throughout valueKind kindOf isValue
 value-is (fixed k) w = both (ltb 0 (getD sizes k 0)) (valueKind k) (fixed-test k w) .1
 value-is char w = refl
 value-is string w = refl

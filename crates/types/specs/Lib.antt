@@ -1,5 +1,4 @@
--- The types of reader names, and types as places in an array of codes. The modules stand in the order in which a reader meets the rules.
-pub mod Types
+-- Types as places in an array of codes. The modules stand in the order in which a reader meets the rules.
 pub mod Code
 pub mod Place
 pub mod Judge

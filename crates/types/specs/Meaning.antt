@@ -9,17 +9,18 @@ use lib.Seq.{sets}
 use borrow.Author.Tests.{leb-true, leb-false}
 use Rattle.laws.specs.Small.{differ}
 use Rattle.layout.specs.Target.{Target}
-use Rattle.names.specs.Name.{Name, text, Formed, headings}
+use Rattle.layout.specs.Name.{Name, text, Formed}
+use Rattle.layout.specs.Named.{Typed, unknown, known, readerOf}
 use Rattle.names.specs.Parse.{Read, broken, name, nameOf}
 use Rattle.names.specs.Laws.{read-is-text, broken-is-no-text}
 use Rattle.names.specs.Codes.{read-has-room, codes-length}
 use Rattle.names.specs.Contract.{coded, refused, no-room, roomy}
 use Rattle.types.specs.declared.Resolved.{Resolved}
-use Rattle.types.specs.Types.{Typed, unknown, known, readerOf}
 use Rattle.types.specs.Code.{code, Stands}
 use Rattle.types.specs.Coded.{got, reader-coded}
 use Rattle.types.specs.Laws.{reader-is-lawful, written-stands}
 use Rattle.types.specs.Contract.{told, judged, resolution, left, content, Resolves}
+use Rattle.names.specs.Heading.{headings}
 
 -- a lawful name with a target: its text is s, and its target's codes stand from `used` to `end`
 pub record HasTarget (s c c′ : List ℕ) (used end : ℕ) : Type 0 where

@@ -4,7 +4,7 @@ use mathlib.Core.List.{List, [], _∷_}
 use Prim.Native.Nat.{ℕ, zero, suc, _+_, _/_, _%_}
 use lib.Dec.{eqb}
 use lib.ListN.{drop, getD}
-use Rattle.names.specs.Name.{between}
+use Rattle.layout.specs.Number.{between}
 
 -- the kind of the type at a place
 unfoldable pub kindAt : List ℕ → ℕ → ℕ

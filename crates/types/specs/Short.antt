@@ -10,13 +10,16 @@ use borrow.Author.Tests.{leb-true, eqb-true}
 use Rattle.laws.specs.Small.{differ, both}
 use Rattle.layout.specs.Text.{ascii}
 use Rattle.layout.specs.Target.{Target}
-use Rattle.names.specs.Name.{Name, simple, one, two, between, text, headings}
-use Rattle.names.specs.Kind.{Entry, entry, alike, lookup, reader, readers, target, targets, codes}
+use Rattle.layout.specs.Name.{Name, simple, one, two, text}
+use Rattle.layout.specs.Number.{between}
+use Rattle.layout.specs.Kind.{Entry, entry, alike, lookup, reader, readers, target, targets}
+use Rattle.layout.specs.Named.{Typed, known, fixedKind, plain, wrapped, paired, typeOf, enumOf, readerOf}
 use Rattle.names.specs.Complete.{long, length-write}
-use Rattle.types.specs.Types.{Typed, known, fixedKind, plain, wrapped, paired, typeOf, enumOf, readerOf}
 use Rattle.types.specs.Code.{code}
 use Rattle.types.specs.Coded.{Ok, none, some, ok-pick, got, ok-plain, ok-wrapped, ok-paired, ok-array, reader-coded}
 use Rattle.names.specs.Codes.{codes-length, alike-then}
+use Rattle.names.specs.Heading.{headings}
+use Rattle.names.specs.Kind.{codes}
 
 -- every head of a table has at least m bytes
 longs : ℕ → List Entry → Bool
@@ -46,7 +49,7 @@ reader-long h z = lookup-long 22 h readers refl z
 -- a kind that has a target is not 0
 module _ {Q : Type 0} (k : ℕ) where
   plain-some : ((k ≡ 0 → ⊥) → Q) → Ok (λ _. Q) (plain k)
-  unfolding fixedKind between
+  unfolding fixedKind
   plain-some f =
       let g : (m : ℕ) → k ≡ suc m → Q = λ m e. f (λ z. omega arith) in
       ok-plain k (λ b. f (λ z. let y : false ≡ true = ap fixedKind (sym z) ∙ b in differ cc)) (g 11) (g 12) (g 13) (g 30) (g 31) (g 32) (g 33)

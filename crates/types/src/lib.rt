@@ -2,7 +2,7 @@
 ghost use mathlib.Core.Path.{_≡_};
 ghost use mathlib.Core.Bool.{cond};
 ghost use Prim.Native.Nat.{_<_};
-ghost use Rattle.types.specs.Types.{plain};
+ghost use Rattle.layout.specs.Named.{plain};
 ghost use Rattle.types.specs.Place.{kindAt, valueKind, placeAfter, equalAt, fitsAt};
 ghost use Rattle.types.specs.Judge.{isKnown, headOk, valueOk, argumentsOk, enumOk, readerOk};
 ghost use Rattle.types.specs.Contract.{Resolves};

@@ -7,12 +7,12 @@ use Prim.Native.Nat.{_+_}
 use lib.ListN.{length-set, set}
 use lib.Seq.{length-take-le}
 use Rattle.layout.specs.Text.{ascii}
-use Rattle.names.specs.Name.{headByte}
 use Rattle.names.specs.Sound.{span-le}
 use Rattle.names.proofs.Steps.{opening-small, opening-fits, too-deep, headless, opened, part-inside, part-length, second-fits, give-up, odd-done, simple-done, only-done, both-done, part-lost}
 use Prim.Native.Nat.{ℕ, _<_}
 use borrow.Fn.Kinds.{In}
 use borrow.Fn.PlainCycle.{Measures, is, falls, and}
+use Rattle.layout.specs.Name.{headByte}
 use Rattle.names.proofs.parse.Reads as parse
 use Rattle.names.proofs.parse.Kinds as parse-kinds
 use Rattle.names.proofs.+parse.Lts-parse as parse-lts

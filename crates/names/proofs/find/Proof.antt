@@ -3,10 +3,10 @@ use mathlib.Core.Path.{refl, sym, _∙_}
 use native.Mathlib.Omega.{arith}
 use Prim.Native.Nat.{_-_, _≤_}
 use lib.ListN.{length}
-use Rattle.names.specs.Kind.{listed}
 use Rattle.names.proofs.Tables.{Left, ends, find-this, find-next, find-none}
 use Rattle.names.proofs.find.Statement.{statement}
 use Rattle.names.proofs.find.Tie as tie
+use Rattle.names.specs.Kind.{listed}
 
 abbrev Inv-loop : tie.InvT-loop
 Inv-loop table own head at₀ at = (at ≤ length table) × Left table head (listed own) at

@@ -1,7 +1,7 @@
 use borrow.Author.Needs.{needs}
 use mathlib.Core.Path.{sym, _∙_}
 use borrow.Author.Tests.{eq-eqb, ne-eqb}
-use Rattle.names.specs.Name.{headByte}
+use Rattle.layout.specs.Name.{headByte}
 use Rattle.names.proofs.head_byte.Statement.{statement}
 use Rattle.names.proofs.head_byte.Tie as tie
 

@@ -1,9 +1,10 @@
 use borrow.Author.Needs.{needs}
 use mathlib.Core.Path.{refl}
 use Rattle.layout.specs.Text.{ascii}
-use Rattle.names.specs.Kind.{flat, listed, readers, reader, targets, target}
+use Rattle.layout.specs.Kind.{readers, reader, targets, target}
 use Rattle.names.proofs.kind_of.Statement.{statement}
 use Rattle.names.proofs.kind_of.Tie as tie
+use Rattle.names.specs.Kind.{flat, listed}
 
 slice-aggregate-find : tie.Need-slice-aggregate-find
 slice-aggregate-find c = search needs

@@ -1,7 +1,7 @@
 use borrow.Author.Needs.{needs}
 use mathlib.Core.Path.{sym, _∙_}
 use borrow.Author.Tests.{eq-eqb, ne-eqb, not-true, not-false}
-use Rattle.names.specs.Name.{tailByte}
+use Rattle.layout.specs.Name.{tailByte}
 use Rattle.names.proofs.tail_byte.Statement.{statement}
 use Rattle.names.proofs.tail_byte.Tie as tie
 

@@ -5,7 +5,7 @@ use native.Mathlib.Omega.{arith}
 use lib.ListN.{drop, length-drop}
 use borrow.Author.Tests.{not-true, not-false}
 use Rattle.layout.specs.Text.{ascii}
-use Rattle.names.specs.Name.{tailByte}
+use Rattle.layout.specs.Name.{tailByte}
 use Rattle.names.specs.Parse.{span}
 use Rattle.names.specs.Sound.{span-le}
 use Rattle.names.proofs.Laws.{rest, starts-fits, tail-none, tail-some}

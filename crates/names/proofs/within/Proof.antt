@@ -1,14 +1,12 @@
 use borrow.Author.Tests.{le-leb, lt-leb}
-use Rattle.names.specs.Name.{between}
+use Rattle.layout.specs.Number.{between}
 use Rattle.names.proofs.within.Statement.{statement}
 use Rattle.names.proofs.within.Tie as tie
 
 returns : tie.Need-returns
-unfolding between
 returns c = rw (le-leb _ _ ((c .if1) .taken))
 
 returns-2 : tie.Need-returns-2
-unfolding between
 returns-2 c = rw (lt-leb _ _ ((c .if1) .left))
 
 pub within-spec : {M : Type 1} → statement M

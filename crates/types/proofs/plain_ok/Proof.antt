@@ -1,7 +1,7 @@
 use borrow.Author.Needs.{needs}
 use mathlib.Core.Path.{sym, ap, _∙_}
 use mathlib.Core.Bool.{Bool, _||_}
-use Rattle.names.specs.Name.{between}
+use Rattle.layout.specs.Number.{between}
 use Rattle.types.proofs.Judging.{plain-test}
 use Rattle.types.proofs.plain_ok.Statement.{statement}
 use Rattle.types.proofs.plain_ok.Tie as tie

@@ -1,6 +1,6 @@
 use borrow.Author.Needs.{needs}
 use mathlib.Core.Path.{sym, _∙_}
-use Rattle.types.specs.Types.{fixedKind}
+use Rattle.layout.specs.Named.{fixedKind}
 use Rattle.types.specs.Judge.{valueOk}
 use Rattle.types.proofs.value_ok.Statement.{statement}
 use Rattle.types.proofs.value_ok.Tie as tie

@@ -1,10 +1,13 @@
 -- The target of a reader's name (01, "Reader names"). Assumes nothing.
+use mathlib.Core.Path.{_≡_}
 use mathlib.Core.Bool.{Bool, not, _&&_, _||_, cond}
+use mathlib.Core.List.{List}
 use Prim.Native.Nat.{ℕ}
 use lib.Dec.{eqb}
+use Rattle.layout.specs.Number.{between}
 use Rattle.layout.specs.Target.{Target, fixed, char, string, object, texture, texture2D, spriteFont, page, enum, nullable, array, list, dictionary, kindOf, isValue}
-use Rattle.names.specs.Name.{Name, simple, one, two, between}
-use Rattle.names.specs.Kind.{lookup, targets, readers}
+use Rattle.layout.specs.Name.{Name, simple, one, two, text, Formed}
+use Rattle.layout.specs.Kind.{lookup, targets, readers}
 
 -- 01: "A head that is not listed, or a wrong argument count: 11": such a name is unknown
 pub data Typed : Type 0 where
@@ -58,3 +61,7 @@ unfoldable pub readerOf : Name → Typed
 readerOf (simple h t) = plain (lookup h readers)
 readerOf (one h a t) = cond (eqb (lookup h readers) 15) (enumOf a) (cond (eqb (lookup h readers) 17) (arrayOf (typeOf a)) (wrapped (lookup h readers) (typeOf a)))
 readerOf (two h a b t) = paired (lookup h readers) (typeOf a) (typeOf b)
+
+-- 01, "Reader names": the bytes are the text of a name that keeps the grammar, nests at most 8 levels and names a reader of this target
+unfoldable pub named : List ℕ → Target → Type 0
+named s t = (n : Name) × Formed 8 n × (text n ≡ s) × (readerOf n ≡ known t)

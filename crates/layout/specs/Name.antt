@@ -4,8 +4,9 @@ use mathlib.Core.Bool.{Bool, true, not, _&&_, _||_}
 use mathlib.Core.List.{List, [], _∷_, _++_}
 use Prim.Native.Nat.{ℕ, zero, suc}
 use Prim.Native.Char.{code}
-use lib.Dec.{leb, eqb}
+use lib.Dec.{eqb}
+use Rattle.layout.specs.Number.{between}
 use Rattle.layout.specs.Text.{ascii}
 
 -- 01: "then perhaps a comma and a tail"
 pub data Tail : Type 0 where
@@ -17,10 +18,6 @@ pub data Name : Type 0 where
   simple : (head : List ℕ) (tail : Tail) → Name
   one : (head : List ℕ) (a : Name) (tail : Tail) → Name
   two : (head : List ℕ) (a b : Name) (tail : Tail) → Name
-
--- a number from `low` to `high`
-unfoldable pub between : (low high : ℕ) → ℕ → Bool
-between low high b = leb low b && leb b high
 
 -- 01: "ASCII letters, digits, `.`, `_`, `+`"
 unfoldable pub headByte : ℕ → Bool
@@ -68,13 +65,3 @@ Formed zero n = ⊥
 Formed (suc l) (simple h t) = Head h × Tailed t
 Formed (suc l) (one h a t) = Head h × Formed l a × Tailed t
 Formed (suc l) (two h a b t) = Head h × Formed l a × Formed l b × Tailed t
-
--- a head and how many arguments it has
-pub data Heading : Type 0 where
-  heading : (head : List ℕ) (arguments : ℕ) → Heading
-
--- the heads of a name in the order in which they stand
-unfoldable pub headings : Name → List Heading
-headings (simple h t) = heading h 0 ∷ []
-headings (one h a t) = heading h 1 ∷ headings a
-headings (two h a b t) = heading h 2 ∷ (headings a ++ headings b)
