@@ -3,7 +3,7 @@ use mathlib.Core.Path.{_≡_, refl}
 use mathlib.Core.List.{List, [], _∷_, _++_}
 use Prim.Native.Nat.{ℕ, max}
 use lib.IntN.{ℤ, negsuc}
-use lib.ListN.{take}
+use lib.ListN.{length, take, replicate}
 use Rattle.layout.specs.Target.{kindOf, isValue}
 use Rattle.layout.specs.Tree.{count, kindAt, childrenAt}
 use Rattle.layout.specs.Slot.{each, slotOf, rawOrObject, pairs, leaves, fontSlots, pageSlots}
@@ -12,7 +12,7 @@ use Rattle.layout.specs.Text.{ascii}
 use Rattle.layout.specs.Image.{levels, levelBytes, pixelBytes, blockBytes, digits}
 use Rattle.layout.specs.Fixed.{sizes}
 use Rattle.layout.specs.File.{sharedOf, header, objectsPlan}
-use Rattle.layout.specs.Rows.{row, nothing}
+use Rattle.layout.specs.Rows.{row, nothing, words as row-words, flat}
 use Rattle.layout.specs.Name.{headByte, tailByte}
 use Rattle.layout.specs.Kind.{lookup, alike, reader, readers, target as target-entry, targets}
 use Rattle.layout.specs.Named.{fixedKind, plain, nullableOf, wrapped, paired, typeOf, enumOf, arrayOf, readerOf}
@@ -27,17 +27,18 @@ use Rattle.reading.specs.Font.{fontOk, fontIf, fontTest}
 use Rattle.reading.specs.Resource.{suit, suits}
 use Rattle.reading.specs.Walk.{ownOf, before, sequence, rawAt, byReader, objectAt, valueAt, walk}
 use Rattle.reading.specs.Heads.{headAt, fixedHeadAt, whole as whole-value, textAt, countAt, imageAt, leafAt, always}
-use Rattle.reading.specs.File.{isPlatform, headerAt, judge, rootKind, rootKinds, judged, readerAt, readersAt, listsAt, objectsAt, finished, fileAt, Load, refusal, accepted, toLoad, roomOf, loadOf}
+use Rattle.reading.specs.File.{isPlatform, headerAt, judge, rootKind, rootKinds, judged, readerAt, readersAt, listsAt, objectsAt, finished, fileAt, Load, refusal, accepted, toLoad, roomOf, loadOf, tableOf}
 use Rattle.names.specs.Parse.{span, starts, tailSize, tailOf, closed, opening, onOnly, onSecond, onFirst, afterHead, headed, nameIn, whole, nameOf}
 use Rattle.readers.specs.Judged.{typedName, readName, judgedName}
 use Rattle.numbers.specs.Shortest.{fewest, shortest}
 use Rattle.shortest.specs.Short.{numbered, idBytes, body, short}
 use Rattle.shortest.specs.File.{shortEntry, shortEntries, shortLists, shortBody, shortFile}
-use Rattle.shortest.specs.Rewrite.{Rewritten, written, fitted, byLoad, rewriteOf}
+use Rattle.shortest.specs.Rewrite.{Rewritten, written, fitted, byLoad, rewriteOf, outputOf}
 use Rattle.ticks.specs.declared.Time.{Time}
 use Rattle.ticks.specs.Split.{splitOf}
 use Rattle.ticks.specs.Laws.{p12}
 use Rattle.images.specs.Laws.{p13}
+use Rattle.builder.specs.Packed.{code, packed}
 use Rattle.names.specs.Heading.{headings}
 use Rattle.names.specs.Kind.{listed}
 
@@ -45,8 +46,14 @@ use Rattle.names.specs.Kind.{listed}
 pub data Example : Type 0 where
   -- a file and the number of words lent
   loads : (file : List ℕ) (words : ℕ) → Load → Example
-  -- and the number of bytes lent for the output
+  -- and the words as they are left
+  leaves-words : (file : List ℕ) (words : ℕ) (left : List ℕ) → Example
+  -- a file, and the 64-bit number that the asset builder gets
+  tells : (file : List ℕ) → ℕ → Example
+  -- a file, the number of words lent and the number of bytes lent for the output
   rewrites : (file : List ℕ) (words out : ℕ) → Rewritten → Example
+  -- and the output as it is lent and as it is left
+  leaves-output : (file : List ℕ) (words : ℕ) (out end : List ℕ) → Example
   -- the bytes of a seven-bit number, and of a character
   number : (bytes : List ℕ) → Answer ℕ → Example
   character : (bytes : List ℕ) → Answer ℕ → Example
@@ -60,7 +67,10 @@ pub data Example : Type 0 where
 unfoldable pub Hold : List Example → Type 0
 Hold [] = Unit {0}
 Hold (loads file words answer ∷ rest) = (loadOf judgedName file words ≡ answer) × Hold rest
+Hold (leaves-words file words left ∷ rest) = (tableOf (loadOf judgedName file words) words ≡ left) × Hold rest
+Hold (tells file answer ∷ rest) = (packed (loadOf judgedName file 6144) ≡ answer) × Hold rest
 Hold (rewrites file words out answer ∷ rest) = (rewriteOf judgedName file words out ≡ answer) × Hold rest
+Hold (leaves-output file words out end ∷ rest) = (outputOf (rewriteOf judgedName file words (length out)) out ≡ end) × Hold rest
 Hold (number bytes answer ∷ rest) = (sevenAt bytes 0 ≡ answer) × Hold rest
 Hold (character bytes answer ∷ rest) = (charAt bytes 0 ≡ answer) × Hold rest
 Hold (time ticks answer ∷ rest) = (splitOf ticks ≡ answer) × Hold rest
@@ -89,11 +99,18 @@ paddedB = texted 0x42 (0x82 ∷ 0 ∷ 0x48 ∷ 0x69 ∷ [])
 unfoldable pub listed-examples : List Example
 listed-examples =
     loads A 6 (accepted (row 0 12 1 0 0 0 nothing ∷ []) 0 0)
+    ∷ leaves-words A 7 (0 ∷ 12 ∷ 1 ∷ 0 ∷ 0 ∷ 0 ∷ 0 ∷ [])
+    ∷ tells A 1
     ∷ loads A 5 (refusal 19 12)
+    ∷ leaves-words A 5 (0 ∷ 0 ∷ 0 ∷ 0 ∷ 0 ∷ [])
     ∷ loads B 6144 (accepted (row 13 61 4 0 0 1 nothing ∷ []) 1 0)
+    ∷ leaves-words B 6 (13 ∷ 61 ∷ 4 ∷ 0 ∷ 0 ∷ 1 ∷ [])
     ∷ loads paddedB 6 (accepted (row 13 61 5 0 0 1 nothing ∷ []) 1 0)
+    ∷ leaves-words paddedB 6 (13 ∷ 61 ∷ 5 ∷ 0 ∷ 0 ∷ 1 ∷ [])
     ∷ rewrites paddedB 6 65 (written B)
+    ∷ leaves-output paddedB 6 (replicate 67 0xAA) (B ++ (0xAA ∷ 0xAA ∷ []))
     ∷ loads (take 12 A) 6 (refusal 7 6)
+    ∷ tells (take 12 A) 30064771078
     ∷ loads (take 9 A) 6 (refusal 1 0)
     ∷ loads (start 0x81 0x0D ++ (0 ∷ 0 ∷ 0 ∷ [])) 6 (refusal 5 5)
     ∷ loads (start 2 0x0D ++ (0 ∷ 0 ∷ 0 ∷ [])) 6 (refusal 6 5)
@@ -114,5 +131,5 @@ listed-examples =
     ∷ []
 
 pub examples : Hold listed-examples
-unfolding Hold listed-examples A B paddedB start texted rewriteOf byLoad fitted shortFile shortBody shortLists shortEntries shortEntry short body idBytes numbered shortest fewest header follow size isPlatform headerAt judge rootKind rootKinds judged readerAt readersAt listsAt objectsAt finished fileAt toLoad roomOf loadOf headAt fixedHeadAt whole-value textAt countAt imageAt leafAt always ownOf before sequence rawAt byReader objectAt valueAt walk suit suits fontOk fontIf fontTest rule isBoolean isDateTime isDecimal fixedAt utf8s chars charSize decided same serves invoked reader-of valueOf littleAt group groups sevenAt some field bind check within sharedOf objectsPlan sizes levels levelBytes pixelBytes blockBytes digits ascii little each slotOf rawOrObject pairs leaves fontSlots pageSlots count kindAt childrenAt kindOf isValue headByte tailByte headings lookup alike listed reader readers target-entry targets span starts tailSize tailOf closed opening onOnly onSecond onFirst afterHead headed nameIn whole nameOf fixedKind plain nullableOf wrapped paired typeOf enumOf arrayOf readerOf typedName readName judgedName
-examples = (refl, (refl, (refl, (refl, (refl, (refl, (refl, (refl, (refl, (refl, (refl, (refl, (refl, (refl, (refl, (p12 .0, (p12 .1, (p13 .0, (p13 .1, (p13 .2, (euro, (surrogate, (of-four, tt)))))))))))))))))))))))
+unfolding Hold listed-examples tableOf flat row-words code packed outputOf A B paddedB start texted rewriteOf byLoad fitted shortFile shortBody shortLists shortEntries shortEntry short body idBytes numbered shortest fewest header follow size isPlatform headerAt judge rootKind rootKinds judged readerAt readersAt listsAt objectsAt finished fileAt toLoad roomOf loadOf headAt fixedHeadAt whole-value textAt countAt imageAt leafAt always ownOf before sequence rawAt byReader objectAt valueAt walk suit suits fontOk fontIf fontTest rule isBoolean isDateTime isDecimal fixedAt utf8s chars charSize decided same serves invoked reader-of valueOf littleAt group groups sevenAt some field bind check within sharedOf objectsPlan sizes levels levelBytes pixelBytes blockBytes digits ascii little each slotOf rawOrObject pairs leaves fontSlots pageSlots count kindAt childrenAt kindOf isValue headByte tailByte headings lookup alike listed reader readers target-entry targets span starts tailSize tailOf closed opening onOnly onSecond onFirst afterHead headed nameIn whole nameOf fixedKind plain nullableOf wrapped paired typeOf enumOf arrayOf readerOf typedName readName judgedName
+examples = (refl, (refl, (refl, (refl, (refl, (refl, (refl, (refl, (refl, (refl, (refl, (refl, (refl, (refl, (refl, (refl, (refl, (refl, (refl, (refl, (refl, (refl, (p12 .0, (p12 .1, (p13 .0, (p13 .1, (p13 .2, (euro, (surrogate, (of-four, tt))))))))))))))))))))))))))))))

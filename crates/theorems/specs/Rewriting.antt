@@ -1,73 +1,61 @@
--- What is promised of rewriting, and what it says of the code of `rewrite`. Assumes nothing.
-use mathlib.Core.Path.{_≡_, _∙_}
-use mathlib.Core.Bool.{true, false}
+-- What is demanded of the code of `rewrite`, which is the contract of `rewrite_exact`. `shortFile` goes from a file tree to its shortest bytes, with no file in it. Assumes nothing.
+use mathlib.Core.Path.{_≡_}
 use mathlib.Core.List.{List, _++_}
 use Prim.Native.Nat.{ℕ, _+_, _<_, _≤_}
-use lib.Dec.{leb}
-use lib.ListN.{length, drop, replicate}
-use borrow.Author.Tests.{le-leb, lt-leb}
-use Rattle.layout.specs.File.{FileLays}
+use lib.ListN.{length, take, drop, replicate}
+use Rattle.layout.specs.Tree.{count}
+use Rattle.layout.specs.File.{sharedOf, FileLays}
 use Rattle.layout.specs.Named.{named}
-use Rattle.reading.specs.Reads.{Small}
-use Rattle.reading.specs.File.{loadOf, tableOf}
-use Rattle.reading.specs.Theorems.{Fitting, rowsIn, table-length}
+use Rattle.reading.specs.Theorems.{Fitting, rowsIn}
+use Rattle.load.specs.declared.Loading.{Loading}
+use Rattle.load.specs.declared.Loading.the-variants.{Loaded}
 use Rattle.numbers.specs.Shortest.{Shortens}
 use Rattle.shortest.specs.File.{shortFile}
 use Rattle.shortest.specs.Rewrites.{padding}
 use Rattle.shortest.specs.Lists.{filePlaces}
-use Rattle.shortest.specs.Rewrite.{Rewritten, fitted, rewriteOf, outputOf, wordsOf}
-use Rattle.shortest.specs.Theorems as T
 use Rattle.rewrite.specs.declared.Rewriting.{Rewriting}
-use Rattle.rewrite.specs.declared.Rewriting.the-variants as rewriting
-use Rattle.rewrite.specs.Contract.{answerOf}
-use Rattle.readers.specs.Judged.{judgedName, judges}
+use Rattle.rewrite.specs.declared.Rewriting.the-variants.{Refused, Rewritten}
+use Rattle.theorems.specs.Exact.{table}
 
--- ---- The rewritten file, for a file that some file tree may have and a table with room for it
-
-module _ (file : List ℕ) (words : ℕ) (f : Fitting named file words) where
-  -- it is laid down for the same file tree, "no bytes of that file tree are shorter, and bytes of equal length are equal"
-  pub shortest-of-its-tree : (bs : List ℕ) → FileLays named (f .tree) bs → Shortens (FileLays named (f .tree)) (shortFile (f .tree)) bs
-  shortest-of-its-tree bs w = T.least named judgedName judges file words f bs w
-
+-- The bytes written, `new`, for a file that a file tree fits.
+pub record Written {file : List ℕ} {words : ℕ} (f : Fitting named file words) (new : List ℕ) : Type 0 where
+  -- they are laid down for the same file tree, "no bytes of that file tree are shorter, and bytes of equal length are equal"
+  pub shortest : (bs : List ℕ) → FileLays named (f .tree) bs → Shortens (FileLays named (f .tree)) new bs
+  -- "reading it gives those objects again": the same file tree fits them
+  pub again : (g : Fitting named new words) × (g .tree ≡ f .tree)
   -- "a file already shortest comes out byte for byte"
-  pub shortest-stays : length file ≡ length (shortFile (f .tree)) → shortFile (f .tree) ≡ file
-  shortest-stays e = T.stays named judgedName judges file words f e
-
-  -- "rewriting twice is rewriting once"
-  pub twice-is-once : (out : ℕ) → rewriteOf judgedName (shortFile (f .tree)) words out ≡ rewriteOf judgedName file words out
-  twice-is-once out = T.twice named judgedName judges file words f out
-
+  pub stays : length file ≡ length new → new ≡ file
   -- "length of the input = length of the output + the padding total": over every number in the file, its bytes beyond its shortest form
-  pub padding-is : length file ≡ length (shortFile (f .tree)) + padding file (filePlaces file (length (f .tree .names)) (rowsIn named f))
-  padding-is = T.padding-is named judgedName judges file words f
+  pub padding-is : length file ≡ length new + padding file (filePlaces file (length (f .tree .names)) (rowsIn named f))
 
--- ---- The code
+-- For a file, the number of words lent, the words as they are left, the output as it was lent and as it is left, and the answer. No reading is in it, but that the padding total takes the numbers as they are read in the file.
+pub record Exact (file : List ℕ) (words : ℕ) (left out end : List ℕ) (r : Rewriting) : Type 0 where
+  -- where a file tree fits and the output has room, the shortest bytes of the tree: "out's bytes past it unchanged, the words as the load of the input left them, the answer its length"
+  pub rewrites : (f : Fitting named file words) → length (shortFile (f .tree)) ≤ length out
+      → (r ≡ Rewritten (length (shortFile (f .tree)))) × (end ≡ shortFile (f .tree) ++ drop (length (shortFile (f .tree))) out) × (left ≡ table (rowsIn named f) words)
+  -- where the output has no room, "21 with the bytes needed, words zero, out untouched"
+  pub too-small : (f : Fitting named file words) → length out < length (shortFile (f .tree))
+      → (r ≡ Refused 21 (length (shortFile (f .tree)))) × (end ≡ out) × (left ≡ replicate words 0)
+  -- where none fits, one refusal's number and place, "A refused rewrite leaves its output buffer unchanged", and every word is zero
+  pub refuses : (Fitting named file words → ⊥)
+      → (number : ℕ) × (place : ℕ) × (r ≡ Refused number place) × (end ≡ out) × (left ≡ replicate words 0)
+  -- a refusal's number is one of 01's for a load or 21, and its place is in the file or the bytes needed, which are no more than the file's
+  pub inside : (number place : ℕ) → r ≡ Refused number place → (1 ≤ number) × (number ≤ 22) × (place ≤ length file)
+  -- what is rewritten is a file tree's bytes, and the output then begins with bytes of which the above holds
+  pub written : (n : ℕ) → r ≡ Rewritten n → (f : Fitting named file words) × (n ≤ length end) × Written f (take n end)
 
--- what the contract of `rewrite` says: its answer, the output and the words that it leaves
-pub record Promised (file entry exit out end : List ℕ) (r : Rewriting) : Type 0 where
-  pub answers : r ≡ answerOf (rewriteOf judgedName file (length entry) (length out))
-  pub writes : end ≡ outputOf (rewriteOf judgedName file (length entry) (length out)) out
-  pub leaves : exit ≡ wordsOf (rewriteOf judgedName file (length entry) (length out)) (tableOf (loadOf judgedName file (length entry)) (length entry))
+-- For a file that is rewritten and then loaded: the number of words lent, the words as they are left, the number of bytes lent for the output, and the answer.
+pub record Again (file : List ℕ) (words : ℕ) (left : List ℕ) (out : ℕ) (r : Loading) : Type 0 where
+  -- "reading it gives those objects again": the answer and the rows are those of the same file tree, as its values stand in the rewritten file
+  pub reads : (f : Fitting named file words) → length (shortFile (f .tree)) ≤ out
+      → (g : Fitting named (shortFile (f .tree)) words) × (g .tree ≡ f .tree)
+      × (r ≡ Loaded (length (rowsIn named g)) (length (g .tree .names)) (count (sharedOf (g .tree .objects)))) × (left ≡ table (rowsIn named g) words)
 
-module _ {file entry exit out end : List ℕ} {r : Rewriting} (p : Promised file entry exit out end r) (f : Fitting named file (length entry)) where
-  is : rewriteOf judgedName file (length entry) (length out) ≡ fitted (shortFile (f .tree)) (length out)
-  is = T.rewrite-is named judgedName judges file (length entry) (length out) f
-
-  -- where the output has room, `rewrite` writes the shortest bytes of the file's tree, "out's bytes past it unchanged, the words as the load of the input left them, the answer its length"
-  pub rewritten : length (shortFile (f .tree)) ≤ length out
-      → (r ≡ rewriting.Rewritten (length (shortFile (f .tree))))
-      × (end ≡ shortFile (f .tree) ++ drop (length (shortFile (f .tree))) out)
-      × (exit ≡ tableOf (loadOf judgedName file (length entry)) (length entry))
-  unfolding fitted outputOf wordsOf
-  rewritten h =
-      let t : leb (length (shortFile (f .tree))) (length out) ≡ true = le-leb (length (shortFile (f .tree))) (length out) h in
-      (p .answers ∙ rw (is, t), p .writes ∙ rw (is, t), p .leaves ∙ rw (is, t))
-
-  -- where it has not, "21 with the bytes needed, words zero, out untouched"
-  pub too-small : Small file → length out < length (shortFile (f .tree))
-      → (r ≡ rewriting.Refused 21 (length (shortFile (f .tree)))) × (end ≡ out) × (exit ≡ replicate (length entry) 0)
-  unfolding fitted outputOf wordsOf
-  too-small small h =
-      let t : leb (length (shortFile (f .tree))) (length out) ≡ false = lt-leb (length (shortFile (f .tree))) (length out) h in
-      let n : length (tableOf (loadOf judgedName file (length entry)) (length entry)) ≡ length entry = table-length named judgedName judges file (length entry) small in
-      (p .answers ∙ rw (is, t), p .writes ∙ rw (is, t), p .leaves ∙ rw (is, t, n))
+-- For a file that is rewritten and then rewritten again: the number of words lent, the number of bytes lent for the first output, the second as it was lent and as it is left, and the second answer.
+pub record Twice (file : List ℕ) (words out : ℕ) (second end : List ℕ) (r : Rewriting) : Type 0 where
+  -- "rewriting twice is rewriting once": the second answer and output are those of a rewrite of the file
+  pub same : (f : Fitting named file words) → length (shortFile (f .tree)) ≤ out → length (shortFile (f .tree)) ≤ length second
+      → (r ≡ Rewritten (length (shortFile (f .tree)))) × (end ≡ shortFile (f .tree) ++ drop (length (shortFile (f .tree))) second)
+  -- also where the second output has no room
+  pub same-refusal : (f : Fitting named file words) → length (shortFile (f .tree)) ≤ out → length second < length (shortFile (f .tree))
+      → (r ≡ Refused 21 (length (shortFile (f .tree)))) × (end ≡ second)

@@ -1,1 +1,40 @@
-// What is promised of loading, as statements that read from top to bottom: specs/Exact.antt.
+// What is demanded of loading and rewriting, as contracts: each function calls the code, and is here for what it ensures (specs/Exact.antt and specs/Rewriting.antt, from top to bottom).
+use load::Loading;
+use rewrite::Rewriting;
+ghost use lib.ListN.{length};
+ghost use Rattle.theorems.specs.Exact.{Exact};
+ghost use Rattle.theorems.specs.Rewriting as R;
+
+// A file that is loaded.
+pub fn load_exact(file: &[u8], words: &mut [u32]) -> Loading
+    ensures { λ r. ⌜ Exact (now (file .entry)) (length (now (words .entry))) (now (words .exit)) r ⌝ }
+{
+    load::load(file, words)
+}
+
+// A file that is rewritten.
+pub fn rewrite_exact(file: &[u8], words: &mut [u32], out: &mut [u8]) -> Rewriting
+    ensures { λ r. ⌜ R.Exact (now (file .entry)) (length (now (words .entry))) (now (words .exit)) (now (out .entry)) (now (out .exit)) r ⌝ }
+{
+    rewrite::rewrite(file, words, out)
+}
+
+// A file that is rewritten and then loaded.
+fn load_again(file: &[u8], words: &mut [u32], out: &mut [u8]) -> Loading
+    ensures { λ r. ⌜ R.Again (now (file .entry)) (length (now (words .entry))) (now (words .exit)) (length (now (out .entry))) r ⌝ }
+{
+    match rewrite_exact(file, words, out) {
+        Rewriting::Refused { number, place } => Loading::Refused { number, place },
+        Rewriting::Rewritten { length: n } => load_exact(&out[..n], words),
+    }
+}
+
+// A file that is rewritten and then rewritten again, into a second output.
+fn rewrite_twice(file: &[u8], words: &mut [u32], out: &mut [u8], second: &mut [u8]) -> Rewriting
+    ensures { λ r. ⌜ R.Twice (now (file .entry)) (length (now (words .entry))) (length (now (out .entry))) (now (second .entry)) (now (second .exit)) r ⌝ }
+{
+    match rewrite_exact(file, words, out) {
+        Rewriting::Refused { number, place } => Rewriting::Refused { number, place },
+        Rewriting::Rewritten { length: n } => rewrite_exact(&out[..n], words, second),
+    }
+}
