@@ -28,7 +28,35 @@ pub fn kept_files() -> Vec<Sample> {
             });
         }
     }
-    assert!(files.len() >= 150, "only {} samples", files.len());
+    assert!(files.len() >= 600, "only {} samples", files.len());
     files.sort_by(|one, other| one.name.cmp(&other.name));
     files
+}
+
+/// The kept files that have padded numbers, and the kept file that each is without them.
+const PADDED: [(&str, &str); 13] = [
+    ("ok-every-number-in-2-bytes", "ok-every-number-in-1-byte"),
+    ("ok-every-number-in-3-bytes", "ok-every-number-in-1-byte"),
+    ("ok-every-number-in-4-bytes", "ok-every-number-in-1-byte"),
+    ("ok-every-number-in-5-bytes", "ok-every-number-in-1-byte"),
+    ("ok-text-count-in-2-bytes", "ok-kind-13-string"),
+    ("ok-type-id-0-in-2-bytes", "ok-kind-00-null"),
+    ("ok-type-id-0-in-3-bytes", "ok-kind-00-null"),
+    ("ok-type-id-0-in-4-bytes", "ok-kind-00-null"),
+    ("ok-type-id-0-in-5-bytes", "ok-kind-00-null"),
+    ("ok-type-id-1-in-2-bytes", "ok-kind-01-byte"),
+    ("ok-type-id-1-in-3-bytes", "ok-kind-01-byte"),
+    ("ok-type-id-1-in-4-bytes", "ok-kind-01-byte"),
+    ("ok-type-id-1-in-5-bytes", "ok-kind-01-byte"),
+];
+
+/// What `shorten` must write for one of the kept files: its refusal, or the file without padded numbers.
+pub fn shortest(file: &Sample, files: &[Sample]) -> Vec<u8> {
+    if file.rows.starts_with("refused ") {
+        return file.rows.clone().into_bytes();
+    }
+    let padded = PADDED.iter().find(|(name, _)| *name == file.name);
+    let name = padded.map_or(file.name.as_str(), |(_, shortest)| shortest);
+    let found = files.iter().find(|other| other.name == name);
+    found.expect("a kept file").bytes.clone()
 }

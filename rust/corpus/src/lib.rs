@@ -1,11 +1,12 @@
-//! Sample XNB 5 files, written from descriptions in code.
+//! Sample XNB 5 files: some written out byte by byte, the others from descriptions in code.
 //!
-//! While a file is written, the writer notes the rows that a loader must give for it.
+//! While a file is written from a description, the writer notes the rows that a loader must give for it.
 //! It shares no code and no table with any loader.
 
 pub mod damaged;
 pub mod folder;
 pub mod lawful;
+pub mod literal;
 pub mod names;
 pub mod readers;
 pub mod sample;
@@ -16,7 +17,8 @@ pub use sample::Sample;
 
 /// Every sample of the corpus.
 pub fn samples() -> Vec<Sample> {
-    let mut samples = lawful::samples();
+    let mut samples = literal::samples();
+    samples.extend(lawful::samples());
     samples.extend(damaged::samples());
     samples
 }

@@ -38,21 +38,15 @@ fn all_samples_give_their_rows() {
 }
 
 #[test]
-fn shorten_turns_every_padded_form_into_the_same_file() {
-    let sample = |name: &str| {
-        let samples = corpus::samples();
-        let found = samples.into_iter().find(|sample| sample.name == name);
-        found.expect("a sample of that name").bytes
-    };
-    let shortened = run("shorten", &sample("ok-every-number-in-2-bytes")).stdout;
-    for width in [3, 4, 5] {
-        let padded = sample(&format!("ok-every-number-in-{width}-bytes"));
-        assert_eq!(run("shorten", &padded).stdout, shortened);
+fn kept_files_are_shortened() {
+    let files = corpus::folder::kept_files();
+    for file in &files {
+        let expected = corpus::folder::shortest(file, &files);
+        assert!(
+            run("shorten", &file.bytes).stdout == expected,
+            "{}",
+            file.name
+        );
     }
-    let two_bytes = sample("ok-text-count-in-2-bytes");
-    assert_eq!(
-        run("shorten", &two_bytes).stdout,
-        sample("ok-kind-13-string")
-    );
     assert_eq!(run("shorten", b"XNB").stdout, b"refused 1 at 0\n");
 }

@@ -1,6 +1,6 @@
 //! The proved programs `rows` and `shorten` against what the second loader prints.
 
-use corpus::folder::{kept_files, root};
+use corpus::folder::{folder, kept_files, root, shortest};
 use second::{printed_rows, shortened, LONGEST_INPUT};
 use std::io::{ErrorKind, Write};
 use std::process::{Command, Stdio};
@@ -38,10 +38,12 @@ fn compare(name: &str, input: &[u8]) {
 }
 
 #[test]
-fn corpus_files_give_their_rows() {
+fn corpus_files_give_their_rows_and_shortest_forms() {
     let files = kept_files();
     for file in &files {
         assert_eq!(rows(&file.bytes), file.rows, "{}", file.name);
+        let shortened = run("shorten", &file.bytes);
+        assert!(shortened == shortest(file, &files), "{}", file.name);
         compare(&file.name, &file.bytes);
     }
     println!("{} files", files.len());
@@ -85,7 +87,58 @@ fn an_input_is_refused_past_its_longest() {
     for length in [LONGEST_INPUT + 1, 200_000] {
         input.resize(length, 0);
         assert_eq!(rows(&input), "refused 9 at 0\n", "{length} bytes");
-        assert_eq!(run("shorten", &input), b"refused 9 at 0\n", "{length} bytes");
+        assert_eq!(
+            run("shorten", &input),
+            b"refused 9 at 0\n",
+            "{length} bytes"
+        );
+    }
+}
+
+/// A file of the corpus folder.
+fn stored(name: &str) -> Vec<u8> {
+    std::fs::read(folder().join(format!("{name}.xnb"))).expect(name)
+}
+
+/// Stored files that each program takes: the file, its bytes, and what `rows` prints first and last.
+const WITHIN_LIMITS: [(&str, usize, &str, &str); 2] = [
+    (
+        "ok-32768-bytes",
+        32_768,
+        "rows 1 readers 1 shared 0\n",
+        "\n0 13 61 32707 0 0 1\n",
+    ),
+    (
+        "ok-1024-rows",
+        1_104,
+        "rows 1024 readers 1 shared 0\n",
+        "\n1023 1 1103 1 0 1 0\n",
+    ),
+];
+
+/// Stored files that each program refuses, because of its own limit alone: the file, its bytes and the refusal.
+const PAST_LIMITS: [(&str, usize, &str); 2] = [
+    ("bad-09-input-of-32769-bytes", 32_769, "refused 9 at 0\n"),
+    ("bad-19-1025-rows", 1_105, "refused 19 at 1104\n"),
+];
+
+#[test]
+fn stored_files_at_and_past_the_limits_of_both_programs() {
+    for (name, length, first, last) in WITHIN_LIMITS {
+        let input = stored(name);
+        assert_eq!(input.len(), length, "{name}");
+        let printed = rows(&input);
+        assert!(printed.starts_with(first), "{name}");
+        assert!(printed.ends_with(last), "{name}");
+        assert!(run("shorten", &input) == input, "{name}: shorten");
+    }
+    for (name, length, refusal) in PAST_LIMITS {
+        let input = stored(name);
+        assert_eq!(input.len(), length, "{name}");
+        assert_eq!(rows(&input), refusal, "{name}");
+        assert_eq!(run("shorten", &input), refusal.as_bytes(), "{name}");
+        let mut words = vec![0; 6 * 1025];
+        assert!(second::load(&input, &mut words).is_ok(), "{name} is lawful");
     }
 }
 

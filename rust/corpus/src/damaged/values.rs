@@ -64,7 +64,6 @@ fn packed_values() -> Vec<Sample> {
         bad_raw("datetime-ticks", DATE_TIME, date_time(0, past_last_tick)),
         bad_raw("datetime-zone-3", DATE_TIME, date_time(3, 0)),
         fourth_word("decimal-scale-29", 0x001D_0000),
-        fourth_word("decimal-bit-0", 0x0000_0001).further(),
         fourth_word("decimal-bit-30", 0x4000_0000),
     ]
 }
@@ -127,6 +126,7 @@ fn fonts() -> Vec<Sample> {
     vec![
         changed("null-texture", &|font| font.texture = null()),
         changed("null-glyphs", &|font| font.glyphs = null()),
+        changed("null-cropping", &|font| font.cropping = null()),
         changed("null-characters", &|font| font.characters = null()),
         changed("null-kerning", &|font| font.kerning = null()),
         changed("fewer-glyphs", &|font| font.glyphs = boxes(1)),

@@ -1,0 +1,66 @@
+//! Samples that are written out byte by byte, with what `rows` must print for them.
+//!
+//! Each stands in a text of `literal/` as document 000 or 01 says it; no code and no table made it.
+//! A text has blocks between empty lines. `#` starts a comment, often the rule that the blocks below it show.
+//! The first line of a block is the sample's name, lines behind `=` are what `rows` must print, and the others are its bytes:
+//! two hexadecimal digits for a byte, `AA*60` for sixty of them, and characters in quotation marks.
+
+use crate::sample::Sample;
+
+const TEXTS: [&str; 7] = [
+    include_str!("../literal/header.txt"),
+    include_str!("../literal/numbers.txt"),
+    include_str!("../literal/names.txt"),
+    include_str!("../literal/kinds.txt"),
+    include_str!("../literal/arguments.txt"),
+    include_str!("../literal/values.txt"),
+    include_str!("../literal/textures.txt"),
+];
+
+pub fn samples() -> Vec<Sample> {
+    let blocks = TEXTS.iter().flat_map(|text| text.split("\n\n"));
+    blocks.filter_map(sample).collect()
+}
+
+/// The sample of a block, unless the block is a comment.
+fn sample(block: &str) -> Option<Sample> {
+    let lines = block.lines().filter(|line| !line.starts_with('#'));
+    let mut lines = lines.skip_while(|line| line.is_empty());
+    let name = lines.next()?.to_string();
+    let mut bytes = Vec::new();
+    let mut rows = String::new();
+    for line in lines {
+        match line.strip_prefix("= ") {
+            Some(printed) => rows += &format!("{printed}\n"),
+            None => bytes.extend(line_bytes(line)),
+        }
+    }
+    assert!(!rows.is_empty(), "{name} has no expected rows");
+    Some(Sample {
+        name,
+        bytes,
+        rows,
+        kept: true,
+    })
+}
+
+/// The bytes of a line: what stands in quotation marks, and numbers between.
+fn line_bytes(line: &str) -> Vec<u8> {
+    let mut bytes = Vec::new();
+    for (position, part) in line.split('"').enumerate() {
+        if position % 2 == 1 {
+            bytes.extend_from_slice(part.as_bytes());
+        } else {
+            bytes.extend(part.split_whitespace().flat_map(word_bytes));
+        }
+    }
+    bytes
+}
+
+/// One byte, or as many of it as stands behind a star.
+fn word_bytes(word: &str) -> Vec<u8> {
+    let (digits, count) = word.split_once('*').unwrap_or((word, "1"));
+    let byte = u8::from_str_radix(digits, 16).expect("a byte in hexadecimal digits");
+    assert_eq!(digits.len(), 2, "{word}");
+    vec![byte; count.parse().expect("a number of bytes")]
+}

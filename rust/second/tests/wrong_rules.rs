@@ -1,0 +1,130 @@
+//! Wrong rules, each put into a copy of this loader: a file of the corpus folder must show it.
+
+use std::path::{Path, PathBuf};
+use std::process::Command;
+
+/// A rule as it stands in a source file, and a wrong one for it.
+struct Wrong {
+    what: &'static str,
+    file: &'static str,
+    right: &'static str,
+    wrong: &'static str,
+}
+
+const WRONG: [Wrong; 7] = [
+    Wrong {
+        what: "DateTime's limit",
+        file: "walk.rs",
+        right: "LAST_TICK: u64 = 3_155_378_975_999_999_999;",
+        wrong: "LAST_TICK: u64 = 3_155_378_975_999_999_998;",
+    },
+    Wrong {
+        what: "Vector3's size",
+        file: "kinds.rs",
+        right: "24 => 12,",
+        wrong: "24 => 16,",
+    },
+    Wrong {
+        what: "platform n for m",
+        file: "header.rs",
+        right: "b\"wmx\"",
+        wrong: "b\"wnx\"",
+    },
+    Wrong {
+        what: "a pixel size",
+        file: "image.rs",
+        right: "1 | 2 | 3 | 7 | 16 => Some(2),\n        0 | 8 | 9 | 10 | 13 | 17 => Some(4),",
+        wrong: "1 | 2 | 3 | 16 => Some(2),\n        0 | 7 | 8 | 9 | 10 | 13 | 17 => Some(4),",
+    },
+    Wrong {
+        what: "two font fields exchanged",
+        file: "walk.rs",
+        right:
+            "self.raw(&Type::plain(INT32), spot)?;\n        self.raw(&Type::plain(SINGLE), spot)?;",
+        wrong:
+            "self.raw(&Type::plain(SINGLE), spot)?;\n        self.raw(&Type::plain(INT32), spot)?;",
+    },
+    Wrong {
+        what: "the kinds of Color and Point exchanged",
+        file: "kinds.rs",
+        right: "kind(28, \"Color\", XNA),\n    kind(29, \"Point\", XNA),",
+        wrong: "kind(29, \"Color\", XNA),\n    kind(28, \"Point\", XNA),",
+    },
+    Wrong {
+        what: "refusal 3's place",
+        file: "header.rs",
+        right: "PLATFORM, 3)",
+        wrong: "PLATFORM, 4)",
+    },
+];
+
+/// Prints the name of every file in the folder whose rows are not those beside it.
+const PROBE: &str = r#"
+fn main() {
+    let folder = std::env::args().nth(1).expect("a folder");
+    for entry in std::fs::read_dir(folder).expect("the corpus is there") {
+        let path = entry.expect("a file").path();
+        if path.extension().is_some_and(|it| it == "xnb") {
+            let file = std::fs::read(&path).expect("a sample");
+            let rows = std::fs::read_to_string(path.with_extension("rows")).expect("its rows");
+            if printed_rows(&file) != rows {
+                println!("{}", path.file_stem().expect("a name").to_string_lossy());
+            }
+        }
+    }
+}
+"#;
+
+/// Builds a copy of this loader and answers which kept files give other rows by it.
+fn differing(name: &str, wrong: Option<&Wrong>) -> Vec<String> {
+    let folder = Path::new(env!("CARGO_TARGET_TMPDIR")).join(name);
+    copy_sources(&folder, wrong);
+    let program = folder.join("probe");
+    let rustc = std::env::var("RUSTC").unwrap_or("rustc".to_string());
+    let built = Command::new(rustc)
+        .args(["--edition", "2021", "--cap-lints", "allow", "-o"])
+        .args([&program, &folder.join("lib.rs")])
+        .args(["--crate-type", "bin"])
+        .status();
+    assert!(built.expect("rustc starts").success(), "{name} is built");
+    let output = Command::new(program).arg(corpus::folder::folder()).output();
+    let output = output.expect("the copy starts");
+    assert!(output.status.success(), "{name} ends");
+    let text = String::from_utf8(output.stdout).expect("it prints names");
+    let mut names: Vec<String> = text.lines().map(String::from).collect();
+    names.sort();
+    names
+}
+
+/// Copies the sources, with one rule changed and the probe as the program.
+fn copy_sources(folder: &PathBuf, wrong: Option<&Wrong>) {
+    std::fs::create_dir_all(folder).expect("a folder");
+    let sources = Path::new(env!("CARGO_MANIFEST_DIR")).join("src");
+    for entry in std::fs::read_dir(sources).expect("the sources are there") {
+        let entry = entry.expect("a source");
+        let name = entry.file_name().to_string_lossy().into_owned();
+        let mut text = std::fs::read_to_string(entry.path()).expect("a source");
+        if let Some(wrong) = wrong.filter(|wrong| wrong.file == name) {
+            assert_eq!(text.matches(wrong.right).count(), 1, "{}", wrong.what);
+            text = text.replace(wrong.right, wrong.wrong);
+        }
+        if name == "lib.rs" {
+            text += PROBE;
+        }
+        std::fs::write(folder.join(name), text).expect("a copy");
+    }
+}
+
+#[test]
+fn the_right_rules_give_all_rows() {
+    assert_eq!(differing("right", None), Vec::<String>::new());
+}
+
+#[test]
+fn each_wrong_rule_is_shown_by_a_kept_file() {
+    for (number, wrong) in WRONG.iter().enumerate() {
+        let names = differing(&format!("wrong-{number}"), Some(wrong));
+        assert!(!names.is_empty(), "no file shows {}", wrong.what);
+        println!("{}: {}", wrong.what, names.join(" "));
+    }
+}
