@@ -2,17 +2,43 @@
 
 // Prints a refusal's line to standard output (01: "A refusal prints one line, as `refused 7 at 6`").
 pub fn print_refusal(number: u32, place: usize) {
-    io::write_all(1, b"refused ");
-    io::print_decimal(1, number as u64);
-    io::write_all(1, b" at ");
-    io::print_decimal(1, place as u64);
-    io::write_all(1, b"\n");
+    tell_unless(refusal(1, number, place));
 }
 
-// Writes the first bytes of a buffer to standard output; nothing where it has fewer.
+// Prints a refusal's line to standard error, where standard output holds a file.
+pub fn tell_refusal(number: u32, place: usize) {
+    refusal(2, number, place);
+}
+
+// Writes the first bytes of a buffer to standard output; nothing where it has fewer. A failure is told.
 pub fn write_start(buffer: &[u8], length: usize) {
     if buffer.len() < length {
         return;
     }
-    io::write_all(1, &buffer[..length]);
+    tell_unless(io::write_all(1, &buffer[..length]));
+}
+
+// A refusal's line, and whether all of it was written.
+fn refusal(fd: i32, number: u32, place: usize) -> bool {
+    if !io::write_all(fd, b"refused ") {
+        return false;
+    }
+    if !io::print_decimal(fd, number as u64) {
+        return false;
+    }
+    if !io::write_all(fd, b" at ") {
+        return false;
+    }
+    if !io::print_decimal(fd, place as u64) {
+        return false;
+    }
+    io::write_all(fd, b"\n")
+}
+
+// Tells on standard error that standard output failed.
+fn tell_unless(written: bool) {
+    if written {
+        return;
+    }
+    io::write_all(2, b"standard output could not be written\n");
 }

@@ -21,15 +21,6 @@ fn put_number(out: &mut [u8], at: usize, n: u64) -> usize {
     put(out, at, &digits[..size])
 }
 
-// Writes the buffer when fewer than 5,536 of its 65,536 bytes are free; a row line has at most 77.
-fn flush_nearly_full(out: &[u8], at: usize) -> usize {
-    if at <= 60000 {
-        return at;
-    }
-    printing::write_start(out, at);
-    0
-}
-
 fn wide(x: u32) -> u64 {
     x as u64
 }
@@ -58,13 +49,12 @@ fn put_row(out: &mut [u8], at: usize, words: &[u32], row: u32) -> usize {
     put(out, next, b"\n")
 }
 
-// Each row on its line, and the rest of the buffer written.
+// Each row on its line, behind the first `at` bytes of the buffer, and all of it written.
 fn print_rows(out: &mut [u8], at: usize, words: &[u32], rows: u32) {
     let mut next = at;
     let mut row = 0;
     while row < rows {
         next = put_row(out, next, words, row);
-        next = flush_nearly_full(out, next);
         row += 1;
     }
     printing::write_start(out, next);
@@ -99,7 +89,8 @@ fn print_file(file: &[u8], out: &mut [u8]) {
 
 fn main() {
     let mut space = io::large_buffer();
-    let mut out = io::large_buffer();
+    // A line has at most 77 bytes, so those of 1,024 rows fit.
+    let mut out = [0u8; 98304];
     let n = io::read_full(0, &mut space);
     if 32768 < n {
         printing::print_refusal(9, 0);

@@ -1,11 +1,11 @@
-// Writes the file on standard input with its seven-bit numbers in their shortest forms, or prints its refusal.
+// Writes the file on standard input with its seven-bit numbers in their shortest forms; a refusal goes to standard error alone.
 use rewrite::Rewriting;
 
 // Rewrites the file, with room for 1,024 rows.
 fn shorten(file: &[u8], out: &mut [u8]) {
     let mut words = [0u32; 6144];
     match rewrite::rewrite(file, &mut words, out) {
-        Rewriting::Refused { number, place } => printing::print_refusal(number, place),
+        Rewriting::Refused { number, place } => printing::tell_refusal(number, place),
         Rewriting::Rewritten { length } => printing::write_start(out, length),
     }
 }
@@ -15,7 +15,7 @@ fn main() {
     let mut out = io::large_buffer();
     let n = io::read_full(0, &mut space);
     if 32768 < n {
-        printing::print_refusal(9, 0);
+        printing::tell_refusal(9, 0);
         return;
     }
     shorten(&space[..n], &mut out);

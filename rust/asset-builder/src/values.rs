@@ -1,57 +1,189 @@
-//! Values as text.
+//! Values as text and as JSON.
 
-use std::fmt::Debug;
+use serde::Serialize;
+use std::fmt::{self, Debug, Display, Formatter};
 use xnb::{Detail, Kind, Refused, Row, Table};
 
-/// What stands behind the kind of a row, with a space before it; nothing for some kinds.
-pub fn shown(table: &Table, number: u32, row: &Row) -> String {
-    let text = value(table, number, row).expect("a loaded row can be looked up");
-    if text.is_empty() {
-        return text;
-    }
-    format!(" {text}")
+/// What stands behind the kind of a row.
+#[derive(Clone, Debug, PartialEq, Serialize)]
+#[serde(untagged)]
+pub enum Value {
+    Nothing,
+    Text(String),
+    Char(char),
+    Boolean(bool),
+    Signed(i64),
+    Unsigned(u64),
+    Integers(Vec<i32>),
+    Bytes(Vec<u8>),
+    Single(Float<f32>),
+    Singles(Vec<Float<f32>>),
+    Double(Float<f64>),
+    /// A decimal number with all its digits.
+    Decimal(String),
+    Time {
+        seconds: i64,
+        ticks: u32,
+    },
+    DateTime {
+        ticks: u64,
+        zone: u64,
+    },
+    /// A nullable without a value.
+    Absent {
+        present: bool,
+    },
+    Count {
+        count: usize,
+    },
+    Image {
+        width: u64,
+        height: u64,
+        format: u64,
+    },
+    Level {
+        bytes: usize,
+    },
+    /// The shared object that a reference names, or none.
+    Resource {
+        shared: Option<u32>,
+    },
 }
 
-fn value(table: &Table, number: u32, row: &Row) -> Result<String, Refused> {
+/// A number that JSON may lack: one that is not finite is told by its name.
+#[derive(Clone, Copy, Debug, PartialEq)]
+pub struct Float<F>(F);
+
+impl<F: Copy + Serialize + Debug + Into<f64>> Serialize for Float<F> {
+    fn serialize<S: serde::Serializer>(&self, out: S) -> Result<S::Ok, S::Error> {
+        if self.0.into().is_finite() {
+            self.0.serialize(out)
+        } else {
+            out.serialize_str(&format!("{:?}", self.0))
+        }
+    }
+}
+
+impl<F: Debug> Display for Float<F> {
+    fn fmt(&self, out: &mut Formatter) -> fmt::Result {
+        write!(out, "{:?}", self.0)
+    }
+}
+
+/// The value of a row of its table.
+pub fn value(table: &Table, number: u32, row: &Row) -> Value {
+    looked_up(table, number, row).expect("a loaded row can be looked up")
+}
+
+fn looked_up(table: &Table, number: u32, row: &Row) -> Result<Value, Refused> {
     use Kind::*;
     let bytes = raw_bytes(table.part(number)?, row.detail);
     Ok(match row.kind {
-        Null | SpriteFont | Page => "".to_string(),
-        String => format!("{:?}", table.text(number)?),
-        SByte | Int16 | Int32 | Int64 => table.signed(number)?.to_string(),
+        Null | SpriteFont | Page => Value::Nothing,
+        String => Value::Text(table.text(number)?.to_string()),
+        SByte | Int16 | Int32 | Int64 => Value::Signed(table.signed(number)?),
         TimeSpan => {
             let time = table.time(number)?;
-            format!("{} s and {} ticks", time.seconds, time.ticks)
+            Value::Time {
+                seconds: time.seconds,
+                ticks: time.ticks,
+            }
         }
-        Byte | UInt16 | UInt32 | UInt64 => unsigned(bytes).to_string(),
-        Enum | Point | Rectangle => listed(bytes, i32::from_le_bytes),
-        Single | Vector2 | Vector3 | Vector4 | Matrix | Quaternion => {
-            listed(bytes, f32::from_le_bytes)
+        Byte | UInt16 | UInt32 | UInt64 => Value::Unsigned(unsigned(bytes) as u64),
+        Enum => Value::Signed(i64::from(unsigned(bytes) as u32 as i32)),
+        Point | Rectangle => Value::Integers(each(bytes, i32::from_le_bytes)),
+        Single => match each(bytes, f32::from_le_bytes)[..] {
+            [number] => Value::Single(Float(number)),
+            _ => Value::Nothing,
+        },
+        Vector2 | Vector3 | Vector4 | Matrix | Quaternion => {
+            Value::Singles(each(bytes, |it| Float(f32::from_le_bytes(it))))
         }
-        Double => listed(bytes, f64::from_le_bytes),
-        Boolean => (bytes[0] == 1).to_string(),
-        Char => quoted(bytes),
-        Color => listed(bytes, |channel: [u8; 1]| channel[0]),
-        Decimal => decimal(bytes),
+        Double => Value::Double(Float(f64::from_bits(unsigned(bytes) as u64))),
+        Boolean => Value::Boolean(bytes[0] == 1),
+        Char => match std::str::from_utf8(bytes).map(|text| text.chars().next()) {
+            Ok(Some(character)) => Value::Char(character),
+            _ => Value::Nothing,
+        },
+        Color => Value::Bytes(bytes.to_vec()),
+        Decimal => Value::Decimal(decimal(bytes)),
         DateTime => {
-            let packed = unsigned(bytes);
-            let ticks = packed & ((1 << 62) - 1);
-            format!("{ticks} ticks, zone {}", packed >> 62)
+            let packed = unsigned(bytes) as u64;
+            Value::DateTime {
+                ticks: packed & ((1 << 62) - 1),
+                zone: packed >> 62,
+            }
         }
-        Nullable if row.children == 0 => "nothing".to_string(),
-        Nullable => "".to_string(),
-        Array | List => format!("of {}", row.children),
-        Dictionary => format!("of {}", row.children / 2),
+        Nullable if row.children == 0 => Value::Absent { present: false },
+        Nullable => Value::Nothing,
+        Array | List => Value::Count {
+            count: row.children,
+        },
+        Dictionary => Value::Count {
+            count: row.children / 2,
+        },
         Texture2D => {
-            let field = |index: usize| unsigned(&bytes[4 * index..4 * index + 4]);
-            format!("{} by {}, format {}", field(1), field(2), field(0))
+            let field = |index: usize| unsigned(&bytes[4 * index..4 * index + 4]) as u64;
+            Value::Image {
+                width: field(1),
+                height: field(2),
+                format: field(0),
+            }
         }
-        ImageLevel => format!("of {} bytes", bytes.len() - 4),
-        SharedReference => match row.detail {
-            Detail::ResourceId(id) => format!("to shared {id}"),
-            _ => "to nothing".to_string(),
+        ImageLevel => Value::Level {
+            bytes: bytes.len() - 4,
+        },
+        SharedReference => Value::Resource {
+            shared: match row.detail {
+                Detail::ResourceId(id) => Some(id),
+                _ => None,
+            },
         },
     })
+}
+
+impl Value {
+    pub fn is_nothing(&self) -> bool {
+        *self == Value::Nothing
+    }
+}
+
+/// Nothing for some kinds.
+impl Display for Value {
+    fn fmt(&self, out: &mut Formatter) -> fmt::Result {
+        use Value::*;
+        match self {
+            Nothing => Ok(()),
+            Text(text) => write!(out, "{text:?}"),
+            Char(character) => write!(out, "{character:?}"),
+            Boolean(value) => write!(out, "{value}"),
+            Signed(number) => write!(out, "{number}"),
+            Unsigned(number) => write!(out, "{number}"),
+            Integers(numbers) => write!(out, "{}", spaced(numbers)),
+            Bytes(numbers) => write!(out, "{}", spaced(numbers)),
+            Single(number) => write!(out, "{number}"),
+            Singles(numbers) => write!(out, "{}", spaced(numbers)),
+            Double(number) => write!(out, "{number}"),
+            Decimal(digits) => write!(out, "{digits}"),
+            Time { seconds, ticks } => write!(out, "{seconds} s and {ticks} ticks"),
+            DateTime { ticks, zone } => write!(out, "{ticks} ticks, zone {zone}"),
+            Absent { .. } => write!(out, "nothing"),
+            Count { count } => write!(out, "of {count}"),
+            Image {
+                width,
+                height,
+                format,
+            } => write!(out, "{width} by {height}, format {format}"),
+            Level { bytes } => write!(out, "of {bytes} bytes"),
+            Resource { shared: Some(id) } => write!(out, "to shared {id}"),
+            Resource { shared: None } => write!(out, "to nothing"),
+        }
+    }
+}
+
+fn spaced(numbers: &[impl Display]) -> String {
+    let numbers: Vec<String> = numbers.iter().map(|it| it.to_string()).collect();
+    numbers.join(" ")
 }
 
 /// The part behind the type id, if it has one.
@@ -69,18 +201,9 @@ fn unsigned(bytes: &[u8]) -> u128 {
 }
 
 /// The numbers of which the bytes consist.
-fn listed<const SIZE: usize, T: Debug>(bytes: &[u8], number: fn([u8; SIZE]) -> T) -> String {
+fn each<const SIZE: usize, T>(bytes: &[u8], number: fn([u8; SIZE]) -> T) -> Vec<T> {
     let (chunks, _) = bytes.as_chunks();
-    let numbers: Vec<String> = chunks
-        .iter()
-        .map(|it| format!("{:?}", number(*it)))
-        .collect();
-    numbers.join(" ")
-}
-
-fn quoted(bytes: &[u8]) -> String {
-    let text = String::from_utf8_lossy(bytes);
-    text.chars().map(|it| format!("{it:?}")).collect()
+    chunks.iter().map(|it| number(*it)).collect()
 }
 
 /// A Decimal: twelve bytes of a whole number, then its scale and its sign.

@@ -88,7 +88,11 @@ impl Kind {
     }
 
     pub fn of_number(number: u32) -> Option<Kind> {
-        KINDS.iter().copied().find(|kind| kind.number() == number)
+        Kind::all().find(|kind| kind.number() == number)
+    }
+
+    pub(crate) fn all() -> impl Iterator<Item = Kind> {
+        KINDS.into_iter()
     }
 }
 

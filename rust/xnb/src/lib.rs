@@ -10,6 +10,7 @@
 //! ```
 
 mod calls;
+mod explain;
 mod kind;
 pub mod raw;
 mod refusal;
@@ -17,6 +18,7 @@ mod row;
 mod table;
 
 pub use calls::{count_rows, load, part, rewrite, shorten, signed, text, time, Loaded, Time};
+pub use explain::{explain, Explanation, ReaderName};
 pub use kind::Kind;
 pub use refusal::{Refusal, Refused};
 pub use row::{Detail, Row, MOST_ROWS, WORDS_PER_ROW};

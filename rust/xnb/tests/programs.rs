@@ -1,17 +1,21 @@
 //! The proved programs `rows` and `shorten` against what the second loader prints.
+//!
+//! A refusal of `rows` goes to standard output, one of `shorten` to standard error.
 
 use corpus::folder::{folder, kept_files, root, shortest};
 use second::{printed_rows, shortened, LONGEST_INPUT};
+use std::fs::File;
 use std::io::{ErrorKind, Write};
 use std::process::{Command, Stdio};
 
 const GENERATED_FILES: u64 = 500;
 
-/// What a program writes for an input.
-fn run(program: &str, input: &[u8]) -> Vec<u8> {
+/// What a program writes to standard output and standard error for an input.
+fn run(program: &str, input: &[u8]) -> (Vec<u8>, Vec<u8>) {
     let mut child = Command::new(root().join("target/bin").join(program))
         .stdin(Stdio::piped())
         .stdout(Stdio::piped())
+        .stderr(Stdio::piped())
         .spawn()
         .expect("a program of target/bin starts; .ci/run builds it");
     let mut stdin = child.stdin.take().expect("it has an input");
@@ -24,17 +28,29 @@ fn run(program: &str, input: &[u8]) -> Vec<u8> {
         child.wait_with_output().expect("it ends")
     });
     assert!(output.status.code().is_some(), "{}", output.status);
-    output.stdout
+    (output.stdout, output.stderr)
 }
 
 fn rows(input: &[u8]) -> String {
-    String::from_utf8(run("rows", input)).expect("rows prints text")
+    let (out, err) = run("rows", input);
+    assert_eq!(err, b"");
+    String::from_utf8(out).expect("rows prints text")
+}
+
+/// Whether `shorten` writes the file to standard output, or the refusal to standard error alone.
+fn shortens_to(input: &[u8], expected: Vec<u8>) -> bool {
+    let streams = if expected.starts_with(b"refused ") {
+        (vec![], expected)
+    } else {
+        (expected, vec![])
+    };
+    run("shorten", input) == streams
 }
 
 /// Compares both programs with the second loader.
 fn compare(name: &str, input: &[u8]) {
     assert_eq!(rows(input), printed_rows(input), "{name}");
-    assert!(run("shorten", input) == shortened(input), "{name}: shorten");
+    assert!(shortens_to(input, shortened(input)), "{name}: shorten");
 }
 
 #[test]
@@ -42,8 +58,8 @@ fn corpus_files_give_their_rows_and_shortest_forms() {
     let files = kept_files();
     for file in &files {
         assert_eq!(rows(&file.bytes), file.rows, "{}", file.name);
-        let shortened = run("shorten", &file.bytes);
-        assert!(shortened == shortest(file, &files), "{}", file.name);
+        let expected = shortest(file, &files);
+        assert!(shortens_to(&file.bytes, expected), "{}", file.name);
         compare(&file.name, &file.bytes);
     }
     println!("{} files", files.len());
@@ -87,11 +103,8 @@ fn an_input_is_refused_past_its_longest() {
     for length in [LONGEST_INPUT + 1, 200_000] {
         input.resize(length, 0);
         assert_eq!(rows(&input), "refused 9 at 0\n", "{length} bytes");
-        assert_eq!(
-            run("shorten", &input),
-            b"refused 9 at 0\n",
-            "{length} bytes"
-        );
+        let refused = (vec![], b"refused 9 at 0\n".to_vec());
+        assert_eq!(run("shorten", &input), refused, "{length} bytes");
     }
 }
 
@@ -130,13 +143,17 @@ fn stored_files_at_and_past_the_limits_of_both_programs() {
         let printed = rows(&input);
         assert!(printed.starts_with(first), "{name}");
         assert!(printed.ends_with(last), "{name}");
-        assert!(run("shorten", &input) == input, "{name}: shorten");
+        assert!(
+            run("shorten", &input) == (input.clone(), vec![]),
+            "{name}: shorten"
+        );
     }
     for (name, length, refusal) in PAST_LIMITS {
         let input = stored(name);
         assert_eq!(input.len(), length, "{name}");
         assert_eq!(rows(&input), refusal, "{name}");
-        assert_eq!(run("shorten", &input), refusal.as_bytes(), "{name}");
+        let refused = (vec![], refusal.as_bytes().to_vec());
+        assert_eq!(run("shorten", &input), refused, "{name}");
         let mut words = vec![0; 6 * 1025];
         assert!(second::load(&input, &mut words).is_ok(), "{name} is lawful");
     }
@@ -145,4 +162,20 @@ fn stored_files_at_and_past_the_limits_of_both_programs() {
 #[test]
 fn the_empty_input_is_refused() {
     assert_eq!(rows(&[]), "refused 1 at 0\n");
+}
+
+#[test]
+fn an_output_that_cannot_be_written_is_told() {
+    let sample = root().join("corpus/ok-kind-13-string.xnb");
+    for program in ["rows", "shorten"] {
+        let full = File::options().write(true).open("/dev/full");
+        let output = Command::new(root().join("target/bin").join(program))
+            .stdin(File::open(&sample).expect("a sample"))
+            .stdout(full.expect("a device that is full"))
+            .stderr(Stdio::piped())
+            .output()
+            .expect("a program of target/bin starts");
+        let told = b"standard output could not be written\n";
+        assert_eq!(output.stderr, told, "{program}");
+    }
 }

@@ -15,8 +15,11 @@ slice-aggregate-write-all c =
 write-all-requires : tie.Need-write-all-requires
 write-all-requires c κs = search needs
 
+tell-unless-requires : tie.Need-tell-unless-requires
+tell-unless-requires c κs = search needs
+
 returns-2 : tie.Need-returns-2
 returns-2 c = search needs
 
 pub write-start-spec : {M : Type 1} → statement M
-write-start-spec = tie.close (tie.spec returns slice-aggregate-write-all write-all-requires returns-2)
+write-start-spec = tie.close (tie.spec returns slice-aggregate-write-all write-all-requires tell-unless-requires returns-2)

@@ -17,9 +17,6 @@ loop-holds c = search needs
 put-row-requires : tie.Need-put-row-requires Inv-loop μ-loop
 put-row-requires c κs = search needs
 
-flush-nearly-full-requires : tie.Need-flush-nearly-full-requires Inv-loop μ-loop
-flush-nearly-full-requires c κs = search needs
-
 add-row : tie.Need-add-row Inv-loop μ-loop
 add-row c = search needs
 
@@ -46,7 +43,6 @@ print-rows-spec =
     μ-loop
     loop-holds
     put-row-requires
-    flush-nearly-full-requires
     add-row
     loop-less
     loop-again

@@ -1,0 +1,97 @@
+//! The commands, each in a module of its own.
+
+mod check;
+mod completions;
+mod man;
+mod rows;
+mod shorten;
+mod tree;
+
+use crate::input::{Input, Inputs, LONGEST_FILE};
+use crate::refusal::Told;
+use crate::run::{End, Run, Status};
+use clap::builder::TypedValueParser;
+use clap::{Parser, Subcommand};
+use xnb::{Refused, Table, WORDS_PER_ROW};
+
+/// The rows that 01's asset builder has room for.
+const BUILDER_ROWS: u32 = 1024;
+/// The rows that a table has at most.
+const MOST_ROWS: u32 = xnb::MOST_ROWS as u32;
+
+const STATUSES: &str = "0 if every file was taken, 1 if one was refused, \
+    2 for a wrong command or a file that could not be read or written.";
+
+/// Checks, shows and shortens XNB files through the proved loader
+#[derive(Parser)]
+#[command(name = "asset-builder", version, propagate_version = true)]
+#[command(after_help = format!("Exit status: {STATUSES}"))]
+pub struct Cli {
+    #[command(subcommand)]
+    pub command: Command,
+}
+
+#[derive(Subcommand)]
+pub enum Command {
+    Check(check::Check),
+    Rows(rows::Rows),
+    Tree(tree::Tree),
+    Shorten(shorten::Shorten),
+    Completions(completions::Completions),
+    Man(man::Man),
+}
+
+impl Command {
+    pub fn run(&self, run: &mut Run) -> End {
+        match self {
+            Command::Check(command) => command.run(run),
+            Command::Rows(command) => command.run(run),
+            Command::Tree(command) => command.run(run),
+            Command::Shorten(command) => command.run(run),
+            Command::Completions(command) => command.run(run),
+            Command::Man(command) => command.run(run),
+        }
+    }
+}
+
+/// A number of rows that a table may have.
+fn at_most_all_rows() -> impl TypedValueParser<Value = u32> {
+    clap::value_parser!(u32).range(..=i64::from(MOST_ROWS))
+}
+
+/// Reads each input and does something with its bytes; one that cannot be read is told.
+fn for_each(
+    inputs: &Inputs,
+    run: &mut Run,
+    mut action: impl FnMut(&mut Run, &Input, Result<&[u8], String>) -> End,
+) -> End {
+    for input in inputs.list(run) {
+        // The loader refuses a longer file whatever follows.
+        match input.read_at_most(LONGEST_FILE + 1) {
+            Ok(file) => action(run, &input, Ok(&file))?,
+            Err(error) => {
+                run.fail(input.shown(), &error);
+                action(run, &input, Err(error.to_string()))?;
+            }
+        }
+        run.progress().step();
+    }
+    Ok(())
+}
+
+/// Loads a file with room for so many rows.
+fn load(file: &[u8], room: u32) -> Result<Table<'_>, Refused> {
+    let rows = file.len().min(room as usize);
+    Table::load_into(file, vec![0; WORDS_PER_ROW * rows])
+}
+
+/// Tells a refusal on standard error.
+fn tell_refusal(run: &mut Run, input: &Input, told: &Told) {
+    let paint = run.note_paint();
+    run.note(&format!(
+        "{}: {}",
+        paint.name(&input.shown()),
+        told.lines(paint)
+    ));
+    run.mark(Status::Refused);
+}

@@ -1,0 +1,107 @@
+//! `rows`: the lines that the program `rows` prints.
+
+use super::{at_most_all_rows, for_each, load, MOST_ROWS};
+use crate::input::Inputs;
+use crate::json;
+use crate::refusal::Told;
+use crate::run::{End, Run, Status};
+use serde::Serialize;
+use xnb::{Table, WORDS_PER_ROW};
+
+/// Print the row table of each file
+///
+/// The lines are those of the program `rows`: the number of rows, readers and
+/// shared objects, then for each row its number and its words; or a refusal,
+/// as `refused 7 at 6`. Of several files, each begins with `==> NAME <==`.
+///
+/// The program `rows` differs: it reads standard input alone, refuses more than
+/// 32768 bytes (9 at 0), and has room for 1024 rows. This command takes what the
+/// loader takes: 16777216 bytes and 65536 rows.
+#[derive(clap::Args)]
+#[command(verbatim_doc_comment)]
+pub struct Rows {
+    #[command(flatten)]
+    inputs: Inputs,
+
+    /// Lend room for N rows instead
+    #[arg(long, value_name = "N", default_value_t = MOST_ROWS,
+        value_parser = at_most_all_rows())]
+    rows: u32,
+
+    /// Print JSON: an object a file on a line of its own
+    #[arg(long)]
+    json: bool,
+}
+
+/// What is told of a file.
+#[derive(Serialize)]
+#[serde(untagged)]
+enum Listed<'f> {
+    Accepted {
+        file: String,
+        readers: usize,
+        shared: usize,
+        rows: Vec<&'f [u32]>,
+    },
+    Refused {
+        file: String,
+        refused: Told<'f>,
+    },
+}
+
+impl Rows {
+    pub fn run(&self, run: &mut Run) -> End {
+        let one = self.inputs.is_one_file();
+        for_each(&self.inputs, run, |run, input, file| {
+            let Ok(file) = file else {
+                return Ok(());
+            };
+            let loaded = load(file, self.rows);
+            if loaded.is_err() {
+                run.mark(Status::Refused);
+            }
+            if self.json {
+                return run.print(&self.json(input.name(), file, &loaded));
+            }
+            if !one {
+                run.print(&format!("==> {} <==\n", input.shown()))?;
+            }
+            match loaded {
+                Ok(table) => run.print(&lines(&table)),
+                Err(refused) => {
+                    let number = refused.refusal.number();
+                    run.print(&format!("refused {number} at {}\n", refused.place))
+                }
+            }
+        })
+    }
+
+    fn json(&self, file: String, bytes: &[u8], loaded: &Result<Table, xnb::Refused>) -> String {
+        json::line(&match loaded {
+            Ok(table) => Listed::Accepted {
+                file,
+                readers: table.loaded().readers,
+                shared: table.loaded().shared,
+                rows: table.words().chunks_exact(WORDS_PER_ROW).collect(),
+            },
+            Err(refused) => Listed::Refused {
+                file,
+                refused: Told::of_file(bytes, *refused, self.rows as usize),
+            },
+        })
+    }
+}
+
+fn lines(table: &Table) -> String {
+    let loaded = table.loaded();
+    let (rows, readers, shared) = (loaded.rows, loaded.readers, loaded.shared);
+    let mut lines = format!("rows {rows} readers {readers} shared {shared}\n");
+    for (number, row) in table.words().chunks_exact(WORDS_PER_ROW).enumerate() {
+        lines += &number.to_string();
+        for word in row {
+            lines += &format!(" {word}");
+        }
+        lines += "\n";
+    }
+    lines
+}

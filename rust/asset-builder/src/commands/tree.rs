@@ -1,0 +1,175 @@
+//! `tree`: the values of a file, each below the one that it belongs to.
+
+use super::{at_most_all_rows, for_each, load, tell_refusal, MOST_ROWS};
+use crate::input::Inputs;
+use crate::json;
+use crate::refusal::Told;
+use crate::run::{End, Run, Status};
+use crate::values::{value, Value};
+use serde::Serialize;
+use xnb::{Detail, Kind, Row, Table};
+
+/// Print the values of each file as a tree
+///
+/// A line a value, two spaces deeper than the value that it belongs to.
+/// A refusal goes to standard error. Of several files, each begins with
+/// `==> NAME <==`.
+#[derive(clap::Args)]
+#[command(verbatim_doc_comment)]
+pub struct Tree {
+    #[command(flatten)]
+    inputs: Inputs,
+
+    /// Lend room for N rows instead
+    #[arg(long, value_name = "N", default_value_t = MOST_ROWS,
+        value_parser = at_most_all_rows())]
+    rows: u32,
+
+    /// Print JSON: an object a file on a line of its own
+    #[arg(long)]
+    json: bool,
+}
+
+/// What is told of a file.
+#[derive(Serialize)]
+#[serde(untagged)]
+enum Shown<'f> {
+    Accepted { file: String, objects: Vec<Node> },
+    Refused { file: String, refused: Told<'f> },
+}
+
+/// A value with all below it.
+#[derive(Serialize)]
+struct Node {
+    row: u32,
+    /// What it is to the value above it.
+    #[serde(skip_serializing_if = "Option::is_none")]
+    name: Option<String>,
+    kind: String,
+    first: usize,
+    length: usize,
+    #[serde(rename = "typeId", skip_serializing_if = "Option::is_none")]
+    type_id: Option<u32>,
+    #[serde(rename = "resourceId", skip_serializing_if = "Option::is_none")]
+    resource_id: Option<u32>,
+    #[serde(skip_serializing_if = "Value::is_nothing")]
+    value: Value,
+    #[serde(skip_serializing_if = "Vec::is_empty")]
+    children: Vec<Node>,
+}
+
+impl Tree {
+    pub fn run(&self, run: &mut Run) -> End {
+        let one = self.inputs.is_one_file();
+        for_each(&self.inputs, run, |run, input, file| {
+            let Ok(file) = file else {
+                return Ok(());
+            };
+            let table = match load(file, self.rows) {
+                Ok(table) => table,
+                Err(refused) => {
+                    let refused = Told::of_file(file, refused, self.rows as usize);
+                    if !self.json {
+                        tell_refusal(run, input, &refused);
+                        return Ok(());
+                    }
+                    run.mark(Status::Refused);
+                    let file = input.name();
+                    return run.print(&json::line(&Shown::Refused { file, refused }));
+                }
+            };
+            let objects = objects(&table);
+            if self.json {
+                let file = input.name();
+                return run.print(&json::line(&Shown::Accepted { file, objects }));
+            }
+            let mut lines = String::new();
+            if !one {
+                lines += &format!("==> {} <==\n", input.shown());
+            }
+            for object in &objects {
+                object.add_lines(0, &mut lines);
+            }
+            run.print(&lines)
+        })
+    }
+}
+
+/// The primary object and the shared objects.
+fn objects(table: &Table) -> Vec<Node> {
+    let mut rows = (0..).zip(table.rows()).peekable();
+    let mut objects = Vec::new();
+    while rows.peek().is_some() {
+        let name = match objects.len() {
+            0 => "primary".to_string(),
+            position => format!("shared {position}"),
+        };
+        objects.push(node(table, &mut rows, Some(name)));
+    }
+    objects
+}
+
+/// The next row and all below it: a value stands before its children, and they before what follows.
+fn node(table: &Table, rows: &mut impl Iterator<Item = (u32, Row)>, name: Option<String>) -> Node {
+    let (number, row) = rows.next().expect("a row has as many children as it says");
+    let children = (0..row.children).map(|index| node(table, rows, field(row.kind, index)));
+    let children = children.collect();
+    Node {
+        row: number,
+        name,
+        kind: row.kind.to_string(),
+        first: row.first,
+        length: row.length,
+        type_id: match row.detail {
+            Detail::TypeId(id) => Some(id),
+            _ => None,
+        },
+        resource_id: match row.detail {
+            Detail::ResourceId(id) => Some(id),
+            _ => None,
+        },
+        value: value(table, number, &row),
+        children,
+    }
+}
+
+impl Node {
+    fn add_lines(&self, depth: usize, lines: &mut String) {
+        *lines += &"  ".repeat(depth);
+        if let Some(name) = &self.name {
+            *lines += &format!("{name}: ");
+        }
+        *lines += &self.kind;
+        let value = self.value.to_string();
+        if !value.is_empty() {
+            *lines += &format!(" {value}");
+        }
+        *lines += "\n";
+        for child in &self.children {
+            child.add_lines(depth + 1, lines);
+        }
+    }
+}
+
+const FONT_FIELDS: [&str; 8] = [
+    "texture",
+    "glyphs",
+    "cropping",
+    "characters",
+    "line spacing",
+    "spacing",
+    "kerning",
+    "default character",
+];
+const PAGE_FIELDS: [&str; 4] = ["title", "area", "picture", "next"];
+
+/// What a child is to its parent.
+fn field(parent: Kind, index: usize) -> Option<String> {
+    let name = match parent {
+        Kind::SpriteFont => FONT_FIELDS[index],
+        Kind::Page => PAGE_FIELDS[index],
+        Kind::Dictionary => ["key", "value"][index % 2],
+        _ => return None,
+    };
+    Some(name.to_string())
+}

@@ -1,0 +1,173 @@
+//! Refusals for people and for programs.
+
+use crate::names::{escaped, is_printable, plain_lines};
+use crate::terminal::Paint;
+use serde::Serialize;
+use xnb::Refusal::{NoSuchRow, OtherKind, OutputTooSmall};
+use xnb::{explain, ReaderName, Refused};
+
+/// The bytes on a line of a dump.
+const LINE: usize = 16;
+
+/// A refusal with all that is known of it.
+#[derive(Serialize)]
+pub struct Told<'f> {
+    number: u32,
+    place: u64,
+    rule: &'static str,
+    /// The value found and the limit.
+    found: Option<String>,
+    reader: Option<Reader<'f>>,
+    bytes: Option<Dump<'f>>,
+}
+
+#[derive(Serialize)]
+struct Reader<'f> {
+    number: usize,
+    first: usize,
+    #[serde(serialize_with = "as_text")]
+    name: &'f [u8],
+}
+
+/// The bytes around the place.
+#[derive(Serialize)]
+struct Dump<'f> {
+    first: usize,
+    #[serde(rename = "hex", serialize_with = "as_hex")]
+    bytes: &'f [u8],
+}
+
+impl<'f> Told<'f> {
+    /// A refusal at a byte of an input.
+    pub fn at_byte(input: &'f [u8], number: u32, place: u64, rule: &'static str) -> Told<'f> {
+        Told {
+            number,
+            place,
+            rule,
+            found: None,
+            reader: None,
+            bytes: Dump::around(input, place),
+        }
+    }
+
+    /// The refusal of a file by a load with room for so many rows.
+    pub fn of_file(file: &'f [u8], refused: Refused, room: usize) -> Told<'f> {
+        let Refused { refusal, place } = refused;
+        let mut told = Told::at_byte(file, refusal.number(), u64::from(place), refusal.rule());
+        if let Some(explanation) = explain(file, refused, room) {
+            told.found = Some(explanation.found);
+            told.reader = explanation.reader.map(Reader::of);
+        }
+        if matches!(refusal, OutputTooSmall | NoSuchRow | OtherKind) {
+            // The place is no byte of the file.
+            told.bytes = None;
+        }
+        told
+    }
+
+    /// The first line: `refused 7 at 6: the rule`.
+    fn line(&self, paint: Paint) -> String {
+        let Told {
+            number,
+            place,
+            rule,
+            ..
+        } = self;
+        let refused = paint.bad(&format!("refused {number} at {place}"));
+        format!("{refused}: {rule}\n")
+    }
+
+    /// Every line.
+    pub fn lines(&self, paint: Paint) -> String {
+        let mut out = self.line(paint);
+        if let Some(found) = &self.found {
+            out += &format!("  {}\n", plain_lines(found));
+        }
+        if let Some(reader) = &self.reader {
+            out += &self.name_lines(reader, paint);
+        }
+        if let Some(bytes) = &self.bytes {
+            out += &bytes.lines(self.place as usize, paint);
+        }
+        out
+    }
+
+    /// A reader's name, with a mark below the byte at the place if that is in it.
+    fn name_lines(&self, reader: &Reader, paint: Paint) -> String {
+        let name = escaped(reader.name);
+        let mut out = format!("  {name}\n");
+        let offset = (self.place as usize).checked_sub(reader.first);
+        if let Some(before) = offset.and_then(|offset| reader.name.get(..offset)) {
+            let indent = escaped(before).chars().count();
+            out += &format!("  {}{}\n", " ".repeat(indent), paint.bad("^"));
+        }
+        out
+    }
+}
+
+impl<'f> Reader<'f> {
+    fn of(name: ReaderName<'f>) -> Reader<'f> {
+        Reader {
+            number: name.number,
+            first: name.first,
+            name: name.bytes,
+        }
+    }
+}
+
+impl<'f> Dump<'f> {
+    /// The line with the place and those beside it; nothing if the place is behind the end.
+    fn around(input: &'f [u8], place: u64) -> Option<Dump<'f>> {
+        let place = usize::try_from(place)
+            .ok()
+            .filter(|it| *it <= input.len())?;
+        let line = place - place % LINE;
+        let first = line.saturating_sub(LINE);
+        let end = input.len().min(line + 2 * LINE);
+        Some(Dump {
+            first,
+            bytes: &input[first..end],
+        })
+    }
+
+    /// The bytes in hexadecimal and as ASCII, with a mark below the one at the place.
+    fn lines(&self, place: usize, paint: Paint) -> String {
+        let mut out = String::new();
+        let end = self.first + self.bytes.len();
+        for start in (self.first..end.max(place + 1)).step_by(LINE) {
+            let bytes = &self.bytes[start - self.first..];
+            let bytes = &bytes[..bytes.len().min(LINE)];
+            let hex: String = bytes.iter().map(|byte| format!("{byte:02X} ")).collect();
+            let text: String = bytes.iter().map(|byte| ascii(*byte)).collect();
+            let line = format!("  {start:08X}  {hex:48} {text}");
+            out += line.trim_end();
+            out += "\n";
+            if (start..start + LINE).contains(&place) {
+                let column = place - start;
+                let (before, between) = (12 + 3 * column, 47 - 2 * column);
+                let (byte, letter) = (paint.bad("^^"), paint.bad("^"));
+                let ends = if place == end { " the end" } else { "" };
+                out += &format!("{:before$}{byte}{:between$}{letter}{ends}\n", "", "");
+            }
+        }
+        out
+    }
+}
+
+fn ascii(byte: u8) -> char {
+    let shown = byte.is_ascii() && is_printable(char::from(byte));
+    if shown {
+        char::from(byte)
+    } else {
+        '.'
+    }
+}
+
+fn as_text<S: serde::Serializer>(bytes: &[u8], out: S) -> Result<S::Ok, S::Error> {
+    out.serialize_str(&String::from_utf8_lossy(bytes))
+}
+
+fn as_hex<S: serde::Serializer>(bytes: &[u8], out: S) -> Result<S::Ok, S::Error> {
+    let hex: Vec<String> = bytes.iter().map(|byte| format!("{byte:02X}")).collect();
+    out.serialize_str(&hex.join(" "))
+}

@@ -1,0 +1,125 @@
+//! Help, versions, wrong commands, completion and the manual page.
+
+mod common;
+
+use common::{run, shell};
+use corpus::folder::folder;
+
+const COMMANDS: [&str; 6] = ["check", "rows", "tree", "shorten", "completions", "man"];
+
+#[test]
+fn every_command_has_help_and_a_version() {
+    let help = run(&["--help"]);
+    assert_eq!((help.status, help.err.as_str()), (Some(0), ""));
+    assert!(help.out.contains("Exit status: 0 "), "{}", help.out);
+    assert_eq!(run(&["--version"]).out, "asset-builder 0.1.0\n");
+    for command in COMMANDS {
+        assert!(
+            help.out.contains(&format!("\n  {command} ")),
+            "{}",
+            help.out
+        );
+        for words in [[command, "--help"], [command, "-h"], ["help", command]] {
+            let ran = run(&words);
+            assert_eq!((ran.status, ran.err.as_str()), (Some(0), ""), "{words:?}");
+            let usage = format!("Usage: asset-builder {command}");
+            assert!(ran.out.contains(&usage), "{words:?}: {}", ran.out);
+        }
+        for flag in ["--version", "-V"] {
+            let ran = run(&[command, flag]);
+            assert_eq!((ran.status, ran.err.as_str()), (Some(0), ""));
+            assert!(ran.out.ends_with(" 0.1.0\n"), "{}", ran.out);
+        }
+    }
+    let rows = run(&["rows", "--help"]).out;
+    assert!(rows.contains("The program `rows` differs"), "{rows}");
+}
+
+#[test]
+fn wrong_commands_are_told() {
+    let sample = "ok-kind-13-string.xnb";
+    let wrong: [(&[&str], &str); 11] = [
+        (&[], "Usage: asset-builder <COMMAND>"),
+        (&["build", sample], "'build'"),
+        (&["check"], "<FILE>"),
+        (&["rows"], "<FILE>"),
+        (&["tree"], "<FILE>"),
+        (&["check", "--colour", sample], "'--colour'"),
+        (&["rows", "-x", sample], "'-x'"),
+        (&["check", "--rows", sample], "'ok-kind-13-string.xnb'"),
+        (&["shorten", sample], "--output <OUT>"),
+        (
+            &["shorten", sample, "-o", "out", "-i"],
+            "cannot be used with",
+        ),
+        (&["completions", "dos"], "'dos'"),
+    ];
+    for (words, named) in wrong {
+        let ran = run(words);
+        assert_eq!((ran.status, ran.out.as_str()), (Some(2), ""), "{words:?}");
+        assert!(ran.err.contains(named), "{words:?}: {}", ran.err);
+    }
+}
+
+#[test]
+fn shells_complete_commands_and_flags() {
+    for name in ["bash", "elvish", "fish", "powershell", "zsh"] {
+        let ran = run(&["completions", name]);
+        assert_eq!((ran.status, ran.err.as_str()), (Some(0), ""), "{name}");
+        for word in ["shorten", "in-place", "json"] {
+            assert!(ran.out.contains(word), "{name}: {word}");
+        }
+    }
+    // What bash offers behind `asset-builder sh` and behind `asset-builder check --`.
+    let line = "source <(asset-builder completions bash)
+        COMP_WORDS=(asset-builder sh) COMP_CWORD=1; _asset-builder asset-builder sh asset-builder
+        echo ${COMPREPLY[@]}
+        COMP_WORDS=(asset-builder check --) COMP_CWORD=2; _asset-builder asset-builder -- check
+        echo ${COMPREPLY[@]}";
+    let ran = shell(&folder(), line);
+    assert_eq!(ran.err, "");
+    let lines: Vec<&str> = ran.out.lines().collect();
+    assert_eq!(lines[0], "shorten");
+    for flag in ["--rows", "--json", "--help"] {
+        assert!(lines[1].contains(flag), "{}", lines[1]);
+    }
+}
+
+/// The page tells what the help tells: every command, every flag, every sentence.
+#[test]
+fn the_manual_page_says_what_the_help_says() {
+    let ran = run(&["man"]);
+    assert_eq!((ran.status, ran.err.as_str()), (Some(0), ""));
+    let page = ran
+        .out
+        .replace("\\-", "-")
+        .replace("\\fB", "")
+        .replace("\\fI", "")
+        .replace("\\fR", "");
+    assert!(page.starts_with(".TH ASSET-BUILDER 1 "), "{page}");
+    for heading in ["NAME", "SYNOPSIS", "OPTIONS", "COMMANDS", "\"EXIT STATUS\""] {
+        assert!(page.contains(&format!("\n.SH {heading}\n")), "{heading}");
+    }
+    for command in COMMANDS {
+        assert!(page.contains(&format!("\n.SS {command}\n")), "{command}");
+        let help = run(&[command, "--help"]).out;
+        let (about, options) = help.split_once("\nUsage: ").expect("a usage");
+        for line in about.lines().filter(|line| !line.is_empty()) {
+            assert!(page.contains(line), "{command}: {line}");
+        }
+        for flag in options
+            .split_whitespace()
+            .filter(|word| word.starts_with("--"))
+        {
+            assert!(page.contains(flag), "{command}: {flag}");
+        }
+    }
+    // No line is taken for a request of troff's but those that begin with one of ours.
+    for line in ran.out.lines().filter(|line| line.starts_with(['.', '\''])) {
+        let request = line.split(' ').next().expect("a word");
+        assert!(
+            [".TH", ".SH", ".SS", ".B", ".PP", ".TP", ".br"].contains(&request),
+            "{line}"
+        );
+    }
+}

@@ -1,0 +1,56 @@
+//! Refusals explained over the bytes of their file.
+//!
+//! The proved library has judged; this follows the layout from field to field to the place that it
+//! named, and says what stands there. It finds no faults of its own: where the field at the place
+//! does not show the fault that was named, there is no explanation.
+
+mod cursor;
+mod header;
+mod readers;
+mod types;
+mod values;
+mod walk;
+
+use crate::refusal::{Refusal, Refused};
+use crate::row::MOST_ROWS;
+use cursor::{Cursor, Stop};
+
+/// What a refusal found.
+#[derive(Clone, Debug, PartialEq, Eq)]
+pub struct Explanation<'f> {
+    /// The value found and the limit that it breaks, in words.
+    pub found: String,
+    /// The reader that is meant.
+    pub reader: Option<ReaderName<'f>>,
+}
+
+/// A name of the reader list.
+#[derive(Clone, Copy, Debug, PartialEq, Eq)]
+pub struct ReaderName<'f> {
+    /// Its number, counted from 1 as type ids count.
+    pub number: usize,
+    /// The place of its first byte in the file.
+    pub first: usize,
+    pub bytes: &'f [u8],
+}
+
+/// What stands at the place of a refusal by a load with room for so many rows.
+///
+/// ```
+/// // A header that claims 14 bytes, in a file of 13.
+/// let file = b"XNBw\x05\x00\x0E\x00\x00\x00\x00\x00\x00";
+/// let refused = xnb::count_rows(file).unwrap_err();
+/// let explanation = xnb::explain(file, refused, 1024).unwrap();
+/// assert_eq!(explanation.found, "the header says 14 bytes, the file has 13");
+/// ```
+pub fn explain(file: &[u8], refused: Refused, room: usize) -> Option<Explanation<'_>> {
+    use Refusal::*;
+    if matches!(refused.refusal, OutputTooSmall | NoSuchRow | OtherKind) {
+        // Their place is no byte of the file.
+        return None;
+    }
+    match walk::follow(Cursor::new(file, refused), room.min(MOST_ROWS)) {
+        Err(Stop::Found(explanation)) => Some(explanation),
+        Err(Stop::Lost) | Ok(()) => None,
+    }
+}

@@ -1,0 +1,58 @@
+//! The reader list and the shared count.
+
+use super::cursor::{Cursor, Step};
+use super::types::Type;
+use super::ReaderName;
+use crate::refusal::Refusal::*;
+
+const MOST_READERS: u32 = 64;
+const MOST_SHARED: u32 = 256;
+const LONGEST_NAME: usize = 1024;
+
+/// A reader: its name, and the type that it reads if the name is understood.
+pub struct Reader<'f> {
+    pub name: ReaderName<'f>,
+    pub target: Option<Type<'f>>,
+}
+
+pub fn take_readers<'f>(cursor: &mut Cursor<'f>) -> Step<'f, Vec<Reader<'f>>> {
+    let count = cursor.take_count(MOST_READERS, "the reader count")?;
+    let mut readers = Vec::new();
+    for number in 1..=count as usize {
+        readers.push(take_reader(cursor, number)?);
+    }
+    Ok(readers)
+}
+
+pub fn take_shared_count<'f>(cursor: &mut Cursor<'f>) -> Step<'f, u32> {
+    cursor.take_count(MOST_SHARED, "the shared count")
+}
+
+fn take_reader<'f>(cursor: &mut Cursor<'f>, number: usize) -> Step<'f, Reader<'f>> {
+    let start = cursor.at;
+    let what = format!("the length of the name of reader {number}");
+    let length = cursor.take_seven(&what)? as usize;
+    cursor.meet(TooLarge, start, || match length {
+        0 => Some(format!("{what} is 0, a name has at least 1 byte")),
+        _ if length > LONGEST_NAME => Some(format!("{what} is {length}, the limit {LONGEST_NAME}")),
+        _ => None,
+    })?;
+    let first = cursor.at;
+    let bytes = cursor.take_placed(length, start, format_args!("the name of reader {number}"))?;
+    let name = ReaderName {
+        number,
+        first,
+        bytes,
+    };
+    for refusal in [NameGrammar, NameHead] {
+        let words = format!("it is the name of reader {number}");
+        cursor.meet_reader(refusal, first, Some(name), || Some(words))?;
+    }
+    let place = cursor.at;
+    let version = cursor.take_u32(format_args!("the version of reader {number}"))?;
+    cursor.meet_reader(ReaderVersion, place, Some(name), || {
+        (version != 0).then(|| format!("the version of reader {number} is {version}, 0 is taken"))
+    })?;
+    let target = Type::of_reader(bytes);
+    Ok(Reader { name, target })
+}

@@ -1,0 +1,275 @@
+//! The values of a file, one after the other, to the place of a refusal.
+
+use super::cursor::{bytes, little_endian, Cursor, Step, Stop};
+use super::header::take_header;
+use super::readers::{take_readers, take_shared_count, Reader};
+use super::types::{Head, Type};
+use super::values;
+use crate::kind::Kind;
+use crate::refusal::Refusal::*;
+
+const DEEPEST: u32 = 32;
+
+/// Follows a file to the place of its refusal.
+pub fn follow(mut cursor: Cursor, room: usize) -> Step<()> {
+    take_header(&mut cursor)?;
+    let readers = take_readers(&mut cursor)?;
+    let shared = take_shared_count(&mut cursor)?;
+    let mut walk = Walk {
+        cursor,
+        readers: &readers,
+        shared,
+        room,
+        rows: 0,
+        references: Vec::new(),
+    };
+    walk.file()
+}
+
+/// A reference, whose resource is judged when all resources are known.
+struct Reference {
+    place: usize,
+    id: u32,
+    wanted: Kind,
+}
+
+struct Walk<'a, 'f> {
+    cursor: Cursor<'f>,
+    readers: &'a [Reader<'f>],
+    shared: u32,
+    room: usize,
+    rows: usize,
+    references: Vec<Reference>,
+}
+
+/// An object that was passed.
+#[derive(Clone, Copy)]
+struct Passed<'a, 'f> {
+    /// Where it begins.
+    start: usize,
+    /// Its type, if it is not null.
+    target: Option<&'a Type<'f>>,
+    /// The bytes behind its type id.
+    raw: &'f [u8],
+}
+
+impl Passed<'_, '_> {
+    /// The count that a list begins with.
+    fn count(&self) -> u64 {
+        little_endian(self.raw.get(..4).unwrap_or_default())
+    }
+}
+
+impl<'a, 'f> Walk<'a, 'f> {
+    fn file(&mut self) -> Step<'f, ()> {
+        let anything = Type::object();
+        self.object(&anything, 1)?;
+        let mut resources = Vec::new();
+        for _ in 0..self.shared {
+            resources.push(self.object(&anything, 1)?);
+        }
+        let (end, left) = (self.cursor.at, self.cursor.left());
+        self.cursor.meet(LeftOver, end, || {
+            (left > 0).then(|| format!("the last object ends there, left over: {}", bytes(left)))
+        })?;
+        self.meet_wrong_resource(&resources)
+    }
+
+    fn meet_wrong_resource(&self, resources: &[Passed]) -> Step<'f, ()> {
+        for Reference { place, id, wanted } in &self.references {
+            let resource = &resources[*id as usize - 1];
+            let Some(target) = resource.target else {
+                continue;
+            };
+            self.cursor.meet(ResourceType, *place, || {
+                let wanted = Type::plain(*wanted);
+                (wanted != *target).then(|| {
+                    let start = resource.start;
+                    format!("declared {wanted}, found {target} as resource {id} at byte {start}")
+                })
+            })?;
+        }
+        Ok(())
+    }
+
+    /// Takes a row for the value that starts here.
+    fn open(&mut self, depth: u32) -> Step<'f, ()> {
+        let (at, room) = (self.cursor.at, self.room);
+        if depth > DEEPEST {
+            self.cursor.meet(TooDeep, at, || {
+                Some(format!("the value's depth is {depth}, the limit {DEEPEST}"))
+            })?;
+            return Err(Stop::Lost);
+        }
+        if self.rows >= room {
+            self.cursor.meet(NoRowLeft, at, || {
+                Some(format!(
+                    "the table has room for {room} rows, this value needs one more"
+                ))
+            })?;
+            return Err(Stop::Lost);
+        }
+        self.rows += 1;
+        Ok(())
+    }
+
+    /// An object: a type id, then the raw value by that reader.
+    fn object(&mut self, declared: &Type, depth: u32) -> Step<'f, Passed<'a, 'f>> {
+        self.open(depth)?;
+        let start = self.cursor.at;
+        let id = self.cursor.take_seven("the type id")? as usize;
+        let Some(position) = id.checked_sub(1) else {
+            let (target, raw) = (None, &[][..]);
+            return Ok(Passed { start, target, raw });
+        };
+        let Some(reader) = self.readers.get(position) else {
+            let count = self.readers.len();
+            self.cursor.meet(NoReader, start, || {
+                Some(format!("the type id is {id}, the reader list has {count}"))
+            })?;
+            return Err(Stop::Lost);
+        };
+        let Some(target) = &reader.target else {
+            return Err(Stop::Lost);
+        };
+        let name = Some(reader.name);
+        self.cursor.meet_reader(NoReader, start, name, || {
+            let never = !target.is_invoked();
+            never.then(|| format!("reader {id} is for {target} and never invoked"))
+        })?;
+        self.cursor.meet_reader(NotDeclared, start, name, || {
+            let other = !declared.takes(target);
+            other.then(|| format!("declared {declared}, found {target} by reader {id}"))
+        })?;
+        let first = self.cursor.at;
+        self.body(target, depth + 1)?;
+        let raw = &self.cursor.file[first..self.cursor.at];
+        let target = Some(target);
+        Ok(Passed { start, target, raw })
+    }
+
+    fn raw(&mut self, value: &Type, depth: u32) -> Step<'f, ()> {
+        self.open(depth)?;
+        self.body(value, depth + 1)
+    }
+
+    /// An element or field: raw if it is of a value type, else an object.
+    fn element(&mut self, declared: &Type, depth: u32) -> Step<'f, ()> {
+        if declared.is_value() {
+            self.raw(declared, depth)
+        } else {
+            self.object(declared, depth).map(|_| ())
+        }
+    }
+
+    /// The raw bytes of a value; the depth is that of its children.
+    fn body(&mut self, target: &Type, depth: u32) -> Step<'f, ()> {
+        let Head::Of(kind) = target.head else {
+            return Err(Stop::Lost);
+        };
+        match (kind, &target.arguments[..]) {
+            (Kind::Char, _) => values::take_char(&mut self.cursor),
+            (Kind::String, _) => values::take_text(&mut self.cursor),
+            (Kind::Nullable, [value]) => self.nullable(value, depth),
+            (Kind::Array | Kind::List, [_]) | (Kind::Dictionary, [_, _]) => {
+                self.elements(kind, &target.arguments, depth)
+            }
+            (Kind::Texture2D, _) => self.texture(depth),
+            (Kind::SpriteFont, _) => self.font(depth),
+            (Kind::Page, _) => self.page(depth),
+            _ => values::take_fixed(&mut self.cursor, kind),
+        }
+    }
+
+    fn nullable(&mut self, value: &Type, depth: u32) -> Step<'f, ()> {
+        match values::take_nullable_flag(&mut self.cursor)? {
+            0 => Ok(()),
+            _ => self.raw(value, depth),
+        }
+    }
+
+    /// A count, and as many elements, or keys and values in turn.
+    fn elements(&mut self, kind: Kind, types: &[Type], depth: u32) -> Step<'f, ()> {
+        let what = format_args!("the count of a value of kind {kind}");
+        let count = self.cursor.take_u32(what)?;
+        for _ in 0..count {
+            for element in types {
+                self.element(element, depth)?;
+            }
+        }
+        Ok(())
+    }
+
+    fn texture(&mut self, depth: u32) -> Step<'f, ()> {
+        let image = values::take_image(&mut self.cursor)?;
+        for level in 0..image.levels {
+            self.open(depth)?;
+            values::take_level(&mut self.cursor, &image, level)?;
+        }
+        Ok(())
+    }
+
+    /// A font: its eight fields in order, then the font rule.
+    fn font(&mut self, depth: u32) -> Step<'f, ()> {
+        let start = self.cursor.at;
+        let list = |element| Type::with(Kind::List, element);
+        let texture = self.object(&Type::plain(Kind::Texture2D), depth)?;
+        let glyphs = self.object(&list(Kind::Rectangle), depth)?;
+        let cropping = self.object(&list(Kind::Rectangle), depth)?;
+        let characters = self.object(&list(Kind::Char), depth)?;
+        self.raw(&Type::plain(Kind::Int32), depth)?;
+        self.raw(&Type::plain(Kind::Single), depth)?;
+        let kerning = self.object(&list(Kind::Vector3), depth)?;
+        self.raw(&Type::with(Kind::Nullable, Kind::Char), depth)?;
+        self.cursor.meet(FontRule, start, || {
+            let objects = [
+                ("texture", texture),
+                ("glyphs", glyphs),
+                ("cropping", cropping),
+                ("characters", characters),
+                ("kerning", kerning),
+            ];
+            if let Some((name, _)) = objects.iter().find(|(_, it)| it.target.is_none()) {
+                return Some(format!("an object of the font is null: its {name}"));
+            }
+            let lists = &objects[1..];
+            if lists.iter().any(|(_, it)| it.count() != characters.count()) {
+                let counts = lists
+                    .iter()
+                    .map(|(name, it)| format!("{name} {}", it.count()));
+                let counts: Vec<String> = counts.collect();
+                return Some(format!(
+                    "the counts of the lists differ: {}",
+                    counts.join(", ")
+                ));
+            }
+            values::characters_that_do_not_rise(characters.raw.get(4..)?)
+        })
+    }
+
+    /// A page: title, area, reference to its picture and reference to the next page.
+    fn page(&mut self, depth: u32) -> Step<'f, ()> {
+        self.object(&Type::plain(Kind::String), depth)?;
+        self.raw(&Type::plain(Kind::Rectangle), depth)?;
+        self.reference(Kind::Texture2D, depth)?;
+        self.reference(Kind::Page, depth)
+    }
+
+    fn reference(&mut self, wanted: Kind, depth: u32) -> Step<'f, ()> {
+        self.open(depth)?;
+        let (place, shared) = (self.cursor.at, self.shared);
+        let id = self.cursor.take_seven("the resource id")?;
+        if id > shared {
+            self.cursor.meet(NoResource, place, || {
+                Some(format!(
+                    "the resource id is {id}, the shared count {shared}"
+                ))
+            })?;
+            return Err(Stop::Lost);
+        }
+        if id > 0 {
+            self.references.push(Reference { place, id, wanted });
+        }
+        Ok(())
+    }
+}
