@@ -14,7 +14,7 @@ ghost use Rattle.lookups.specs.Parts.{partOf};
 ghost use Rattle.lookups.specs.Texts.{textOf};
 ghost use Rattle.lookups.specs.Signs.{signedOf};
 ghost use Rattle.lookups.specs.Times.{timeOf};
-ghost use Rattle.shortest.specs.Rewrite.{rewriteOf, outputOf, wordsOf};
+ghost use Rattle.rewrite.specs.Whole.{rewritten, outputLeft, wordsLeft};
 ghost use Rattle.builder.specs.Packed.{code, packed, rewritePacked};
 ghost use Rattle.builder.specs.Told.{loadTold, spanTold, signedTold, timeTold};
 
@@ -69,9 +69,9 @@ pub extern "C" fn xnb_load_rows(
 // Rewrites a file into the output: a refusal is packed as above, else the answer is the length of the rewritten file.
 #[no_mangle]
 pub extern "C" fn xnb_rewrite(file: &[u8], words: &mut [u32], out: &mut [u8]) -> u64
-    ensures { λ r. ⌜ r ≡ rewritePacked (rewriteOf judgedName (now (file .entry)) (length (now (words .entry))) (length (now (out .entry)))) ⌝ }
-    ensures { λ _. ⌜ now (out .exit) ≡ outputOf (rewriteOf judgedName (now (file .entry)) (length (now (words .entry))) (length (now (out .entry)))) (now (out .entry)) ⌝ }
-    ensures { λ _. ⌜ now (words .exit) ≡ wordsOf (rewriteOf judgedName (now (file .entry)) (length (now (words .entry))) (length (now (out .entry)))) (tableOf (loadOf judgedName (now (file .entry)) (length (now (words .entry)))) (length (now (words .entry)))) ⌝ }
+    ensures { λ r. ⌜ r ≡ rewritePacked (rewritten (now (file .entry)) (now (words .entry)) (now (out .entry))) ⌝ }
+    ensures { λ _. ⌜ now (out .exit) ≡ outputLeft (now (file .entry)) (now (words .entry)) (now (out .entry)) ⌝ }
+    ensures { λ _. ⌜ now (words .exit) ≡ wordsLeft (now (file .entry)) (now (words .entry)) (now (out .entry)) ⌝ }
 {
     match rewrite::rewrite(file, words, out) {
         Rewriting::Refused { number, place } => refused(number, place),
@@ -80,18 +80,18 @@ pub extern "C" fn xnb_rewrite(file: &[u8], words: &mut [u32], out: &mut [u8]) ->
 }
 
 // Writes a span's first byte and length, 0 on a refusal: the answer is the refusal's number, or 0.
-fn tell_span(span: Span, first: &mut usize, length: &mut usize) -> u32
-    ensures { λ r. ⌜ (r, now (first .exit), now (length .exit)) ≡ spanTold span ⌝ }
+fn tell_span(span: Span, first: &mut usize, len: &mut usize) -> u32
+    ensures { λ r. ⌜ (r, now (first .exit), now (len .exit)) ≡ spanTold span ⌝ }
 {
     match span {
         Span::Refused(number, _) => {
             *first = 0;
-            *length = 0;
+            *len = 0;
             number
         }
         Span::Found(start, size) => {
             *first = start;
-            *length = size;
+            *len = size;
             0
         }
     }
@@ -104,11 +104,11 @@ pub extern "C" fn xnb_part(
     words: &[u32],
     row: u32,
     first: &mut usize,
-    length: &mut usize,
+    len: &mut usize,
 ) -> u32
-    ensures { λ r. ⌜ (r, now (first .exit), now (length .exit)) ≡ spanTold (partOf (now (file .entry)) (now (words .entry)) row) ⌝ }
+    ensures { λ r. ⌜ (r, now (first .exit), now (len .exit)) ≡ spanTold (partOf (now (file .entry)) (now (words .entry)) row) ⌝ }
 {
-    tell_span(lookups::part(file, words, RowNumber(row)), first, length)
+    tell_span(lookups::part(file, words, RowNumber(row)), first, len)
 }
 
 // The bytes of a text.
@@ -118,11 +118,11 @@ pub extern "C" fn xnb_text(
     words: &[u32],
     row: u32,
     first: &mut usize,
-    length: &mut usize,
+    len: &mut usize,
 ) -> u32
-    ensures { λ r. ⌜ (r, now (first .exit), now (length .exit)) ≡ spanTold (textOf (now (file .entry)) (now (words .entry)) row) ⌝ }
+    ensures { λ r. ⌜ (r, now (first .exit), now (len .exit)) ≡ spanTold (textOf (now (file .entry)) (now (words .entry)) row) ⌝ }
 {
-    tell_span(lookups::text(file, words, RowNumber(row)), first, length)
+    tell_span(lookups::text(file, words, RowNumber(row)), first, len)
 }
 
 // The signed number of a row, 0 on a refusal: the answer is the refusal's number, or 0.

@@ -3,10 +3,9 @@ use answers::Number;
 ghost use mathlib.Core.Path.{_≡_};
 ghost use Prim.Native.Nat.{_≤_};
 ghost use lib.ListN.{length, take, drop};
-ghost use Rattle.answers.specs.Told.{told};
-ghost use Rattle.table.specs.Leaf.{mute};
 ghost use Rattle.reading.specs.Little.{valueOf};
-ghost use Rattle.reading.specs.File.{isPlatform, headerAt};
+ghost use Rattle.reading.specs.File.{isPlatform};
+ghost use Rattle.header.specs.Header.{headerOf};
 
 // Whether a byte is `w`, `m` or `x`.
 fn is_platform(b: u8) -> bool
@@ -34,7 +33,7 @@ fn said_length(file: &[u8]) -> u64
 
 // The header: 0 and the place behind it, or a refusal's number and place.
 pub fn header(file: &[u8]) -> Number
-    ensures { λ r. ⌜ mute (told r) ≡ mute (headerAt (now (file .entry))) ⌝ }
+    ensures { λ r. ⌜ r ≡ headerOf (now (file .entry)) ⌝ }
 {
     if 16777216 < file.len() {
         return Number::Refused(9, 0);

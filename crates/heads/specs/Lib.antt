@@ -1,6 +1,7 @@
 pub mod Slots
 pub mod Nests
 pub mod Opens
+pub mod Contracts
 pub mod Total
 pub mod Below
 pub mod Images

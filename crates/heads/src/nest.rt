@@ -4,10 +4,11 @@ use leaves::plain::Plain;
 use leaves::run::Run;
 ghost use mathlib.Core.Path.{_≡_};
 ghost use mathlib.Core.List.{List};
-ghost use Prim.Native.Nat.{ℕ, _<_};
+ghost use Prim.Native.Nat.{ℕ};
 ghost use lib.ListN.{length};
 ghost use Rattle.layout.specs.Slot as L;
-ghost use Rattle.heads.specs.Nests.{NestIs, Prelude, ChildIs, fontChild, pageChild};
+ghost use Rattle.heads.specs.Nests.{NestIs, fontChild, pageChild};
+ghost use Rattle.heads.specs.Contracts.{ChildStands};
 ghost use Rattle.heads.specs.Total.{countOf, childOf};
 
 // n elements that stand alike; n keys and values in turn; the fields of a font; the fields of a page.
@@ -38,7 +39,8 @@ pub fn count(nest: Nest) -> usize
     }
 }
 
-// Field i of a font. The types that fonts and pages declare stand at the start of the codes: Texture2D at 0, list of Rectangle at 1, list of Char at 3, list of Vector3 at 5, String at 7, nullable Char at 8.
+// Field i of a font. The types that fonts and pages declare stand at the start of the codes: Texture2D at 0,
+// list of Rectangle at 1, list of Char at 3, list of Vector3 at 5, String at 7, nullable Char at 8.
 fn font_child(i: usize) -> Slot
     ensures { λ r. ⌜ r ≡ fontChild i ⌝ }
 {
@@ -68,7 +70,7 @@ fn page_child(i: usize) -> Slot
 
 // How value i stands.
 pub fn child(nest: Nest, i: usize) -> Slot
-    ensures { λ r. ⌜ ((codes : List ℕ) (slots : List L.Slot) → Prelude codes → NestIs codes nest slots → i < length slots → ChildIs codes slots i r) ⌝ }
+    ensures { λ r. ⌜ ChildStands nest i r ⌝ }
     ensures { λ r. ⌜ r ≡ childOf nest i ⌝ }
 {
     match nest {

@@ -11,16 +11,16 @@ ghost use lib.ListN.{replicate};
 ghost use Rattle.answers.specs.Told.{told};
 ghost use Rattle.layout.specs.Slot as L;
 ghost use Rattle.layout.specs.Slot.{pairs};
-ghost use Rattle.layout.specs.Target.{Target, nullable, array, list, dictionary, texture2D, kindOf};
+ghost use Rattle.layout.specs.Target.{Target, nullable, list, texture2D, kindOf};
 ghost use Rattle.layout.specs.Image.{digits};
 ghost use Rattle.reading.specs.Answer.{Answer};
 ghost use Rattle.reading.specs.Little.{littleAt};
 ghost use Rattle.reading.specs.Heads.{Opening, headAt};
 ghost use Rattle.table.specs.Leaf.{mute};
-ghost use Rattle.types.specs.Code.{Stands, NoEnum};
 ghost use Rattle.heads.specs.Slots.{SlotIs};
 ghost use Rattle.heads.specs.Nests.{BelowIs};
-ghost use Rattle.heads.specs.Opens.{Opens, Stopping, Leafy, rangedAt, heightAt, levelsAt, widthAt, Arguments};
+ghost use Rattle.heads.specs.Opens.{Opens, Stopping, Leafy, rangedAt, heightAt, levelsAt, widthAt};
+ghost use Rattle.heads.specs.Contracts.{OpensAt, OpensOf, OpensDictionary};
 ghost use Rattle.heads.specs.Total.{aloneAs, leafAs, eachAs, pairsAs, flagAs, listAs, dictionaryAs, levelsAs, heightAs, widthAs, imageAs, openAs};
 
 pub enum Opened {
@@ -81,7 +81,7 @@ fn pairs_of(key: Slot, value: Slot, n: u32) -> Below
 
 // A nullable of the type at `a`: its first byte, and perhaps the value.
 fn nullable_head(file: &[u8], codes: &[u8], a: usize, at: usize) -> Opened
-    ensures { λ r. ⌜ ((t : Target) → Stands (now (codes .entry)) a t → NoEnum t → Opens (now (codes .entry)) (headAt (now (file .entry)) (nullable t) at) r) ⌝ }
+    ensures { λ r. ⌜ OpensOf (now (file .entry)) (now (codes .entry)) nullable a at r ⌝ }
     ensures { λ r. ⌜ r ≡ flagAs (now (codes .entry)) a at (littleAt (now (file .entry)) 1 at at) ⌝ }
 {
     match numbers::little::little1(file, at) {
@@ -100,7 +100,7 @@ fn nullable_head(file: &[u8], codes: &[u8], a: usize, at: usize) -> Opened
 
 // An array or a list of the type at `a`: its count.
 fn list_head(file: &[u8], codes: &[u8], a: usize, at: usize) -> Opened
-    ensures { λ r. ⌜ ((t : Target) → Stands (now (codes .entry)) a t → NoEnum t → Opens (now (codes .entry)) (headAt (now (file .entry)) (list t) at) r) ⌝ }
+    ensures { λ r. ⌜ OpensOf (now (file .entry)) (now (codes .entry)) list a at r ⌝ }
     ensures { λ r. ⌜ r ≡ listAs (now (codes .entry)) a (littleAt (now (file .entry)) 4 at at) ⌝ }
 {
     match numbers::little::little4(file, at) {
@@ -114,7 +114,7 @@ fn list_head(file: &[u8], codes: &[u8], a: usize, at: usize) -> Opened
 
 // A dictionary of the types at `a` and `b`: its count.
 fn dictionary_head(file: &[u8], codes: &[u8], a: usize, b: usize, at: usize) -> Opened
-    ensures { λ r. ⌜ ((t u : Target) → Stands (now (codes .entry)) a t → NoEnum t → Stands (now (codes .entry)) b u → NoEnum u → Opens (now (codes .entry)) (headAt (now (file .entry)) (dictionary t u) at) r) ⌝ }
+    ensures { λ r. ⌜ OpensDictionary (now (file .entry)) (now (codes .entry)) a b at r ⌝ }
     ensures { λ r. ⌜ r ≡ dictionaryAs (now (codes .entry)) a b (littleAt (now (file .entry)) 4 at at) ⌝ }
 {
     match numbers::little::little4(file, at) {
@@ -204,7 +204,7 @@ fn image_head(file: &[u8], at: usize) -> Opened
 
 // The head of a raw value of the type at `t`; Object and Texture have no raw values.
 pub fn open(file: &[u8], codes: &[u8], t: usize, at: usize) -> Opened
-    ensures { λ r. ⌜ ((x : Target) → Stands (now (codes .entry)) t x → Arguments x → Opens (now (codes .entry)) (headAt (now (file .entry)) x at) r) ⌝ }
+    ensures { λ r. ⌜ OpensAt (now (file .entry)) (now (codes .entry)) t at r ⌝ }
     ensures { λ r. ⌜ r ≡ openAs (now (file .entry)) (now (codes .entry)) t at ⌝ }
 {
     if codes.len() <= t {

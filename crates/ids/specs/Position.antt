@@ -1,5 +1,7 @@
 -- Where an id or a row number points. Assumes nothing.
 use Prim.Native.Nat.{ℕ, zero, suc, _*_}
+use Rattle.ids.specs.declared.TypeId.{TypeId}
+use Rattle.ids.specs.declared.RowNumber.{RowNumber}
 use Rattle.ids.specs.declared.Position.{Position}
 use Rattle.ids.specs.declared.Position.the-variants.{Null, At}
 
@@ -11,3 +13,10 @@ positionOf (suc n) = At n
 -- 01, "The row table": "Six make a row": the place of a row's first word
 abbrev pub firstWord : ℕ → ℕ
 firstWord n = 6 * n
+
+-- a number as a type id, and as a row number
+abbrev pub typeId : ℕ → TypeId
+typeId n = record { 0 = n }
+
+abbrev pub rowNumber : ℕ → RowNumber
+rowNumber n = record { 0 = n }

@@ -21,6 +21,7 @@ use Rattle.reading.specs.Rules.{same, decided}
 use Rattle.reading.specs.Font.{fontOk, fontIf}
 use Rattle.reading.specs.Heads.{headAt, leafAt, whole, ownAt, fixedHeadAt, leaf-reads as level-reads}
 use Rattle.reading.specs.Walk.{Outcome, done, sequence, rawAt, valueAt, walk}
+use Rattle.ids.specs.Position.{rowNumber}
 use Rattle.table.specs.declared.Head.{Head}
 use Rattle.table.specs.Contract.{Seen, seen, Free, Ahead, Walked}
 use Rattle.table.specs.Loop.{refusing}
@@ -55,7 +56,7 @@ pub record Begin (file words : List ℕ) (room at used : ℕ) : Type 0 where
   pub short : length file < 2 ^ 32
 
 abbrev pub headOf : (used at parent id : ℕ) → Head
-headOf used at parent id = record { row = used; first = at; parent = parent; detail = id }
+headOf used at parent id = record { row = rowNumber used; first = at; parent = parent; detail = id }
 
 -- the bytes of the value at a place, and the number that they hold or how many they are
 unfoldable pub plainAt : List ℕ → (shared : ℕ) → Plain → (at : ℕ) → Answer ℕ
@@ -72,7 +73,7 @@ plainValue file room shared p at used (suc d) = check (ltb used room) 19 at (pla
 -- a reference's row names its resource
 abbrev pub named : Head → Answer ℕ → Head
 named h (refused n p) = h
-named h (read id next) = headOf (h .row) (h .first) (h .parent) id
+named h (read id next) = record { row = h .row; first = h .first; parent = h .parent; detail = id }
 
 -- the words once its bytes are read, or refused
 abbrev pub plainWords : List ℕ → Plain → Head → Answer ℕ → List ℕ
@@ -80,6 +81,14 @@ plainWords w (Fixed kind size) h x = leafWords w h kind 0 x
 plainWords w Char h x = leafWords w h 12 0 x
 plainWords w (Level size) h x = leafWords w h 35 0 x
 plainWords w (Reference wanted) h x = leafWords w (named h x) 36 wanted x
+
+-- the words once the bytes at the head's first byte are read, or refused
+abbrev pub plainLeft : (file words : List ℕ) (shared : ℕ) → Plain → Head → List ℕ
+plainLeft file words shared p h = plainWords words p h (plainAt file shared p (h .first))
+
+-- the words once a value with the depth left is read, or refused
+abbrev pub valueLeft : (file words : List ℕ) (room shared : ℕ) → Plain → (at used depth parent : ℕ) → List ℕ
+valueLeft file words room shared p at used depth parent = plainWords words p (headOf used at parent 0) (plainValue file room shared p at used depth)
 
 pub kept : (w : List ℕ) (p : Plain) (h : Head) (n q : ℕ) → plainWords w p h (refused n q) ≡ w
 kept w (Fixed kind size) h n q = refl
@@ -95,12 +104,12 @@ plainSeen (Level size) h x = leafOf h 35 nothing x
 plainSeen (Reference wanted) h x = leafOf (named h x) 36 (resource wanted) x
 
 -- where the words have the row and the numbers fit
-plain-written : (w : List ℕ) (p : Plain) (h : Head) (x : Answer ℕ) → Free w (h .row) → Ahead (h .first) x → Walked w (plainWords w p h x) (h .row) (plainSeen p h x) (leafAnswer (h .row) x)
+plain-written : (w : List ℕ) (p : Plain) (h : Head) (x : Answer ℕ) → Free w (h .row .0) → Ahead (h .first) x → Walked w (plainWords w p h x) (h .row .0) (plainSeen p h x) (leafAnswer (h .row .0) x)
 plain-written w (Fixed kind size) h x f a = leaf-walked w h kind nothing x f a
 plain-written w Char h x f a = leaf-walked w h 12 nothing x f a
 plain-written w (Level size) h x f a = leaf-walked w h 35 nothing x f a
 plain-written w (Reference wanted) h (refused n p) f a = leaf-walked {A = ℕ} w h 36 (resource wanted) (refused n p) f a
-plain-written w (Reference wanted) h (read id next) f a = leaf-walked w (headOf (h .row) (h .first) (h .parent) id) 36 (resource wanted) (read id next) f a
+plain-written w (Reference wanted) h (read id next) f a = leaf-walked w (named h (read id next)) 36 (resource wanted) (read id next) f a
 
 fixed-none : (k : ℕ) → same (fixed k) spriteFont ≡ false
 unfolding same decided

@@ -2,12 +2,13 @@
 use answers::Number;
 use ids::Position;
 use ids::ResourceId;
+use ids::RowNumber;
 use table::Head;
 use table::Walk;
 ghost use mathlib.Core.Path.{_≡_};
 ghost use lib.Dec.{ltb};
 ghost use Rattle.table.specs.Leaf.{leafAnswer};
-ghost use Rattle.leaves.specs.Plain.{headOf, plainAt, plainValue, plainWords};
+ghost use Rattle.leaves.specs.Plain.{plainAt, plainValue, plainLeft, valueLeft};
 
 // How such a value stands: raw of a kind of fixed size, with the size; a raw character; an image level of a size; a reference that wants a kind.
 pub enum Plain {
@@ -29,8 +30,8 @@ fn beyond(id: ResourceId, shared: u32) -> bool
 
 // A shared reference.
 fn reference(file: &[u8], words: &mut [u32], shared: u32, wanted: u32, h: Head) -> Walk
-    ensures { λ r. ⌜ r ≡ leafAnswer (h .row) (plainAt (now (file .entry)) shared (Plain.Reference wanted) (h .first)) ⌝ }
-    ensures { λ _. ⌜ now (words .exit) ≡ plainWords (now (words .entry)) (Plain.Reference wanted) h (plainAt (now (file .entry)) shared (Plain.Reference wanted) (h .first)) ⌝ }
+    ensures { λ r. ⌜ r ≡ leafAnswer (h .row .0) (plainAt (now (file .entry)) shared (Plain.Reference wanted) (h .first)) ⌝ }
+    ensures { λ _. ⌜ now (words .exit) ≡ plainLeft (now (file .entry)) (now (words .entry)) shared (Plain.Reference wanted) h ⌝ }
 {
     let at = h.first;
     match numbers::seven::seven_at(file, at) {
@@ -43,8 +44,9 @@ fn reference(file: &[u8], words: &mut [u32], shared: u32, wanted: u32, h: Head) 
                     place: at,
                 };
             }
+            let row = h.row;
             let named = Head {
-                row: h.row,
+                row,
                 first: h.first,
                 parent: h.parent,
                 detail: id,
@@ -56,8 +58,8 @@ fn reference(file: &[u8], words: &mut [u32], shared: u32, wanted: u32, h: Head) 
 
 // The value, once it may have a row.
 fn plain_value(file: &[u8], words: &mut [u32], shared: u32, slot: Plain, h: Head) -> Walk
-    ensures { λ r. ⌜ r ≡ leafAnswer (h .row) (plainAt (now (file .entry)) shared slot (h .first)) ⌝ }
-    ensures { λ _. ⌜ now (words .exit) ≡ plainWords (now (words .entry)) slot h (plainAt (now (file .entry)) shared slot (h .first)) ⌝ }
+    ensures { λ r. ⌜ r ≡ leafAnswer (h .row .0) (plainAt (now (file .entry)) shared slot (h .first)) ⌝ }
+    ensures { λ _. ⌜ now (words .exit) ≡ plainLeft (now (file .entry)) (now (words .entry)) shared slot h ⌝ }
 {
     let at = h.first;
     match slot {
@@ -87,7 +89,7 @@ pub fn read_plain(
     parent: u32,
 ) -> Walk
     ensures { λ r. ⌜ r ≡ leafAnswer used (plainValue (now (file .entry)) room shared slot at used depth) ⌝ }
-    ensures { λ _. ⌜ now (words .exit) ≡ plainWords (now (words .entry)) slot (headOf used at parent 0) (plainValue (now (file .entry)) room shared slot at used depth) ⌝ }
+    ensures { λ _. ⌜ now (words .exit) ≡ valueLeft (now (file .entry)) (now (words .entry)) room shared slot at used depth parent ⌝ }
 {
     if depth == 0 {
         return Walk::Refused {
@@ -102,7 +104,7 @@ pub fn read_plain(
         };
     }
     let h = Head {
-        row: used,
+        row: RowNumber(used),
         first: at,
         parent,
         detail: 0,

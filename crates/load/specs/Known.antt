@@ -38,7 +38,7 @@ pub record KnownNest (codes : List ℕ) (nest : Nest) : Type 0 where
 pub record Ready (file words : List ℕ) (room : ℕ) (h : Head) (at : ℕ) : Type 0 where
   pub long : 6 * room ≤ length words
   pub few : room < 2 ^ 32
-  pub free : h .row < room
+  pub free : h .row .0 < room
   pub begun : h .first ≤ at
   pub place : at ≤ length file
   pub short : length file < 2 ^ 32

@@ -28,8 +28,9 @@ use Rattle.table.specs.declared.Walk.the-variants.{Refused as Walk-refused}
 use Rattle.table.specs.Written.{written, drafts, length-drafts}
 use Rattle.table.specs.Contract.{seen, Walked}
 use Rattle.table.specs.Loop.{got, lost}
-use Rattle.table.specs.Leaf.{mute}
 use Rattle.fill.specs.Fill.{cleared}
+use Rattle.answers.specs.declared.Number.the-variants.{Read as Header-read, Refused as Header-refused}
+use Rattle.header.specs.Header.{toHeader, headerOf}
 use Rattle.heads.specs.declared.nest.Nest.the-variants.{Each}
 use Rattle.heads.specs.declared.slot.Slot.the-variants.{Object}
 use Rattle.heads.specs.Nests.{Prelude, prelude, NestIs, object-at}
@@ -145,20 +146,19 @@ pub record HeaderRead (file : List ℕ) (at : ℕ) : Type 0 where
   pub short : length file ≤ 16777216
   pub inside : at ≤ length file
 
-pub header-read : (file : List ℕ) → Small file → {at : ℕ} → read tt at ≡ mute (headerAt file) → HeaderRead file at
-unfolding mute
-header-read file s {at} e = go (headerAt file) refl (header-sound file s) e where
-  go : (x : Answer (ℕ × ℕ)) → headerAt file ≡ x → Ok (λ h e. (e ≡ 10) × Headed file (h .0) (h .1)) x → read tt at ≡ mute x → HeaderRead file at
+pub header-read : (file : List ℕ) → Small file → {v at : ℕ} → Header-read v at ≡ headerOf file → HeaderRead file at
+header-read file s {v} {at} e = go (headerAt file) refl (header-sound file s) e where
+  go : (x : Answer (ℕ × ℕ)) → headerAt file ≡ x → Ok (λ h e. (e ≡ 10) × Headed file (h .0) (h .1)) x → Header-read v at ≡ toHeader x → HeaderRead file at
   go x q not-read e = differ cc
   go x q (is-read {a = h} {e = f} v) e =
       let z : f ≡ at = cc in
       record { h = h; is = q ∙ ap (read h) z; short = v .1 .short; inside = omega (arith, z, v .0, ap length (v .1 .parts) ∙ length-append (header (h .0) (h .1) (length file)) (drop 10 file), header-length (h .0) (h .1) (length file)) }
 
 -- the file, by its header
-pub header-refused : (file : List ℕ) (room : ℕ) {n p : ℕ} → refused n p ≡ mute (headerAt file) → fileAt judgedName file room ≡ refused n p
-unfolding fileAt bind mute
+pub header-refused : (file : List ℕ) (room : ℕ) {n p : ℕ} → Header-refused n p ≡ headerOf file → fileAt judgedName file room ≡ refused n p
+unfolding fileAt bind
 header-refused file room {n} {p} e = go (headerAt file) refl e where
-  go : (x : Answer (ℕ × ℕ)) → headerAt file ≡ x → refused n p ≡ mute x → fileAt judgedName file room ≡ refused n p
+  go : (x : Answer (ℕ × ℕ)) → headerAt file ≡ x → Header-refused n p ≡ toHeader x → fileAt judgedName file room ≡ refused n p
   go (refused m q) h e =
       let e₁ : n ≡ m = cc in
       let e₂ : p ≡ q = cc in

@@ -2,4 +2,5 @@ pub mod Known
 pub mod Walks
 pub mod Steps
 pub mod Loads
+pub mod Contracts
 pub mod Laws

@@ -52,22 +52,22 @@ pub record Left (file codes : List ℕ) (readers : List Target) (room depth : �
 
 -- the raw value of a type, whose children have the depth left
 abbrev pub rawOf : (file : List ℕ) → List Target → (shared room depth : ℕ) → Target → Head → (at : ℕ) → Outcome
-rawOf file readers shared room depth t h at = rawAt file readers shared room (under file readers shared room depth (h .row)) t (h .first) at (h .row) (h .parent) (h .detail)
+rawOf file readers shared room depth t h at = rawAt file readers shared room (under file readers shared room depth (h .row .0)) t (h .first) at (h .row .0) (h .parent) (h .detail)
 
 -- a raw value of a type is walked, or its children are left
 abbrev pub RawSteps : (file codes : List ℕ) → List Target → (shared room depth : ℕ) → Target → (place : ℕ) → Head → (at : ℕ) → (entry exit : List ℕ) → Stepped → Type 0
-RawSteps file codes readers shared room depth t place h at entry exit (Done used next) = Walked entry exit (h .row) (seen (rawOf file readers shared room depth t h at)) (Walk-done used next)
-RawSteps file codes readers shared room depth t place h at entry exit (Refused n p) = Walked entry exit (h .row) (seen (rawOf file readers shared room depth t h at)) (Walk-refused n p)
-RawSteps file codes readers shared room depth t place h at entry exit (Nested id from there next nest) = RawLeft file codes t place h at entry exit id from there next nest
+RawSteps file codes readers shared room depth t place h at entry exit (Done used next) = Walked entry exit (h .row .0) (seen (rawOf file readers shared room depth t h at)) (Walk-done used next)
+RawSteps file codes readers shared room depth t place h at entry exit (Refused n p) = Walked entry exit (h .row .0) (seen (rawOf file readers shared room depth t h at)) (Walk-refused n p)
+RawSteps file codes readers shared room depth t place h at entry exit (Nested id from there next nest) = RawLeft file codes t place h at entry exit (id .0) from there next nest
 
 -- the value in a slot is walked, or it is a raw value whose children are left
 abbrev pub Steps : (file codes : List ℕ) → List Target → (shared room depth : ℕ) → L.Slot → (at used parent : ℕ) → (entry exit : List ℕ) → Stepped → Type 0
 Steps file codes readers shared room depth x at used parent entry exit (Done u next) = Walked entry exit used (seen (walk file readers shared room depth x at used parent)) (Walk-done u next)
 Steps file codes readers shared room depth x at used parent entry exit (Refused n p) = Walked entry exit used (seen (walk file readers shared room depth x at used parent)) (Walk-refused n p)
-Steps file codes readers shared room depth x at used parent entry exit (Nested id from place next nest) = Left file codes readers room depth x at used entry exit id from place next nest
+Steps file codes readers shared room depth x at used parent entry exit (Nested id from place next nest) = Left file codes readers room depth x at used entry exit (id .0) from place next nest
 
 pub raw-told : (file codes : List ℕ) (readers : List Target) (shared room depth : ℕ) (t : Target) (place : ℕ) (h : Head) (at : ℕ) {entry exit : List ℕ} (w : Walk)
-    → Walked entry exit (h .row) (seen (rawOf file readers shared room depth t h at)) w → RawSteps file codes readers shared room depth t place h at entry exit (stepOf w)
+    → Walked entry exit (h .row .0) (seen (rawOf file readers shared room depth t h at)) w → RawSteps file codes readers shared room depth t place h at entry exit (stepOf w)
 raw-told file codes readers shared room depth t place h at (Walk-done u e) c = c
 raw-told file codes readers shared room depth t place h at (Walk-refused n p) c = c
 
@@ -101,11 +101,11 @@ nothing-below step slots w at used e = rw e (record { answers = refl; writes = s
 -- the children were walked and the raw value ends
 pub raw-ends : (file : List ℕ) {codes words w₁ : List ℕ} (room : ℕ) (h : Head) (at : ℕ) {next : ℕ} {below : Below} (t : Target) (readers : List Target) (shared depth n kind : ℕ) (walked : Walk)
     → Small file → Ready file words room h at → Lawful t → (o : OpenedAs codes (headAt file t at) next below) → n ≡ length (o .slots) → kind ≡ kindOf t
-    → Walked words w₁ (h .row + 1) (seen (sequence (λ y b v. walk file readers shared room depth y b v (h .row + 1)) (each (o .slots)) next (h .row + 1))) walked
-    → Walked words (closeWords file w₁ h kind n walked) (h .row) (seen (rawOf file readers shared room depth t h at)) (closeAnswer file w₁ h kind at walked)
+    → Walked words w₁ (h .row .0 + 1) (seen (sequence (λ y b v. walk file readers shared room depth y b v (h .row .0 + 1)) (each (o .slots)) next (h .row .0 + 1))) walked
+    → Walked words (closeWords file w₁ h kind n walked) (h .row .0) (seen (rawOf file readers shared room depth t h at)) (closeAnswer file w₁ h kind at walked)
 raw-ends file {codes} {words} {w₁} room h at {next} t readers shared depth n kind walked s r l o e k c =
     let fits = close-ready t readers shared depth (o .slots) n walked s r (o .is) e c in
-    rw k (raw-closed file s readers shared room depth t l h at words (r .long) (r .few) (r .free) (o .is) (o .slots) (o .plan) w₁ n walked fits e (after-row file room shared depth next (h .row) readers (o .slots) c))
+    rw k (raw-closed file s readers shared room depth t l h at words (r .long) (r .few) (r .free) (o .is) (o .slots) (o .plan) w₁ n walked fits e (after-row file room shared depth next (h .row .0) readers (o .slots) c))
 
 -- values that were read, by what equals their words, their end and their rows
 pub got-as : {o : Outcome} {entry exit exit′ : List ℕ} {used next next′ u u′ : ℕ} → Got entry exit used o next u → exit′ ≡ exit → next′ ≡ next → u′ ≡ u → Got entry exit′ used o next′ u′

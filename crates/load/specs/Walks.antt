@@ -55,7 +55,7 @@ refused-as codes {n} {p} (read o f) w e =
     differ cc
 
 -- the children begin inside the file and have rows left
-pub begin-below : {file words : List ℕ} {room : ℕ} {h : Head} {at next : ℕ} (t : Target) {o : Opening} → Small file → Ready file words room h at → headAt file t at ≡ read o next → Begin file words room next (h .row + 1)
+pub begin-below : {file words : List ℕ} {room : ℕ} {h : Head} {at next : ℕ} (t : Target) {o : Opening} → Small file → Ready file words room h at → headAt file t at ≡ read o next → Begin file words room next (h .row .0 + 1)
 begin-below {file} {words} {room} {h} {at} {next} t s r e =
     let b = reads-bounds (head-reads file t) s at (r .place) e in
     record { long = r .long; few = r .few; rows = omega (arith, r .free); place = b .1; short = r .short }
@@ -63,14 +63,14 @@ begin-below {file} {words} {room} {h} {at} {next} t s r e =
 -- the value that ends has a length and a number of children that fit
 pub close-ready : {file words w₁ : List ℕ} {room : ℕ} {h : Head} {at next : ℕ} (t : Target) {o : Opening} (readers : List Target) (shared depth : ℕ) (slots : List L.Slot) (n : ℕ) (walked : Walk)
     → Small file → Ready file words room h at → headAt file t at ≡ read o next → n ≡ length slots
-    → Walked words w₁ (h .row + 1) (seen (sequence (λ y b v. walk file readers shared room depth y b v (h .row + 1)) (each slots) next (h .row + 1))) walked
+    → Walked words w₁ (h .row .0 + 1) (seen (sequence (λ y b v. walk file readers shared room depth y b v (h .row .0 + 1)) (each slots) next (h .row .0 + 1))) walked
     → Closable h n walked
 close-ready t readers shared depth slots n (Refused m p) s r e z c = tt
 close-ready {file} {words} {w₁} {room} {h} {at} {next} t readers shared depth slots n (Done u f) s r e z c =
     let g = got c refl in
     let b = reads-bounds (head-reads file t) s at (r .place) e in
-    let k = sequence-bounds file readers shared room s depth (each slots) next (h .row + 1) (h .row + 1) (g .taken) f (g .is) in
-    let d = counted file s readers shared room depth slots next (h .row + 1) (h .row + 1) (g .taken) f (g .is) in
+    let k = sequence-bounds file readers shared room s depth (each slots) next (h .row .0 + 1) (h .row .0 + 1) (g .taken) f (g .is) in
+    let d = counted file s readers shared room depth slots next (h .row .0 + 1) (h .row .0 + 1) (g .taken) f (g .is) in
     let i : f ≤ length file = k .inside (b .1) in
     let j : g .taken .0 ≤ room = k .fits (omega (arith, r .free)) in
     (omega (arith, r .begun, b .0, k .ahead), omega (arith, r .short), omega (arith, r .long, r .few, d .1))

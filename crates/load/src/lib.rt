@@ -10,20 +10,15 @@ use readers::Readers;
 use resources::Settled;
 use table::Walk;
 ghost use mathlib.Core.Path.{_≡_};
-ghost use mathlib.Core.List.{List};
-ghost use Prim.Native.Nat.{ℕ, _*_, _≤_};
+ghost use Prim.Native.Nat.{_*_, _≤_};
 ghost use lib.ListN.{length, take};
-ghost use Rattle.layout.specs.Target.{Target};
-ghost use Rattle.reading.specs.Answer.{bind};
-ghost use Rattle.reading.specs.Walk.{Taken};
-ghost use Rattle.reading.specs.File.{finished, objectsAt, fileAt, loadOf, tableOf};
+ghost use Rattle.reading.specs.File.{fileAt, loadOf, tableOf};
 ghost use Rattle.readers.specs.Judged.{judgedName};
-ghost use Rattle.readers.specs.Listed.{Listed};
-ghost use Rattle.resources.specs.Settled.{Drafted};
 ghost use Rattle.leaves.specs.Plain.{Begin};
 ghost use Rattle.heads.specs.Nests.{prelude};
 ghost use Rattle.load.specs.Known.{Known};
-ghost use Rattle.load.specs.Loads.{Loads, behindHeader, answerOf};
+ghost use Rattle.load.specs.Loads.{Loads, answerOf};
+ghost use Rattle.load.specs.Contracts.{Finishes, ObjectsLoad, ListsLoad};
 
 // A refusal's number and place; or the number of rows used, the number of readers and the shared count.
 pub enum Loading {
@@ -47,7 +42,7 @@ fn finish(
     next: usize,
     used: u32,
 ) -> Loading
-    ensures { λ r. ⌜ ((platform flags : ℕ) (names : List (List ℕ)) (a : Taken) (rest : List ℕ) → Drafted (now (words .entry)) used (a .1) rest → Loads (finished (now (file .entry)) platform flags names readers shared a next) (now (words .entry)) (now (words .exit)) r) ⌝ }
+    ensures { λ r. ⌜ Finishes (now (file .entry)) readers shared next used (now (words .entry)) (now (words .exit)) r ⌝ }
 {
     if next != file.len() {
         return Loading::Refused {
@@ -82,7 +77,7 @@ fn objects(
     at: usize,
 ) -> Loading
     requires { ⌜ Begin (now file) (now words) room at 0 × Known (now codes) rd × (shared ≤ 256) ⌝ }
-    ensures { λ r. ⌜ ((platform flags : ℕ) (names : List (List ℕ)) (readers : List Target) → Listed (now (codes .entry)) rd readers → Loads (bind (objectsAt (now (file .entry)) room readers shared at) (λ a e. finished (now (file .entry)) platform flags names (length readers) shared a e)) (now (words .entry)) (now (words .exit)) r) ⌝ }
+    ensures { λ r. ⌜ ObjectsLoad (now (file .entry)) (now (codes .entry)) rd room shared at (now (words .entry)) (now (words .exit)) r ⌝ }
 {
     let n = shared + 1;
     let nest = Nest::Each(Slot::Object(10), n);
@@ -113,7 +108,7 @@ fn put_prelude(codes: &mut [u8])
 // What stands behind the header.
 fn lists(file: &[u8], words: &mut [u32], room: u32, at: usize) -> Loading
     requires { ⌜ (length (now file) ≤ 16777216) × (at ≤ length (now file)) × (6 * room ≤ length (now words)) ⌝ }
-    ensures { λ r. ⌜ ((platform flags : ℕ) → Loads (behindHeader (now (file .entry)) room platform flags at) (now (words .entry)) (now (words .exit)) r) ⌝ }
+    ensures { λ r. ⌜ ListsLoad (now (file .entry)) room at (now (words .entry)) (now (words .exit)) r ⌝ }
 {
     let mut codes = [0u8; 7168];
     let mut targets = [0u32; 64];

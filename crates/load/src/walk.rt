@@ -4,31 +4,20 @@ use heads::nest::Below;
 use heads::nest::Nest;
 use heads::open::Opened;
 use heads::slot::Slot;
+use ids::RowNumber;
+use ids::TypeId;
 use objects::start::Started;
 use readers::Readers;
 use table::Head;
 use table::Walk;
 ghost use mathlib.Core.Path.{_≡_};
-ghost use mathlib.Core.List.{List};
-ghost use Prim.Native.Nat.{ℕ};
-ghost use Rattle.layout.specs.Target.{Target, kindOf};
-ghost use Rattle.layout.specs.Slot as L;
-ghost use Rattle.layout.specs.Slot.{each};
-ghost use Rattle.reading.specs.Heads.{headAt};
-ghost use Rattle.reading.specs.Walk as W;
-ghost use Rattle.table.specs.Contract.{seen, Walked};
 ghost use Rattle.leaves.specs.Plain.{Begin};
-ghost use Rattle.readers.specs.declared.Readers as R;
-ghost use Rattle.readers.specs.Listed.{Listed};
-ghost use Rattle.heads.specs.declared.nest.Below.the-variants as B;
-ghost use Rattle.heads.specs.Slots.{SlotIs};
-ghost use Rattle.heads.specs.Nests.{NestIs};
-ghost use Rattle.objects.specs.Start.{Invoked, Has, positionOfSlot};
 ghost use Rattle.load.specs.Known.{Known, KnownSlot, KnownNest, KnownTarget, Ready};
-ghost use Rattle.load.specs.Walks.{OpenedAs};
-ghost use Rattle.load.specs.Steps.{KnownRaw, RawSteps, Steps, stepOf, rawOf};
+ghost use Rattle.load.specs.Steps.{KnownRaw, stepOf};
+ghost use Rattle.load.specs.Contracts.{FlatSteps, PlacedSteps, ValueSteps, RawWalks, NestWalks};
 
-// A value that needs no reader list, walked; or a raw value whose children need it: its type id, its first byte, the place of its type, where its head ends, and its children.
+// A value that needs no reader list, walked; or a raw value whose children need it:
+// its type id, its first byte, the place of its type, where its head ends, and its children.
 pub enum Stepped {
     Done {
         used: u32,
@@ -39,7 +28,7 @@ pub enum Stepped {
         place: usize,
     },
     Nested {
-        id: u32,
+        id: TypeId,
         from: usize,
         place: usize,
         next: usize,
@@ -72,9 +61,9 @@ fn close_flat(
     below: Below,
 ) -> Stepped
     requires { ⌜ Ready (now file) (now words) room h at ⌝ }
-    ensures { λ r. ⌜ ((codes : List ℕ) (readers : List Target) (t : Target) → Invoked codes place t → kind ≡ kindOf t → OpenedAs codes (headAt (now (file .entry)) t at) next below → RawSteps (now (file .entry)) codes readers shared room depth t place h at (now (words .entry)) (now (words .exit)) r) ⌝ }
+    ensures { λ r. ⌜ FlatSteps (now (file .entry)) room shared kind place h at depth next below (now (words .entry)) (now (words .exit)) r ⌝ }
 {
-    let first = h.row + 1;
+    let first = h.row.0 + 1;
     match below {
         Below::Nothing => walked_step(objects::close::close(
             file,
@@ -101,7 +90,7 @@ fn close_flat(
             walked_step(objects::close::close(file, words, h, kind, n, at, walked))
         }
         Below::Nested(nest) => Stepped::Nested {
-            id: h.detail,
+            id: TypeId(h.detail),
             from: at,
             place,
             next,
@@ -123,7 +112,7 @@ fn raw_step(
     depth: u32,
 ) -> Stepped
     requires { ⌜ Ready (now file) (now words) room h at ⌝ }
-    ensures { λ r. ⌜ ((readers : List Target) (t : Target) → Invoked (now (codes .entry)) place t → RawSteps (now (file .entry)) (now (codes .entry)) readers shared room depth t place h at (now (words .entry)) (now (words .exit)) r) ⌝ }
+    ensures { λ r. ⌜ PlacedSteps (now (file .entry)) (now (codes .entry)) room shared place h at depth (now (words .entry)) (now (words .exit)) r ⌝ }
 {
     match heads::open::open(file, codes, place, at) {
         Opened::Refused(number, from) => Stepped::Refused {
@@ -149,7 +138,8 @@ fn raw_step(
     }
 }
 
-// The value in a slot, with the depth left, as far as it needs no more of the reader list than how many readers there are and the place of the type that the value's type id names.
+// The value in a slot, with the depth left, as far as it needs no more of the reader list than how many readers
+// there are and the place of the type that the value's type id names.
 fn value(
     file: &[u8],
     codes: &[u8],
@@ -165,7 +155,8 @@ fn value(
     parent: u32,
 ) -> Stepped
     requires { ⌜ Begin (now file) (now words) room at used × KnownTarget (now file) (now codes) slot at count target × KnownSlot (now codes) slot ⌝ }
-    ensures { λ r. ⌜ ((rd : R.Readers) (readers : List Target) (x : L.Slot) → Has rd count (positionOfSlot (now (file .entry)) slot at) target → Listed (now (codes .entry)) rd readers → SlotIs (now (codes .entry)) slot x → Steps (now (file .entry)) (now (codes .entry)) readers shared room depth x at used parent (now (words .entry)) (now (words .exit)) r) ⌝ }
+    ensures { λ r. ⌜ ValueSteps (now (file .entry)) (now (codes .entry)) (now (words .entry)) (now (words .exit)) r
+        count target room shared slot at used depth parent ⌝ }
 {
     let named = target as usize;
     match objects::start::start(file, codes, count, named, room, slot, at, used, depth) {
@@ -183,7 +174,7 @@ fn value(
         )),
         Started::Null(next) => {
             let h = Head {
-                row: used,
+                row: RowNumber(used),
                 first: at,
                 parent,
                 detail: 0,
@@ -192,10 +183,10 @@ fn value(
         }
         Started::Raw(place, from, id) => {
             let h = Head {
-                row: used,
+                row: RowNumber(used),
                 first: at,
                 parent,
-                detail: id,
+                detail: id.0,
             };
             raw_step(file, codes, words, room, shared, place, h, from, depth - 1)
         }
@@ -218,9 +209,9 @@ fn raw(
     depth: u32,
 ) -> Walk
     requires { ⌜ Ready (now file) (now words) room h at × Known (now codes) rd × KnownRaw (now file) (now codes) place at next nest ⌝ }
-    ensures { λ r. ⌜ ((readers : List Target) (t : Target) → Listed (now (codes .entry)) rd readers → Invoked (now (codes .entry)) place t → OpenedAs (now (codes .entry)) (headAt (now (file .entry)) t at) next (B.Nested nest) → Walked (now (words .entry)) (now (words .exit)) (h .row) (seen (rawOf (now (file .entry)) readers shared room depth t h at)) r) ⌝ }
+    ensures { λ r. ⌜ RawWalks (now (file .entry)) (now (codes .entry)) rd room shared place h at next nest depth (now (words .entry)) (now (words .exit)) r ⌝ }
 {
-    let first = h.row + 1;
+    let first = h.row.0 + 1;
     let n = heads::nest::count(nest);
     let walked = nested(
         file,
@@ -252,7 +243,7 @@ pub(crate) fn nested(
     depth: u32,
 ) -> Walk
     requires { ⌜ Begin (now file) (now words) room at used × Known (now codes) rd × KnownNest (now codes) nest ⌝ }
-    ensures { λ r. ⌜ ((readers : List Target) (slots : List L.Slot) → Listed (now (codes .entry)) rd readers → NestIs (now (codes .entry)) nest slots → Walked (now (words .entry)) (now (words .exit)) used (seen (W.sequence (λ y b v. W.walk (now (file .entry)) readers shared room depth y b v used) (each slots) at used)) r) ⌝ }
+    ensures { λ r. ⌜ NestWalks (now (file .entry)) (now (codes .entry)) rd room shared nest at used depth (now (words .entry)) (now (words .exit)) r ⌝ }
 {
     let n = heads::nest::count(nest);
     let mut next = at;
@@ -291,10 +282,10 @@ pub(crate) fn nested(
                 nest: inner,
             } => {
                 let h = Head {
-                    row,
+                    row: RowNumber(row),
                     first: next,
                     parent: used,
-                    detail: id,
+                    detail: id.0,
                 };
                 match raw(
                     file,

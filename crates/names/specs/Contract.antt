@@ -37,7 +37,7 @@ pub record Parses (own : Bool) (levels : ℕ) (s c c′ : List ℕ) (used : ℕ)
   pub writes : c′ ≡ sets c used (codes own (met (nameIn levels s)))
 
 -- an argument that was read from `at` on ends within so many bytes
-abbrev pub Inside : (length at : ℕ) → Parsed → Type 0
+abbrev pub Inside : (size at : ℕ) → Parsed → Type 0
 Inside l at (Parsed-name k u) = at + k ≤ l
 Inside l at Parsed-broken = Unit {0}
 

@@ -45,11 +45,11 @@ keeps file words kind number = cond (eqb kind 33) (fontWords file words number) 
 -- a refusal below is the value's; else its rule, then its row
 abbrev pub closeAnswer : (file w : List ℕ) → Head → (kind at : ℕ) → Walk → Walk
 closeAnswer file w h kind at (Refused m p) = Refused m p
-closeAnswer file w h kind at (Done used next) = cond (keeps file w kind (h .row)) (Done used next) (Refused 22 at)
+closeAnswer file w h kind at (Done used next) = cond (keeps file w kind (h .row .0)) (Done used next) (Refused 22 at)
 
 abbrev pub closeWords : (file w : List ℕ) → Head → (kind children : ℕ) → Walk → List ℕ
 closeWords file w h kind n (Refused m p) = w
-closeWords file w h kind n (Done used next) = cond (keeps file w kind (h .row)) (putRow w (h .row) (valueRow h kind (inWord n) next)) w
+closeWords file w h kind n (Done used next) = cond (keeps file w kind (h .row .0)) (putRow w (h .row .0) (valueRow h kind (inWord n) next)) w
 
 -- the value's length and its number of children fit a word
 abbrev pub Closable : Head → (children : ℕ) → Walk → Type 0
@@ -78,20 +78,20 @@ module _ (file : List ℕ) (small : Small file) (readers : List Target) (shared 
         let d : (count (b .2) ≡ length slots) × (used + length slots ≤ b .0) = (c .0, omega (arith, c .0, c .1, v .used-is)) in
         rw qb at d
 
-  module _ (t : Target) (lawful : Lawful t) (h : Head) (at : ℕ) (w₀ : List ℕ) (long : 6 * room ≤ length w₀) (few : room < 2 ^ 32) (free : h .row < room) where
+  module _ (t : Target) (lawful : Lawful t) (h : Head) (at : ℕ) (w₀ : List ℕ) (long : 6 * room ≤ length w₀) (few : room < 2 ^ 32) (free : h .row .0 < room) where
     abbrev pub rawOf : Outcome
-    rawOf = rawAt file readers shared room (under file readers shared room below (h .row)) t (h .first) at (h .row) (h .parent) (h .detail)
+    rawOf = rawAt file readers shared room (under file readers shared room below (h .row .0)) t (h .first) at (h .row .0) (h .parent) (h .detail)
 
-    pub raw-refused : {n p : ℕ} {w : List ℕ} → headAt file t at ≡ refused n p → Walked w₀ w (h .row) (seen rawOf) (Refused n p)
+    pub raw-refused : {n p : ℕ} {w : List ℕ} → headAt file t at ≡ refused n p → Walked w₀ w (h .row .0) (seen rawOf) (Refused n p)
     unfolding rawAt bind
     raw-refused e = refusing (rw e)
 
     module _ {o : Opening} {next : ℕ} (opened : headAt file t at ≡ read o next) (slots : List L.Slot) (plan : o .1 ≡ each slots) where
       abbrev seq : Outcome
-      seq = sequence (λ y b v. walk file readers shared room below y b v (suc (h .row))) (each slots) next (suc (h .row))
+      seq = sequence (λ y b v. walk file readers shared room below y b v (suc (h .row .0))) (each slots) next (suc (h .row .0))
 
       -- the font rule over the words is that over the trees
-      rule : (a : Taken) (e : ℕ) (w₁ : List ℕ) → seq ≡ read a e → w₁ ≡ written w₀ (suc (h .row)) (a .1) → (b : Bool) → eqb (kindOf t) 33 ≡ b → fontOk point t (a .2) ≡ cond b (fontWords file w₁ (h .row)) true
+      rule : (a : Taken) (e : ℕ) (w₁ : List ℕ) → seq ≡ read a e → w₁ ≡ written w₀ (suc (h .row .0)) (a .1) → (b : Bool) → eqb (kindOf t) 33 ≡ b → fontOk point t (a .2) ≡ cond b (fontWords file w₁ (h .row .0)) true
       unfolding plain fixedKind
       rule a e w₁ q words false z = other-kind t (a .2) (eqb-false (kindOf t) 33 z)
       rule a e w₁ q words true z =
@@ -100,30 +100,30 @@ module _ (file : List ℕ) (small : Small file) (readers : List Target) (shared 
           let g : _≡_ {A = Answer Opening} (read ([], each fontSlots) at) (read o next) = sym (font-head file at) ∙ op in
           let o₁ : ([], each fontSlots) ≡ o = cc in
           let p : each fontSlots ≡ each slots = ap (λ (y : Opening). y .1) o₁ ∙ plan in
-          let q′ : sequence (λ y b v. walk file readers shared room below y b v (suc (h .row))) (each fontSlots) next (suc (h .row)) ≡ read a e = rw p q in
-          let k = sequence-bounds file readers shared room small below (each slots) next (suc (h .row)) (suc (h .row)) a e q in
-          let l : length w₁ ≡ length w₀ = ap length words ∙ length-written w₀ (suc (h .row)) (a .1) in
-          rw s (font-judged file small readers shared room below next (h .row) a e q′ w₀ w₁ words (omega (arith, k .counted, k .fits (omega arith))))
+          let q′ : sequence (λ y b v. walk file readers shared room below y b v (suc (h .row .0))) (each fontSlots) next (suc (h .row .0)) ≡ read a e = rw p q in
+          let k = sequence-bounds file readers shared room small below (each slots) next (suc (h .row .0)) (suc (h .row .0)) a e q in
+          let l : length w₁ ≡ length w₀ = ap length words ∙ length-written w₀ (suc (h .row .0)) (a .1) in
+          rw s (font-judged file small readers shared room below next (h .row .0) a e q′ w₀ w₁ words (omega (arith, k .counted, k .fits (omega arith))))
 
-      kept : (w₁ : List ℕ) (n e u : ℕ) → Closable h n (Done u e) → n ≡ length slots → (g : Got w₀ w₁ (suc (h .row)) seq e u) → (b : Bool) → fontOk point t (g .taken .2) ≡ b
-          → Walked w₀ (cond b (putRow w₁ (h .row) (valueRow h (kindOf t) (inWord n) e)) w₁) (h .row) (seen rawOf) (cond b (Done u e) (Refused 22 at))
+      kept : (w₁ : List ℕ) (n e u : ℕ) → Closable h n (Done u e) → n ≡ length slots → (g : Got w₀ w₁ (suc (h .row .0)) seq e u) → (b : Bool) → fontOk point t (g .taken .2) ≡ b
+          → Walked w₀ (cond b (putRow w₁ (h .row .0) (valueRow h (kindOf t) (inWord n) e)) w₁) (h .row .0) (seen rawOf) (cond b (Done u e) (Refused 22 at))
       unfolding rawAt bind check
       kept w₁ n e u c z g false f = refusing (rw (opened, plan, g .is, f))
       kept w₁ n e u c z g true f =
           let a = g .taken in
-          let k : count (a .2) ≡ n = counted slots next (suc (h .row)) (suc (h .row)) a e (g .is) .0 ∙ sym z in
+          let k : count (a .2) ≡ n = counted slots next (suc (h .row .0)) (suc (h .row .0)) a e (g .is) .0 ∙ sym z in
           let x : Row = row (kindOf t) (h .first) (e - h .first) n (h .parent) (h .detail) nothing in
-          let l : length w₁ ≡ length w₀ = ap length (g .words) ∙ length-written w₀ (suc (h .row)) (a .1) in
-          let there : Free w₁ (h .row) = record { there = omega arith; few = omega arith } in
+          let l : length w₁ ≡ length w₀ = ap length (g .words) ∙ length-written w₀ (suc (h .row .0)) (a .1) in
+          let there : Free w₁ (h .row .0) = record { there = omega arith; few = omega arith } in
           let fits : valueRow h (kindOf t) (inWord n) e ≡ x = rw (in-word n (c .2)) (value-row h (kindOf t) n e (c .0) (c .1)) in
-          let words = ap (putRow w₁ (h .row)) fits ∙ put-free w₁ (h .row) x there ∙ ap (λ w. written w (h .row) (x ∷ [])) (g .words) ∙ written-under w₀ (h .row) x (a .1) in
+          let words = ap (putRow w₁ (h .row .0)) fits ∙ put-free w₁ (h .row .0) x there ∙ ap (λ w. written w (h .row .0) (x ∷ [])) (g .words) ∙ written-under w₀ (h .row .0) x (a .1) in
           reading (a .0, x ∷ a .1, tree (kindOf t) (h .detail) (o .0) (a .2) none) (rw (opened, plan, g .is, f, k)) (sym (g .rows-used)) words
 
       -- the children were walked and the value ended
-      pub raw-closed : (w₁ : List ℕ) (n : ℕ) (walked : Walk) → Closable h n walked → n ≡ length slots → Walked w₀ w₁ (suc (h .row)) (seen seq) walked
-          → Walked w₀ (closeWords file w₁ h (kindOf t) n walked) (h .row) (seen rawOf) (closeAnswer file w₁ h (kindOf t) at walked)
+      pub raw-closed : (w₁ : List ℕ) (n : ℕ) (walked : Walk) → Closable h n walked → n ≡ length slots → Walked w₀ w₁ (suc (h .row .0)) (seen seq) walked
+          → Walked w₀ (closeWords file w₁ h (kindOf t) n walked) (h .row .0) (seen rawOf) (closeAnswer file w₁ h (kindOf t) at walked)
       unfolding rawAt bind keeps
       raw-closed w₁ n (Refused m p) c z d = refusing (rw (opened, plan, lost d refl))
       raw-closed w₁ n (Done u e) c z d =
           let g = got d refl in
-          kept w₁ n e u c z g (keeps file w₁ (kindOf t) (h .row)) (rule (g .taken) e w₁ (g .is) (g .words) (eqb (kindOf t) 33) refl)
+          kept w₁ n e u c z g (keeps file w₁ (kindOf t) (h .row .0)) (rule (g .taken) e w₁ (g .is) (g .words) (eqb (kindOf t) 33) refl)

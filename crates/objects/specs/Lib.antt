@@ -1,3 +1,4 @@
 pub mod Start
+pub mod Contracts
 pub mod Close
 pub mod Total

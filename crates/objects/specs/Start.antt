@@ -18,7 +18,7 @@ use Rattle.layout.specs.Number.{between}
 use Rattle.reading.specs.Answer.{Answer, refused, read, bind, check}
 use Rattle.reading.specs.Seven.{sevenAt, seven-next}
 use Rattle.reading.specs.Reads.{Small}
-use Rattle.ids.specs.Position.{positionOf}
+use Rattle.ids.specs.Position.{positionOf, typeId}
 use Rattle.ids.specs.declared.Position.the-variants.{Null as Null-position, At}
 use Rattle.reading.specs.Rules.{missing, found, invoked, reader, serves, serves-complete, serves-sound}
 use Rattle.reading.specs.Walk.{Outcome, done, sequence, rawAt, byReader, objectAt, valueAt, walk}
@@ -233,7 +233,7 @@ abbrev pub ObjectStarts : (file codes : List ℕ) → List Target → L.Slot →
 ObjectStarts file codes readers x at (RefusedValue n p) = (shared room : ℕ) (below : Plan → ℕ → ℕ → Outcome) (used parent : ℕ) → valueAt file readers shared room below x at used parent ≡ refused n p
 ObjectStarts file codes readers x at (Plain p) = ⊥
 ObjectStarts file codes readers x at (NullValue next) = IsNull file readers x at next
-ObjectStarts file codes readers x at (Raw place from id) = Invokes file codes readers x at place from id
+ObjectStarts file codes readers x at (Raw place from id) = Invokes file codes readers x at place from (id .0)
 
 module _ (file codes : List ℕ) (readers : List Target) (d : Target) (at : ℕ) where
   pub no-number : {n p : ℕ} → sevenAt file at ≡ refused n p → ObjectStarts file codes readers (object d) at (RefusedValue n p)
@@ -258,7 +258,7 @@ module _ (file codes : List ℕ) (readers : List Target) (d : Target) (at : ℕ)
     unread (inl w) shared room below used parent = rw (e, by-id id (w .1) shared room below used parent, w .2, w .0)
     unread (inr w) shared room below used parent = rw (e, by-id id (w .1) shared room below used parent, w .2 .1, w .2 .2, w .0)
 
-    pub read-starts : {place : ℕ} → (0 < id) × ReadBy codes readers d id place → ObjectStarts file codes readers (object d) at (Raw place next id)
+    pub read-starts : {place : ℕ} → (0 < id) × ReadBy codes readers d id place → ObjectStarts file codes readers (object d) at (Raw place next (typeId id))
     unfolding valueAt bind byReader check
     read-starts w =
         let b = seven-next file small at e in
@@ -294,7 +294,7 @@ abbrev pub Starts : (file codes : List ℕ) → List Target → (room depth : �
 Starts file codes readers room depth x at used (RefusedValue n p) = (shared parent : ℕ) → walk file readers shared room depth x at used parent ≡ refused n p
 Starts file codes readers room depth x at used (Plain p) = (x ≡ plainSlot p) × Lawful p
 Starts file codes readers room depth x at used (NullValue next) = BeginsNull file readers room depth x at used next
-Starts file codes readers room depth x at used (Raw place from id) = Begins file codes readers room depth x at used place from id
+Starts file codes readers room depth x at used (Raw place from id) = Begins file codes readers room depth x at used place from (id .0)
 
 module _ (file codes : List ℕ) (readers : List Target) (room : ℕ) (x : L.Slot) (at used : ℕ) where
   pub too-deep : {depth : ℕ} → depth ≡ 0 → Starts file codes readers room depth x at used (RefusedValue 18 at)
@@ -319,7 +319,7 @@ module _ (file codes : List ℕ) (readers : List Target) (room : ℕ) (x : L.Slo
   some-depth (suc d) z = (d, refl)
 
   -- a slot of raw values
-  pub raw-starts : {depth place : ℕ} → (depth ≡ 0 → ⊥) → used < room → at ≤ length file → (t : Target) → x ≡ raw t → Invoked codes place t → Starts file codes readers room depth x at used (Raw place at 0)
+  pub raw-starts : {depth place : ℕ} → (depth ≡ 0 → ⊥) → used < room → at ≤ length file → (t : Target) → x ≡ raw t → Invoked codes place t → Starts file codes readers room depth x at used (Raw place at (typeId 0))
   unfolding valueAt
   raw-starts {depth} z h p t e i =
       let d = some-depth depth z in

@@ -5,7 +5,7 @@ use Prim.Native.Nat.{ℕ}
 use lib.Dec.{leb, eqb}
 use Rattle.ids.specs.declared.Position.{Position}
 use Rattle.ids.specs.declared.Position.the-variants.{Null as Null-position, At}
-use Rattle.ids.specs.Position.{positionOf}
+use Rattle.ids.specs.Position.{positionOf, typeId}
 use Rattle.reading.specs.Answer.{Answer, refused, read}
 use Rattle.reading.specs.Seven.{sevenAt}
 use Rattle.types.specs.Place.{kindAt, fitsAt}
@@ -35,7 +35,7 @@ identifyAs codes count target declared (At i) = readerAs codes count target decl
 -- an object, by its type id
 abbrev pub idAs : (at next id : ℕ) → Identified → Started
 idAs at next id Null = NullValue next
-idAs at next id (Reader place) = Raw place next id
+idAs at next id (Reader place) = Raw place next (typeId id)
 idAs at next id (Refused n) = RefusedValue n at
 
 abbrev pub objectAs : (codes : List ℕ) (count target declared at : ℕ) → Answer ℕ → Started
@@ -45,6 +45,6 @@ objectAs codes count target declared at (read id next) = idAs at next id (identi
 -- the value in a slot: 18, then 19, then its type id if it is an object
 abbrev pub startAs : (file codes : List ℕ) (count target room : ℕ) → Slot → (at used depth : ℕ) → Started
 startAs file codes count target room (Simple p) at used depth = Plain p
-startAs file codes count target room (RawSlot place) at used depth = cond (eqb depth 0) (RefusedValue 18 at) (cond (leb room used) (RefusedValue 19 at) (Raw place at 0))
+startAs file codes count target room (RawSlot place) at used depth = cond (eqb depth 0) (RefusedValue 18 at) (cond (leb room used) (RefusedValue 19 at) (Raw place at (typeId 0)))
 startAs file codes count target room (Object d) at used depth =
     cond (eqb depth 0) (RefusedValue 18 at) (cond (leb room used) (RefusedValue 19 at) (objectAs codes count target d at (sevenAt file at)))

@@ -6,11 +6,11 @@ ghost use mathlib.Core.Path.{_≡_};
 ghost use Rattle.objects.specs.Close.{keeps, closeAnswer, closeWords};
 
 // A value of a kind keeps its rule, where its children's rows are in the words.
-fn keeps_rule(file: &[u8], words: &[u32], kind: u32, row: u32) -> bool
-    ensures { λ r. ⌜ r ≡ keeps (now (file .entry)) (now (words .entry)) kind row ⌝ }
+fn keeps_rule(file: &[u8], words: &[u32], kind: u32, row: RowNumber) -> bool
+    ensures { λ r. ⌜ r ≡ keeps (now (file .entry)) (now (words .entry)) kind (row .0) ⌝ }
 {
     if kind == 33 {
-        return fonts::font_rule(file, words, row);
+        return fonts::font_rule(file, words, row.0);
     }
     true
 }
@@ -34,13 +34,13 @@ pub fn close(
             if keeps_rule(file, words, kind, h.row) {
                 let start = h.first;
                 let first = table::word(start);
-                let length = table::span(start, next);
+                let size = table::span(start, next);
                 table::put_row(
                     words,
-                    RowNumber(h.row),
+                    h.row,
                     kind,
                     first,
-                    length,
+                    size,
                     table::word(children),
                     h.parent,
                     h.detail,

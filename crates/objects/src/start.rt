@@ -5,20 +5,12 @@ use ids::Position;
 use ids::TypeId;
 use leaves::plain::Plain;
 ghost use mathlib.Core.Path.{_≡_};
-ghost use mathlib.Core.List.{List};
-ghost use Prim.Native.Nat.{suc, _≤_};
-ghost use lib.ListN.{length};
-ghost use Rattle.layout.specs.Target.{Target};
-ghost use Rattle.layout.specs.Slot as L;
-ghost use Rattle.layout.specs.Slot.{object};
-ghost use Rattle.types.specs.Code.{Stands, NoEnum};
-ghost use Rattle.readers.specs.declared.Readers.{Readers};
-ghost use Rattle.readers.specs.Listed.{Listed};
+ghost use Prim.Native.Nat.{suc};
 ghost use Rattle.ids.specs.Position.{positionOf};
-ghost use Rattle.heads.specs.Slots.{SlotIs};
 ghost use Rattle.reading.specs.Seven.{sevenAt};
 ghost use Rattle.objects.specs.Total.{readerAs, identifyAs, objectAs, startAs};
-ghost use Rattle.objects.specs.Start.{Has, positionIn, positionBy, positionOfSlot, Identifies, ObjectStarts, Starts};
+ghost use Rattle.objects.specs.Start.{positionIn, positionOfSlot};
+ghost use Rattle.objects.specs.Contracts.{IdentifiesAs, ObjectStartsAs, StartsAs};
 
 // Null; the type of the reader that a type id names; or a refusal's number.
 pub enum Identified {
@@ -27,12 +19,13 @@ pub enum Identified {
     Refused(u32),
 }
 
-// A refusal; a value without children that needs no reader list; null, and where it ends; or a raw value: its type, its first byte and its type id.
+// A refusal; a value without children that needs no reader list; null, and where it ends;
+// or a raw value: its type, its first byte and its type id.
 pub enum Started {
     Refused(u32, usize),
     Plain(Plain),
     Null(usize),
-    Raw(usize, usize, u32),
+    Raw(usize, usize, TypeId),
 }
 
 // The position in a list of 64 readers that a type id names; 0 for null.
@@ -64,7 +57,7 @@ pub fn reader_position(file: &[u8], slot: Slot, at: usize) -> usize
 
 // Reader i of a list with so many readers, if the type of that reader is at `target`, for an object declared as the type at `declared`: 13 before 14.
 fn reader_for(codes: &[u8], count: u32, target: usize, declared: usize, i: u32) -> Identified
-    ensures { λ r. ⌜ ((rd : Readers) (readers : List Target) (d : Target) → Has rd count (positionIn (suc i)) target → Listed (now (codes .entry)) rd readers → Stands (now (codes .entry)) declared d → NoEnum d → Identifies (now (codes .entry)) readers d (suc i) r) ⌝ }
+    ensures { λ r. ⌜ IdentifiesAs (now (codes .entry)) count target declared (suc i) r ⌝ }
     ensures { λ r. ⌜ r ≡ readerAs (now (codes .entry)) count target declared i ⌝ }
 {
     if count <= i {
@@ -88,7 +81,7 @@ fn reader_for(codes: &[u8], count: u32, target: usize, declared: usize, i: u32) 
 
 // The type that a type id names, for an object declared as the type at `declared`.
 fn identify(codes: &[u8], count: u32, target: usize, declared: usize, id: TypeId) -> Identified
-    ensures { λ r. ⌜ ((rd : Readers) (readers : List Target) (d : Target) → Has rd count (positionIn (id .0)) target → Listed (now (codes .entry)) rd readers → Stands (now (codes .entry)) declared d → NoEnum d → Identifies (now (codes .entry)) readers d (id .0) r) ⌝ }
+    ensures { λ r. ⌜ IdentifiesAs (now (codes .entry)) count target declared (id .0) r ⌝ }
     ensures { λ r. ⌜ r ≡ identifyAs (now (codes .entry)) count target declared (positionOf (id .0)) ⌝ }
 {
     match id.position() {
@@ -106,7 +99,7 @@ fn object_start(
     declared: usize,
     at: usize,
 ) -> Started
-    ensures { λ r. ⌜ ((rd : Readers) (readers : List Target) (d : Target) → Has rd count (positionBy (sevenAt (now (file .entry)) at)) target → Listed (now (codes .entry)) rd readers → Stands (now (codes .entry)) declared d → NoEnum d → ObjectStarts (now (file .entry)) (now (codes .entry)) readers (object d) at r) ⌝ }
+    ensures { λ r. ⌜ ObjectStartsAs (now (file .entry)) (now (codes .entry)) count target declared at r ⌝ }
     ensures { λ r. ⌜ r ≡ objectAs (now (codes .entry)) count target declared at (sevenAt (now (file .entry)) at) ⌝ }
 {
     match numbers::seven::seven_at(file, at) {
@@ -115,14 +108,15 @@ fn object_start(
             let id = value as u32;
             match identify(codes, count, target, declared, TypeId(id)) {
                 Identified::Null => Started::Null(next),
-                Identified::Reader(place) => Started::Raw(place, next, id),
+                Identified::Reader(place) => Started::Raw(place, next, TypeId(id)),
                 Identified::Refused(number) => Started::Refused(number, at),
             }
         }
     }
 }
 
-// The value in a slot: 18, then 19, then its type id if it is an object. The reader list has so many readers, and the type of the one that the type id names is at `target`.
+// The value in a slot: 18, then 19, then its type id if it is an object.
+// The reader list has so many readers, and the type of the one that the type id names is at `target`.
 pub fn start(
     file: &[u8],
     codes: &[u8],
@@ -134,7 +128,7 @@ pub fn start(
     used: u32,
     depth: u32,
 ) -> Started
-    ensures { λ r. ⌜ ((rd : Readers) (readers : List Target) (x : L.Slot) → Has rd count (positionOfSlot (now (file .entry)) slot at) target → Listed (now (codes .entry)) rd readers → SlotIs (now (codes .entry)) slot x → at ≤ length (now (file .entry)) → Starts (now (file .entry)) (now (codes .entry)) readers room depth x at used r) ⌝ }
+    ensures { λ r. ⌜ StartsAs (now (file .entry)) (now (codes .entry)) count target room slot at used depth r ⌝ }
     ensures { λ r. ⌜ r ≡ startAs (now (file .entry)) (now (codes .entry)) count target room slot at used depth ⌝ }
 {
     match slot {
@@ -146,7 +140,7 @@ pub fn start(
             if room <= used {
                 return Started::Refused(19, at);
             }
-            Started::Raw(place, at, 0)
+            Started::Raw(place, at, TypeId(0))
         }
         Slot::Object(declared) => {
             if depth == 0 {

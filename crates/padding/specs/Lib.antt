@@ -3,3 +3,4 @@ pub mod Table
 pub mod Measured
 pub mod Steps
 pub mod Padded
+pub mod Tallied

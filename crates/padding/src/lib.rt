@@ -8,9 +8,9 @@ ghost use Rattle.reading.specs.Seven.{sevenAt};
 ghost use Rattle.shortest.specs.Short.{numbered as startsWithId};
 ghost use Rattle.shortest.specs.Places.{countPlaces};
 ghost use Rattle.shortest.specs.Rewrites.{padding as paddingOf};
-ghost use Rattle.shortest.specs.Lists.{entriesPlaces, entriesEnd};
 ghost use Rattle.padding.specs.Table.{placesIn, tablePlaces, placesOf, paddingIn};
 ghost use Rattle.padding.specs.Measured.{measureOf};
+ghost use Rattle.padding.specs.Tallied.{Tallied};
 
 // A seven-bit number: its value, where it ends, and how many bytes it has beyond its shortest form.
 pub struct Measured {
@@ -104,7 +104,7 @@ struct Tally {
 // The padding of the lengths of so many names, the first of which stands at a place.
 fn entries_padding(file: &[u8], readers: u32, at: usize) -> Tally
     requires { ⌜ (length (now file) ≤ 16777216) × (at ≤ 2 ^ 33) ⌝ }
-    ensures { λ r. ⌜ (r .padding ≡ paddingOf (now (file .entry)) (entriesPlaces (now (file .entry)) readers at)) × (r .padding ≤ 16777216 * readers) × (r .at ≡ entriesEnd (now (file .entry)) readers at) ⌝ }
+    ensures { λ r. ⌜ Tallied (now (file .entry)) readers at r ⌝ }
 {
     let mut total = 0;
     let mut place = at;

@@ -11,11 +11,11 @@ pub fn tell_refusal(number: u32, place: usize) {
 }
 
 // Writes the first bytes of a buffer to standard output; nothing where it has fewer. A failure is told.
-pub fn write_start(buffer: &[u8], length: usize) {
-    if buffer.len() < length {
+pub fn write_start(buffer: &[u8], n: usize) {
+    if buffer.len() < n {
         return;
     }
-    tell_unless(io::write_all(1, &buffer[..length]));
+    tell_unless(io::write_all(1, &buffer[..n]));
 }
 
 // A refusal's line, and whether all of it was written.

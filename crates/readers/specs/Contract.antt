@@ -54,3 +54,15 @@ pub record ListsRead (x : Reading) (file codes codes′ targets starts : List �
 abbrev pub ReadsLists : (x : Reading) (file codes codes′ targets starts : List ℕ) → Lists → Type 0
 ReadsLists x file codes codes′ targets starts (Refused n p) = x ≡ refused n p
 ReadsLists x file codes codes′ targets starts (Read count shared next) = ListsRead x file codes codes′ targets starts count shared next
+
+-- behind the reader count
+abbrev pub ReadsCounted : (file : List ℕ) (n at : ℕ) (codes codes′ targets starts : List ℕ) → Lists → Type 0
+ReadsCounted file n at codes codes′ targets starts r = ReadsLists (countedAt file n at) file codes codes′ targets starts r
+
+-- from the reader count on
+abbrev pub ReadsListsAt : (file : List ℕ) (at : ℕ) (codes codes′ targets starts : List ℕ) → Lists → Type 0
+ReadsListsAt file at codes codes′ targets starts r = ReadsLists (listsOf file at) file codes codes′ targets starts r
+
+-- at most 64 readers are read, from a file of 01's size, and the arrays have their sizes
+abbrev pub Sized : (file : List ℕ) (n : ℕ) (codes targets starts : List ℕ) → Type 0
+Sized file n codes targets starts = (length file ≤ 16777216) × (n ≤ 64) × (length codes ≡ 7168) × (length targets ≡ 64) × (length starts ≡ 64)

@@ -1,5 +1,5 @@
 -- What the lent arrays hold when reading the reader list ends, for every input: what is not written stays as it was. Assumes nothing.
-use mathlib.Core.Path.{_≡_}
+use mathlib.Core.Path.{_≡_, refl}
 use mathlib.Core.Bool.{true, false, cond}
 use mathlib.Core.List.{List}
 use Prim.Native.Nat.{ℕ, zero, suc, _+_, _-_, _≤_, _<_}
@@ -74,6 +74,18 @@ readersFrom file (suc left) i used next c t s =
 -- n readers
 abbrev pub readersLeft : (file : List ℕ) (n next : ℕ) (codes targets starts : List ℕ) → Steps
 readersLeft file n next c t s = readersFrom file n 0 11 next c t s
+
+-- the arrays when n readers were read, or one was refused
+abbrev pub arraysLeft : (file : List ℕ) (n next : ℕ) (codes targets starts : List ℕ) → Arrays
+arraysLeft file n next c t s = readersLeft file n next c t s .1
+
+-- the three arrays of an equation
+pub each-array : {x : Arrays} {c t s : List ℕ} → x ≡ arrays c t s → (c ≡ x .codes) × ((t ≡ x .targets) × (s ≡ x .starts))
+each-array e = rw e (refl, (refl, refl))
+
+-- the answer and the three arrays of an equation
+pub each-part : {x : Steps} {r : Many} {c t s : List ℕ} → x ≡ (r, arrays c t s) → (r ≡ x .0) × ((c ≡ x .1 .codes) × ((t ≡ x .1 .targets) × (s ≡ x .1 .starts)))
+each-part e = rw e (refl, (refl, (refl, refl)))
 
 -- the lists, by the reader count
 abbrev pub behindCount : (file : List ℕ) → Answer ℕ → (codes targets starts : List ℕ) → Arrays

@@ -8,9 +8,9 @@ ghost use Rattle.answers.specs.Told.{told};
 ghost use Rattle.reading.specs.File.{readerAt};
 ghost use Rattle.readers.specs.Judged.{judgedName};
 ghost use Rattle.readers.specs.Parts.{upTo, versionAt, endOf, namedAt, Takes};
-ghost use Rattle.readers.specs.Contract.{countedAt, listsOf, ReadsLists};
+ghost use Rattle.readers.specs.Contract.{Sized, ReadsCounted, ReadsListsAt};
 ghost use Rattle.readers.specs.Turns.{Ends};
-ghost use Rattle.readers.specs.Left.{arrays, namedLeft, readerLeft, readersLeft, listsLeft};
+ghost use Rattle.readers.specs.Left.{namedLeft, readerLeft, readersLeft, arraysLeft, listsLeft};
 
 // The types and names of the first `count` readers.
 pub struct Readers {
@@ -118,9 +118,12 @@ fn readers_at(
     n: usize,
     at: usize,
 ) -> Many
-    requires { ⌜ (length (now file) ≤ 16777216) × (n ≤ 64) × (length (now codes) ≡ 7168) × (length (now targets) ≡ 64) × (length (now starts) ≡ 64) ⌝ }
+    requires { ⌜ Sized (now file) n (now codes) (now targets) (now starts) ⌝ }
     ensures { λ r. ⌜ Ends (now (file .entry)) (now (codes .entry)) (now (codes .exit)) (now (targets .exit)) (now (starts .exit)) n at r ⌝ }
-    ensures { λ r. ⌜ readersLeft (now (file .entry)) n at (now (codes .entry)) (now (targets .entry)) (now (starts .entry)) ≡ (r, arrays (now (codes .exit)) (now (targets .exit)) (now (starts .exit))) ⌝ }
+    ensures { λ r. ⌜ r ≡ readersLeft (now (file .entry)) n at (now (codes .entry)) (now (targets .entry)) (now (starts .entry)) .0 ⌝ }
+    ensures { λ _. ⌜ now (codes .exit) ≡ arraysLeft (now (file .entry)) n at (now (codes .entry)) (now (targets .entry)) (now (starts .entry)) .codes ⌝ }
+    ensures { λ _. ⌜ now (targets .exit) ≡ arraysLeft (now (file .entry)) n at (now (codes .entry)) (now (targets .entry)) (now (starts .entry)) .targets ⌝ }
+    ensures { λ _. ⌜ now (starts .exit) ≡ arraysLeft (now (file .entry)) n at (now (codes .entry)) (now (targets .entry)) (now (starts .entry)) .starts ⌝ }
 {
     let mut i = 0;
     let mut used: usize = 11;
@@ -157,9 +160,11 @@ fn counted(
     n: usize,
     at: usize,
 ) -> Lists
-    requires { ⌜ (length (now file) ≤ 16777216) × (n ≤ 64) × (length (now codes) ≡ 7168) × (length (now targets) ≡ 64) × (length (now starts) ≡ 64) ⌝ }
-    ensures { λ r. ⌜ ReadsLists (countedAt (now (file .entry)) n at) (now (file .entry)) (now (codes .entry)) (now (codes .exit)) (now (targets .exit)) (now (starts .exit)) r ⌝ }
-    ensures { λ _. ⌜ readersLeft (now (file .entry)) n at (now (codes .entry)) (now (targets .entry)) (now (starts .entry)) .1 ≡ arrays (now (codes .exit)) (now (targets .exit)) (now (starts .exit)) ⌝ }
+    requires { ⌜ Sized (now file) n (now codes) (now targets) (now starts) ⌝ }
+    ensures { λ r. ⌜ ReadsCounted (now (file .entry)) n at (now (codes .entry)) (now (codes .exit)) (now (targets .exit)) (now (starts .exit)) r ⌝ }
+    ensures { λ _. ⌜ now (codes .exit) ≡ arraysLeft (now (file .entry)) n at (now (codes .entry)) (now (targets .entry)) (now (starts .entry)) .codes ⌝ }
+    ensures { λ _. ⌜ now (targets .exit) ≡ arraysLeft (now (file .entry)) n at (now (codes .entry)) (now (targets .entry)) (now (starts .entry)) .targets ⌝ }
+    ensures { λ _. ⌜ now (starts .exit) ≡ arraysLeft (now (file .entry)) n at (now (codes .entry)) (now (targets .entry)) (now (starts .entry)) .starts ⌝ }
 {
     match readers_at(file, codes, targets, starts, n, at) {
         Many::Refused(number, place) => Lists::Refused(number, place),
@@ -170,7 +175,8 @@ fn counted(
     }
 }
 
-// The reader list and the shared count at a place. The targets' codes are left in `codes` from place 11 on, and where they and the names start in `targets` and `starts`.
+// The reader list and the shared count at a place. The targets' codes are left in `codes` from place 11 on,
+// and where they and the names start in `targets` and `starts`.
 pub fn read_lists(
     file: &[u8],
     codes: &mut [u8; 7168],
@@ -178,8 +184,10 @@ pub fn read_lists(
     starts: &mut [u32; 64],
     at: usize,
 ) -> Lists
-    ensures { λ r. ⌜ ReadsLists (listsOf (now (file .entry)) at) (now (file .entry)) (now (codes .entry)) (now (codes .exit)) (now (targets .exit)) (now (starts .exit)) r ⌝ }
-    ensures { λ _. ⌜ listsLeft (now (file .entry)) at (now (codes .entry)) (now (targets .entry)) (now (starts .entry)) ≡ arrays (now (codes .exit)) (now (targets .exit)) (now (starts .exit)) ⌝ }
+    ensures { λ r. ⌜ ReadsListsAt (now (file .entry)) at (now (codes .entry)) (now (codes .exit)) (now (targets .exit)) (now (starts .exit)) r ⌝ }
+    ensures { λ _. ⌜ now (codes .exit) ≡ listsLeft (now (file .entry)) at (now (codes .entry)) (now (targets .entry)) (now (starts .entry)) .codes ⌝ }
+    ensures { λ _. ⌜ now (targets .exit) ≡ listsLeft (now (file .entry)) at (now (codes .entry)) (now (targets .entry)) (now (starts .entry)) .targets ⌝ }
+    ensures { λ _. ⌜ now (starts .exit) ≡ listsLeft (now (file .entry)) at (now (codes .entry)) (now (targets .entry)) (now (starts .entry)) .starts ⌝ }
 {
     if 16777216 < file.len() {
         return Lists::Refused(9, 0);

@@ -1,8 +1,9 @@
 -- The kinds of the rows that have no parent, in an array. Assumes nothing.
 use mathlib.Core.Path.{_≡_}
-use mathlib.Core.List.{List, _++_}
-use Prim.Native.Nat.{ℕ, _-_}
-use lib.ListN.{length, replicate}
+use mathlib.Core.List.{List, [], _++_}
+use Prim.Native.Nat.{ℕ, _-_, _≤_}
+use lib.ListN.{length, take, replicate}
+use Rattle.reading.specs.File.{rootKind}
 
 -- kinds in an array of 257, for the primary and the shared objects; 01: "shared count (0 to 256)"
 unfoldable pub padded : List ℕ → List ℕ
@@ -12,3 +13,7 @@ padded kinds = kinds ++ replicate (257 - length kinds) 0
 pub record Holds (array : List ℕ) (n : ℕ) (kinds : List ℕ) : Type 0 where
   pub array-is : array ≡ padded kinds
   pub count : n ≡ length kinds
+
+-- the kind of a row is put behind those that are found, if the row has no parent and there is room
+abbrev pub Notes : (entry exit : List ℕ) (n parent kind r : ℕ) → Type 0
+Notes entry exit n parent kind r = (found : List ℕ) → Holds entry n found → length found ≤ 257 → Holds exit r (take 257 (found ++ rootKind parent kind []))

@@ -3,8 +3,8 @@ use mathlib.Core.Path.{_≡_, refl}
 use mathlib.Core.Bool.{Bool, true, false}
 use mathlib.Core.List.{List, [], _∷_, _++_}
 use Prim.Native.Nat.{ℕ, _≤_}
-use lib.ListN.{length}
-use Rattle.layout.specs.Rows.{Row, row}
+use lib.ListN.{length, drop}
+use Rattle.layout.specs.Rows.{Row, row, flat}
 use Rattle.reading.specs.Answer.{Answer, refused, check}
 use Rattle.reading.specs.Resource.{suits}
 use Rattle.reading.specs.File.{rootKinds, judged}
@@ -53,3 +53,7 @@ leftOf (Wrong first) exit cleared = exit
 pub record Settles (shared : List ℕ) (rows : List Row) (exit cleared : List ℕ) (r : Settled) : Type 0 where
   pub answers : r ≡ settledOf shared rows
   pub leaves : exit ≡ leftOf r exit cleared
+
+-- drafts that stand in the words are judged, and become the rows of 01
+abbrev pub SettlesDrafts : (entry exit : List ℕ) (used : ℕ) → Settled → Type 0
+SettlesDrafts entry exit used r = (rows : List Row) (rest : List ℕ) → Drafted entry used rows rest → Settles (drop 1 (rootKinds rows)) rows exit (flat rows ++ rest) r

@@ -1,16 +1,14 @@
-// The last pass over the rows (01, "17 last, in row order"): it judges whether each shared reference names a resource of the type that it wants, and clears the kind that the reference's row has in the place of its number of children.
+// The last pass over the rows (01, "17 last, in row order"): it judges whether each shared reference names a resource
+// of the type that it wants, and clears the kind that the reference's row has in the place of its number of children.
 use ids::Position;
 use ids::ResourceId;
 use ids::RowNumber;
 ghost use mathlib.Core.Path.{_≡_};
-ghost use mathlib.Core.List.{List, [], _++_};
-ghost use Prim.Native.Nat.{ℕ, _≤_};
-ghost use lib.ListN.{length, take, drop, set};
-ghost use Rattle.layout.specs.Rows.{Row, resource, flat};
+ghost use lib.ListN.{drop, set};
+ghost use Rattle.layout.specs.Rows.{resource};
 ghost use Rattle.reading.specs.Resource.{suit, suits};
-ghost use Rattle.reading.specs.File.{rootKind, rootKinds};
-ghost use Rattle.resources.specs.Settled.{Drafted, Settles};
-ghost use Rattle.resources.specs.Roots.{padded, Holds};
+ghost use Rattle.resources.specs.Settled.{SettlesDrafts};
+ghost use Rattle.resources.specs.Roots.{padded, Notes};
 ghost use Rattle.resources.specs.Total.{rootsOf, rowSettled, rowsSettled, settleOf};
 
 // Every reference names a resource that suits it, or the first byte of the first that does not.
@@ -30,7 +28,7 @@ fn put_word(words: &mut [u32], at: usize, value: u32)
 
 // Puts the kind of a row that has no parent behind the `n` kinds before it, where there is room; how many there are then.
 fn note(kinds: &mut [u32; 257], n: usize, parent: u32, kind: u32) -> usize
-    ensures { λ r. ⌜ ((found : List ℕ) → Holds (now (kinds .entry)) n found → length found ≤ 257 → Holds (now (kinds .exit)) r (take 257 (found ++ rootKind parent kind []))) ⌝ }
+    ensures { λ r. ⌜ Notes (now (kinds .entry)) (now (kinds .exit)) n parent kind r ⌝ }
 {
     if parent != 0 {
         return n;
@@ -120,7 +118,7 @@ fn judge_rows(words: &mut [u32], used: u32, kinds: &[u32]) -> Settled
 
 // Judges the references of the first `used` rows, and clears their marks: drafts that stand in the words become the rows of 01.
 pub fn settle(words: &mut [u32], used: u32) -> Settled
-    ensures { λ r. ⌜ ((rows : List Row) (rest : List ℕ) → Drafted (now (words .entry)) used rows rest → Settles (drop 1 (rootKinds rows)) rows (now (words .exit)) (flat rows ++ rest) r) ⌝ }
+    ensures { λ r. ⌜ SettlesDrafts (now (words .entry)) (now (words .exit)) used r ⌝ }
     ensures { λ r. ⌜ r ≡ settleOf (now (words .entry)) used .0 ⌝ }
     ensures { λ _. ⌜ now (words .exit) ≡ settleOf (now (words .entry)) used .1 ⌝ }
 {

@@ -2,3 +2,5 @@
 pub mod Pending
 pub mod Contract
 pub mod Loaded
+pub mod Writes
+pub mod Whole

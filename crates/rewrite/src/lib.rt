@@ -3,20 +3,14 @@ use ids::RowNumber;
 use load::Loading;
 use numbers::shortest::Placed;
 ghost use mathlib.Core.Path.{_≡_};
-ghost use mathlib.Core.List.{List, [], _∷_, _++_};
-ghost use Prim.Native.Nat.{ℕ, _+_, _≤_, _<_, _^_};
-ghost use lib.ListN.{length, drop};
-ghost use Rattle.layout.specs.File.{header};
-ghost use Rattle.reading.specs.Seven.{sevenAt};
-ghost use Rattle.reading.specs.File.{loadOf, tableOf};
-ghost use Rattle.readers.specs.Judged.{judgedName};
-ghost use Rattle.shortest.specs.File.{shortFile};
-ghost use Rattle.shortest.specs.Places.{numberOf, past, countPlaces};
-ghost use Rattle.shortest.specs.Lists.{entriesPlaces, entriesEnd};
-ghost use Rattle.shortest.specs.Rewrite.{rewriteOf, outputOf, wordsOf};
+ghost use Prim.Native.Nat.{_≤_, _^_};
+ghost use lib.ListN.{length};
+ghost use Rattle.shortest.specs.Places.{countPlaces};
 ghost use Rattle.padding.specs.Table.{placesIn, tablePlaces};
-ghost use Rattle.rewrite.specs.Pending.{Pending, LengthPut};
+ghost use Rattle.rewrite.specs.Pending.{LengthPut};
 ghost use Rattle.rewrite.specs.Contract.{answerOf, Ready, Fits};
+ghost use Rattle.rewrite.specs.Writes.{Writes, WritesNumber, WritesLast, WritesEntries, WritesRest, WritesFile};
+ghost use Rattle.rewrite.specs.Whole.{rewritten, outputLeft, wordsLeft};
 
 // A refusal's number and place, or the length of the rewritten file.
 pub enum Rewriting {
@@ -39,7 +33,7 @@ fn write_number(
     value: u32,
     next: usize,
 ) -> Cursor
-    ensures { λ r. ⌜ ((base places whole : List ℕ) → value ≡ numberOf (sevenAt (now (file .entry)) at) → next ≡ past (sevenAt (now (file .entry)) at) at → Pending (now (file .entry)) base (now (out .entry)) (c .from) (c .to) (at ∷ places) whole → Pending (now (file .entry)) base (now (out .exit)) (r .from) (r .to) places whole) ⌝ }
+    ensures { λ r. ⌜ WritesNumber (now (file .entry)) (now (out .entry)) (now (out .exit)) c at value next r ⌝ }
 {
     let from = c.from;
     let to = c.to;
@@ -64,7 +58,7 @@ fn write_number(
 
 // The same for a text's count, which stands at a place; other kinds have none.
 fn write_count(file: &[u8], out: &mut [u8], c: Cursor, kind: u32, at: usize) -> Cursor
-    ensures { λ r. ⌜ ((base places whole : List ℕ) → Pending (now (file .entry)) base (now (out .entry)) (c .from) (c .to) (countPlaces (now (file .entry)) kind at ++ places) whole → Pending (now (file .entry)) base (now (out .exit)) (r .from) (r .to) places whole) ⌝ }
+    ensures { λ r. ⌜ Writes (now (file .entry)) (now (out .entry)) (now (out .exit)) c (countPlaces (now (file .entry)) kind at) r ⌝ }
 {
     if kind == 13 {
         let count = padding::measure(file, at);
@@ -75,7 +69,7 @@ fn write_count(file: &[u8], out: &mut [u8], c: Cursor, kind: u32, at: usize) -> 
 
 // The same for a row's numbers.
 fn write_row(file: &[u8], words: &[u32], out: &mut [u8], c: Cursor, row: u32) -> Cursor
-    ensures { λ r. ⌜ ((base places whole : List ℕ) → Pending (now (file .entry)) base (now (out .entry)) (c .from) (c .to) (placesIn (now (file .entry)) (now (words .entry)) row ++ places) whole → Pending (now (file .entry)) base (now (out .exit)) (r .from) (r .to) places whole) ⌝ }
+    ensures { λ r. ⌜ Writes (now (file .entry)) (now (out .entry)) (now (out .exit)) c (placesIn (now (file .entry)) (now (words .entry)) row) r ⌝ }
 {
     let at = RowNumber(row).position();
     let kind = words::word(words, at);
@@ -91,7 +85,7 @@ fn write_row(file: &[u8], words: &[u32], out: &mut [u8], c: Cursor, row: u32) ->
 
 // The same for the numbers of the first rows.
 fn write_rows(file: &[u8], words: &[u32], out: &mut [u8], c: Cursor, rows: u32) -> Cursor
-    ensures { λ r. ⌜ ((base whole : List ℕ) → Pending (now (file .entry)) base (now (out .entry)) (c .from) (c .to) (tablePlaces (now (file .entry)) (now (words .entry)) rows 0) whole → Pending (now (file .entry)) base (now (out .exit)) (r .from) (r .to) [] whole) ⌝ }
+    ensures { λ r. ⌜ WritesLast (now (file .entry)) (now (out .entry)) (now (out .exit)) c (tablePlaces (now (file .entry)) (now (words .entry)) rows 0) r ⌝ }
 {
     let mut done = c;
     let mut i = 0;
@@ -112,7 +106,7 @@ struct Behind {
 // The same for the lengths of so many names, the first of which stands at a place.
 fn write_entries(file: &[u8], out: &mut [u8], c: Cursor, readers: u32, at: usize) -> Behind
     requires { ⌜ (length (now file) ≤ 16777216) × (at ≤ 2 ^ 33) ⌝ }
-    ensures { λ r. ⌜ (r .at ≡ entriesEnd (now (file .entry)) readers at) × ((base places whole : List ℕ) → Pending (now (file .entry)) base (now (out .entry)) (c .from) (c .to) (entriesPlaces (now (file .entry)) readers at ++ places) whole → Pending (now (file .entry)) base (now (out .exit)) (r .from) (r .to) places whole) ⌝ }
+    ensures { λ r. ⌜ WritesEntries (now (file .entry)) (now (out .entry)) (now (out .exit)) c readers at r ⌝ }
 {
     let mut done = c;
     let mut place = at;
@@ -134,7 +128,7 @@ fn write_entries(file: &[u8], out: &mut [u8], c: Cursor, readers: u32, at: usize
 
 // Copies what is left of the file.
 fn write_rest(file: &[u8], out: &mut [u8], c: Cursor)
-    ensures { λ _. ⌜ ((base whole : List ℕ) → Pending (now (file .entry)) base (now (out .entry)) (c .from) (c .to) [] whole → now (out .exit) ≡ whole ++ drop (length whole) base) ⌝ }
+    ensures { λ _. ⌜ WritesRest (now (file .entry)) (now (out .entry)) (now (out .exit)) c ⌝ }
 {
     let from = c.from;
     let to = c.to;
@@ -146,22 +140,22 @@ fn write_rest(file: &[u8], out: &mut [u8], c: Cursor)
 }
 
 // Writes the file's length into the header.
-fn put_length(out: &mut [u8], length: usize)
-    ensures { λ _. ⌜ LengthPut length (now (out .entry)) (now (out .exit)) ⌝ }
+fn put_length(out: &mut [u8], size: usize)
+    ensures { λ _. ⌜ LengthPut size (now (out .entry)) (now (out .exit)) ⌝ }
 {
     if out.len() < 10 {
         return;
     }
-    out[6] = (length % 256) as u8;
-    out[7] = (length / 256 % 256) as u8;
-    out[8] = (length / 65536 % 256) as u8;
-    out[9] = (length / 16777216 % 256) as u8;
+    out[6] = (size % 256) as u8;
+    out[7] = (size / 256 % 256) as u8;
+    out[8] = (size / 65536 % 256) as u8;
+    out[9] = (size / 16777216 % 256) as u8;
 }
 
 // Writes the whole file, which has the length needed.
 fn write(file: &[u8], words: &[u32], out: &mut [u8], rows: u32, readers: u32, needed: usize)
     requires { ⌜ length (now file) ≤ 16777216 ⌝ }
-    ensures { λ _. ⌜ ((w : Ready (now (file .entry)) (now (words .entry)) readers rows) → needed ≡ length (shortFile (w .tree)) → needed ≤ length (now (out .entry)) → now (out .exit) ≡ shortFile (w .tree) ++ drop needed (now (out .entry))) ⌝ }
+    ensures { λ _. ⌜ WritesFile (now (file .entry)) (now (words .entry)) (now (out .entry)) (now (out .exit)) readers rows needed ⌝ }
 {
     let count = padding::measure(file, 10);
     let first = count.next;
@@ -199,9 +193,9 @@ fn fit(file: &[u8], words: &mut [u32], out: &mut [u8], rows: u32, readers: u32) 
 
 // Loads a file into the words, and writes it with its numbers in their shortest forms into the output.
 pub fn rewrite(file: &[u8], words: &mut [u32], out: &mut [u8]) -> Rewriting
-    ensures { λ r. ⌜ r ≡ answerOf (rewriteOf judgedName (now (file .entry)) (length (now (words .entry))) (length (now (out .entry)))) ⌝ }
-    ensures { λ _. ⌜ now (out .exit) ≡ outputOf (rewriteOf judgedName (now (file .entry)) (length (now (words .entry))) (length (now (out .entry)))) (now (out .entry)) ⌝ }
-    ensures { λ _. ⌜ now (words .exit) ≡ wordsOf (rewriteOf judgedName (now (file .entry)) (length (now (words .entry))) (length (now (out .entry)))) (tableOf (loadOf judgedName (now (file .entry)) (length (now (words .entry)))) (length (now (words .entry)))) ⌝ }
+    ensures { λ r. ⌜ r ≡ answerOf (rewritten (now (file .entry)) (now (words .entry)) (now (out .entry))) ⌝ }
+    ensures { λ _. ⌜ now (out .exit) ≡ outputLeft (now (file .entry)) (now (words .entry)) (now (out .entry)) ⌝ }
+    ensures { λ _. ⌜ now (words .exit) ≡ wordsLeft (now (file .entry)) (now (words .entry)) (now (out .entry)) ⌝ }
 {
     match load::load(file, words) {
         Loading::Refused { number, place } => Rewriting::Refused { number, place },

@@ -37,7 +37,7 @@ leafAnswer u (read a next) = Done (inWord (u + 1)) next
 -- and what the words then hold: its row, if they have it
 abbrev pub leafWords : {A : Type 0} → List ℕ → Head → (kind mark : ℕ) → Answer A → List ℕ
 leafWords w h kind mark (refused n p) = w
-leafWords w h kind mark (read a next) = putRow w (h .row) (valueRow h kind mark next)
+leafWords w h kind mark (read a next) = putRow w (h .row .0) (valueRow h kind mark next)
 
 -- the row of a value without children that ends at `next`
 abbrev pub leafRow : Head → (kind : ℕ) → Wants → (next : ℕ) → Row
@@ -46,7 +46,7 @@ leafRow h kind wants next = row kind (h .first) (next - h .first) 0 (h .parent) 
 -- its bytes were read, or refused
 abbrev pub leafOf : {A : Type 0} → Head → (kind : ℕ) → Wants → Answer A → Answer Seen
 leafOf h kind wants (refused n p) = refused n p
-leafOf h kind wants (read a next) = read (suc (h .row), leafRow h kind wants next ∷ []) next
+leafOf h kind wants (read a next) = read (suc (h .row .0), leafRow h kind wants next ∷ []) next
 
 -- whether something was read, and where it ended
 unfoldable pub mute : {A : Type 0} → Answer A → Answer (Unit {0})
@@ -54,9 +54,9 @@ mute (refused n p) = refused n p
 mute (read a e) = read tt e
 
 -- where the words have the row and the numbers fit
-pub leaf-walked : {A : Type 0} (w : List ℕ) (h : Head) (kind : ℕ) (wants : Wants) (x : Answer A) → Free w (h .row) → Ahead (h .first) x
-    → Walked w (leafWords w h kind (marks wants) x) (h .row) (leafOf h kind wants x) (leafAnswer (h .row) x)
+pub leaf-walked : {A : Type 0} (w : List ℕ) (h : Head) (kind : ℕ) (wants : Wants) (x : Answer A) → Free w (h .row .0) → Ahead (h .first) x
+    → Walked w (leafWords w h kind (marks wants) x) (h .row .0) (leafOf h kind wants x) (leafAnswer (h .row .0) x)
 leaf-walked w h kind wants (refused n p) f a = record { answers = refl; writes = refl }
 leaf-walked w h kind wants (read v next) f a =
-    let u : inWord (h .row + 1) ≡ suc (h .row) = in-word (h .row + 1) (f .few) ∙ add-one (h .row) in
-    record { answers = rw u; writes = rw (value-row h kind (marks wants) next (a .0) (a .1)) (put-leaf w (h .row) kind (h .first) (next - h .first) (h .parent) (h .detail) wants f) }
+    let u : inWord (h .row .0 + 1) ≡ suc (h .row .0) = in-word (h .row .0 + 1) (f .few) ∙ add-one (h .row .0) in
+    record { answers = rw u; writes = rw (value-row h kind (marks wants) next (a .0) (a .1)) (put-leaf w (h .row .0) kind (h .first) (next - h .first) (h .parent) (h .detail) wants f) }

@@ -33,7 +33,7 @@ unfolding written drafts
 same-draft w u r s e = rw e
 
 -- a row's six words, whatever it wants of a resource
-abbrev pub rowOf : (kind first length children parent detail : ℕ) → Row
+abbrev pub rowOf : (kind first size children parent detail : ℕ) → Row
 rowOf kind first z children parent detail = row kind first z children parent detail nothing
 
 -- one row, where the words have it; else they stay

@@ -7,9 +7,10 @@ ghost use Rattle.table.specs.Written.{putRow, rowOf};
 ghost use Rattle.table.specs.Leaf.{inWord, leafAnswer, leafWords};
 ghost use Rattle.answers.specs.Told.{told};
 
-// What is known of a value before its bytes are read: its row's number, its first byte, its parent's row number plus 1, and its type id or resource id.
+// What is known of a value before its bytes are read: its row's number, its first byte, and the words that its row
+// has for its parent's row number plus 1 and for its type id or resource id.
 pub struct Head {
-    pub row: u32,
+    pub row: RowNumber,
     pub first: usize,
     pub parent: u32,
     pub detail: u32,
@@ -27,12 +28,12 @@ pub fn put_row(
     row: RowNumber,
     kind: u32,
     first: u32,
-    length: u32,
+    size: u32,
     children: u32,
     parent: u32,
     detail: u32,
 )
-    ensures { λ _. ⌜ now (words .exit) ≡ putRow (now (words .entry)) (row .0) (rowOf kind first length children parent detail) ⌝ }
+    ensures { λ _. ⌜ now (words .exit) ≡ putRow (now (words .entry)) (row .0) (rowOf kind first size children parent detail) ⌝ }
 {
     let at = row.position();
     if words.len() < 6 {
@@ -43,7 +44,7 @@ pub fn put_row(
     }
     words[at] = kind;
     words[at + 1] = first;
-    words[at + 2] = length;
+    words[at + 2] = size;
     words[at + 3] = children;
     words[at + 4] = parent;
     words[at + 5] = detail;
@@ -68,25 +69,16 @@ pub fn span(first: usize, next: usize) -> u32
 
 // A value without children, once its bytes are read; `mark` is the kind that a reference wants, else 0.
 pub fn leaf(words: &mut [u32], h: Head, kind: u32, mark: u32, read: Number) -> Walk
-    ensures { λ r. ⌜ r ≡ leafAnswer (h .row) (told read) ⌝ }
+    ensures { λ r. ⌜ r ≡ leafAnswer (h .row .0) (told read) ⌝ }
     ensures { λ _. ⌜ now (words .exit) ≡ leafWords (now (words .entry)) h kind mark (told read) ⌝ }
 {
     match read {
         Number::Refused(number, place) => Walk::Refused { number, place },
         Number::Read(_, next) => {
             let first = word(h.first);
-            let length = span(h.first, next);
-            let used = std::num::wrapping_add_u32(h.row, 1);
-            put_row(
-                words,
-                RowNumber(h.row),
-                kind,
-                first,
-                length,
-                mark,
-                h.parent,
-                h.detail,
-            );
+            let size = span(h.first, next);
+            let used = std::num::wrapping_add_u32(h.row.0, 1);
+            put_row(words, h.row, kind, first, size, mark, h.parent, h.detail);
             Walk::Done { next, used }
         }
     }

@@ -3,7 +3,7 @@ ghost use mathlib.Core.Path.{_≡_};
 ghost use mathlib.Core.Bool.{cond};
 ghost use Prim.Native.Nat.{_<_};
 ghost use Rattle.layout.specs.Named.{plain};
-ghost use Rattle.types.specs.Place.{kindAt, valueKind, placeAfter, equalAt, fitsAt};
+ghost use Rattle.types.specs.Place.{kindAt, placeAfter, equalAt, fitsAt};
 ghost use Rattle.types.specs.Judge.{isKnown, headOk, valueOk, argumentsOk, enumOk, readerOk};
 ghost use Rattle.types.specs.Contract.{Resolves};
 use names::Named;
@@ -16,19 +16,6 @@ pub fn kind_at(codes: &[u8], a: usize) -> u8
         return codes[a] % 64;
     }
     0
-}
-
-// The types of a kind are value types.
-pub fn is_value(kind: u8) -> bool
-    ensures { λ r. ⌜ r ≡ valueKind kind ⌝ }
-{
-    if names::within(1, 12, kind) {
-        return true;
-    }
-    if names::within(15, 16, kind) {
-        return true;
-    }
-    names::within(20, 30, kind)
 }
 
 // The place after the type at a place. The first argument of a type stands at the next place, the second after the first.

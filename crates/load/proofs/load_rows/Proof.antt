@@ -1,6 +1,5 @@
 use native.Mathlib.Omega.{arith}
 use Rattle.reading.specs.Reads.{small-by-index}
-use Rattle.table.specs.Leaf.{mute}
 use Rattle.load.specs.Laws.{header-read, header-refused, file-behind, loads-refused}
 use borrow.Author.Needs.{needs}
 use Rattle.load.proofs.load_rows.Statement.{statement}
@@ -16,7 +15,6 @@ enum-known-at : tie.Need-enum-known-at
 enum-known-at c = search needs
 
 lists-requires : tie.Need-lists-requires
-unfolding mute
 lists-requires c κs =
     let file = c .before .before .before .before .before .before .before .args .file .now in
     let small = small-by-index file (λ i h. omega (arith, c .before .before .before .before .before .before .shared-slice-known .given i)) in
@@ -24,7 +22,6 @@ lists-requires c κs =
     (h .short, h .inside, c .before .before .before .before .before .before .before .pre)
 
 returns : tie.Need-returns
-unfolding mute
 returns c =
     let file = c .before .before .before .before .before .before .args .file .now in
     loads-refused _ (c .before .before .before .before .before .before .args .words .now) _ (header-refused file (c .before .before .before .before .before .before .args .room) (rw (c .before .number .given .1) at (c .before .before .before .header .ensures)))
@@ -33,7 +30,6 @@ same-length : tie.Need-same-length
 same-length c = search needs
 
 returns-2 : tie.Need-returns-2
-unfolding mute
 returns-2 c =
     let file = c .before .before .before .before .before .before .before .before .before .before .args .file .now in
     let small = small-by-index file (λ i h. omega (arith, c .before .before .before .before .before .before .before .before .before .shared-slice-known .given i)) in

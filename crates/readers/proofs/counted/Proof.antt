@@ -44,7 +44,7 @@ same-length-3 c = search needs
 returns : tie.Need-returns
 returns c =
     let e = c .before .before .before .before .before .before .before .before .before .readers-at .ensures in
-    (readers-refused _ _ _ (rw (c .before .number .given .1) at (e .0)), rw (e .1))
+    (readers-refused _ _ _ (rw (c .before .number .given .1) at (e .0)), e .1 .1)
 
 same-length-4 : tie.Need-same-length-4
 same-length-4 c = search needs
@@ -58,7 +58,7 @@ same-length-6 c = search needs
 returns-2 : tie.Need-returns-2
 returns-2 c =
     let e = c .before .before .before .before .before .before .before .before .before .before .before .before .before .readers-at .ensures in
-    (shared-refused _ _ _ (rw (c .before .before .before .before .before .end .given .1) at (e .0)) (sym (c .before .before .before .up-to .ensures) ∙ ap told (c .before .number2 .given .1)), rw (e .1))
+    (shared-refused _ _ _ (rw (c .before .before .before .before .before .end .given .1) at (e .0)) (sym (c .before .before .before .up-to .ensures) ∙ ap told (c .before .number2 .given .1)), e .1 .1)
 
 same-length-7 : tie.Need-same-length-7
 same-length-7 c = search needs
@@ -74,7 +74,7 @@ returns-3 c =
     let p = c .before .before .before .before .before .before .before .before .before .before .before .before .before .before .before .before .before .before .before .before .before .pre in
     let e = c .before .before .before .before .before .before .before .before .before .before .before .before .before .readers-at .ensures in (
       shared-read _ _ _ (rw (c .before .before .before .before .before .end .given .1) at (e .0)) (p .1) (c .before .before .before .before .before .before .before .before .before .before .before .before .codes .given ∙ p .2) (c .before .before .before .before .before .before .before .before .before .before .targets .given ∙ p .3) (c .before .before .before .before .before .before .before .before .starts .given ∙ p .4) (sym (c .before .before .before .up-to .ensures) ∙ ap told (c .before .shared .given .1)),
-      rw (e .1),
+      e .1 .1,
     )
 
 pub counted-spec : {M : Type 1} → statement M

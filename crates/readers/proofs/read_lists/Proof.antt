@@ -3,13 +3,13 @@ use mathlib.Core.Path.{sym, ap, _∙_}
 use Rattle.answers.specs.Told.{told}
 use Rattle.readers.proofs.Parts.{up-to-bound}
 use Rattle.readers.proofs.Whole.{lists-long, lists-refused, lists-counted}
-use Rattle.readers.specs.Left.{left-long, left-counted}
+use Rattle.readers.specs.Left.{left-long, left-counted, each-array}
 use borrow.Author.Needs.{needs}
 use Rattle.readers.proofs.read_lists.Statement.{statement}
 use Rattle.readers.proofs.read_lists.Tie as tie
 
 returns : tie.Need-returns
-returns c = (lists-long _ _ (c .if1 .taken), left-long _ _ _ _ _ (c .if1 .taken))
+returns c = (lists-long _ _ (c .if1 .taken), each-array (left-long _ _ _ _ _ (c .if1 .taken)))
 
 up-to-requires : tie.Need-up-to-requires
 up-to-requires c κs = search needs
@@ -27,14 +27,14 @@ returns-2 : tie.Need-returns-2
 returns-2 c =
     let h = c .before .before .before .before .if1 .left in
     let n = sym (c .before .before .before .up-to .ensures) ∙ ap told (c .before .number .given .1) in
-    (lists-refused _ _ h n, left-counted _ _ _ _ _ h ∙ rw n)
+    (lists-refused _ _ h n, each-array (left-counted _ _ _ _ _ h ∙ rw n))
 
 returns-3 : tie.Need-returns-3
 returns-3 c =
     let a = c .before .before .before .before .before .before .before .before .before .before .args in
     let h = c .before .before .before .before .before .before .before .before .if1 .left in
     let n = sym (c .before .before .before .before .before .before .before .up-to .ensures) ∙ ap told (c .before .before .before .before .before .n .given .1) in
-    (rw (lists-counted (a .file .now) (a .at) h n) (c .counted .ensures .0), left-counted _ _ _ _ _ h ∙ rw n (c .counted .ensures .1))
+    (rw (lists-counted (a .file .now) (a .at) h n) (c .counted .ensures .0), rw (left-counted _ _ _ _ _ h, n) (c .counted .ensures .1))
 
 pub read-lists-spec : {M : Type 1} → statement M
 read-lists-spec =

@@ -5,7 +5,7 @@ use native.Mathlib.Omega.{arith}
 use lib.ListN.{length}
 use Rattle.readers.specs.Turns.{Reached}
 use Rattle.readers.proofs.Turns.{start, refuse, stop, turn}
-use Rattle.readers.specs.Left.{readersFrom, readersLeft, readers-start, reader-turn, readers-end}
+use Rattle.readers.specs.Left.{readersFrom, readersLeft, readers-start, reader-turn, readers-end, each-part}
 use borrow.Author.Needs.{needs}
 use Rattle.readers.proofs.readers_at.Statement.{statement}
 use Rattle.readers.proofs.readers_at.Tie as tie
@@ -41,7 +41,7 @@ returns c =
     let loop = c .before .before .before .before .before .before .before .before .loop in
     let e = c .before .before .before .before .before .reader-at .ensures in
     let one = sym (c .before .number .given .1) ∙ ap (λ o. o .0) (sym (e .1)) in
-    (refuse (loop .inv .3) (c .before .before .before .before .before .before .before .loop-test .taken) (rw (c .before .number .given .1) at (e .0)), sym (loop .inv .4) ∙ reader-turn _ _ _ _ _ _ _ _ _ _ (c .before .before .before .before .before .before .before .loop-test .taken) one (ap (λ o. o .1) (sym (e .1))))
+    (refuse (loop .inv .3) (c .before .before .before .before .before .before .before .loop-test .taken) (rw (c .before .number .given .1) at (e .0)), each-part (sym (loop .inv .4) ∙ reader-turn _ _ _ _ _ _ _ _ _ _ (c .before .before .before .before .before .before .before .loop-test .taken) one (ap (λ o. o .1) (sym (e .1)))))
 
 enum-known-first : tie.Need-enum-known-first Inv-loop μ-loop
 enum-known-first c = search needs
@@ -91,7 +91,7 @@ same-length-6 : tie.Need-same-length-6 Inv-loop μ-loop
 same-length-6 c = search needs
 
 returns-2 : tie.Need-returns-2 Inv-loop μ-loop
-returns-2 c = (stop (c .before .loop .inv .3) (c .loop-test .left), sym (c .before .loop .inv .4) ∙ readers-end _ _ _ _ _ _ _ _ (c .loop-test .left))
+returns-2 c = (stop (c .before .loop .inv .3) (c .loop-test .left), each-part (sym (c .before .loop .inv .4) ∙ readers-end _ _ _ _ _ _ _ _ (c .loop-test .left)))
 
 pub readers-at-spec : {M : Type 1} → statement M
 readers-at-spec =

@@ -6,7 +6,7 @@ use Rattle.rewrite.proofs.put_length.Statement.{statement}
 use Rattle.rewrite.proofs.put_length.Tie as tie
 
 returns : tie.Need-returns
-returns c = too-short (c .before .args .length) (c .before .args .out .now) (c .if1 .taken)
+returns c = too-short (c .before .args .size) (c .before .args .out .now) (c .if1 .taken)
 
 cast-out : tie.Need-cast-out
 cast-out c = search needs
@@ -36,7 +36,7 @@ same-length : tie.Need-same-length
 same-length c = search needs
 
 returns-2 : tie.Need-returns-2
-returns-2 c = length-stored (c .before .args .length) (c .before .args .out .now)
+returns-2 c = length-stored (c .before .args .size) (c .before .args .out .now)
 
 pub put-length-spec : {M : Type 1} → statement M
 put-length-spec =

@@ -98,7 +98,7 @@ returns-3 c =
     let a = c .before .before .before .before .args in
     let p = c .before .before .position .ensures in
     let t : leb (6 * a .row .0 + 6) (length (a .words .now)) ≡ true = le-leb (6 * a .row .0 + 6) (length (a .words .now)) (omega arith) in
-    rw (t, p) (six (a .words .now) (6 * a .row .0) (a .kind) (a .first) (a .length) (a .children) (a .parent) (a .detail))
+    rw (t, p) (six (a .words .now) (6 * a .row .0) (a .kind) (a .first) (a .size) (a .children) (a .parent) (a .detail))
 
 pub put-row-spec : {M : Type 1} → statement M
 put-row-spec =

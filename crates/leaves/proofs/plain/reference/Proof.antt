@@ -56,9 +56,9 @@ same-length c = search needs
 
 returns-3 : tie.Need-returns-3
 returns-3 c =
-    let at = c .before .before .before .before .before .before in
+    let at = c .before .before .before .before .before .before .before in
     let a = at .before .before .before .before .before .before .args in
-    rw (reference-within (a .file .now) (a .shared) (a .wanted) (a .h .first) (number at) (ltb-false _ _ (sym (c .before .before .before .before .before .beyond .ensures) ∙ c .before .before .before .before .if1 .left))) (c .before .before .leaf .ensures)
+    rw (reference-within (a .file .now) (a .shared) (a .wanted) (a .h .first) (number at) (ltb-false _ _ (sym (c .before .before .before .before .before .before .beyond .ensures) ∙ c .before .before .before .before .before .if1 .left))) (c .before .before .leaf .ensures)
 
 pub reference-spec : {M : Type 1} → statement M
 reference-spec =

@@ -50,7 +50,7 @@ returns c = λ codes readers t i k o.
     let small = small-by-index (a .file .now) (λ j h. omega (arith, c .before .before .before .before .before .before .before .before .before .shared-slice-known .given j)) in
     let v = rw (c .before .before .before .before .before .enum-told .given .1) at (o .stands) in
     let e = c .before .before .before .close .ensures in
-    rw (c .walked-step .ensures, e .0, e .1) (raw-told (a .file .now) codes readers (a .shared) (a .room) (a .depth) t (a .place) (a .h) (a .at) _ (raw-ends (a .file .now) (a .room) (a .h) (a .at) t readers (a .shared) (a .depth) 0 (a .kind) _ small (c .before .before .before .before .before .before .before .before .before .before .pre) (i .stands .lawful) o (sym (ap length v)) k (nothing-below _ (o .slots) (a .words .now) (a .next) (a .h .row + 1) v)))
+    rw (c .walked-step .ensures, e .0, e .1) (raw-told (a .file .now) codes readers (a .shared) (a .room) (a .depth) t (a .place) (a .h) (a .at) _ (raw-ends (a .file .now) (a .room) (a .h) (a .at) t readers (a .shared) (a .depth) 0 (a .kind) _ small (c .before .before .before .before .before .before .before .before .before .before .pre) (i .stands .lawful) o (sym (ap length v)) k (nothing-below _ (o .slots) (a .words .now) (a .next) (a .h .row .0 + 1) v)))
 
 same-length-2 : tie.Need-same-length-2
 same-length-2 c = search needs
@@ -62,7 +62,7 @@ returns-2 c = λ codes readers t i k o.
     let v = rw (c .before .before .before .before .before .before .before .before .before .before .before .below .given .1) at (o .stands) in
     let run = c .before .before .before .before .before .before .before .read-run .ensures in
     let e = c .before .before .before .close2 .ensures in
-    let below = run-walked (a .file .now) small (a .room) (a .shared) _ (v .1) readers (a .depth) (a .h .row + 1) (a .words .now) (a .next) (a .h .row + 1) (begin-below t small (c .before .before .before .before .before .before .before .before .before .before .before .before .before .before .before .before .pre) (o .is)) in
+    let below = run-walked (a .file .now) small (a .room) (a .shared) _ (v .1) readers (a .depth) (a .h .row .0 + 1) (a .words .now) (a .next) (a .h .row .0 + 1) (begin-below t small (c .before .before .before .before .before .before .before .before .before .before .before .before .before .before .before .before .pre) (o .is)) in
     rw (c .walked-step2 .ensures, e .0, e .1) (raw-told (a .file .now) codes readers (a .shared) (a .room) (a .depth) t (a .place) (a .h) (a .at) _ (raw-ends (a .file .now) {w₁ = c .before .before .before .before .before .before .before .read-run .last .1 .0} (a .room) (a .h) (a .at) t readers (a .shared) (a .depth) (c .before .before .before .before .before .before .before .before .before .turns .result) (a .kind) (c .before .before .before .before .before .before .before .read-run .result) small (c .before .before .before .before .before .before .before .before .before .before .before .before .before .before .before .before .pre) (i .stands .lawful) o (c .before .before .before .before .before .before .before .before .before .turns .ensures ∙ sym (ap length (v .0))) k (rw (v .0, run .0, run .1) below)))
 
 returns-3 : tie.Need-returns-3
