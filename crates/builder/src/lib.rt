@@ -1,19 +1,21 @@
 // The entries for an asset builder in another language: each takes slices and numbers, and answers one number.
 use ids::RowNumber;
+use ids::WIDTH;
 use load::Loading;
 use lookups::Moment;
 use lookups::Span;
 use lookups::Whole;
 use rewrite::Rewriting;
 ghost use mathlib.Core.Path.{_≡_};
-ghost use Prim.Native.Nat.{_<_};
+ghost use Prim.Native.Nat.{_*_, _<_};
 ghost use lib.ListN.{length};
+ghost use Rattle.layout.specs.Rows.{width};
 ghost use Rattle.reading.specs.File.{loadOf, tableOf};
 ghost use Rattle.readers.specs.Judged.{judgedName};
-ghost use Rattle.lookups.specs.Parts.{partOf};
-ghost use Rattle.lookups.specs.Texts.{textOf};
-ghost use Rattle.lookups.specs.Signs.{signedOf};
-ghost use Rattle.lookups.specs.Times.{timeOf};
+ghost use Rattle.lookups.specs.Parts.{rowsPart};
+ghost use Rattle.lookups.specs.Texts.{rowsText};
+ghost use Rattle.lookups.specs.Signs.{rowsSigned};
+ghost use Rattle.lookups.specs.Times.{rowsTime};
 ghost use Rattle.rewrite.specs.Whole.{rewritten, outputLeft, wordsLeft};
 ghost use Rattle.builder.specs.Packed.{code, packed, rewritePacked};
 ghost use Rattle.builder.specs.Told.{loadTold, spanTold, signedTold, timeTold};
@@ -29,9 +31,9 @@ fn refused(number: u32, place: usize) -> u64
 // Loads a file with room for 1,024 rows: the refusal's number times 2 to the 32 plus its place, or the number of rows.
 #[no_mangle]
 pub extern "C" fn xnb_load(file: &[u8]) -> u64
-    ensures { λ r. ⌜ r ≡ packed (loadOf judgedName (now (file .entry)) 6144) ⌝ }
+    ensures { λ r. ⌜ r ≡ packed (loadOf judgedName (now (file .entry)) (1024 * width)) ⌝ }
 {
-    let mut words = [0u32; 6144];
+    let mut words = [0u32; 1024 * WIDTH as usize];
     let mut readers = 0u32;
     let mut shared = 0u32;
     xnb_load_rows(file, &mut words, &mut readers, &mut shared)
@@ -106,7 +108,7 @@ pub extern "C" fn xnb_part(
     first: &mut usize,
     len: &mut usize,
 ) -> u32
-    ensures { λ r. ⌜ (r, now (first .exit), now (len .exit)) ≡ spanTold (partOf (now (file .entry)) (now (words .entry)) row) ⌝ }
+    ensures { λ r. ⌜ (r, now (first .exit), now (len .exit)) ≡ spanTold (rowsPart (now (file .entry)) (now (words .entry)) row) ⌝ }
 {
     tell_span(lookups::part(file, words, RowNumber(row)), first, len)
 }
@@ -120,7 +122,7 @@ pub extern "C" fn xnb_text(
     first: &mut usize,
     len: &mut usize,
 ) -> u32
-    ensures { λ r. ⌜ (r, now (first .exit), now (len .exit)) ≡ spanTold (textOf (now (file .entry)) (now (words .entry)) row) ⌝ }
+    ensures { λ r. ⌜ (r, now (first .exit), now (len .exit)) ≡ spanTold (rowsText (now (file .entry)) (now (words .entry)) row) ⌝ }
 {
     tell_span(lookups::text(file, words, RowNumber(row)), first, len)
 }
@@ -128,7 +130,7 @@ pub extern "C" fn xnb_text(
 // The signed number of a row, 0 on a refusal: the answer is the refusal's number, or 0.
 #[no_mangle]
 pub extern "C" fn xnb_signed(file: &[u8], words: &[u32], row: u32, value: &mut i64) -> u32
-    ensures { λ r. ⌜ (r, now (value .exit)) ≡ signedTold (signedOf (now (file .entry)) (now (words .entry)) row) ⌝ }
+    ensures { λ r. ⌜ (r, now (value .exit)) ≡ signedTold (rowsSigned (now (file .entry)) (now (words .entry)) row) ⌝ }
 {
     match lookups::signed(file, words, RowNumber(row)) {
         Whole::Refused(number, _) => {
@@ -151,7 +153,7 @@ pub extern "C" fn xnb_time(
     seconds: &mut i64,
     ticks: &mut u32,
 ) -> u32
-    ensures { λ r. ⌜ (r, now (seconds .exit), now (ticks .exit)) ≡ timeTold (timeOf (now (file .entry)) (now (words .entry)) row) ⌝ }
+    ensures { λ r. ⌜ (r, now (seconds .exit), now (ticks .exit)) ≡ timeTold (rowsTime (now (file .entry)) (now (words .entry)) row) ⌝ }
 {
     match lookups::time(file, words, RowNumber(row)) {
         Moment::Refused(number, _) => {

@@ -1,31 +1,31 @@
 -- 01, "Examples (P: to be proved)": P1 to P13 and the three of Char in their order, as one list under one statement, by computation of the definitions. Assumes nothing.
 use mathlib.Core.Path.{_≡_, refl}
 use mathlib.Core.List.{List, [], _∷_, _++_}
-use Prim.Native.Nat.{ℕ, max}
+use Prim.Native.Nat.{ℕ, _*_, max}
 use lib.IntN.{ℤ, negsuc}
 use lib.ListN.{length, take, replicate}
 use Rattle.layout.specs.Target.{kindOf, isValue}
-use Rattle.layout.specs.Tree.{count, kindAt, childrenAt}
+use Rattle.layout.specs.Tree.{count, kindAt, childrenAt, toldOf, told}
 use Rattle.layout.specs.Slot.{each, slotOf, rawOrObject, pairs, leaves, fontSlots, pageSlots}
-use Rattle.layout.specs.Number.{little, between}
+use Rattle.layout.specs.Number.{little, valueOf}
 use Rattle.layout.specs.Text.{ascii}
 use Rattle.layout.specs.Image.{levels, levelBytes, pixelBytes, blockBytes, digits}
 use Rattle.layout.specs.Fixed.{sizes}
 use Rattle.layout.specs.File.{sharedOf, header, objectsPlan}
-use Rattle.layout.specs.Rows.{row, nothing, words as row-words, flat}
+use Rattle.layout.specs.Rows.{row, words as row-words, width, flat}
 use Rattle.layout.specs.Name.{headByte, tailByte}
 use Rattle.layout.specs.Kind.{lookup, alike, reader, readers, target as target-entry, targets}
 use Rattle.layout.specs.Named.{fixedKind, plain, nullableOf, wrapped, paired, typeOf, enumOf, arrayOf, readerOf}
 use Rattle.reading.specs.Answer.{Answer, read, refused, bind, check, within}
 use Rattle.reading.specs.Reads.{some, field}
 use Rattle.reading.specs.Seven.{group, groups, sevenAt}
-use Rattle.reading.specs.Little.{valueOf, littleAt}
+use Rattle.reading.specs.Little.{littleAt}
 use Rattle.reading.specs.Rules.{decided, same, serves, invoked, reader as reader-of}
 use Rattle.reading.specs.Utf8.{utf8s, chars, charSize, follow, size, charAt, euro, surrogate, of-four}
 use Rattle.reading.specs.Fixed.{rule, isBoolean, isDateTime, isDecimal, fixedAt}
 use Rattle.reading.specs.Font.{fontOk, fontIf, fontTest}
 use Rattle.reading.specs.Resource.{suit, suits}
-use Rattle.reading.specs.Walk.{ownOf, before, sequence, rawAt, byReader, objectAt, valueAt, walk}
+use Rattle.reading.specs.Walk.{before, sequence, rawAt, byReader, objectAt, valueAt, walk}
 use Rattle.reading.specs.Heads.{headAt, fixedHeadAt, whole as whole-value, textAt, countAt, imageAt, leafAt, always}
 use Rattle.reading.specs.File.{isPlatform, headerAt, judge, rootKind, rootKinds, judged, readerAt, readersAt, listsAt, objectsAt, finished, fileAt, Load, refusal, accepted, toLoad, roomOf, loadOf, tableOf}
 use Rattle.names.specs.Parse.{span, starts, tailSize, tailOf, closed, opening, onOnly, onSecond, onFirst, afterHead, headed, nameIn, whole, nameOf}
@@ -68,7 +68,7 @@ unfoldable pub Hold : List Example → Type 0
 Hold [] = Unit {0}
 Hold (loads file words answer ∷ rest) = (loadOf judgedName file words ≡ answer) × Hold rest
 Hold (leaves-words file words left ∷ rest) = (tableOf (loadOf judgedName file words) words ≡ left) × Hold rest
-Hold (tells file answer ∷ rest) = (packed (loadOf judgedName file 6144) ≡ answer) × Hold rest
+Hold (tells file answer ∷ rest) = (packed (loadOf judgedName file (1024 * width)) ≡ answer) × Hold rest
 Hold (rewrites file words out answer ∷ rest) = (rewriteOf judgedName file words out ≡ answer) × Hold rest
 Hold (leaves-output file words out end ∷ rest) = (outputOf (rewriteOf judgedName file words (length out)) out ≡ end) × Hold rest
 Hold (number bytes answer ∷ rest) = (sevenAt bytes 0 ≡ answer) × Hold rest
@@ -98,14 +98,14 @@ paddedB = texted 0x42 (0x82 ∷ 0 ∷ 0x48 ∷ 0x69 ∷ [])
 
 unfoldable pub listed-examples : List Example
 listed-examples =
-    loads A 6 (accepted (row 0 12 1 0 0 0 nothing ∷ []) 0 0)
+    loads A 6 (accepted (row 0 12 1 0 0 0 ∷ []) 0 0)
     ∷ leaves-words A 7 (0 ∷ 12 ∷ 1 ∷ 0 ∷ 0 ∷ 0 ∷ 0 ∷ [])
     ∷ tells A 1
     ∷ loads A 5 (refusal 19 12)
     ∷ leaves-words A 5 (0 ∷ 0 ∷ 0 ∷ 0 ∷ 0 ∷ [])
-    ∷ loads B 6144 (accepted (row 13 61 4 0 0 1 nothing ∷ []) 1 0)
+    ∷ loads B 6144 (accepted (row 13 61 4 0 0 1 ∷ []) 1 0)
     ∷ leaves-words B 6 (13 ∷ 61 ∷ 4 ∷ 0 ∷ 0 ∷ 1 ∷ [])
-    ∷ loads paddedB 6 (accepted (row 13 61 5 0 0 1 nothing ∷ []) 1 0)
+    ∷ loads paddedB 6 (accepted (row 13 61 5 0 0 1 ∷ []) 1 0)
     ∷ leaves-words paddedB 6 (13 ∷ 61 ∷ 5 ∷ 0 ∷ 0 ∷ 1 ∷ [])
     ∷ rewrites paddedB 6 65 (written B)
     ∷ leaves-output paddedB 6 (replicate 67 0xAA) (B ++ (0xAA ∷ 0xAA ∷ []))
@@ -131,5 +131,5 @@ listed-examples =
     ∷ []
 
 pub examples : Hold listed-examples
-unfolding Hold listed-examples tableOf flat row-words code packed outputOf A B paddedB start texted rewriteOf byLoad fitted shortFile shortBody shortLists shortEntries shortEntry short body idBytes numbered shortest fewest header follow size isPlatform headerAt judge rootKind rootKinds judged readerAt readersAt listsAt objectsAt finished fileAt toLoad roomOf loadOf headAt fixedHeadAt whole-value textAt countAt imageAt leafAt always ownOf before sequence rawAt byReader objectAt valueAt walk suit suits fontOk fontIf fontTest rule isBoolean isDateTime isDecimal fixedAt utf8s chars charSize decided same serves invoked reader-of valueOf littleAt group groups sevenAt some field bind check within sharedOf objectsPlan sizes levels levelBytes pixelBytes blockBytes digits ascii little each slotOf rawOrObject pairs leaves fontSlots pageSlots count kindAt childrenAt kindOf isValue headByte tailByte headings lookup alike listed reader readers target-entry targets span starts tailSize tailOf closed opening onOnly onSecond onFirst afterHead headed nameIn whole nameOf fixedKind plain nullableOf wrapped paired typeOf enumOf arrayOf readerOf typedName readName judgedName
+unfolding Hold listed-examples tableOf flat row-words code packed outputOf A B paddedB start texted rewriteOf byLoad fitted shortFile shortBody shortLists shortEntries shortEntry short body idBytes numbered shortest fewest header follow size isPlatform headerAt judge rootKind rootKinds judged readerAt readersAt listsAt objectsAt finished fileAt toLoad roomOf loadOf headAt fixedHeadAt whole-value textAt countAt imageAt leafAt always toldOf told before sequence rawAt byReader objectAt valueAt walk suit suits fontOk fontIf fontTest rule isBoolean isDateTime isDecimal fixedAt utf8s chars charSize decided same serves invoked reader-of valueOf littleAt group groups sevenAt some field bind check within sharedOf objectsPlan sizes levels levelBytes pixelBytes blockBytes digits ascii little each slotOf rawOrObject pairs leaves fontSlots pageSlots count kindAt childrenAt kindOf isValue headByte tailByte headings lookup alike listed reader readers target-entry targets span starts tailSize tailOf closed opening onOnly onSecond onFirst afterHead headed nameIn whole nameOf fixedKind plain nullableOf wrapped paired typeOf enumOf arrayOf readerOf typedName readName judgedName
 examples = (refl, (refl, (refl, (refl, (refl, (refl, (refl, (refl, (refl, (refl, (refl, (refl, (refl, (refl, (refl, (refl, (refl, (refl, (refl, (refl, (refl, (refl, (p12 .0, (p12 .1, (p13 .0, (p13 .1, (p13 .2, (euro, (surrogate, (of-four, tt))))))))))))))))))))))))))))))

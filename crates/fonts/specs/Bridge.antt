@@ -2,7 +2,7 @@
 use mathlib.Core.Path.{_≡_, refl, sym, ap, _∙_}
 use mathlib.Core.Bool.{Bool, true, false, _&&_}
 use mathlib.Core.List.{List}
-use Prim.Native.Nat.{ℕ, suc, _+_, _*_, _<_, _≤_}
+use Prim.Native.Nat.{ℕ, suc, _+_, _*_, _<_, _≤_, _^_}
 use native.Mathlib.Omega.{arith}
 use native.Mathlib.Numerals.{add-one}
 use lib.Dec.{ltb, eqb}
@@ -13,15 +13,17 @@ use Rattle.layout.specs.Tree.{Trees, none, tree, count, size, kindAt, childrenA
 use Rattle.layout.specs.Slot.{Slot, raw, object, slotOf, rawOrObject, each, fontSlots}
 use Rattle.layout.specs.Layout.{Lays}
 use Rattle.layout.specs.Resource.{Within}
-use Rattle.layout.specs.Rows.{rowsOf}
+use Rattle.layout.specs.Rows.{width}
 use Rattle.reading.specs.Answer.{read, Ok, not-read, is-read}
 use Rattle.reading.specs.Reads.{Small}
 use Rattle.reading.specs.Rules.{same, same-true, same-refl}
 use Rattle.reading.specs.Font.{rising, fontTest, fontIf, fontOk}
+use Rattle.reading.specs.Drafts.{draftsOf}
 use Rattle.reading.specs.Walk.{Taken, Outcome, point, sequence, walk}
 use Rattle.reading.specs.Sound.{Read, walks-sound}
+use Rattle.ids.specs.declared.Grid.{Grid}
 use Rattle.table.specs.Written.{written}
-use Rattle.fonts.specs.FontWords.{wordAt, after, some, equal, allThere, allEqual, fontWords, by-rows}
+use Rattle.fonts.specs.FontWords.{beyond, beyond-is, wordAt, after, some, equal, allThere, allEqual, fontWords, by-rows}
 use Rattle.fonts.specs.Stands.{Stands, written-stands}
 use Rattle.fonts.specs.Children.{childRow, row-next, lays-count, Flat, fixed-childless, char-childless, picture-flat, list-flat, There, Placed, placed-at, object-row}
 use Rattle.fonts.specs.Characters.{map-rising}
@@ -43,16 +45,20 @@ first-row none n = refl
 first-row (tree k d own cs rest) n = refl
 
 -- the row after a child with flat children is the next child's
-after-child : (words : List ℕ) (i : ℕ) (ts : Trees) (n : ℕ) → i < count ts → wordAt words (childRow i ts n) 3 ≡ count (childrenAt i ts) → size (childrenAt i ts) ≡ count (childrenAt i ts)
-    → childRow (suc i) ts n ≡ after words (childRow i ts n)
+after-child : (g : Grid) (words : List ℕ) (i : ℕ) (ts : Trees) (n : ℕ) → i < count ts → wordAt g words (childRow i ts n) 3 ≡ count (childrenAt i ts) → size (childrenAt i ts) ≡ count (childrenAt i ts)
+    → childRow (suc i) ts n < 2 ^ 32 → childRow (suc i) ts n ≡ after g words (childRow i ts n)
 unfolding after
-after-child words i ts n h r f = omega (arith, row-next i ts n h)
+after-child g words i ts n h r f b =
+    let c = childRow i ts n in
+    let z = row-next i ts n h in
+    let e : beyond c 1 ≡ c + 1 = beyond-is c 1 (omega (arith, z)) in
+    rw (e, r, beyond-is (c + 1) (count (childrenAt i ts)) (omega (arith, z))) (omega (arith, z))
 
-module _ (file words : List ℕ) (readers : List Target) (refers : Target → ℕ → Type 0) where
-  flat-child : {x : Slot} {k n : ℕ} {cs : Trees} → Flat readers refers x → Placed file words readers refers x k cs n → size cs ≡ count cs
+module _ (g : Grid) (file words : List ℕ) (readers : List Target) (refers : Target → ℕ → Type 0) where
+  flat-child : {x : Slot} {k n : ℕ} {cs : Trees} → Flat readers refers x → Placed g file words readers refers x k cs n → size cs ≡ count cs
   flat-child {x} {k} {n} {cs} f p = f k (p .id) (p .own) cs (p .bytes) (p .value)
 
-  no-child : (z : ℕ) {k n : ℕ} {cs : Trees} → Placed file words readers refers (raw (fixed z)) k cs n → size cs ≡ 0
+  no-child : (z : ℕ) {k n : ℕ} {cs : Trees} → Placed g file words readers refers (raw (fixed z)) k cs n → size cs ≡ 0
   unfolding size
   no-child z {k} {n} {cs} p = ap size (fixed-childless readers refers z k (p .id) (p .own) cs (p .bytes) (p .value))
 
@@ -66,50 +72,36 @@ module _ (file words : List ℕ) (readers : List Target) (refers : Target → �
 
   -- a font's children that are laid down in the file, with their rows in the words
   pub laid-words : (ts : Trees) (bs : List ℕ) (w : Lays readers refers (each fontSlots) ts bs) (at number parent used : ℕ)
-      → There file at bs → Stands words (suc used) (rowsOf readers refers (each fontSlots) ts bs w at number parent) → fontWords file words used ≡ fontTest point ts
+      → There file at bs → Stands g words (suc used) (draftsOf readers refers (each fontSlots) ts bs w at number parent) → fontWords g file words used ≡ fontTest point ts
   unfolding fontSlots allThere allEqual some equal fontTest
   laid-words ts bs w at number parent used t s =
       let n = suc used in
       let m : count ts ≡ 8 = lays-count readers refers fontSlots ts bs w in
-      let p₀ = placed-at file words readers refers 0 fontSlots (object texture2D) ts bs w at number parent n t s (omega arith) refl in
-      let p₁ = placed-at file words readers refers 1 fontSlots (object (list (fixed 30))) ts bs w at number parent n t s (omega arith) refl in
-      let p₂ = placed-at file words readers refers 2 fontSlots (object (list (fixed 30))) ts bs w at number parent n t s (omega arith) refl in
-      let p₃ = placed-at file words readers refers 3 fontSlots (object (list char)) ts bs w at number parent n t s (omega arith) refl in
-      let p₄ = placed-at file words readers refers 4 fontSlots (raw (fixed 5)) ts bs w at number parent n t s (omega arith) refl in
-      let p₅ = placed-at file words readers refers 5 fontSlots (raw (fixed 9)) ts bs w at number parent n t s (omega arith) refl in
-      let p₆ = placed-at file words readers refers 6 fontSlots (object (list (fixed 24))) ts bs w at number parent n t s (omega arith) refl in
-      let r₀ = object-row file words readers refers p₀ in
-      let r₁ = object-row file words readers refers p₁ in
-      let r₂ = object-row file words readers refers p₂ in
-      let r₃ = object-row file words readers refers p₃ in
-      let r₆ = object-row file words readers refers p₆ in
-      let e₀ : used + 1 ≡ childRow 0 ts n = add-one used ∙ sym (first-row ts n) in
-      let e₁ : childRow 1 ts n ≡ after words (childRow 0 ts n) = after-child words 0 ts n (omega arith) (r₀ .1) (flat-child (picture-flat readers refers) p₀) in
-      let e₂ : childRow 2 ts n ≡ after words (childRow 1 ts n) = after-child words 1 ts n (omega arith) (r₁ .1) (flat-child (list-fixed 30) p₁) in
-      let e₃ : childRow 3 ts n ≡ after words (childRow 2 ts n) = after-child words 2 ts n (omega arith) (r₂ .1) (flat-child (list-fixed 30) p₂) in
-      let e₄ : childRow 4 ts n ≡ after words (childRow 3 ts n) = after-child words 3 ts n (omega arith) (r₃ .1) (flat-child list-char p₃) in
-      let e₆ : childRow 4 ts n + 2 ≡ childRow 6 ts n = omega (arith, row-next 4 ts n (omega arith), row-next 5 ts n (omega arith), no-child 5 p₄, no-child 9 p₅) in
-      by-rows file words used (rw e₀ e₁) e₂ e₃ e₄
-      ∙ rw (e₀, e₆, r₀ .0, r₁ .0, r₂ .0, r₃ .0, r₆ .0, r₁ .1, r₂ .1, r₆ .1, r₃ .1, add-one (childRow 3 ts n), ← map-rising file words readers refers p₃)
+      let p₀ = placed-at g file words readers refers 0 fontSlots (object texture2D) ts bs w at number parent n t s (omega arith) refl in
+      let p₁ = placed-at g file words readers refers 1 fontSlots (object (list (fixed 30))) ts bs w at number parent n t s (omega arith) refl in
+      let p₂ = placed-at g file words readers refers 2 fontSlots (object (list (fixed 30))) ts bs w at number parent n t s (omega arith) refl in
+      let p₃ = placed-at g file words readers refers 3 fontSlots (object (list char)) ts bs w at number parent n t s (omega arith) refl in
+      let p₄ = placed-at g file words readers refers 4 fontSlots (raw (fixed 5)) ts bs w at number parent n t s (omega arith) refl in
+      let p₅ = placed-at g file words readers refers 5 fontSlots (raw (fixed 9)) ts bs w at number parent n t s (omega arith) refl in
+      let p₆ = placed-at g file words readers refers 6 fontSlots (object (list (fixed 24))) ts bs w at number parent n t s (omega arith) refl in
+      let r₀ = object-row g file words readers refers p₀ in
+      let r₁ = object-row g file words readers refers p₁ in
+      let r₂ = object-row g file words readers refers p₂ in
+      let r₃ = object-row g file words readers refers p₃ in
+      let r₆ = object-row g file words readers refers p₆ in
+      let e₀ : childRow 0 ts n ≡ beyond used 1 = first-row ts n ∙ sym (beyond-is used 1 (omega (arith, s .fits)) ∙ add-one used) in
+      let e₁ : childRow 1 ts n ≡ after g words (childRow 0 ts n) = after-child g words 0 ts n (omega arith) (r₀ .1) (flat-child (picture-flat readers refers) p₀) (p₁ .few) in
+      let e₂ : childRow 2 ts n ≡ after g words (childRow 1 ts n) = after-child g words 1 ts n (omega arith) (r₁ .1) (flat-child (list-fixed 30) p₁) (p₂ .few) in
+      let e₃ : childRow 3 ts n ≡ after g words (childRow 2 ts n) = after-child g words 2 ts n (omega arith) (r₂ .1) (flat-child (list-fixed 30) p₂) (p₃ .few) in
+      let e₄ : childRow 4 ts n ≡ after g words (childRow 3 ts n) = after-child g words 3 ts n (omega arith) (r₃ .1) (flat-child list-char p₃) (p₄ .few) in
+      let z : childRow 4 ts n + 2 ≡ childRow 6 ts n = omega (arith, row-next 4 ts n (omega arith), row-next 5 ts n (omega arith), no-child 5 p₄, no-child 9 p₅) in
+      let e₆ : childRow 6 ts n ≡ beyond (after g words (childRow 3 ts n)) 2 = sym (ap (λ (c : ℕ). beyond c 2) (sym e₄) ∙ beyond-is (childRow 4 ts n) 2 (omega (arith, z, p₆ .few)) ∙ z) in
+      let f : suc (childRow 3 ts n) ≡ beyond (childRow 3 ts n) 1 = sym (beyond-is (childRow 3 ts n) 1 (omega (arith, row-next 3 ts n (omega arith), p₄ .few)) ∙ add-one (childRow 3 ts n)) in
+      by-rows g file words used e₀ e₁ e₂ e₃ e₆ f
+      ∙ rw (r₀ .0, r₁ .0, r₂ .0, r₃ .0, r₆ .0, r₁ .1, r₂ .1, r₆ .1, r₃ .1, ← map-rising g file words readers refers p₃)
       (regroup (ltb 0 (kindAt 0 ts)) (ltb 0 (kindAt 1 ts)) (ltb 0 (kindAt 2 ts)) (ltb 0 (kindAt 3 ts)) (ltb 0 (kindAt 6 ts))
       (eqb (count (childrenAt 1 ts)) (count (childrenAt 3 ts))) (eqb (count (childrenAt 2 ts)) (count (childrenAt 3 ts))) (eqb (count (childrenAt 6 ts)) (count (childrenAt 3 ts)))
       (rising point (childrenAt 3 ts)))
-
--- a font's eight children were read and their rows stored, with room for them: the test over the words is the test over the trees
-pub font-words : (file : List ℕ) → Small file → (readers : List Target) (shared room d at used : ℕ) (a : Taken) (e : ℕ)
-    → sequence (λ y b v. walk file readers shared room d y b v (suc used)) (each fontSlots) at (suc used) ≡ read a e
-    → (w w′ : List ℕ) → w′ ≡ written w (suc used) (a .1) → 6 * (suc used + length (a .1)) ≤ length w′ → fontWords file w′ used ≡ fontTest point (a .2)
-font-words file small readers shared room d at used a e q w w′ ew h =
-    go (sequence (λ y b v. walk file readers shared room d y b v (suc used)) (each fontSlots) at (suc used))
-    (walks-sound file readers shared room small d (each fontSlots) at (suc used) (suc used)) q where
-      go : (o : Outcome) → Ok (Read file readers shared room small d (each fontSlots) at (suc used) (suc used)) o → o ≡ read a e → fontWords file w′ used ≡ fontTest point (a .2)
-      go o not-read p = differ cc
-      go o (is-read {a = b} {e = f} v) p =
-          let qb : b ≡ a = cc in
-          let s : Stands w′ (suc used) (a .1) = rw ew (written-stands w (suc used) (a .1) (rw ew at h)) in
-          let s′ : Stands w′ (suc used) (b .1) = rw qb s in
-          let x = laid-words file w′ readers (Within shared) (b .2) (v .bytes) (v .laid) at (suc used) (suc used) used (drop f file, v .there) (rw (v .rows-are) at s′) in
-          rw qb at x
 
 -- only a font has the rule
 pub font-only : (t : Target) (cs : Trees) → (t ≡ spriteFont → ⊥) → fontOk point t cs ≡ true
@@ -129,8 +121,23 @@ pub font-has : (cs : Trees) → fontOk point spriteFont cs ≡ fontTest point cs
 unfolding fontOk fontIf
 font-has cs = rw (same-refl spriteFont)
 
--- the walk's test of a font whose children were read, over the words
-pub font-judged : (file : List ℕ) → Small file → (readers : List Target) (shared room d at used : ℕ) (a : Taken) (e : ℕ)
-    → sequence (λ y b v. walk file readers shared room d y b v (suc used)) (each fontSlots) at (suc used) ≡ read a e
-    → (w w′ : List ℕ) → w′ ≡ written w (suc used) (a .1) → 6 * (suc used + length (a .1)) ≤ length w′ → fontOk point spriteFont (a .2) ≡ fontWords file w′ used
-font-judged file small readers shared room d at used a e q w w′ ew h = font-has (a .2) ∙ sym (font-words file small readers shared room d at used a e q w w′ ew h)
+module _ (g : Grid) (file : List ℕ) (small : Small file) (readers : List Target) (shared room d at used : ℕ) (a : Taken) (e : ℕ)
+    (q : sequence (λ y b v. walk file readers shared room d y b v (suc used)) (each fontSlots) at (suc used) ≡ read a e)
+    (w w′ : List ℕ) (ew : w′ ≡ written g w (suc used) (a .1)) (long : width * g .room ≤ length w) (few : g .room < 2 ^ 32) (fits : suc used + length (a .1) ≤ g .room) where
+  -- a font's eight children were read and their rows stored, with room for them: the test over the words is the test over the trees
+  pub font-words : fontWords g file w′ used ≡ fontTest point (a .2)
+  font-words =
+      go (sequence (λ y b v. walk file readers shared room d y b v (suc used)) (each fontSlots) at (suc used))
+      (walks-sound file readers shared room small d (each fontSlots) at (suc used) (suc used)) q where
+        go : (o : Outcome) → Ok (Read file readers shared room small d (each fontSlots) at (suc used) (suc used)) o → o ≡ read a e → fontWords g file w′ used ≡ fontTest point (a .2)
+        go o not-read p = differ cc
+        go o (is-read {a = b} {e = f} v) p =
+            let qb : b ≡ a = cc in
+            let s : Stands g w′ (suc used) (a .1) = rw ew (written-stands g w (suc used) (a .1) long few fits) in
+            let s′ : Stands g w′ (suc used) (b .1) = rw qb s in
+            let x = laid-words g file w′ readers (Within shared) (b .2) (v .bytes) (v .laid) at (suc used) (suc used) used (drop f file, v .there) (rw (v .rows-are) at s′) in
+            rw qb at x
+
+  -- the walk's test of a font whose children were read, over the words
+  pub font-judged : fontOk point spriteFont (a .2) ≡ fontWords g file w′ used
+  font-judged = font-has (a .2) ∙ sym font-words

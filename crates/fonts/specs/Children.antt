@@ -2,7 +2,7 @@
 use mathlib.Core.Path.{_≡_, refl, sym, ap, _∙_}
 use mathlib.Core.List.{List, [], _∷_, _++_, append-assoc, append-nil}
 use mathlib.Core.Logic.{inl, inr}
-use Prim.Native.Nat.{ℕ, zero, suc, _+_, _<_}
+use Prim.Native.Nat.{ℕ, zero, suc, _+_, _<_, _^_}
 use native.Mathlib.Omega.{arith}
 use lib.ListN.{length, getD, drop, replicate}
 use Rattle.layout.specs.Target.{Target, fixed, char, texture2D, list, Serves, same as serves-same}
@@ -11,9 +11,11 @@ use Rattle.layout.specs.Image.{levels}
 use Rattle.layout.specs.Slot.{Leaf, level, Slot, raw, object, leaf, slotOf, Plan, stop, put, each, leaves}
 use Rattle.layout.specs.Head.{Head, Counted, Pictured}
 use Rattle.layout.specs.Layout.{Value, Lays}
-use Rattle.layout.specs.Rows.{Row, rawRows, valueRows, rowsOf}
+use Rattle.layout.specs.Rows.{row, rawRows, valueRows, notedRows}
 use Rattle.reading.specs.Reads.{seam}
 use Rattle.reading.specs.Bounds.{rows-length}
+use Rattle.reading.specs.Drafts.{Draft, valueDrafts, draftsOf}
+use Rattle.ids.specs.declared.Grid.{Grid}
 use Rattle.fonts.specs.FontWords.{wordAt}
 use Rattle.fonts.specs.Stands.{Stands, stands-left, stands-right, stands-row}
 
@@ -123,13 +125,13 @@ module _ (readers : List Target) (refers : Target → ℕ → Type 0) where
       flat-plan (w .laid .plan) (replicate (p .0) (slotOf t)) cs (w .laid .children) (p .1) (every-same (slotOf t) h (p .0)) (w .laid .laid)
 
   -- the rows of a value in a slot
-  abbrev pub rowsAt : (x : Slot) (k i : ℕ) (own : List ℕ) (cs : Trees) (b : List ℕ) → Value readers refers (λ plan b. Lays readers refers plan cs b) x k i own cs b → (at number parent : ℕ) → List Row
+  abbrev pub rowsAt : (x : Slot) (k i : ℕ) (own : List ℕ) (cs : Trees) (b : List ℕ) → Value readers refers (λ plan b. Lays readers refers plan cs b) x k i own cs b → (at number parent : ℕ) → List Draft
   rowsAt x k i own cs b v at number parent =
-      valueRows readers refers (λ plan b. Lays readers refers plan cs b) (λ plan b v a n p. rowsOf readers refers plan cs b v a n p) x k i own cs b v at number parent
+      valueDrafts readers refers (λ plan b. Lays readers refers plan cs b) (λ plan b v a n p. draftsOf readers refers plan cs b v a n p) x k i own cs b v at number parent
 
   pub value-length : (x : Slot) (k i : ℕ) (own : List ℕ) (cs : Trees) (b : List ℕ) (v : Value readers refers (λ plan b. Lays readers refers plan cs b) x k i own cs b) (at number parent : ℕ)
       → length (rowsAt x k i own cs b v at number parent) ≡ suc (size cs)
-  unfolding Lays rowsOf size
+  unfolding Lays notedRows size
   value-length x k i own cs b v at number parent =
       let r : length (rowsAt x k i own cs b v at number parent ++ []) ≡ suc (size cs) + 0
       = rows-length readers refers (put x (λ o. stop)) (tree k i own cs none) b (b, [], sym (append-nil b), v, refl) at number parent in
@@ -145,7 +147,7 @@ there-left file at bs b₁ b₂ e t = (b₂ ++ t .0, t .1 ∙ ap (λ (l : List �
 pub there-right : (file : List ℕ) (at : ℕ) (bs b₁ b₂ : List ℕ) → bs ≡ b₁ ++ b₂ → There file at bs → There file (at + length b₁) b₂
 there-right file at bs b₁ b₂ e t = (t .0, seam file at b₁ b₂ (t .0) (t .1 ∙ ap (λ (l : List ℕ). l ++ t .0) e))
 
-module _ (file words : List ℕ) (readers : List Target) (refers : Target → ℕ → Type 0) where
+module _ (g : Grid) (file words : List ℕ) (readers : List Target) (refers : Target → ℕ → Type 0) where
   -- a value in a slot, whose rows stand in the words from row n on
   pub record Placed (x : Slot) (kind : ℕ) (cs : Trees) (n : ℕ) : Type 0 where
     pub id : ℕ
@@ -156,13 +158,14 @@ module _ (file words : List ℕ) (readers : List Target) (refers : Target → �
     pub number : ℕ
     pub parent : ℕ
     pub there : There file at bytes
-    pub stands : Stands words n (rowsAt readers refers x kind id own cs bytes value at number parent)
+    pub stands : Stands g words n (rowsAt readers refers x kind id own cs bytes value at number parent)
+    pub few : n < 2 ^ 32
 
   -- a child of the values that a list of slots has laid down
   pub placed-at : (i : ℕ) (slots : List Slot) (x : Slot) (ts : Trees) (bs : List ℕ) (w : Lays readers refers (each slots) ts bs) (at number parent n : ℕ)
-      → There file at bs → Stands words n (rowsOf readers refers (each slots) ts bs w at number parent)
+      → There file at bs → Stands g words n (draftsOf readers refers (each slots) ts bs w at number parent)
       → i < length slots → getD slots i x ≡ x → Placed x (kindAt i ts) (childrenAt i ts) (childRow i ts n)
-  unfolding Lays each kindAt childrenAt childRow rowsOf
+  unfolding Lays each kindAt childrenAt childRow notedRows
   placed-at i [] x ts bs w at number parent n t s h e = absurd (omega arith)
   placed-at i (y ∷ slots) x none bs w at number parent n t s h e = absurd w
   placed-at zero (y ∷ slots) x (tree k d own cs rest) bs w at number parent n t s h e =
@@ -175,25 +178,26 @@ module _ (file words : List ℕ) (readers : List Target) (refers : Target → �
         number = number;
         parent = parent;
         there = there-left file at bs (w .0) (w .1) (w .2) t;
-        stands = stands-left words n _ _ s;
+        stands = stands-left g words n _ _ s;
+        few = omega (arith, s .fits);
       } in
       rw e at first
   placed-at (suc i) (y ∷ slots) x (tree k d own cs rest) bs w at number parent n t s h e =
       let v = rowsAt readers refers y k d own cs (w .0) (w .3) at number parent in
       let l : length v ≡ suc (size cs) = value-length readers refers y k d own cs (w .0) (w .3) at number parent in
       placed-at i slots x rest (w .1) (w .4) (at + length (w .0)) (number + suc (size cs)) parent (n + suc (size cs))
-      (there-right file at bs (w .0) (w .1) (w .2) t) (rw l at (stands-right words n v _ s)) (omega arith) e
+      (there-right file at bs (w .0) (w .1) (w .2) t) (rw l at (stands-right g words n v _ s)) (omega arith) e
 
   -- the kind and the number of children of a value
   object-words : (t : Target) (k i : ℕ) (own : List ℕ) (cs : Trees) (b : List ℕ) (v : Value readers refers (λ plan b. Lays readers refers plan cs b) (object t) k i own cs b) (at number parent n : ℕ)
-      → Stands words n (rowsAt readers refers (object t) k i own cs b v at number parent) → (wordAt words n 0 ≡ k) × (wordAt words n 3 ≡ count cs)
+      → Stands g words n (rowsAt readers refers (object t) k i own cs b v at number parent) → (wordAt g words n 0 ≡ k) × (wordAt g words n 3 ≡ count cs)
   unfolding Value valueRows rawRows count
   object-words t k i own cs b (inl v) at number parent n s =
-      let r = stands-row words n 0 at (length b) 0 parent 0 [] s in
+      let r = stands-row g words n (row 0 at (length b) 0 parent 0) [] s in
       (r .0 ∙ sym (v .kind-of), r .2 ∙ sym (ap count (v .childless)))
   object-words t k i own cs b (inr v) at number parent n s =
-      let r = stands-row words n k at (length b) (count cs) parent i _ s in
+      let r = stands-row g words n (row k at (length b) (count cs) parent i) _ s in
       (r .0, r .2)
 
-  pub object-row : {t : Target} {k n : ℕ} {cs : Trees} → Placed (object t) k cs n → (wordAt words n 0 ≡ k) × (wordAt words n 3 ≡ count cs)
+  pub object-row : {t : Target} {k n : ℕ} {cs : Trees} → Placed (object t) k cs n → (wordAt g words n 0 ≡ k) × (wordAt g words n 3 ≡ count cs)
   object-row {t} {k} {n} {cs} p = object-words t k (p .id) (p .own) cs (p .bytes) (p .value) (p .at) (p .number) (p .parent) n (p .stands)

@@ -1,49 +1,48 @@
 -- Rows that stand in the words from a row number on, and reading their words back. Assumes nothing.
-use mathlib.Core.Path.{_≡_, sym, ap, _∙_}
-use mathlib.Core.List.{List, _∷_, _++_, append-assoc}
-use Prim.Native.Nat.{ℕ, _+_, _*_, _≤_}
+use mathlib.Core.Path.{_≡_}
+use mathlib.Core.List.{List, [], _∷_, _++_}
+use Prim.Native.Nat.{ℕ, _+_, _*_, _<_, _≤_, _^_}
 use native.Mathlib.Omega.{arith}
-use lib.ListN.{length, getD, take, drop}
-use lib.Seq.{sets-eq, drop-at, drop-drop, drop-append-seam, getD-drop, length-take-le}
-use Rattle.layout.specs.Rows.{Row, row, nothing}
-use Rattle.table.specs.Written.{draft, drafts, drafts-append, length-drafts, written, length-written}
+use lib.ListN.{length, getD, length-append, List·getD-append}
+use lib.Seq.{getD-append-add}
+use Rattle.layout.specs.Rows.{Row, words, width}
+use Rattle.reading.specs.Grid.{shapeOf, rows-at}
+use Rattle.reading.specs.Drafts.{Draft, drafted}
+use Rattle.ids.specs.declared.Grid.{Grid}
+use Rattle.table.specs.Written.{drafts, drafts-append, length-drafts, wide-drafts, written}
 use Rattle.fonts.specs.FontWords.{wordAt}
 
--- the rows stand in the words from row n on, with anything after them
-unfoldable pub Stands : List ℕ → ℕ → List Row → Type 0
-Stands words n rows = (rest : List ℕ) × (drop (6 * n) words ≡ drafts rows ++ rest)
+-- the rows stand in the words from row n on, and their numbers and the one after them fit a word
+pub record Stands (g : Grid) (w : List ℕ) (n : ℕ) (ds : List Draft) : Type 0 where
+  pub there : (i j : ℕ) → i < length ds → j < width → wordAt g w (n + i) j ≡ getD (getD (drafts ds) i []) j 0
+  pub fits : n + length ds < 2 ^ 32
 
-module _ (words : List ℕ) where
-  pub stands-left : (n : ℕ) (rs qs : List Row) → Stands words n (rs ++ qs) → Stands words n rs
-  unfolding Stands
-  stands-left n rs qs s = (drafts qs ++ s .0, s .1 ∙ ap (λ (l : List ℕ). l ++ s .0) (drafts-append rs qs) ∙ append-assoc (drafts rs) (drafts qs) (s .0))
+module _ (g : Grid) (w : List ℕ) where
+  pub stands-left : (n : ℕ) (rs qs : List Draft) → Stands g w n (rs ++ qs) → Stands g w n rs
+  stands-left n rs qs s =
+      let l : length (rs ++ qs) ≡ length rs + length qs = length-append rs qs in
+      let e : (i : ℕ) → i < length rs → getD (drafts (rs ++ qs)) i [] ≡ getD (drafts rs) i [] = λ i h. rw (drafts-append rs qs) (List·getD-append (drafts rs) (drafts qs) [] i (omega (arith, length-drafts rs))) in
+      record { there = λ i j h k. rw (e i h) at (s .there i j (omega arith) k); fits = omega (arith, s .fits) }
 
-  pub stands-right : (n : ℕ) (rs qs : List Row) → Stands words n (rs ++ qs) → Stands words (n + length rs) qs
-  unfolding Stands
+  pub stands-right : (n : ℕ) (rs qs : List Draft) → Stands g w n (rs ++ qs) → Stands g w (n + length rs) qs
   stands-right n rs qs s =
-      let h : 6 * (n + length rs) ≡ 6 * n + length (drafts rs) = omega (arith, length-drafts rs) in
-      let q : drop (6 * n) words ≡ drafts rs ++ (drafts qs ++ s .0) = s .1 ∙ ap (λ (l : List ℕ). l ++ s .0) (drafts-append rs qs) ∙ append-assoc (drafts rs) (drafts qs) (s .0) in
-      (s .0, rw (h, ← drop-drop (length (drafts rs)) (6 * n) words, q) (drop-append-seam (drafts rs) (drafts qs ++ s .0)))
+      let l : length (rs ++ qs) ≡ length rs + length qs = length-append rs qs in
+      let z : (i : ℕ) → n + (length rs + i) ≡ n + length rs + i = λ i. omega arith in
+      let e : (i : ℕ) → getD (drafts (rs ++ qs)) (length rs + i) [] ≡ getD (drafts qs) i [] = λ i. rw (drafts-append rs qs, ← length-drafts rs) (getD-append-add (drafts rs) (drafts qs) i []) in
+      record { there = λ i j h k. rw (e i, z i) at (s .there (length rs + i) j (omega arith) k); fits = omega (arith, s .fits) }
 
   -- a row's kind, first byte and number of children
-  pub stands-row : (n kind first z children parent detail : ℕ) (rs : List Row) → Stands words n (row kind first z children parent detail nothing ∷ rs)
-      → (wordAt words n 0 ≡ kind) × (wordAt words n 1 ≡ first) × (wordAt words n 3 ≡ children)
-  unfolding Stands wordAt drafts draft
-  stands-row n kind first z children parent detail rs s = (
-    sym (getD-drop (6 * n) words 0 0) ∙ ap (λ (l : List ℕ). getD l 0 0) (s .1),
-    sym (getD-drop (6 * n) words 1 0) ∙ ap (λ (l : List ℕ). getD l 1 0) (s .1),
-    sym (getD-drop (6 * n) words 3 0) ∙ ap (λ (l : List ℕ). getD l 3 0) (s .1),
-  )
+  pub stands-row : (n : ℕ) (r : Row) (ds : List Draft) → Stands g w n (drafted r ∷ ds)
+      → (wordAt g w n 0 ≡ r .kind) × (wordAt g w n 1 ≡ r .first) × (wordAt g w n 3 ≡ r .children)
+  unfolding drafts words
+  stands-row n r ds s =
+      let z : n + 0 ≡ n = omega arith in
+      (rw z at (s .there 0 0 (omega arith) (omega arith)), rw z at (s .there 0 1 (omega arith) (omega arith)), rw z at (s .there 0 3 (omega arith) (omega arith)))
 
 -- rows that were stored stand there, where the words have room for them
-pub written-stands : (w : List ℕ) (u : ℕ) (rs : List Row) → 6 * (u + length rs) ≤ length (written w u rs) → Stands (written w u rs) u rs
-unfolding Stands written
-written-stands w u rs h =
-    let l : length (written w u rs) ≡ length w = length-written w u rs in
-    let d : length (drafts rs) ≡ 6 * length rs = length-drafts rs in
-    let b : 6 * u + length (drafts rs) ≤ length w = omega arith in (
-      drop (6 * u + length (drafts rs)) w,
-      ap (drop (6 * u)) (sets-eq (drafts rs) w (6 * u) b)
-          ∙ ap (drop (6 * u)) (append-assoc (take (6 * u) w) (drafts rs) (drop (6 * u + length (drafts rs)) w))
-          ∙ drop-at (take (6 * u) w) (drafts rs ++ drop (6 * u + length (drafts rs)) w) (6 * u) (length-take-le (6 * u) w (omega arith)),
-    )
+pub written-stands : (g : Grid) (w : List ℕ) (u : ℕ) (ds : List Draft) → width * g .room ≤ length w → g .room < 2 ^ 32 → u + length ds ≤ g .room → Stands g (written g w u ds) u ds
+unfolding wordAt written
+written-stands g w u ds long few h = record {
+  there = λ i j a b. rows-at (shapeOf (g .columns)) (g .room) w u (drafts ds) i j (wide-drafts ds) (omega (arith, length-drafts ds)) (omega (arith, length-drafts ds)) b long;
+  fits = omega arith;
+}

@@ -1,103 +1,104 @@
 // The font rule (01, refusal 22), judged by the file and the rows of the font's children in the words.
 use answers::Number;
+use ids::Grid;
+use ids::RowNumber;
 use text::char_at;
+use words::word_of;
 ghost use mathlib.Core.Path.{_≡_};
-ghost use Prim.Native.Nat.{_+_, _^_, _≤_, _<_};
-ghost use Rattle.fonts.specs.FontWords.{wordAt, after, some, equal, codeAt, risingRows, allThere, allEqual, fontWords};
+ghost use Rattle.fonts.specs.FontWords.{beyond, after, some, equal, codeAt, risingRows, allThere, allEqual, fontWords};
 
-// Whether the font whose row has the number `row`, and whose children's rows are in the words, keeps its rule.
-pub fn font_rule(file: &[u8], words: &[u32], row: u32) -> bool
-    ensures { λ r. ⌜ r ≡ fontWords (now (file .entry)) (now (words .entry)) row ⌝ }
+// Whether the font of a row, whose children's rows are in the words, keeps its rule.
+pub fn font_rule(file: &[u8], words: &[u32], grid: Grid, row: RowNumber) -> bool
+    ensures { λ r. ⌜ r ≡ fontWords grid (now (file .entry)) (now (words .entry)) (row .0) ⌝ }
 {
-    let texture = row as usize + 1;
-    let glyphs = row_after(words, texture);
-    let cropping = row_after(words, glyphs);
-    let characters = row_after(words, cropping);
-    let kerning = row_after(words, characters) + 2;
-    if !all_there(words, texture, glyphs, cropping, characters, kerning) {
+    let texture = row_beyond(row, 1);
+    let glyphs = row_after(words, grid, texture);
+    let cropping = row_after(words, grid, glyphs);
+    let characters = row_after(words, grid, cropping);
+    let kerning = row_beyond(row_after(words, grid, characters), 2);
+    if !all_there(words, grid, texture, glyphs, cropping, characters, kerning) {
         return false;
     }
-    if !all_equal(words, glyphs, cropping, characters, kerning) {
+    if !all_equal(words, grid, glyphs, cropping, characters, kerning) {
         return false;
     }
-    rising(file, words, characters + 1, word(words, characters, 3))
+    let first = row_beyond(characters, 1);
+    let count = word_of(words, grid, characters, 3);
+    rising(file, words, grid, first, count)
 }
 
 // No object is null.
 fn all_there(
     words: &[u32],
-    texture: usize,
-    glyphs: usize,
-    cropping: usize,
-    characters: usize,
-    kerning: usize,
+    grid: Grid,
+    texture: RowNumber,
+    glyphs: RowNumber,
+    cropping: RowNumber,
+    characters: RowNumber,
+    kerning: RowNumber,
 ) -> bool
-    requires { ⌜ (texture < 2 ^ 40) × (glyphs < 2 ^ 40) × (cropping < 2 ^ 40) × (characters < 2 ^ 40) × (kerning < 2 ^ 40) ⌝ }
-    ensures { λ r. ⌜ r ≡ allThere (now (words .entry)) texture glyphs cropping characters kerning ⌝ }
+    ensures { λ r. ⌜ r ≡ allThere grid (now (words .entry)) (texture .0) (glyphs .0) (cropping .0) (characters .0) (kerning .0) ⌝ }
 {
-    if !filled(words, texture) {
+    if !filled(words, grid, texture) {
         return false;
     }
-    if !filled(words, glyphs) {
+    if !filled(words, grid, glyphs) {
         return false;
     }
-    if !filled(words, cropping) {
+    if !filled(words, grid, cropping) {
         return false;
     }
-    if !filled(words, characters) {
+    if !filled(words, grid, characters) {
         return false;
     }
-    filled(words, kerning)
+    filled(words, grid, kerning)
 }
 
 // The four lists have equal counts.
 fn all_equal(
     words: &[u32],
-    glyphs: usize,
-    cropping: usize,
-    characters: usize,
-    kerning: usize,
+    grid: Grid,
+    glyphs: RowNumber,
+    cropping: RowNumber,
+    characters: RowNumber,
+    kerning: RowNumber,
 ) -> bool
-    requires { ⌜ (glyphs < 2 ^ 40) × (cropping < 2 ^ 40) × (characters < 2 ^ 40) × (kerning < 2 ^ 40) ⌝ }
-    ensures { λ r. ⌜ r ≡ allEqual (now (words .entry)) glyphs cropping characters kerning ⌝ }
+    ensures { λ r. ⌜ r ≡ allEqual grid (now (words .entry)) (glyphs .0) (cropping .0) (characters .0) (kerning .0) ⌝ }
 {
-    if !equal_counts(words, glyphs, characters) {
+    if !equal_counts(words, grid, glyphs, characters) {
         return false;
     }
-    if !equal_counts(words, cropping, characters) {
+    if !equal_counts(words, grid, cropping, characters) {
         return false;
     }
-    equal_counts(words, kerning, characters)
+    equal_counts(words, grid, kerning, characters)
 }
 
 // A row's value is not null.
-fn filled(words: &[u32], row: usize) -> bool
-    requires { ⌜ row < 2 ^ 40 ⌝ }
-    ensures { λ r. ⌜ r ≡ some (now (words .entry)) row ⌝ }
+fn filled(words: &[u32], grid: Grid, row: RowNumber) -> bool
+    ensures { λ r. ⌜ r ≡ some grid (now (words .entry)) (row .0) ⌝ }
 {
-    0 < word(words, row, 0)
+    0 < word_of(words, grid, row, 0)
 }
 
 // Two rows' values have equal numbers of children.
-fn equal_counts(words: &[u32], a: usize, b: usize) -> bool
-    requires { ⌜ (a < 2 ^ 40) × (b < 2 ^ 40) ⌝ }
-    ensures { λ r. ⌜ r ≡ equal (now (words .entry)) a b ⌝ }
+fn equal_counts(words: &[u32], grid: Grid, a: RowNumber, b: RowNumber) -> bool
+    ensures { λ r. ⌜ r ≡ equal grid (now (words .entry)) (a .0) (b .0) ⌝ }
 {
-    word(words, a, 3) == word(words, b, 3)
+    word_of(words, grid, a, 3) == word_of(words, grid, b, 3)
 }
 
 // The characters of `n` rows from `first` on rise strictly.
-fn rising(file: &[u8], words: &[u32], first: usize, n: u32) -> bool
-    requires { ⌜ first < 2 ^ 40 ⌝ }
-    ensures { λ r. ⌜ r ≡ risingRows (now (file .entry)) (now (words .entry)) n first ⌝ }
+fn rising(file: &[u8], words: &[u32], grid: Grid, first: RowNumber, n: u32) -> bool
+    ensures { λ r. ⌜ r ≡ risingRows grid (now (file .entry)) (now (words .entry)) n (first .0) ⌝ }
 {
     let mut row = first;
     let mut left = n;
-    let mut before = code(file, words, row);
+    let mut before = code(file, words, grid, row);
     while 1 < left {
-        row += 1;
+        row = row_beyond(row, 1);
         left -= 1;
-        let next = code(file, words, row);
+        let next = code(file, words, grid, row);
         if next <= before {
             return false;
         }
@@ -107,11 +108,10 @@ fn rising(file: &[u8], words: &[u32], first: usize, n: u32) -> bool
 }
 
 // The character at a row's first byte, or 0.
-fn code(file: &[u8], words: &[u32], row: usize) -> u64
-    requires { ⌜ row < 2 ^ 41 ⌝ }
-    ensures { λ r. ⌜ r ≡ codeAt (now (file .entry)) (now (words .entry)) row ⌝ }
+fn code(file: &[u8], words: &[u32], grid: Grid, row: RowNumber) -> u64
+    ensures { λ r. ⌜ r ≡ codeAt grid (now (file .entry)) (now (words .entry)) (row .0) ⌝ }
 {
-    let first = word(words, row, 1) as usize;
+    let first = word_of(words, grid, row, 1) as usize;
     match char_at(file, first) {
         Number::Refused(_, _) => 0,
         Number::Read(c, _) => c,
@@ -119,21 +119,16 @@ fn code(file: &[u8], words: &[u32], row: usize) -> u64
 }
 
 // The row after a value whose children have no children.
-fn row_after(words: &[u32], row: usize) -> usize
-    requires { ⌜ row < 2 ^ 40 ⌝ }
-    ensures { λ r. ⌜ (r ≡ after (now (words .entry)) row) × (r ≤ row + 2 ^ 32) ⌝ }
+fn row_after(words: &[u32], grid: Grid, row: RowNumber) -> RowNumber
+    ensures { λ r. ⌜ (r .0) ≡ after grid (now (words .entry)) (row .0) ⌝ }
 {
-    row + 1 + word(words, row, 3) as usize
+    let first = row_beyond(row, 1);
+    row_beyond(first, word_of(words, grid, row, 3))
 }
 
-// Word `i` of a row, or 0.
-fn word(words: &[u32], row: usize, i: usize) -> u32
-    requires { ⌜ (row < 2 ^ 41) × (i < 6) ⌝ }
-    ensures { λ r. ⌜ r ≡ wordAt (now (words .entry)) row i ⌝ }
+// The row `n` rows after another; the number of a row in the room fits, any other is its remainder by 2 to the 32.
+fn row_beyond(row: RowNumber, n: u32) -> RowNumber
+    ensures { λ r. ⌜ (r .0) ≡ beyond (row .0) n ⌝ }
 {
-    let at = 6 * row + i;
-    if words.len() <= at {
-        return 0;
-    }
-    words[at]
+    RowNumber(std::num::wrapping_add_u32(row.0, n))
 }

@@ -7,9 +7,10 @@ use native.Mathlib.Omega.{arith}
 use lib.Dec.{ltb, leb, eqb}
 use lib.ListN.{length, take, drop, getD, length-drop}
 use borrow.Author.Tests.{le-leb, lt-leb, le-ltb, lt-ltb, eq-eqb, ne-eqb}
+use Rattle.layout.specs.Number.{valueOf}
 use Rattle.answers.specs.declared.Number.the-variants.{Read, Refused}
 use Rattle.reading.specs.Answer.{read, check}
-use Rattle.reading.specs.Little.{valueOf, littleAt, little-there}
+use Rattle.reading.specs.Little.{littleAt, little-there}
 use Rattle.reading.specs.File.{isPlatform, headerAt}
 use Rattle.header.specs.Header.{headerOf}
 

@@ -3,7 +3,7 @@ use answers::Number;
 ghost use mathlib.Core.Path.{_≡_};
 ghost use Prim.Native.Nat.{_≤_};
 ghost use lib.ListN.{length, take, drop};
-ghost use Rattle.reading.specs.Little.{valueOf};
+ghost use Rattle.layout.specs.Number.{valueOf};
 ghost use Rattle.reading.specs.File.{isPlatform};
 ghost use Rattle.header.specs.Header.{headerOf};
 

@@ -14,7 +14,7 @@ use Rattle.layout.specs.Slot as L
 use Rattle.layout.specs.Slot.{stop, each, raw, slotOf, pairs, fontSlots, pageSlots}
 use Rattle.reading.specs.Answer.{Answer, refused, read, bind, check}
 use Rattle.reading.specs.Reads.{some, field}
-use Rattle.reading.specs.Little.{littleAt, valueOf}
+use Rattle.reading.specs.Little.{littleAt}
 use Rattle.reading.specs.Fixed.{isBoolean}
 use Rattle.reading.specs.Heads.{Opening, headAt, countAt, flagAt, flagPlan, always}
 use Rattle.table.specs.Leaf.{mute}
@@ -25,6 +25,7 @@ use Rattle.heads.specs.declared.open.Opened.the-variants.{Refused, Head}
 use Rattle.heads.specs.Nests.{BelowIs}
 use lib.Dec.{ltb}
 use Rattle.layout.specs.Fixed.{sizes}
+use Rattle.layout.specs.Number.{valueOf}
 use Rattle.reading.specs.Seven.{sevenAt}
 use Rattle.reading.specs.Utf8.{utf8s, charAt}
 use Rattle.reading.specs.Fixed.{fixedAt}

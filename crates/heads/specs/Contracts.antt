@@ -1,15 +1,10 @@
--- What the contracts of opening a value and of its children state. Assumes nothing.
+-- What the contracts of opening a value state. Assumes nothing.
 use mathlib.Core.List.{List}
-use Prim.Native.Nat.{ℕ, _<_}
-use lib.ListN.{length}
+use Prim.Native.Nat.{ℕ}
 use Rattle.layout.specs.Target.{Target, dictionary}
-use Rattle.layout.specs.Slot as L
 use Rattle.reading.specs.Heads.{headAt}
 use Rattle.types.specs.Code.{Stands, NoEnum}
-use Rattle.heads.specs.declared.slot.Slot.{Slot}
-use Rattle.heads.specs.declared.nest.Nest.{Nest}
 use Rattle.heads.specs.declared.open.Opened.{Opened}
-use Rattle.heads.specs.Nests.{NestIs, Prelude, ChildIs}
 use Rattle.heads.specs.Opens.{Opens, Arguments}
 
 -- the head of a type is opened, if the type stands at a place in the codes
@@ -23,7 +18,3 @@ OpensOf file codes type a at r = (t : Target) → Stands codes a t → NoEnum t 
 -- the head of a dictionary is opened, if the types of its keys and values stand at two places
 abbrev pub OpensDictionary : (file codes : List ℕ) (a b at : ℕ) → Opened → Type 0
 OpensDictionary file codes a b at r = (t u : Target) → Stands codes a t → NoEnum t → Stands codes b u → NoEnum u → Opens codes (headAt file (dictionary t u) at) r
-
--- value i below a head stands as the layout's slot i says
-abbrev pub ChildStands : Nest → (i : ℕ) → Slot → Type 0
-ChildStands nest i r = (codes : List ℕ) (slots : List L.Slot) → Prelude codes → NestIs codes nest slots → i < length slots → ChildIs codes slots i r

@@ -25,20 +25,6 @@ use Rattle.heads.specs.declared.nest.Below.the-variants.{Simple as Simpl
 use Rattle.heads.specs.declared.open.Opened.{Opened}
 use Rattle.heads.specs.declared.open.Opened.the-variants.{Refused, Head}
 use Rattle.heads.specs.Opens.{rangedAt}
-use Rattle.heads.specs.Nests.{fontChild, pageChild}
-
--- how many values stand below, and how value i stands
-abbrev pub countOf : Nest → ℕ
-countOf (Each s n) = n
-countOf (Pairs s t n) = 2 * n
-countOf Font = 8
-countOf Page = 4
-
-abbrev pub childOf : Nest → ℕ → Slot
-childOf (Each s n) i = s
-childOf (Pairs s t n) i = cond (eqb (i % 2) 0) s t
-childOf Font i = fontChild i
-childOf Page i = pageChild i
 
 -- a raw value, and an element or a field, of the type at a place
 unfoldable pub rawAs : (codes : List ℕ) (a : ℕ) → Slot
@@ -113,8 +99,8 @@ kindAs file codes kind a at =
     (cond (eqb kind 19) (dictionaryAs codes a (placeAfter codes a) (littleAt file 4 at at))
     (cond (eqb kind 31) (Refused 13 at)
     (cond (eqb kind 32) (imageAs file (rangedAt file 0 18 at))
-    (cond (eqb kind 33) (Head at (Nested Font))
-    (cond (eqb kind 34) (Head at (Nested Page)) (aloneAs (leafAs file kind at))))))))))
+    (cond (eqb kind 33) (Head at (Nested (Font 0)))
+    (cond (eqb kind 34) (Head at (Nested (Page 0))) (aloneAs (leafAs file kind at))))))))))
 
 unfoldable pub openAs : (file codes : List ℕ) (t at : ℕ) → Opened
 openAs file codes t at = cond (leb (length codes) t) (Refused 13 at) (kindAs file codes (kindAt codes t) (t + 1) at)

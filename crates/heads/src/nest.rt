@@ -3,20 +3,22 @@ use crate::slot::Slot;
 use leaves::plain::Plain;
 use leaves::run::Run;
 ghost use mathlib.Core.Path.{_≡_};
-ghost use mathlib.Core.List.{List};
-ghost use Prim.Native.Nat.{ℕ};
-ghost use lib.ListN.{length};
-ghost use Rattle.layout.specs.Slot as L;
-ghost use Rattle.heads.specs.Nests.{NestIs, fontChild, pageChild};
-ghost use Rattle.heads.specs.Contracts.{ChildStands};
-ghost use Rattle.heads.specs.Total.{countOf, childOf};
+ghost use Prim.Native.Nat.{_-_};
+ghost use Rattle.heads.specs.Nests.{fontChild, pageChild, nextOf, upcomingOf, afterOf};
 
-// n elements that stand alike; n keys and values in turn; the fields of a font; the fields of a page.
+// What is left of a plan: n elements that stand alike; n pairs of key and value; a pair's value and n pairs behind it; the fields of a font and of a page from field i on.
 pub enum Nest {
     Each(Slot, u32),
     Pairs(Slot, Slot, u32),
-    Font,
-    Page,
+    Value(Slot, Slot, u32),
+    Font(u32),
+    Page(u32),
+}
+
+// What stands next: nothing more, or a value in a slot.
+pub enum Upcoming {
+    Nothing,
+    Value(Slot),
 }
 
 // Nothing; values that need no reader list; or values that do.
@@ -26,22 +28,8 @@ pub enum Below {
     Nested(Nest),
 }
 
-// How many values stand below.
-pub fn count(nest: Nest) -> usize
-    ensures { λ r. ⌜ ((codes : List ℕ) (slots : List L.Slot) → NestIs codes nest slots → r ≡ length slots) ⌝ }
-    ensures { λ r. ⌜ r ≡ countOf nest ⌝ }
-{
-    match nest {
-        Nest::Each(_, n) => n as usize,
-        Nest::Pairs(_, _, n) => 2 * n as usize,
-        Nest::Font => 8,
-        Nest::Page => 4,
-    }
-}
-
-// Field i of a font. The types that fonts and pages declare stand at the start of the codes: Texture2D at 0,
-// list of Rectangle at 1, list of Char at 3, list of Vector3 at 5, String at 7, nullable Char at 8.
-fn font_child(i: usize) -> Slot
+// Field i of a font. The types that fonts and pages declare stand at the start of the codes: Texture2D at 0, list of Rectangle at 1, list of Char at 3, list of Vector3 at 5, String at 7, nullable Char at 8.
+fn font_child(i: u32) -> Slot
     ensures { λ r. ⌜ r ≡ fontChild i ⌝ }
 {
     match i {
@@ -57,7 +45,7 @@ fn font_child(i: usize) -> Slot
 }
 
 // Field i of a page.
-fn page_child(i: usize) -> Slot
+fn page_child(i: u32) -> Slot
     ensures { λ r. ⌜ r ≡ pageChild i ⌝ }
 {
     match i {
@@ -68,20 +56,58 @@ fn page_child(i: usize) -> Slot
     }
 }
 
-// How value i stands.
-pub fn child(nest: Nest, i: usize) -> Slot
-    ensures { λ r. ⌜ ChildStands nest i r ⌝ }
-    ensures { λ r. ⌜ r ≡ childOf nest i ⌝ }
+// Nothing if there are none left, else a value.
+fn next_of(left: u32, slot: Slot) -> Upcoming
+    ensures { λ r. ⌜ r ≡ nextOf left slot ⌝ }
+{
+    if left == 0 {
+        return Upcoming::Nothing;
+    }
+    Upcoming::Value(slot)
+}
+
+// One less, or 0.
+fn less(n: u32) -> u32
+    ensures { λ r. ⌜ r ≡ n - 1 ⌝ }
+{
+    if n == 0 {
+        return 0;
+    }
+    n - 1
+}
+
+// What stands next.
+pub fn next_slot(nest: Nest) -> Upcoming
+    ensures { λ r. ⌜ r ≡ upcomingOf nest ⌝ }
 {
     match nest {
-        Nest::Each(one, _) => one,
-        Nest::Pairs(key, value, _) => {
-            if i % 2 == 0 {
-                return key;
-            }
-            value
-        }
-        Nest::Font => font_child(i),
-        Nest::Page => page_child(i),
+        Nest::Each(one, n) => next_of(n, one),
+        Nest::Pairs(key, _, n) => next_of(n, key),
+        Nest::Value(_, value, _) => Upcoming::Value(value),
+        Nest::Font(i) => next_of(left_of(8, i), font_child(i)),
+        Nest::Page(i) => next_of(left_of(4, i), page_child(i)),
+    }
+}
+
+// How many of n fields stand from field i on.
+fn left_of(n: u32, i: u32) -> u32
+    ensures { λ r. ⌜ r ≡ n - i ⌝ }
+{
+    if n < i {
+        return 0;
+    }
+    n - i
+}
+
+// What is left behind the value that stood next.
+pub fn after(nest: Nest) -> Nest
+    ensures { λ r. ⌜ r ≡ afterOf nest ⌝ }
+{
+    match nest {
+        Nest::Each(one, n) => Nest::Each(one, less(n)),
+        Nest::Pairs(key, value, n) => Nest::Value(key, value, less(n)),
+        Nest::Value(key, value, n) => Nest::Pairs(key, value, n),
+        Nest::Font(i) => Nest::Font(std::num::wrapping_add_u32(i, 1)),
+        Nest::Page(i) => Nest::Page(std::num::wrapping_add_u32(i, 1)),
     }
 }

@@ -1,7 +1,9 @@
 -- Where an id or a row number points. Assumes nothing.
-use Prim.Native.Nat.{ℕ, zero, suc, _*_}
+use Prim.Native.Nat.{ℕ, zero, suc}
+use Rattle.reading.specs.Grid.{shapeOf, cell}
 use Rattle.ids.specs.declared.TypeId.{TypeId}
 use Rattle.ids.specs.declared.RowNumber.{RowNumber}
+use Rattle.ids.specs.declared.Grid.{Grid}
 use Rattle.ids.specs.declared.Position.{Position}
 use Rattle.ids.specs.declared.Position.the-variants.{Null, At}
 
@@ -10,9 +12,9 @@ abbrev pub positionOf : ℕ → Position
 positionOf zero = Null
 positionOf (suc n) = At n
 
--- 01, "The row table": "Six make a row": the place of a row's first word
-abbrev pub firstWord : ℕ → ℕ
-firstWord n = 6 * n
+-- 01, "The row table": where word j of row i stands in the words of a table
+abbrev pub cellOf : Grid → (i j : ℕ) → ℕ
+cellOf g i j = cell (shapeOf (g .columns)) (g .room) i j
 
 -- a number as a type id, and as a row number
 abbrev pub typeId : ℕ → TypeId

@@ -1,6 +1,7 @@
 // 01, "Seven-bit numbers": a type id, a resource id and a row number are types of their own, and each is turned into a position by its own function.
 ghost use mathlib.Core.Path.{_≡_};
-ghost use Rattle.ids.specs.Position.{positionOf, firstWord};
+ghost use Prim.Native.Nat.{_*_, _≤_};
+ghost use Rattle.ids.specs.Position.{positionOf, cellOf};
 
 // Counts readers: one more than a place in the reader list, or 0 for null.
 pub struct TypeId(pub u32);
@@ -10,6 +11,15 @@ pub struct ResourceId(pub u32);
 
 // Counts rows from 0.
 pub struct RowNumber(pub u32);
+
+// How many words make a row.
+pub const WIDTH: u32 = 6;
+
+// The shape of a table: how many rows it has room for, and whether it is in columns.
+pub struct Grid {
+    pub room: u32,
+    pub columns: bool,
+}
 
 pub enum Position {
     Null,
@@ -42,11 +52,24 @@ impl ResourceId {
     }
 }
 
+// The product of two words, which has no more than 64 bits.
+fn product(a: u32, b: u32) -> usize
+    ensures { λ r. ⌜ (r ≡ a * b) × (r ≤ 18446744065119617025) ⌝ }
+{
+    let x = a as usize;
+    let y = b as usize;
+    x * y
+}
+
 impl RowNumber {
-    // The place of the row's first word.
-    pub fn position(self) -> usize
-        ensures { λ r. ⌜ r ≡ firstWord (self .0) ⌝ }
+    // The place of a word of the row.
+    pub fn cell(self, grid: Grid, word: u32) -> usize
+        ensures { λ r. ⌜ r ≡ cellOf grid (self .0) word ⌝ }
     {
-        6 * self.0 as usize
+        if grid.columns {
+            let column = product(grid.room, word);
+            return self.0 as usize + column;
+        }
+        WIDTH as usize * self.0 as usize + word as usize
     }
 }

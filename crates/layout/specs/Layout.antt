@@ -6,7 +6,7 @@ use Prim.Native.Nat.{ℕ, suc, _<_, _^_}
 use lib.ListN.{length, getD}
 use Rattle.layout.specs.Number.{Seven, little}
 use Rattle.layout.specs.Target.{Target, kindOf, spriteFont, Serves}
-use Rattle.layout.specs.Tree.{Trees, none, tree}
+use Rattle.layout.specs.Tree.{Trees, none, tree, told}
 use Rattle.layout.specs.Slot.{Leaf, level, Slot, raw, object, reference, leaf, Plan, stop, put}
 use Rattle.layout.specs.Head.{Head}
 use Rattle.layout.specs.Font.{FontRule}
@@ -72,4 +72,4 @@ Lays readers refers stop (tree k i own cs rest) bs = ⊥
 Lays readers refers (put x go) (tree k i own cs rest) bs =
     (b₁ : List ℕ) × (b₂ : List ℕ) × (bs ≡ b₁ ++ b₂)
     × Value readers refers (λ plan b. Lays readers refers plan cs b) x k i own cs b₁
-    × Lays readers refers (go own) rest b₂
+    × Lays readers refers (go (told k own)) rest b₂

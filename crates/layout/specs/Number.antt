@@ -18,6 +18,11 @@ unfoldable pub little : ℕ → ℕ → List ℕ
 little zero n = []
 little (suc k) n = n % 256 ∷ little k (n / 256)
 
+-- the number that bytes are, little endian
+unfoldable pub valueOf : List ℕ → ℕ
+valueOf [] = 0
+valueOf (b ∷ bs) = b + 256 * valueOf bs
+
 -- whether a number is from `low` to `high`
 abbrev pub between : (low high : ℕ) → ℕ → Bool
 between low high b = leb low b && leb b high

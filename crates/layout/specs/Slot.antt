@@ -21,15 +21,15 @@ rawOrObject false t = object t
 unfoldable pub slotOf : Target → Slot
 slotOf t = rawOrObject (isValue t) t
 
--- what stands below a value: nothing more, or a value in a slot, whose own bytes say what follows
+-- what stands below a value: nothing more, or a value in a slot; what follows it goes by the number that it tells
 pub data Plan : Type 0 where
   stop : Plan
-  put : Slot → (List ℕ → Plan) → Plan
+  put : Slot → (ℕ → Plan) → Plan
 
 -- slots that no value has a say in
 unfoldable pub each : List Slot → Plan
 each [] = stop
-each (x ∷ xs) = put x (λ own. each xs)
+each (x ∷ xs) = put x (λ n. each xs)
 
 -- 01: "key and value in turn"
 unfoldable pub pairs : ℕ → Slot → Slot → List Slot

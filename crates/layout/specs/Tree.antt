@@ -1,6 +1,9 @@
 -- Trees of values (01, "The row table"). Assumes nothing.
+use mathlib.Core.Bool.{cond, _||_}
 use mathlib.Core.List.{List}
 use Prim.Native.Nat.{ℕ, zero, suc, _+_, max}
+use lib.Dec.{eqb}
+use Rattle.layout.specs.Number.{valueOf}
 
 -- Trees in order: none, or a first tree and the rest. 01: "A tree is a value with all below it: its kind, its type id or resource id (else 0), its own bytes and its children as trees, in order".
 pub data Trees : Type 0 where
@@ -32,3 +35,12 @@ unfoldable pub childrenAt : ℕ → Trees → Trees
 childrenAt i none = none
 childrenAt zero (tree k d own cs rest) = cs
 childrenAt (suc i) (tree k d own cs rest) = childrenAt i rest
+
+-- the number that a value tells those behind it: a UInt32 its value, a Boolean 0 or 1, all else 0
+unfoldable pub told : (kind : ℕ) (own : List ℕ) → ℕ
+told kind own = cond (eqb kind 6 || eqb kind 11) (valueOf own) 0
+
+-- the number that the first of some trees tells
+unfoldable pub toldOf : Trees → ℕ
+toldOf none = 0
+toldOf (tree k i own cs rest) = told k own

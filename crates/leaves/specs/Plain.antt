@@ -11,7 +11,7 @@ use Rattle.layout.specs.Target.{Target, fixed, char, texture2D, page, kindOf, s
 use Rattle.layout.specs.Tree.{none, tree, count}
 use Rattle.layout.specs.Fixed.{sizes}
 use Rattle.layout.specs.Slot.{Slot, raw, reference, leaf, level, Plan, stop}
-use Rattle.layout.specs.Rows.{row, nothing, resource}
+use Rattle.layout.specs.Rows.{row, width}
 use Rattle.reading.specs.Answer.{Answer, refused, read, bind, check}
 use Rattle.reading.specs.Seven.{sevenAt, seven-next}
 use Rattle.reading.specs.Utf8.{charAt, char-reads}
@@ -21,13 +21,14 @@ use Rattle.reading.specs.Rules.{same, decided}
 use Rattle.reading.specs.Font.{fontOk, fontIf}
 use Rattle.reading.specs.Heads.{headAt, leafAt, whole, ownAt, fixedHeadAt, leaf-reads as level-reads}
 use Rattle.reading.specs.Walk.{Outcome, done, sequence, rawAt, valueAt, walk}
-use Rattle.ids.specs.Position.{rowNumber}
 use Rattle.table.specs.declared.Head.{Head}
 use Rattle.table.specs.Contract.{Seen, seen, Free, Ahead, Walked}
 use Rattle.table.specs.Loop.{refusing}
 use Rattle.table.specs.Leaf.{leafOf, leafAnswer, leafWords, leaf-walked}
 use Rattle.leaves.specs.declared.plain.Plain.{Plain}
 use Rattle.leaves.specs.declared.plain.Plain.the-variants.{Fixed, Char, Level, Reference}
+use Rattle.reading.specs.Drafts.{nothing, resource, drafted}
+use Rattle.ids.specs.declared.Grid.{Grid}
 
 -- the type that a reference which wants a kind refers to
 unfoldable pub referenced : ℕ → Target
@@ -48,15 +49,15 @@ Lawful (Level size) = Unit {0}
 Lawful (Reference wanted) = kindOf (referenced wanted) ≡ wanted
 
 -- a value may begin at a place: the words have so many rows, and all numbers fit
-pub record Begin (file words : List ℕ) (room at used : ℕ) : Type 0 where
-  pub long : 6 * room ≤ length words
-  pub few : room < 2 ^ 32
-  pub rows : used ≤ room
+pub record Begin (file words : List ℕ) (g : Grid) (at used : ℕ) : Type 0 where
+  pub long : width * g .room ≤ length words
+  pub few : g .room < 2 ^ 32
+  pub rows : used ≤ g .room
   pub place : at ≤ length file
   pub short : length file < 2 ^ 32
 
 abbrev pub headOf : (used at parent id : ℕ) → Head
-headOf used at parent id = record { row = rowNumber used; first = at; parent = parent; detail = id }
+headOf used at parent id = record { row = record { 0 = used }; first = at; parent = parent; detail = id }
 
 -- the bytes of the value at a place, and the number that they hold or how many they are
 unfoldable pub plainAt : List ℕ → (shared : ℕ) → Plain → (at : ℕ) → Answer ℕ
@@ -73,28 +74,28 @@ plainValue file room shared p at used (suc d) = check (ltb used room) 19 at (pla
 -- a reference's row names its resource
 abbrev pub named : Head → Answer ℕ → Head
 named h (refused n p) = h
-named h (read id next) = record { row = h .row; first = h .first; parent = h .parent; detail = id }
+named h (read id next) = headOf (h .row .0) (h .first) (h .parent) id
 
 -- the words once its bytes are read, or refused
-abbrev pub plainWords : List ℕ → Plain → Head → Answer ℕ → List ℕ
-plainWords w (Fixed kind size) h x = leafWords w h kind 0 x
-plainWords w Char h x = leafWords w h 12 0 x
-plainWords w (Level size) h x = leafWords w h 35 0 x
-plainWords w (Reference wanted) h x = leafWords w (named h x) 36 wanted x
+abbrev pub plainWords : Grid → List ℕ → Plain → Head → Answer ℕ → List ℕ
+plainWords g w (Fixed kind size) h x = leafWords g w h kind 0 x
+plainWords g w Char h x = leafWords g w h 12 0 x
+plainWords g w (Level size) h x = leafWords g w h 35 0 x
+plainWords g w (Reference wanted) h x = leafWords g w (named h x) 36 wanted x
 
 -- the words once the bytes at the head's first byte are read, or refused
-abbrev pub plainLeft : (file words : List ℕ) (shared : ℕ) → Plain → Head → List ℕ
-plainLeft file words shared p h = plainWords words p h (plainAt file shared p (h .first))
+abbrev pub plainLeft : Grid → (file words : List ℕ) (shared : ℕ) → Plain → Head → List ℕ
+plainLeft g file words shared p h = plainWords g words p h (plainAt file shared p (h .first))
 
 -- the words once a value with the depth left is read, or refused
-abbrev pub valueLeft : (file words : List ℕ) (room shared : ℕ) → Plain → (at used depth parent : ℕ) → List ℕ
-valueLeft file words room shared p at used depth parent = plainWords words p (headOf used at parent 0) (plainValue file room shared p at used depth)
+abbrev pub valueLeft : Grid → (file words : List ℕ) (shared : ℕ) → Plain → (at used depth parent : ℕ) → List ℕ
+valueLeft g file words shared p at used depth parent = plainWords g words p (headOf used at parent 0) (plainValue file (g .room) shared p at used depth)
 
-pub kept : (w : List ℕ) (p : Plain) (h : Head) (n q : ℕ) → plainWords w p h (refused n q) ≡ w
-kept w (Fixed kind size) h n q = refl
-kept w Char h n q = refl
-kept w (Level size) h n q = refl
-kept w (Reference wanted) h n q = refl
+pub kept : (g : Grid) (w : List ℕ) (p : Plain) (h : Head) (n q : ℕ) → plainWords g w p h (refused n q) ≡ w
+kept g w (Fixed kind size) h n q = refl
+kept g w Char h n q = refl
+kept g w (Level size) h n q = refl
+kept g w (Reference wanted) h n q = refl
 
 -- the value's row
 abbrev pub plainSeen : Plain → Head → Answer ℕ → Answer Seen
@@ -104,12 +105,13 @@ plainSeen (Level size) h x = leafOf h 35 nothing x
 plainSeen (Reference wanted) h x = leafOf (named h x) 36 (resource wanted) x
 
 -- where the words have the row and the numbers fit
-plain-written : (w : List ℕ) (p : Plain) (h : Head) (x : Answer ℕ) → Free w (h .row .0) → Ahead (h .first) x → Walked w (plainWords w p h x) (h .row .0) (plainSeen p h x) (leafAnswer (h .row .0) x)
-plain-written w (Fixed kind size) h x f a = leaf-walked w h kind nothing x f a
-plain-written w Char h x f a = leaf-walked w h 12 nothing x f a
-plain-written w (Level size) h x f a = leaf-walked w h 35 nothing x f a
-plain-written w (Reference wanted) h (refused n p) f a = leaf-walked {A = ℕ} w h 36 (resource wanted) (refused n p) f a
-plain-written w (Reference wanted) h (read id next) f a = leaf-walked w (named h (read id next)) 36 (resource wanted) (read id next) f a
+plain-written : (g : Grid) (w : List ℕ) (p : Plain) (h : Head) (x : Answer ℕ) → Free g w (h .row .0) → Ahead (h .first) x
+    → Walked g w (plainWords g w p h x) (h .row .0) (plainSeen p h x) (leafAnswer (h .row .0) x)
+plain-written g w (Fixed kind size) h x f a = leaf-walked g w h kind nothing x f a
+plain-written g w Char h x f a = leaf-walked g w h 12 nothing x f a
+plain-written g w (Level size) h x f a = leaf-walked g w h 35 nothing x f a
+plain-written g w (Reference wanted) h (refused n p) f a = leaf-walked {A = ℕ} g w h 36 (resource wanted) (refused n p) f a
+plain-written g w (Reference wanted) h (read id next) f a = leaf-walked g w (headOf (h .row .0) (h .first) (h .parent) id) 36 (resource wanted) (read id next) f a
 
 fixed-none : (k : ℕ) → same (fixed k) spriteFont ≡ false
 unfolding same decided
@@ -155,18 +157,18 @@ module _ (file : List ℕ) (readers : List Target) (shared room : ℕ) (below : 
     go (read c e) = refl
 
   leaf-seen : (r : Answer (List ℕ)) (at used parent : ℕ)
-      → seen (bind r (λ own next. done next (suc used) (row 35 at (next - at) 0 parent 0 nothing ∷ []) (tree 35 0 own none none))) ≡ leafOf (headOf used at parent 0) 35 nothing r
+      → seen (bind r (λ own next. done next (suc used) (drafted (row 35 at (next - at) 0 parent 0) ∷ []) (tree 35 0 own none none))) ≡ leafOf (headOf used at parent 0) 35 nothing r
   unfolding bind seen
   leaf-seen (refused n p) at used parent = refl
   leaf-seen (read own e) at used parent = refl
 
   reference-seen : (r : Answer ℕ) (wanted at used parent : ℕ)
-      → seen (bind r (λ id next. check (leb id shared) 16 at (done next (suc used) (row 36 at (next - at) 0 parent id (resource wanted) ∷ []) (tree 36 id [] none none))))
+      → seen (bind r (λ id next. check (leb id shared) 16 at (done next (suc used) (record { row = row 36 at (next - at) 0 parent id; wants = resource wanted } ∷ []) (tree 36 id [] none none))))
       ≡ plainSeen (Reference wanted) (headOf used at parent 0) (bind r (λ id next. check (leb id shared) 16 at (read id next)))
   unfolding bind seen check
   reference-seen (refused n p) wanted at used parent = refl
   reference-seen (read id e) wanted at used parent = go (leb id shared) where
-    go : (t : Bool) → seen (check t 16 at (done e (suc used) (row 36 at (e - at) 0 parent id (resource wanted) ∷ []) (tree 36 id [] none none)))
+    go : (t : Bool) → seen (check t 16 at (done e (suc used) (record { row = row 36 at (e - at) 0 parent id; wants = resource wanted } ∷ []) (tree 36 id [] none none)))
         ≡ plainSeen (Reference wanted) (headOf used at parent 0) (check t 16 at (read id e))
     go true = refl
     go false = refl
@@ -239,20 +241,20 @@ module _ (file : List ℕ) (room shared : ℕ) (p : Plain) (at used : ℕ) where
   value-there zero ne h = absurd (ne refl)
   value-there (suc d) ne h = rw (lt-ltb used room h)
 
-  -- what the walk answers, where the value may begin
-  module _ (w : List ℕ) (small : Small file) (begin : Begin file w room at used) (l : Lawful p) (readers : List Target) where
-    by-room : (d parent : ℕ) (t : Bool) → ltb used room ≡ t
-        → Walked w (plainWords w p (headOf used at parent 0) (plainValue file room shared p at used (suc d))) used (seen (walk file readers shared room (suc d) (plainSlot p) at used parent)) (leafAnswer used (plainValue file room shared p at used (suc d)))
-    unfolding plainValue walk check sequence
-    by-room d parent false e = rw e (refusing refl)
-    by-room d parent true e =
-        let v = plain-seen file readers shared room (λ plan a u. sequence (λ y b v. walk file readers shared room d y b v (suc used)) plan a u) (λ next u. refl) p l at used parent in
-        let u : used < room = ltb-true used room e in
-        let f : Free w used = record { there = omega (arith, begin .long); few = omega (arith, begin .few) } in
-        rw (e, v) (plain-written w p (headOf used at parent 0) (plainAt file shared p at) f (plain-ahead file small shared p l at (begin .place) (begin .short)))
+-- what the walk answers, where the value may begin
+module _ (file : List ℕ) (g : Grid) (shared : ℕ) (p : Plain) (at used : ℕ) (w : List ℕ) (small : Small file) (begin : Begin file w g at used) (l : Lawful p) (readers : List Target) where
+  by-room : (d parent : ℕ) (t : Bool) → ltb used (g .room) ≡ t
+      → Walked g w (valueLeft g file w shared p at used (suc d) parent) used (seen (walk file readers shared (g .room) (suc d) (plainSlot p) at used parent)) (leafAnswer used (plainValue file (g .room) shared p at used (suc d)))
+  unfolding plainValue walk check sequence
+  by-room d parent false e = rw e (refusing refl)
+  by-room d parent true e =
+      let v = plain-seen file readers shared (g .room) (λ plan a u. sequence (λ y b v. walk file readers shared (g .room) d y b v (suc used)) plan a u) (λ next u. refl) p l at used parent in
+      let u : used < g .room = ltb-true used (g .room) e in
+      let f : Free g w used = record { long = begin .long; there = u; few = omega (arith, begin .few) } in
+      rw (e, v) (plain-written g w p (headOf used at parent 0) (plainAt file shared p at) f (plain-ahead file small shared p l at (begin .place) (begin .short)))
 
-    pub plain-walked : (depth parent : ℕ)
-        → Walked w (plainWords w p (headOf used at parent 0) (plainValue file room shared p at used depth)) used (seen (walk file readers shared room depth (plainSlot p) at used parent)) (leafAnswer used (plainValue file room shared p at used depth))
-    unfolding plainValue walk
-    plain-walked zero parent = refusing refl
-    plain-walked (suc d) parent = by-room d parent (ltb used room) refl
+  pub plain-walked : (depth parent : ℕ)
+      → Walked g w (valueLeft g file w shared p at used depth parent) used (seen (walk file readers shared (g .room) depth (plainSlot p) at used parent)) (leafAnswer used (plainValue file (g .room) shared p at used depth))
+  unfolding plainValue walk
+  plain-walked zero parent = refusing refl
+  plain-walked (suc d) parent = by-room d parent (ltb used (g .room)) refl

@@ -1,13 +1,15 @@
 -- Values one after the other that have no children and need no reader list. Assumes nothing.
-use mathlib.Core.Path.{_≡_, refl, ap}
+use mathlib.Core.Path.{_≡_, refl, sym, ap, _∙_}
 use mathlib.Core.Bool.{Bool, true, false, cond}
 use mathlib.Core.List.{List, [], _∷_}
 use Prim.Native.Nat.{ℕ, zero, suc, _+_, _*_, _-_, _%_, _≤_, _<_}
 use native.Mathlib.Omega.{arith}
+use native.Mathlib.Numerals.{add-one}
 use lib.Dec.{eqb}
-use lib.ListN.{length, getD, replicate, length-replicate, getD-replicate}
+use lib.ListN.{length, getD, replicate, length-replicate, getD-replicate, drop, drop-of-length-le}
+use lib.Seq.{drop-cons}
 use Rattle.layout.specs.Image.{levels}
-use Rattle.layout.specs.Slot.{Slot, leaf, level, leaves, pairs, each}
+use Rattle.layout.specs.Slot.{Slot, leaf, level, leaves, pairs, each, Plan, stop, put}
 use Rattle.images.specs.Level.{levelSizeOf}
 use Rattle.images.specs.Laws.{level-size}
 use Rattle.leaves.specs.declared.plain.Plain.{Plain}
@@ -19,13 +21,15 @@ use Rattle.layout.specs.Target.{Target}
 use Rattle.reading.specs.Answer.{Answer}
 use Rattle.reading.specs.Reads.{Small}
 use Rattle.reading.specs.Walk.{Outcome, sequence, walk}
-use Rattle.reading.specs.Bounds.{walk-bounds}
+use Rattle.reading.specs.Bounds.{walk-bounds, walk-single}
 use Rattle.table.specs.declared.Walk.{Walk}
 use Rattle.table.specs.declared.Walk.the-variants.{Done, Refused}
-use Rattle.table.specs.Contract.{seen, Walked}
+use Rattle.table.specs.Written.{written}
+use Rattle.table.specs.Contract.{seen, reaching, Walked}
 use Rattle.table.specs.Leaf.{leafAnswer}
-use Rattle.table.specs.Loop.{Reading, start, same, turn, stop, give-up, got, lost}
-use Rattle.leaves.specs.Plain.{plainSlot, Lawful, Begin, headOf, plainValue, plainWords, plain-walked}
+use Rattle.table.specs.Loop.{Reading, start, same, turn, ended, give-up, got, lost, refusing, reading, counted-read, counted-refused}
+use Rattle.leaves.specs.Plain.{plainSlot, Lawful, Begin, plainValue, valueLeft, plain-walked}
+use Rattle.ids.specs.declared.Grid.{Grid}
 
 -- the slots that the values stand in
 abbrev pub runSlots : Run → List Slot
@@ -48,15 +52,15 @@ turnOf (Levels format w h n) i = Level (levelSizeOf format w h i)
 -- a value was read, or refused
 abbrev pub onward : Walk → List ℕ → (ℕ → ℕ → List ℕ → Walk × List ℕ) → Walk × List ℕ
 onward (Refused n p) w rest = (Refused n p, w)
-onward (Done u a) w rest = rest a u w
+onward (Done r) w rest = rest (r .next) (r .used) w
 
-module _ (file : List ℕ) (room shared : ℕ) (run : Run) (depth parent : ℕ) where
+module _ (g : Grid) (file : List ℕ) (shared : ℕ) (run : Run) (depth parent : ℕ) where
   -- so many values from value i on: the answer, and the words
   unfoldable pub runFrom : (left i at used : ℕ) → List ℕ → Walk × List ℕ
-  runFrom zero i at used w = (Done used at, w)
+  runFrom zero i at used w = (reaching used at, w)
   runFrom (suc left) i at used w =
-      onward (leafAnswer used (plainValue file room shared (turnOf run i) at used depth))
-      (plainWords w (turnOf run i) (headOf used at parent 0) (plainValue file room shared (turnOf run i) at used depth))
+      onward (leafAnswer used (plainValue file (g .room) shared (turnOf run i) at used depth))
+      (valueLeft g file w shared (turnOf run i) at used depth parent)
       (λ a u v. runFrom left (i + 1) a u v)
 
   -- all of them
@@ -65,14 +69,14 @@ module _ (file : List ℕ) (room shared : ℕ) (run : Run) (depth parent : ℕ) 
 
   -- value i of n, as it was read
   pub run-turn : (n i at used : ℕ) (w v : List ℕ) (p : Plain) (o : Walk) → i < n → p ≡ turnOf run i
-      → o ≡ leafAnswer used (plainValue file room shared p at used depth) → v ≡ plainWords w p (headOf used at parent 0) (plainValue file room shared p at used depth)
+      → o ≡ leafAnswer used (plainValue file (g .room) shared p at used depth) → v ≡ valueLeft g file w shared p at used depth parent
       → runFrom (n - i) i at used w ≡ onward o v (λ a u x. runFrom (n - (i + 1)) (i + 1) a u x)
   unfolding runFrom
   run-turn n i at used w v p o h e q z =
       let m : n - i ≡ suc (n - (i + 1)) = omega arith in
       rw (m, ← e, ← q, ← z)
 
-  pub run-end : (n i at used : ℕ) (w : List ℕ) → n ≤ i → runFrom (n - i) i at used w ≡ (Done used at, w)
+  pub run-end : (n i at used : ℕ) (w : List ℕ) → n ≤ i → runFrom (n - i) i at used w ≡ (reaching used at, w)
   unfolding runFrom
   run-end n i at used w h =
       let m : n - i ≡ 0 = omega arith in
@@ -133,22 +137,34 @@ turn-of (Turns p q n) l i h = pair-turn p q n i (l .0) (l .1) h (eqb (i % 2) 0) 
 turn-of (Levels f w h n) l i k = level-turn f w h n i l k
 
 -- the next value may begin where the values so far have ended
-pub begin-on : {file : List ℕ} {room : ℕ} {step : Slot → ℕ → ℕ → Outcome} {slots : List Slot} {w₀ : List ℕ} {at used : ℕ} {w : List ℕ} {next row i : ℕ}
-    → Begin file w₀ room at used → Reading file room step slots w₀ at used w next row i → Begin file w room next row
-begin-on {file} {room} {step} {slots} {w₀} {at} {used} {w} {next} {row} {i} b r =
-    let l : length w ≡ length w₀ = same file room step slots w₀ at used r in
-    record { long = omega (arith, b .long); few = omega (arith, b .few); rows = r .fits (b .rows); place = r .inside (b .place); short = b .short }
+pub begin-on : {g : Grid} {file : List ℕ} {step : Slot → ℕ → ℕ → Outcome} {plan₀ plan : Plan} {w₀ : List ℕ} {at used : ℕ} {w : List ℕ} {next row i : ℕ}
+    → Begin file w₀ g at used → Reading g file step plan₀ w₀ at used w plan next row i → Begin file w g next row
+begin-on {g} {file} {step} {plan₀} {plan} {w₀} {at} {used} {w} {next} {row} {i} b r =
+    let l : length w ≡ length w₀ = same g file step plan₀ w₀ at used r in
+    record { long = omega (arith, b .long); few = b .few; rows = r .fits (b .rows); place = r .inside (b .place); short = b .short }
+
+-- slot i of some slots, and what follows it
+next-slot : (slots : List Slot) (i : ℕ) (x : Slot) → i < length slots → getD slots i x ≡ x → each (drop i slots) ≡ put x (λ n. each (drop (i + 1) slots))
+unfolding each
+next-slot slots i x h e = rw (add-one i, drop-cons slots i x h, e)
+
+no-slot : (slots : List Slot) (i : ℕ) → length slots ≤ i → each (drop i slots) ≡ stop
+unfolding each
+no-slot slots i h = rw (drop-of-length-le slots {i = i} h)
 
 -- what the walk answers, where the values may begin
-module _ (file : List ℕ) (small : Small file) (room shared : ℕ) (run : Run) (l : LawfulRun run) (readers : List Target) (depth parent : ℕ) (w₀ : List ℕ) (at used : ℕ) (begin : Begin file w₀ room at used) where
+module _ (g : Grid) (file : List ℕ) (small : Small file) (shared : ℕ) (run : Run) (l : LawfulRun run) (readers : List Target) (depth parent : ℕ) (w₀ : List ℕ) (at used : ℕ) (begin : Begin file w₀ g at used) where
   abbrev step : Slot → ℕ → ℕ → Outcome
-  step = λ x a u. walk file readers shared room depth x a u parent
+  step = λ x a u. walk file readers shared (g .room) depth x a u parent
+
+  abbrev plan : Plan
+  plan = each (runSlots run)
 
   abbrev Read : (w : List ℕ) (next row i : ℕ) → Type 0
-  Read w next row i = Reading file room step (runSlots run) w₀ at used w next row i
+  Read w next row i = Reading g file step plan w₀ at used w (each (drop i (runSlots run))) next row i
 
   abbrev Whole : Walk × List ℕ → Type 0
-  Whole o = Walked w₀ (o .1) used (seen (sequence step (each (runSlots run)) at used)) (o .0)
+  Whole o = Walked g w₀ (o .1) used (seen (sequence step plan at used)) (o .0)
 
   -- value i, and those behind it
   module _ (i next row : ℕ) (w : List ℕ) (h : i < length (runSlots run)) (r : Read w next row i) (rest : ℕ → ℕ → List ℕ → Walk × List ℕ) (on : (a u : ℕ) (v : List ℕ) → Read v a u (i + 1) → Whole (rest a u v)) where
@@ -156,28 +172,39 @@ module _ (file : List ℕ) (small : Small file) (room shared : ℕ) (run : Run) 
     p = turnOf run i
 
     abbrev value : Answer ℕ
-    value = plainValue file room shared p next row depth
+    value = plainValue file (g .room) shared p next row depth
 
     abbrev words : List ℕ
-    words = plainWords w p (headOf row next parent 0) value
+    words = valueLeft g file w shared p next row depth parent
 
     t : Turn run i p
     t = turn-of run l i h
 
-    one : Walked w words row (seen (step (plainSlot p) next row)) (leafAnswer row value)
-    one = plain-walked file room shared p next row w small (begin-on begin r) (t .lawful) readers depth parent
+    one : Walked g w words row (seen (step (plainSlot p) next row)) (leafAnswer row value)
+    one = plain-walked file g shared p next row w small (begin-on begin r) (t .lawful) readers depth parent
+
+    here : Reading g file step plan w₀ at used w (put (plainSlot p) (λ n. each (drop (i + 1) (runSlots run)))) next row i
+    here = rw (next-slot (runSlots run) i (plainSlot p) h (t .stands)) at r
 
     value-walked : (o : Walk) → leafAnswer row value ≡ o → Whole (onward o words rest)
-    value-walked (Refused n q) z = give-up file room step (runSlots run) w₀ at used (plainSlot p) r h (t .stands) (lost one z)
-    value-walked (Done u a) z =
-        let g = got one z in
-        on a u words (turn file room step (runSlots run) w₀ at used (plainSlot p) r h (t .stands) g (walk-bounds file readers shared room small depth (plainSlot p) next row parent (g .taken) a (g .is)))
+    value-walked (Refused n q) z = refusing (counted-refused _ (give-up g file step plan w₀ at used (plainSlot p) (λ n. each (drop (i + 1) (runSlots run))) here (lost one z)))
+    value-walked (Done r) z =
+        let y = got one z in
+        on (r .next) (r .used) words (turn g file step plan w₀ at used (plainSlot p) (λ n. each (drop (i + 1) (runSlots run))) here y
+        (walk-single file readers shared (g .room) small depth (plainSlot p) next row parent (y .taken) (r .next) (y .is))
+        (walk-bounds file readers shared (g .room) small depth (plainSlot p) next row parent (y .taken) (r .next) (y .is)))
 
-  from-walked : (left i next row : ℕ) (w : List ℕ) → left + i ≡ length (runSlots run) → Read w next row i → Whole (runFrom file room shared run depth parent left i next row w)
+  ended-walked : (i next row : ℕ) (w : List ℕ) → length (runSlots run) ≤ i → Read w next row i → Whole (reaching row next, w)
+  ended-walked i next row w h r =
+      let e = ended g file step plan w₀ at used (rw (no-slot (runSlots run) i h) at r) in
+      let c = counted-read _ (e .0) in
+      reading (c .0) (c .1) (sym (c .2)) (e .1 ∙ ap (written g w₀ used) (sym (c .3)))
+
+  from-walked : (left i next row : ℕ) (w : List ℕ) → left + i ≡ length (runSlots run) → Read w next row i → Whole (runFrom g file shared run depth parent left i next row w)
   unfolding runFrom
-  from-walked zero i next row w e r = stop file room step (runSlots run) w₀ at used r (omega arith)
+  from-walked zero i next row w e r = ended-walked i next row w (omega arith) r
   from-walked (suc left) i next row w e r =
-      value-walked i next row w (omega arith) r (λ a u v. runFrom file room shared run depth parent left (i + 1) a u v) (λ a u v r′. from-walked left (i + 1) a u v (omega arith) r′) _ refl
+      value-walked i next row w (omega arith) r (λ a u v. runFrom g file shared run depth parent left (i + 1) a u v) (λ a u v r′. from-walked left (i + 1) a u v (omega arith) r′) _ refl
 
-  pub run-walked : Whole (runOf file room shared run depth parent at used w₀)
-  run-walked = from-walked (length (runSlots run)) 0 at used w₀ (omega arith) (start file room step (runSlots run) w₀ at used)
+  pub run-walked : Whole (runOf g file shared run depth parent at used w₀)
+  run-walked = from-walked (length (runSlots run)) 0 at used w₀ (omega arith) (start g file step plan w₀ at used)

@@ -1,5 +1,6 @@
 // A value that has no children and needs no reader list.
 use answers::Number;
+use ids::Grid;
 use ids::Position;
 use ids::ResourceId;
 use ids::RowNumber;
@@ -29,9 +30,9 @@ fn beyond(id: ResourceId, shared: u32) -> bool
 }
 
 // A shared reference.
-fn reference(file: &[u8], words: &mut [u32], shared: u32, wanted: u32, h: Head) -> Walk
+fn reference(file: &[u8], words: &mut [u32], grid: Grid, shared: u32, wanted: u32, h: Head) -> Walk
     ensures { λ r. ⌜ r ≡ leafAnswer (h .row .0) (plainAt (now (file .entry)) shared (Plain.Reference wanted) (h .first)) ⌝ }
-    ensures { λ _. ⌜ now (words .exit) ≡ plainLeft (now (file .entry)) (now (words .entry)) shared (Plain.Reference wanted) h ⌝ }
+    ensures { λ _. ⌜ now (words .exit) ≡ plainLeft grid (now (file .entry)) (now (words .entry)) shared (Plain.Reference wanted) h ⌝ }
 {
     let at = h.first;
     match numbers::seven::seven_at(file, at) {
@@ -51,28 +52,43 @@ fn reference(file: &[u8], words: &mut [u32], shared: u32, wanted: u32, h: Head) 
                 parent: h.parent,
                 detail: id,
             };
-            table::leaf(words, named, 36, wanted, Number::Read(value, next))
+            table::leaf(words, grid, named, 36, wanted, Number::Read(value, next))
         }
     }
 }
 
 // The value, once it may have a row.
-fn plain_value(file: &[u8], words: &mut [u32], shared: u32, slot: Plain, h: Head) -> Walk
+fn plain_value(
+    file: &[u8],
+    words: &mut [u32],
+    grid: Grid,
+    shared: u32,
+    slot: Plain,
+    h: Head,
+) -> Walk
     ensures { λ r. ⌜ r ≡ leafAnswer (h .row .0) (plainAt (now (file .entry)) shared slot (h .first)) ⌝ }
-    ensures { λ _. ⌜ now (words .exit) ≡ plainLeft (now (file .entry)) (now (words .entry)) shared slot h ⌝ }
+    ensures { λ _. ⌜ now (words .exit) ≡ plainLeft grid (now (file .entry)) (now (words .entry)) shared slot h ⌝ }
 {
     let at = h.first;
     match slot {
         Plain::Fixed(kind, size) => table::leaf(
             words,
+            grid,
             h,
             kind,
             0,
             values::fixed_at(file, kind, size, at),
         ),
-        Plain::Char => table::leaf(words, h, 12, 0, text::char_at(file, at)),
-        Plain::Level(size) => table::leaf(words, h, 35, 0, crate::read::level_at(file, size, at)),
-        Plain::Reference(wanted) => reference(file, words, shared, wanted, h),
+        Plain::Char => table::leaf(words, grid, h, 12, 0, text::char_at(file, at)),
+        Plain::Level(size) => table::leaf(
+            words,
+            grid,
+            h,
+            35,
+            0,
+            crate::read::level_at(file, size, at),
+        ),
+        Plain::Reference(wanted) => reference(file, words, grid, shared, wanted, h),
     }
 }
 
@@ -80,7 +96,7 @@ fn plain_value(file: &[u8], words: &mut [u32], shared: u32, slot: Plain, h: Head
 pub fn read_plain(
     file: &[u8],
     words: &mut [u32],
-    room: u32,
+    grid: Grid,
     shared: u32,
     slot: Plain,
     at: usize,
@@ -88,8 +104,8 @@ pub fn read_plain(
     depth: u32,
     parent: u32,
 ) -> Walk
-    ensures { λ r. ⌜ r ≡ leafAnswer used (plainValue (now (file .entry)) room shared slot at used depth) ⌝ }
-    ensures { λ _. ⌜ now (words .exit) ≡ valueLeft (now (file .entry)) (now (words .entry)) room shared slot at used depth parent ⌝ }
+    ensures { λ r. ⌜ r ≡ leafAnswer used (plainValue (now (file .entry)) (grid .room) shared slot at used depth) ⌝ }
+    ensures { λ _. ⌜ now (words .exit) ≡ valueLeft grid (now (file .entry)) (now (words .entry)) shared slot at used depth parent ⌝ }
 {
     if depth == 0 {
         return Walk::Refused {
@@ -97,7 +113,7 @@ pub fn read_plain(
             place: at,
         };
     }
-    if room <= used {
+    if grid.room <= used {
         return Walk::Refused {
             number: 19,
             place: at,
@@ -109,5 +125,5 @@ pub fn read_plain(
         parent,
         detail: 0,
     };
-    plain_value(file, words, shared, slot, h)
+    plain_value(file, words, grid, shared, slot, h)
 }

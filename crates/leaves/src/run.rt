@@ -1,5 +1,7 @@
 // Values one after the other that have no children and need no reader list.
 use crate::plain::Plain;
+use ids::Grid;
+use table::Reached;
 use table::Walk;
 ghost use mathlib.Core.Path.{_≡_};
 ghost use Prim.Native.Nat.{_<_};
@@ -50,7 +52,7 @@ fn turn(run: Run, i: usize) -> Plain
 pub fn read_run(
     file: &[u8],
     words: &mut [u32],
-    room: u32,
+    grid: Grid,
     shared: u32,
     run: Run,
     at: usize,
@@ -58,8 +60,8 @@ pub fn read_run(
     depth: u32,
     parent: u32,
 ) -> Walk
-    ensures { λ r. ⌜ r ≡ runOf (now (file .entry)) room shared run depth parent at used (now (words .entry)) .0 ⌝ }
-    ensures { λ _. ⌜ now (words .exit) ≡ runOf (now (file .entry)) room shared run depth parent at used (now (words .entry)) .1 ⌝ }
+    ensures { λ r. ⌜ r ≡ runOf grid (now (file .entry)) shared run depth parent at used (now (words .entry)) .0 ⌝ }
+    ensures { λ _. ⌜ now (words .exit) ≡ runOf grid (now (file .entry)) shared run depth parent at used (now (words .entry)) .1 ⌝ }
 {
     let n = turns(run);
     let mut next = at;
@@ -67,10 +69,10 @@ pub fn read_run(
     let mut i = 0;
     while i < n {
         let slot = turn(run, i);
-        match crate::plain::read_plain(file, words, room, shared, slot, next, row, depth, parent) {
-            Walk::Done { next: a, used: u } => {
-                next = a;
-                row = u;
+        match crate::plain::read_plain(file, words, grid, shared, slot, next, row, depth, parent) {
+            Walk::Done(reached) => {
+                next = reached.next;
+                row = reached.used;
             }
             Walk::Refused { number, place } => {
                 return Walk::Refused { number, place };
@@ -78,5 +80,5 @@ pub fn read_run(
         }
         i += 1;
     }
-    Walk::Done { next, used: row }
+    Walk::Done(Reached { used: row, next })
 }

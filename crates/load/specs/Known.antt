@@ -4,6 +4,7 @@ use Prim.Native.Nat.{ℕ, _*_, _≤_, _<_, _^_}
 use lib.ListN.{length}
 use Rattle.layout.specs.Target.{Target}
 use Rattle.layout.specs.Slot as L
+use Rattle.layout.specs.Rows.{width}
 use Rattle.readers.specs.declared.Readers.{Readers}
 use Rattle.readers.specs.Listed.{Listed}
 use Rattle.table.specs.declared.Head.{Head}
@@ -12,6 +13,7 @@ use Rattle.heads.specs.declared.nest.Nest.{Nest}
 use Rattle.heads.specs.Slots.{SlotIs}
 use Rattle.heads.specs.Nests.{Prelude, NestIs}
 use Rattle.objects.specs.Start.{Has, positionOfSlot}
+use Rattle.ids.specs.declared.Grid.{Grid}
 
 -- the codes hold the types of some readers and those that fonts and pages declare
 pub record Known (codes : List ℕ) (rd : Readers) : Type 0 where
@@ -31,14 +33,14 @@ pub record KnownSlot (codes : List ℕ) (slot : Slot) : Type 0 where
   pub is : SlotIs codes slot x
 
 pub record KnownNest (codes : List ℕ) (nest : Nest) : Type 0 where
-  pub slots : List L.Slot
-  pub is : NestIs codes nest slots
+  pub plan : L.Plan
+  pub is : NestIs codes nest plan
 
 -- a raw value has its row, and all numbers fit
-pub record Ready (file words : List ℕ) (room : ℕ) (h : Head) (at : ℕ) : Type 0 where
-  pub long : 6 * room ≤ length words
-  pub few : room < 2 ^ 32
-  pub free : h .row .0 < room
+pub record Ready (file words : List ℕ) (g : Grid) (h : Head) (at : ℕ) : Type 0 where
+  pub long : width * g .room ≤ length words
+  pub few : g .room < 2 ^ 32
+  pub free : h .row .0 < g .room
   pub begun : h .first ≤ at
   pub place : at ≤ length file
   pub short : length file < 2 ^ 32

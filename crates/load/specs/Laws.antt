@@ -1,16 +1,17 @@
 -- Laws of loading: each step of the code against what loading answers. Assumes nothing.
 use mathlib.Core.Path.{_≡_, refl, sym, ap, subst, _∙_}
+use mathlib.Core.Bool.{false}
 use mathlib.Core.List.{List, [], _∷_, _++_}
 use Prim.Native.Nat.{ℕ, _+_, _*_, _-_, _≤_}
 use native.Mathlib.Omega.{arith}
 use native.Mathlib.Numerals.{add-one}
-use lib.ListN.{length, take, drop, replicate, set, length-append, take-append-drop}
+use lib.ListN.{length, take, drop, replicate, set, length-append, length-drop, take-append-drop}
 use borrow.Author.Tests.{eq-eqb, ne-eqb}
 use Rattle.laws.specs.Small.{differ}
 use Rattle.layout.specs.Target.{Target, object as anything}
 use Rattle.layout.specs.Slot as L
 use Rattle.layout.specs.Slot.{each, object}
-use Rattle.layout.specs.Rows.{Row, flat}
+use Rattle.layout.specs.Rows.{Row, flat, width}
 use Rattle.layout.specs.File.{objectsPlan, header}
 use Rattle.layout.specs.Text.{ascii}
 use Rattle.layout.specs.Number.{little}
@@ -19,15 +20,15 @@ use Rattle.reading.specs.Answer.{Answer, refused, read, bind, check, Ok, not-re
 use Rattle.reading.specs.Reads.{Small, reads-bounds}
 use Rattle.reading.specs.References.{length-flat}
 use Rattle.reading.specs.Walk.{Taken, sequence, walk}
-use Rattle.reading.specs.Bounds.{sequence-bounds}
+use Rattle.reading.specs.Grid.{cell}
+use Rattle.reading.specs.Drafts.{bare, length-bare}
 use Rattle.reading.specs.File.{Loaded as FileLoaded, rootKinds, headerAt, listsAt, objectsAt, finished, fileAt, toLoad, loadOf, tableOf, roomOf}
 use Rattle.reading.specs.Front.{Headed, header-sound, lists-reads}
-use Rattle.table.specs.declared.Walk.{Walk}
-use Rattle.table.specs.declared.Walk.the-variants.{Done}
-use Rattle.table.specs.declared.Walk.the-variants.{Refused as Walk-refused}
-use Rattle.table.specs.Written.{written, drafts, length-drafts}
-use Rattle.table.specs.Contract.{seen, Walked}
-use Rattle.table.specs.Loop.{got, lost}
+use Rattle.ids.specs.declared.Grid.{Grid}
+use Rattle.ids.specs.Position.{cellOf}
+use Rattle.table.specs.declared.Reached.{Reached}
+use Rattle.table.specs.Written.{written, length-written}
+use Rattle.table.specs.Loop.{Counted, got}
 use Rattle.fill.specs.Fill.{cleared}
 use Rattle.answers.specs.declared.Number.the-variants.{Read as Header-read, Refused as Header-refused}
 use Rattle.header.specs.Header.{toHeader, headerOf}
@@ -36,10 +37,14 @@ use Rattle.heads.specs.declared.slot.Slot.the-variants.{Object}
 use Rattle.heads.specs.Nests.{Prelude, prelude, NestIs, object-at}
 use Rattle.resources.specs.declared.Settled.{Settled}
 use Rattle.resources.specs.declared.Settled.the-variants.{Fine, Wrong}
-use Rattle.resources.specs.Settled.{settledOf, answered, judged-is, Drafted}
+use Rattle.resources.specs.Settled.{settledOf, settled as rows-settled, answered, judged-is, Drafted}
+use Rattle.resources.specs.Flat.{settled-flat}
 use Rattle.resources.specs.Objects.{objects-drafted}
 use Rattle.load.specs.declared.Loading.{Loading}
 use Rattle.load.specs.declared.Loading.the-variants.{Refused, Loaded}
+use Rattle.load.specs.declared.walk.Children.{Children}
+use Rattle.load.specs.declared.walk.Children.the-variants.{Done as Children-done, Refused as Children-refused}
+use Rattle.load.specs.Turns.{Counts, whole as whole-nest, counts-walked, counts-refused}
 use Rattle.load.specs.Loads.{Loads, behindHeader, answerOf}
 use Rattle.readers.specs.Judged.{judgedName, judges}
 
@@ -60,11 +65,11 @@ module _ (file : List ℕ) (platform flags : ℕ) (names : List (List ℕ)) (rea
     pub wrong-resource : {first : ℕ} → settledOf (drop 1 (rootKinds (a .1))) (a .1) ≡ Wrong first → finished file platform flags names readers shared a next ≡ refused 17 first
     wrong-resource {first} e = settled (Wrong first) e
 
-    cleared-rows : (rows : List Row) (rest : List ℕ) → cleared (flat rows ++ rest) (6 * length rows) ≡ flat rows ++ replicate (length rest) 0
+    cleared-rows : (rows : List Row) (rest : List ℕ) → cleared (flat rows ++ rest) (width * length rows) ≡ flat rows ++ replicate (length rest) 0
     unfolding cleared
     cleared-rows rows rest =
-        let l : length (flat rows) ≡ 6 * length rows = length-flat rows in
-        let n : length (flat rows ++ rest) - 6 * length rows ≡ length rest = omega (arith, length-append (flat rows) rest) in
+        let l : length (flat rows) ≡ width * length rows = length-flat rows in
+        let n : length (flat rows ++ rest) - width * length rows ≡ length rest = omega (arith, length-append (flat rows) rest) in
         rw (n, ← l) (ap (λ (x : List ℕ). x ++ replicate (length rest) 0) (take-left (flat rows) rest))
       where
         take-left : (x y : List ℕ) → take (length x) (x ++ y) ≡ x
@@ -72,12 +77,19 @@ module _ (file : List ℕ) (platform flags : ℕ) (names : List (List ℕ)) (rea
         take-left (b ∷ x) y = ap (λ (l : List ℕ). b ∷ l) (take-left x y)
 
     -- all is well: the rows, and zeros behind them
-    pub all-well : {used : ℕ} {entry mid exit rest : List ℕ} → Drafted entry used (a .1) rest → Fine ≡ settledOf (drop 1 (rootKinds (a .1))) (a .1) → mid ≡ flat (a .1) ++ rest → exit ≡ cleared mid (6 * used)
+    pub all-well : {g : Grid} {used : ℕ} {entry mid exit w : List ℕ} → g .columns ≡ false → Drafted g entry used (a .1) w → Fine ≡ settledOf (drop 1 (rootKinds (a .1))) (a .1) → mid ≡ rows-settled g w (a .1) → exit ≡ cleared mid (cellOf g used 0)
         → Loads (finished file platform flags names readers shared a next) entry exit (Loaded used readers shared)
-    all-well {used} {entry} {mid} {exit} {rest} d s m c =
+    unfolding cell
+    all-well {g} {used} {entry} {mid} {exit} {w} by d s m c =
         let n : used ≡ length (a .1) = d .count in
-        let l : length entry - 6 * length (a .1) ≡ length rest = omega (arith, ap length (d .stand) ∙ length-append (drafts (a .1)) rest, length-drafts (a .1)) in
-        rw (settled Fine (sym s), l, n) (refl, c ∙ rw (m, n) (cleared-rows (a .1) rest))
+        let b : length (bare (a .1)) ≡ length (a .1) = length-bare (a .1) in
+        let x : width * length (a .1) ≤ length w = omega (arith, d .fits, d .long) in
+        let k : length (drop (width * length (a .1)) w) ≡ length w - width * length (a .1) = length-drop (width * length (a .1)) w in
+        let e : length entry ≡ length w = ap length (d .stand) ∙ length-written g w 0 (a .1) in
+        let l : length entry - width * length (a .1) ≡ length (drop (width * length (a .1)) w) = omega arith in
+        let y : cellOf g used 0 ≡ width * length (bare (a .1)) = rw by (omega arith) in
+        let z : mid ≡ flat (bare (a .1)) ++ drop (width * length (a .1)) w = m ∙ settled-flat g w (a .1) by x in
+        rw (settled Fine (sym s), l) (rw n refl, c ∙ rw (z, y) (cleared-rows (bare (a .1)) (drop (width * length (a .1)) w)))
 
 -- only the words' length counts
 same-size : (w w′ exit : List ℕ) (r : Loading) → length w′ ≡ length w → (x : Answer FileLoaded) → Loads x w′ exit r → Loads x w exit r
@@ -88,40 +100,41 @@ same-size w w′ exit r l (read a e) c = rw (← l) c
 pub loads-refused : (x : Answer FileLoaded) (entry exit : List ℕ) {n p : ℕ} → x ≡ refused n p → Loads x entry exit (Refused n p)
 loads-refused x entry exit e = rw e refl
 
-module _ (file : List ℕ) (small : Small file) (codes : List ℕ) (room shared at : ℕ) (few : shared ≤ 256) where
+module _ (g : Grid) (file : List ℕ) (small : Small file) (codes : List ℕ) (shared at : ℕ) (few : shared ≤ 256) where
   -- the slots of the primary and the shared objects
   abbrev pub roots : List L.Slot
   roots = replicate (shared + 1) (object anything)
 
-  pub roots-are : Prelude codes → NestIs codes (Each (Object 10) (shared + 1)) roots
+  pub roots-are : Prelude codes → NestIs codes (Each (Object 10) (shared + 1)) (each roots)
   roots-are p = record { slot = object anything; are = refl; is = object-at codes p }
 
-  objects-are : (readers : List Target) → sequence (λ y b v. walk file readers shared room 32 y b v 0) (each roots) at 0 ≡ objectsAt file room readers shared at
+  objects-are : (readers : List Target) → sequence (λ y b v. walk file readers shared (g .room) 32 y b v 0) (each roots) at 0 ≡ objectsAt file (g .room) readers shared at
   unfolding objectsAt objectsPlan
-  objects-are readers = ap (λ n. sequence (λ y b v. walk file readers shared room 32 y b v 0) (each (replicate n (object anything))) at 0) (add-one shared)
+  objects-are readers = ap (λ n. sequence (λ y b v. walk file readers shared (g .room) 32 y b v 0) (each (replicate n (object anything))) at 0) (add-one shared)
 
   module _ (platform flags : ℕ) (names : List (List ℕ)) (readers : List Target) where
     abbrev whole : Answer FileLoaded
-    whole = bind (objectsAt file room readers shared at) (λ a e. finished file platform flags names (length readers) shared a e)
+    whole = bind (objectsAt file (g .room) readers shared at) (λ a e. finished file platform flags names (length readers) shared a e)
 
-    pub objects-lost : {w w′ : List ℕ} {n p : ℕ} {r : Walk} → Walked w w′ 0 (seen (sequence (λ y b v. walk file readers shared room 32 y b v 0) (each roots) at 0)) r → r ≡ Walk-refused n p → whole ≡ refused n p
+    abbrev roots-walked : Answer Counted
+    roots-walked = whole-nest g file codes readers shared 32 (each roots) [] at 0
+
+    pub objects-lost : {w w′ : List ℕ} {n p : ℕ} {r : Children} → Counts g w w′ 0 roots-walked r → r ≡ Children-refused n p → whole ≡ refused n p
     unfolding bind
-    objects-lost c e = rw (sym (objects-are readers) ∙ lost c e)
+    objects-lost c e = rw (sym (objects-are readers) ∙ counts-refused (sequence (λ y b v. walk file readers shared (g .room) 32 y b v 0) (each roots) at 0) (record { answers = sym e ∙ c .answers; writes = c .writes }))
 
     -- the objects were read, and their rows stand in the words
     pub record Rooted (w w′ : List ℕ) (next used : ℕ) : Type 0 where
       pub taken : Taken
-      pub is : objectsAt file room readers shared at ≡ read taken next
-      pub drafted : Drafted w′ used (taken .1) (drop (6 * used) w)
+      pub is : objectsAt file (g .room) readers shared at ≡ read taken next
+      pub drafted : Drafted g w′ used (taken .1) w
 
-    pub objects-got : {w w′ : List ℕ} {next used : ℕ} {r : Walk} → 6 * room ≤ length w → Walked w w′ 0 (seen (sequence (λ y b v. walk file readers shared room 32 y b v 0) (each roots) at 0)) r → r ≡ Done used next → Rooted w w′ next used
-    objects-got {w} {w′} {next} {used} long c e =
-        let g = got c e in
-        let q = sym (objects-are readers) ∙ g .is in
-        let b = sequence-bounds file readers shared room small 32 (each roots) at 0 0 (g .taken) next (g .is) in
-        let f : g .taken .0 ≤ room = b .fits (omega arith) in
-        let d = objects-drafted file readers shared room small few w at (g .taken) next q (omega arith) in
-        record { taken = g .taken; is = q; drafted = subst (λ x. Drafted x used (g .taken .1) (drop (6 * used) w)) (sym (g .words)) (subst (λ n. Drafted (written w 0 (g .taken .1)) n (g .taken .1) (drop (6 * n) w)) (g .rows-used) d) }
+    pub objects-got : {w w′ : List ℕ} {n : ℕ} {reached : Reached} {r : Children} → width * g .room ≤ length w → Counts g w w′ 0 roots-walked r → r ≡ Children-done n reached → Rooted w w′ (reached .next) (reached .used)
+    objects-got {w} {w′} {n} {reached} long c e =
+        let y = got (counts-walked (sequence (λ y b v. walk file readers shared (g .room) 32 y b v 0) (each roots) at 0) (record { answers = sym e ∙ c .answers; writes = c .writes }) .0) refl in
+        let q = sym (objects-are readers) ∙ y .is in
+        let d = objects-drafted g file readers shared small few w at (y .taken) (reached .next) q long in
+        record { taken = y .taken; is = q; drafted = subst (λ x. Drafted g x (reached .used) (y .taken .1) w) (sym (y .words)) (subst (λ m. Drafted g (written g w 0 (y .taken .1)) m (y .taken .1) w) (y .rows-used) d) }
 
     pub objects-loaded : (w w′ exit : List ℕ) {next used : ℕ} (r : Loading) (o : Rooted w w′ next used) → length w′ ≡ length w → Loads (finished file platform flags names (length readers) shared (o .taken) next) w′ exit r → Loads whole w exit r
     unfolding bind
@@ -216,4 +229,4 @@ module _ (file entry : List ℕ) where
   load-loaded {exit} {rows} {readers} {shared} l = go (fileAt judgedName file (roomOf (length entry))) l where
     go : (x : Answer FileLoaded) → Loads x entry exit (Loaded rows readers shared) → (Loaded rows readers shared ≡ answerOf (toLoad x)) × (exit ≡ tableOf (toLoad x) (length entry))
     go (refused a b) l = differ cc
-    go (read a f) l = l
+    go (read a f) l = (l .0 ∙ rw (length-bare (a .rows)), l .1 ∙ rw (length-bare (a .rows)))

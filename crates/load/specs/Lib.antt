@@ -1,5 +1,6 @@
 pub mod Known
 pub mod Walks
+pub mod Turns
 pub mod Steps
 pub mod Loads
 pub mod Contracts

@@ -3,13 +3,14 @@ use mathlib.Core.Path.{_≡_}
 use mathlib.Core.List.{List, _++_}
 use Prim.Native.Nat.{ℕ, _*_, _-_}
 use lib.ListN.{length, replicate}
-use Rattle.layout.specs.Rows.{flat}
+use Rattle.layout.specs.Rows.{flat, width}
 use Rattle.reading.specs.Answer.{Answer, refused, read, bind}
 use Rattle.reading.specs.File as File
 use Rattle.reading.specs.File.{Loaded as FileLoaded, refusal, accepted, listsAt, objectsAt, finished}
 use Rattle.readers.specs.Judged.{judgedName}
 use Rattle.load.specs.declared.Loading.{Loading}
 use Rattle.load.specs.declared.Loading.the-variants.{Refused, Loaded}
+use Rattle.reading.specs.Drafts.{bare}
 
 -- 01's answer in code: a refusal's number and place, or the number of rows, the number of readers and the shared count
 abbrev pub answerOf : File.Load → Loading
@@ -19,7 +20,7 @@ answerOf (accepted rows readers shared) = Loaded (length rows) readers shared
 -- after success the rows stand in the words, with zeros behind them; after a refusal the words may hold anything
 abbrev pub Loads : Answer FileLoaded → (entry exit : List ℕ) → Loading → Type 0
 Loads (refused n p) entry exit r = r ≡ Refused n p
-Loads (read a e) entry exit r = (r ≡ Loaded (length (a .rows)) (a .readers) (a .shared)) × (exit ≡ flat (a .rows) ++ replicate (length entry - 6 * length (a .rows)) 0)
+Loads (read a e) entry exit r = (r ≡ Loaded (length (a .rows)) (a .readers) (a .shared)) × (exit ≡ flat (bare (a .rows)) ++ replicate (length entry - width * length (a .rows)) 0)
 
 -- what stands behind the header
 unfoldable pub behindHeader : (file : List ℕ) (room platform flags at : ℕ) → Answer FileLoaded

@@ -1,18 +1,18 @@
 -- Laws of the walk: what its functions know of each other's answers. Assumes nothing.
 use mathlib.Core.Path.{_≡_, refl, sym, ap, subst, _∙_}
 use mathlib.Core.List.{List}
-use Prim.Native.Nat.{ℕ, suc, _+_, _≤_}
+use Prim.Native.Nat.{ℕ, _+_, _≤_, _<_}
 use native.Mathlib.Omega.{arith}
-use native.Mathlib.Numerals.{add-one}
 use lib.ListN.{length}
 use Rattle.laws.specs.Small.{differ}
 use Rattle.layout.specs.Target.{Target}
 use Rattle.layout.specs.Slot as L
 use Rattle.layout.specs.Slot.{each}
-use Rattle.reading.specs.Answer.{Answer, refused, read}
+use Rattle.reading.specs.Answer.{Answer, refused, read, Ok, not-read, is-read}
 use Rattle.reading.specs.Reads.{Small, reads-bounds}
 use Rattle.reading.specs.Heads.{Opening, headAt, head-reads}
-use Rattle.reading.specs.Walk.{sequence, walk}
+use Rattle.reading.specs.Walk.{Taken, Outcome, sequence, walk}
+use Rattle.reading.specs.Sound.{ReadValue, walk-sound}
 use Rattle.reading.specs.Bounds.{sequence-bounds}
 use Rattle.table.specs.declared.Head.{Head}
 use Rattle.table.specs.declared.Walk.{Walk}
@@ -25,8 +25,9 @@ use Rattle.heads.specs.declared.open.Opened.{Opened}
 use Rattle.heads.specs.declared.open.Opened.the-variants.{Head as Opened-head, Refused as Opened-refused}
 use Rattle.heads.specs.Opens.{Opens}
 use Rattle.heads.specs.Nests.{BelowIs}
-use Rattle.objects.specs.Close.{Closable, counted}
+use Rattle.objects.specs.Close.{Closable}
 use Rattle.load.specs.Known.{Ready}
+use Rattle.ids.specs.declared.Grid.{Grid}
 
 -- a head that was read
 pub record OpenedAs (codes : List ℕ) (x : Answer Opening) (next : ℕ) (below : Below) : Type 0 where
@@ -55,29 +56,29 @@ refused-as codes {n} {p} (read o f) w e =
     differ cc
 
 -- the children begin inside the file and have rows left
-pub begin-below : {file words : List ℕ} {room : ℕ} {h : Head} {at next : ℕ} (t : Target) {o : Opening} → Small file → Ready file words room h at → headAt file t at ≡ read o next → Begin file words room next (h .row .0 + 1)
-begin-below {file} {words} {room} {h} {at} {next} t s r e =
+pub begin-below : {file words : List ℕ} {g : Grid} {h : Head} {at next : ℕ} (t : Target) {o : Opening} → Small file → Ready file words g h at → headAt file t at ≡ read o next → Begin file words g next (h .row .0 + 1)
+begin-below {file} {words} {g} {h} {at} {next} t s r e =
     let b = reads-bounds (head-reads file t) s at (r .place) e in
     record { long = r .long; few = r .few; rows = omega (arith, r .free); place = b .1; short = r .short }
 
--- the value that ends has a length and a number of children that fit
-pub close-ready : {file words w₁ : List ℕ} {room : ℕ} {h : Head} {at next : ℕ} (t : Target) {o : Opening} (readers : List Target) (shared depth : ℕ) (slots : List L.Slot) (n : ℕ) (walked : Walk)
-    → Small file → Ready file words room h at → headAt file t at ≡ read o next → n ≡ length slots
-    → Walked words w₁ (h .row .0 + 1) (seen (sequence (λ y b v. walk file readers shared room depth y b v (h .row .0 + 1)) (each slots) next (h .row .0 + 1))) walked
-    → Closable h n walked
-close-ready t readers shared depth slots n (Refused m p) s r e z c = tt
-close-ready {file} {words} {w₁} {room} {h} {at} {next} t readers shared depth slots n (Done u f) s r e z c =
-    let g = got c refl in
+-- the value that ends has a length that fits
+pub close-ready : {file words w₁ : List ℕ} {g : Grid} {h : Head} {at next : ℕ} (t : Target) {o : Opening} (readers : List Target) (shared depth : ℕ) (plan : L.Plan) (walked : Walk)
+    → Small file → Ready file words g h at → headAt file t at ≡ read o next
+    → Walked g words w₁ (h .row .0 + 1) (seen (sequence (λ y b v. walk file readers shared (g .room) depth y b v (h .row .0 + 1)) plan next (h .row .0 + 1))) walked
+    → Closable h walked
+close-ready t readers shared depth plan (Refused m p) s r e c = tt
+close-ready {file} {words} {w₁} {g} {h} {at} {next} t readers shared depth plan (Done f) s r e c =
+    let y = got c refl in
     let b = reads-bounds (head-reads file t) s at (r .place) e in
-    let k = sequence-bounds file readers shared room s depth (each slots) next (h .row .0 + 1) (h .row .0 + 1) (g .taken) f (g .is) in
-    let d = counted file s readers shared room depth slots next (h .row .0 + 1) (h .row .0 + 1) (g .taken) f (g .is) in
-    let i : f ≤ length file = k .inside (b .1) in
-    let j : g .taken .0 ≤ room = k .fits (omega (arith, r .free)) in
-    (omega (arith, r .begun, b .0, k .ahead), omega (arith, r .short), omega (arith, r .long, r .few, d .1))
+    let k = sequence-bounds file readers shared (g .room) s depth plan next (h .row .0 + 1) (h .row .0 + 1) (y .taken) (f .next) (y .is) in
+    let i : f .next ≤ length file = k .inside (b .1) in
+    (omega (arith, r .begun, b .0, k .ahead), omega (arith, r .short))
 
--- by the number of the row after it
-pub after-row : {words w₁ : List ℕ} (file : List ℕ) (room shared depth next n : ℕ) (readers : List Target) (slots : List L.Slot) {walked : Walk}
-    → Walked words w₁ (n + 1) (seen (sequence (λ y b v. walk file readers shared room depth y b v (n + 1)) (each slots) next (n + 1))) walked
-    → Walked words w₁ (suc n) (seen (sequence (λ y b v. walk file readers shared room depth y b v (suc n)) (each slots) next (suc n))) walked
-after-row {words} {w₁} file room shared depth next n readers slots {walked} c =
-    subst (λ m. Walked words w₁ m (seen (sequence (λ y b v. walk file readers shared room depth y b v m) (each slots) next m)) walked) (add-one n) c
+-- a value takes a row
+pub walk-takes : (file : List ℕ) (readers : List Target) (shared room : ℕ) → Small file → (d : ℕ) (x : L.Slot) (at used parent : ℕ) (a : Taken) (e : ℕ) → walk file readers shared room d x at used parent ≡ read a e → used < a .0
+walk-takes file readers shared room small d x at used parent a e q = go (walk file readers shared room d x at used parent) (walk-sound file readers shared room small d x at used parent) q where
+  go : (o : Outcome) → Ok (ReadValue file readers shared room small d x at used parent) o → o ≡ read a e → used < a .0
+  go o not-read p = differ cc
+  go o (is-read {a = b} {e = f} v) p =
+      let qb : b ≡ a = cc in
+      rw (← qb) (omega (arith, v .used-is))

@@ -4,21 +4,23 @@ mod walk;
 use answers::Number;
 use heads::nest::Nest;
 use heads::slot::Slot;
+use ids::Grid;
 use ids::RowNumber;
 use readers::Lists;
 use readers::Readers;
 use resources::Settled;
-use table::Walk;
+use walk::Children;
 ghost use mathlib.Core.Path.{_≡_};
 ghost use Prim.Native.Nat.{_*_, _≤_};
 ghost use lib.ListN.{length, take};
-ghost use Rattle.reading.specs.File.{fileAt, loadOf, tableOf};
+ghost use Rattle.layout.specs.Rows.{width};
+ghost use Rattle.reading.specs.File.{loadOf, tableOf};
 ghost use Rattle.readers.specs.Judged.{judgedName};
 ghost use Rattle.leaves.specs.Plain.{Begin};
 ghost use Rattle.heads.specs.Nests.{prelude};
 ghost use Rattle.load.specs.Known.{Known};
-ghost use Rattle.load.specs.Loads.{Loads, answerOf};
-ghost use Rattle.load.specs.Contracts.{Finishes, ObjectsLoad, ListsLoad};
+ghost use Rattle.load.specs.Loads.{answerOf};
+ghost use Rattle.load.specs.Contracts.{Finishes, ObjectsLoad, ListsLoad, FileLoads};
 
 // A refusal's number and place; or the number of rows used, the number of readers and the shared count.
 pub enum Loading {
@@ -37,12 +39,13 @@ pub enum Loading {
 fn finish(
     file: &[u8],
     words: &mut [u32],
+    grid: Grid,
     readers: u32,
     shared: u32,
     next: usize,
     used: u32,
 ) -> Loading
-    ensures { λ r. ⌜ Finishes (now (file .entry)) readers shared next used (now (words .entry)) (now (words .exit)) r ⌝ }
+    ensures { λ r. ⌜ Finishes grid (now (file .entry)) readers shared next used (now (words .entry)) (now (words .exit)) r ⌝ }
 {
     if next != file.len() {
         return Loading::Refused {
@@ -50,13 +53,13 @@ fn finish(
             place: next,
         };
     }
-    match resources::settle(words, used) {
+    match resources::settle(words, grid, used) {
         Settled::Wrong(first) => Loading::Refused {
             number: 17,
             place: first as usize,
         },
         Settled::Fine => {
-            fill::clear(words, RowNumber(used).position());
+            table::clear_behind(words, grid, RowNumber(used));
             Loading::Loaded {
                 rows: used,
                 readers,
@@ -72,18 +75,26 @@ fn objects(
     codes: &[u8],
     rd: Readers,
     words: &mut [u32],
-    room: u32,
+    grid: Grid,
     shared: u32,
     at: usize,
 ) -> Loading
-    requires { ⌜ Begin (now file) (now words) room at 0 × Known (now codes) rd × (shared ≤ 256) ⌝ }
-    ensures { λ r. ⌜ ObjectsLoad (now (file .entry)) (now (codes .entry)) rd room shared at (now (words .entry)) (now (words .exit)) r ⌝ }
+    requires { ⌜ Begin (now file) (now words) grid at 0 × Known (now codes) rd × (shared ≤ 256) ⌝ }
+    ensures { λ r. ⌜ ObjectsLoad grid (now (file .entry)) (now (codes .entry)) rd shared at (now (words .entry)) (now (words .exit)) r ⌝ }
 {
     let n = shared + 1;
     let nest = Nest::Each(Slot::Object(10), n);
-    match walk::nested(file, codes, rd, words, room, shared, nest, at, 0, 32) {
-        Walk::Refused { number, place } => Loading::Refused { number, place },
-        Walk::Done { next, used } => finish(file, words, rd.count, shared, next, used),
+    match walk::nested(file, codes, rd, words, grid, shared, nest, at, 0, 32) {
+        Children::Refused { number, place } => Loading::Refused { number, place },
+        Children::Done { count: _, reached } => finish(
+            file,
+            words,
+            grid,
+            rd.count,
+            shared,
+            reached.next,
+            reached.used,
+        ),
     }
 }
 
@@ -106,9 +117,9 @@ fn put_prelude(codes: &mut [u8])
 }
 
 // What stands behind the header.
-fn lists(file: &[u8], words: &mut [u32], room: u32, at: usize) -> Loading
-    requires { ⌜ (length (now file) ≤ 16777216) × (at ≤ length (now file)) × (6 * room ≤ length (now words)) ⌝ }
-    ensures { λ r. ⌜ ListsLoad (now (file .entry)) room at (now (words .entry)) (now (words .exit)) r ⌝ }
+fn lists(file: &[u8], words: &mut [u32], grid: Grid, at: usize) -> Loading
+    requires { ⌜ (length (now file) ≤ 16777216) × (at ≤ length (now file)) × (width * grid .room ≤ length (now words)) ⌝ }
+    ensures { λ r. ⌜ ListsLoad grid (now (file .entry)) at (now (words .entry)) (now (words .exit)) r ⌝ }
 {
     let mut codes = [0u8; 7168];
     let mut targets = [0u32; 64];
@@ -122,19 +133,19 @@ fn lists(file: &[u8], words: &mut [u32], room: u32, at: usize) -> Loading
                 starts,
                 count,
             };
-            objects(file, &codes, rd, words, room, shared, next)
+            objects(file, &codes, rd, words, grid, shared, next)
         }
     }
 }
 
 // The file, where the words have room for so many rows.
-fn load_rows(file: &[u8], words: &mut [u32], room: u32) -> Loading
-    requires { ⌜ 6 * room ≤ length (now words) ⌝ }
-    ensures { λ r. ⌜ Loads (fileAt judgedName (now (file .entry)) room) (now (words .entry)) (now (words .exit)) r ⌝ }
+fn load_rows(file: &[u8], words: &mut [u32], grid: Grid) -> Loading
+    requires { ⌜ width * grid .room ≤ length (now words) ⌝ }
+    ensures { λ r. ⌜ FileLoads grid (now (file .entry)) (now (words .entry)) (now (words .exit)) r ⌝ }
 {
     match header::header(file) {
         Number::Refused(number, place) => Loading::Refused { number, place },
-        Number::Read(_, at) => lists(file, words, room, at),
+        Number::Read(_, at) => lists(file, words, grid, at),
     }
 }
 
@@ -143,8 +154,8 @@ pub fn load(file: &[u8], words: &mut [u32]) -> Loading
     ensures { λ r. ⌜ r ≡ answerOf (loadOf judgedName (now (file .entry)) (length (now (words .entry)))) ⌝ }
     ensures { λ _. ⌜ now (words .exit) ≡ tableOf (loadOf judgedName (now (file .entry)) (length (now (words .entry)))) (length (now (words .entry))) ⌝ }
 {
-    let room = words::room(words.len());
-    match load_rows(file, words, room) {
+    let grid = words::grid(words.len());
+    match load_rows(file, words, grid) {
         Loading::Refused { number, place } => {
             fill::clear(words, 0);
             Loading::Refused { number, place }

@@ -2,13 +2,16 @@
 use answers::Number;
 use heads::nest::Below;
 use heads::nest::Nest;
+use heads::nest::Upcoming;
 use heads::open::Opened;
 use heads::slot::Slot;
+use ids::Grid;
 use ids::RowNumber;
 use ids::TypeId;
 use objects::start::Started;
 use readers::Readers;
 use table::Head;
+use table::Reached;
 use table::Walk;
 ghost use mathlib.Core.Path.{_≡_};
 ghost use Rattle.leaves.specs.Plain.{Begin};
@@ -19,10 +22,7 @@ ghost use Rattle.load.specs.Contracts.{FlatSteps, PlacedSteps, ValueStep
 // A value that needs no reader list, walked; or a raw value whose children need it:
 // its type id, its first byte, the place of its type, where its head ends, and its children.
 pub enum Stepped {
-    Done {
-        used: u32,
-        next: usize,
-    },
+    Done(Reached),
     Refused {
         number: u32,
         place: usize,
@@ -36,12 +36,18 @@ pub enum Stepped {
     },
 }
 
+// Values one after the other, walked: how many they are and what the walk reaches; or a refusal's number and place.
+pub enum Children {
+    Done { count: u32, reached: Reached },
+    Refused { number: u32, place: usize },
+}
+
 // A value that was walked.
 fn walked_step(walked: Walk) -> Stepped
     ensures { λ r. ⌜ r ≡ stepOf walked ⌝ }
 {
     match walked {
-        Walk::Done { next, used } => Stepped::Done { next, used },
+        Walk::Done(reached) => Stepped::Done(reached),
         Walk::Refused { number, place } => Stepped::Refused { number, place },
     }
 }
@@ -50,7 +56,7 @@ fn walked_step(walked: Walk) -> Stepped
 fn close_flat(
     file: &[u8],
     words: &mut [u32],
-    room: u32,
+    grid: Grid,
     shared: u32,
     kind: u32,
     place: usize,
@@ -60,26 +66,27 @@ fn close_flat(
     next: usize,
     below: Below,
 ) -> Stepped
-    requires { ⌜ Ready (now file) (now words) room h at ⌝ }
-    ensures { λ r. ⌜ FlatSteps (now (file .entry)) room shared kind place h at depth next below (now (words .entry)) (now (words .exit)) r ⌝ }
+    requires { ⌜ Ready (now file) (now words) grid h at ⌝ }
+    ensures { λ r. ⌜ FlatSteps grid (now (file .entry)) shared kind place h at depth next below (now (words .entry)) (now (words .exit)) r ⌝ }
 {
     let first = h.row.0 + 1;
     match below {
         Below::Nothing => walked_step(objects::close::close(
             file,
             words,
+            grid,
             h,
             kind,
             0,
             at,
-            Walk::Done { next, used: first },
+            Walk::Done(Reached { used: first, next }),
         )),
         Below::Simple(run) => {
-            let n = leaves::run::turns(run);
+            let n = table::word(leaves::run::turns(run));
             let walked = leaves::run::read_run(
                 file,
                 words,
-                room,
+                grid,
                 shared,
                 run,
                 next,
@@ -87,7 +94,7 @@ fn close_flat(
                 depth,
                 first,
             );
-            walked_step(objects::close::close(file, words, h, kind, n, at, walked))
+            walked_step(objects::close::close(file, words, grid, h, kind, n, at, walked))
         }
         Below::Nested(nest) => Stepped::Nested {
             id: TypeId(h.detail),
@@ -104,15 +111,15 @@ fn raw_step(
     file: &[u8],
     codes: &[u8],
     words: &mut [u32],
-    room: u32,
+    grid: Grid,
     shared: u32,
     place: usize,
     h: Head,
     at: usize,
     depth: u32,
 ) -> Stepped
-    requires { ⌜ Ready (now file) (now words) room h at ⌝ }
-    ensures { λ r. ⌜ PlacedSteps (now (file .entry)) (now (codes .entry)) room shared place h at depth (now (words .entry)) (now (words .exit)) r ⌝ }
+    requires { ⌜ Ready (now file) (now words) grid h at ⌝ }
+    ensures { λ r. ⌜ PlacedSteps grid (now (file .entry)) (now (codes .entry)) shared place h at depth (now (words .entry)) (now (words .exit)) r ⌝ }
 {
     match heads::open::open(file, codes, place, at) {
         Opened::Refused(number, from) => Stepped::Refused {
@@ -124,7 +131,7 @@ fn raw_step(
             close_flat(
                 file,
                 words,
-                room,
+                grid,
                 shared,
                 kind,
                 place,
@@ -146,7 +153,7 @@ fn value(
     words: &mut [u32],
     count: u32,
     target: u32,
-    room: u32,
+    grid: Grid,
     shared: u32,
     slot: Slot,
     at: usize,
@@ -154,17 +161,17 @@ fn value(
     depth: u32,
     parent: u32,
 ) -> Stepped
-    requires { ⌜ Begin (now file) (now words) room at used × KnownTarget (now file) (now codes) slot at count target × KnownSlot (now codes) slot ⌝ }
-    ensures { λ r. ⌜ ValueSteps (now (file .entry)) (now (codes .entry)) (now (words .entry)) (now (words .exit)) r
-        count target room shared slot at used depth parent ⌝ }
+    requires { ⌜ Begin (now file) (now words) grid at used × KnownTarget (now file) (now codes) slot at count target × KnownSlot (now codes) slot ⌝ }
+    ensures { λ r. ⌜ ValueSteps grid (now (file .entry)) (now (codes .entry)) (now (words .entry)) (now (words .exit)) r
+        count target shared slot at used depth parent ⌝ }
 {
     let named = target as usize;
-    match objects::start::start(file, codes, count, named, room, slot, at, used, depth) {
+    match objects::start::start(file, codes, count, named, grid.room, slot, at, used, depth) {
         Started::Refused(number, place) => Stepped::Refused { number, place },
         Started::Plain(plain) => walked_step(leaves::plain::read_plain(
             file,
             words,
-            room,
+            grid,
             shared,
             plain,
             at,
@@ -179,7 +186,7 @@ fn value(
                 parent,
                 detail: 0,
             };
-            walked_step(table::leaf(words, h, 0, 0, Number::Read(0, next)))
+            walked_step(table::leaf(words, grid, h, 0, 0, Number::Read(0, next)))
         }
         Started::Raw(place, from, id) => {
             let h = Head {
@@ -188,7 +195,7 @@ fn value(
                 parent,
                 detail: id.0,
             };
-            raw_step(file, codes, words, room, shared, place, h, from, depth - 1)
+            raw_step(file, codes, words, grid, shared, place, h, from, depth - 1)
         }
     }
 }
@@ -199,7 +206,7 @@ fn raw(
     codes: &[u8],
     rd: Readers,
     words: &mut [u32],
-    room: u32,
+    grid: Grid,
     shared: u32,
     place: usize,
     h: Head,
@@ -208,110 +215,122 @@ fn raw(
     nest: Nest,
     depth: u32,
 ) -> Walk
-    requires { ⌜ Ready (now file) (now words) room h at × Known (now codes) rd × KnownRaw (now file) (now codes) place at next nest ⌝ }
-    ensures { λ r. ⌜ RawWalks (now (file .entry)) (now (codes .entry)) rd room shared place h at next nest depth (now (words .entry)) (now (words .exit)) r ⌝ }
+    requires { ⌜ Ready (now file) (now words) grid h at × Known (now codes) rd × KnownRaw (now file) (now codes) place at next nest ⌝ }
+    ensures { λ r. ⌜ RawWalks grid (now (file .entry)) (now (codes .entry)) rd shared place h at next nest depth (now (words .entry)) (now (words .exit)) r ⌝ }
 {
     let first = h.row.0 + 1;
-    let n = heads::nest::count(nest);
-    let walked = nested(
+    match nested(
         file,
         codes,
         rd,
         words,
-        room,
+        grid,
         shared,
         nest,
         next,
         first,
         depth,
-    );
-    let kind = types::kind_at(codes, place) as u32;
-    objects::close::close(file, words, h, kind, n, at, walked)
+    ) {
+        Children::Refused { number, place: q } => Walk::Refused { number, place: q },
+        Children::Done { count, reached } => {
+            let kind = types::kind_at(codes, place) as u32;
+            objects::close::close(file, words, grid, h, kind, count, at, Walk::Done(reached))
+        }
+    }
 }
 
-// Objects and raw values one after the other. Their parent is the row before the first of theirs, or none if that is row 0.
+// Objects and raw values one after the other, as a nest says. Their parent is the row before the first of theirs, or none if that is row 0.
 pub(crate) fn nested(
     file: &[u8],
     codes: &[u8],
     rd: Readers,
     words: &mut [u32],
-    room: u32,
+    grid: Grid,
     shared: u32,
     nest: Nest,
     at: usize,
     used: u32,
     depth: u32,
-) -> Walk
-    requires { ⌜ Begin (now file) (now words) room at used × Known (now codes) rd × KnownNest (now codes) nest ⌝ }
-    ensures { λ r. ⌜ NestWalks (now (file .entry)) (now (codes .entry)) rd room shared nest at used depth (now (words .entry)) (now (words .exit)) r ⌝ }
+) -> Children
+    requires { ⌜ Begin (now file) (now words) grid at used × Known (now codes) rd × KnownNest (now codes) nest ⌝ }
+    ensures { λ r. ⌜ NestWalks grid (now (file .entry)) (now (codes .entry)) rd shared nest at used depth (now (words .entry)) (now (words .exit)) r ⌝ }
 {
-    let n = heads::nest::count(nest);
+    let mut state = nest;
     let mut next = at;
     let mut row = used;
     let mut i = 0;
-    while i < n {
-        let slot = heads::nest::child(nest, i);
-        let position = objects::start::reader_position(file, slot, next);
-        let target = rd.targets[position];
-        match value(
-            file,
-            codes,
-            words,
-            rd.count,
-            target,
-            room,
-            shared,
-            slot,
-            next,
-            row,
-            depth,
-            used,
-        ) {
-            Stepped::Done { next: a, used: u } => {
-                next = a;
-                row = u;
-            }
-            Stepped::Refused { number, place } => {
-                return Walk::Refused { number, place };
-            }
-            Stepped::Nested {
-                id,
-                from,
-                place,
-                next: below,
-                nest: inner,
-            } => {
-                let h = Head {
-                    row: RowNumber(row),
-                    first: next,
-                    parent: used,
-                    detail: id.0,
+    loop {
+        match heads::nest::next_slot(state) {
+            Upcoming::Nothing => {
+                return Children::Done {
+                    count: i,
+                    reached: Reached { used: row, next },
                 };
-                match raw(
+            }
+            Upcoming::Value(slot) => {
+                let position = objects::start::reader_position(file, slot, next);
+                let target = rd.targets[position];
+                match value(
                     file,
                     codes,
-                    rd,
                     words,
-                    room,
+                    rd.count,
+                    target,
+                    grid,
                     shared,
-                    place,
-                    h,
-                    from,
-                    below,
-                    inner,
-                    depth - 1,
+                    slot,
+                    next,
+                    row,
+                    depth,
+                    used,
                 ) {
-                    Walk::Done { next: a, used: u } => {
-                        next = a;
-                        row = u;
+                    Stepped::Done(reached) => {
+                        next = reached.next;
+                        row = reached.used;
                     }
-                    Walk::Refused { number, place: q } => {
-                        return Walk::Refused { number, place: q };
+                    Stepped::Refused { number, place } => {
+                        return Children::Refused { number, place };
+                    }
+                    Stepped::Nested {
+                        id,
+                        from,
+                        place,
+                        next: below,
+                        nest: inner,
+                    } => {
+                        let h = Head {
+                            row: RowNumber(row),
+                            first: next,
+                            parent: used,
+                            detail: id.0,
+                        };
+                        match raw(
+                            file,
+                            codes,
+                            rd,
+                            words,
+                            grid,
+                            shared,
+                            place,
+                            h,
+                            from,
+                            below,
+                            inner,
+                            depth - 1,
+                        ) {
+                            Walk::Done(reached) => {
+                                next = reached.next;
+                                row = reached.used;
+                            }
+                            Walk::Refused { number, place: q } => {
+                                return Children::Refused { number, place: q };
+                            }
+                        }
                     }
                 }
+                state = heads::nest::after(state);
+                i += 1;
             }
         }
-        i += 1;
     }
-    Walk::Done { next, used: row }
 }

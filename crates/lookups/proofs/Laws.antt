@@ -2,7 +2,7 @@
 use mathlib.Core.Path.{_≡_, refl}
 use mathlib.Core.Bool.{Bool, true, false}
 use mathlib.Core.List.{List}
-use Prim.Native.Nat.{ℕ, _+_, _*_, _-_, _^_, _≤_, _<_}
+use Prim.Native.Nat.{ℕ, _+_, _-_, _^_, _≤_, _<_}
 use native.Mathlib.Omega.{arith}
 use lib.Dec.{ltb, leb}
 use lib.ListN.{length, getD, take, drop, length-drop}
@@ -12,56 +12,44 @@ use Rattle.laws.specs.Small.{differ}
 use Rattle.reading.specs.Answer.{Answer, refused, read, bind}
 use Rattle.reading.specs.Reads.{Small}
 use Rattle.reading.specs.Seven.{sevenAt, seven-next}
-use Rattle.reading.specs.File.{roomOf}
+use Rattle.ids.specs.declared.Grid.{Grid}
+use Rattle.ids.specs.Position.{cellOf}
 use Rattle.lookups.specs.declared.Span.the-variants.{Refused, Found}
 use Rattle.lookups.specs.Parts.{orRefused, kindOf, firstOf, lengthOf, partOf, inPart, lookup}
 use Rattle.lookups.specs.Texts.{countAt, behind, textIn}
 
-pub no-row : (file words : List ℕ) (row : ℕ) {r : ℕ} → r ≡ roomOf (length words) → r ≤ row → Refused 23 row ≡ partOf file words row
-unfolding partOf orRefused
-no-row file words row e h =
-    let k : roomOf (length words) ≤ row = rw (← e) h in
-    rw (le-ltb row (roomOf (length words)) k)
+module _ (g : Grid) (file words : List ℕ) (row : ℕ) where
+  pub no-row : g .room ≤ row → Refused 23 row ≡ partOf g file words row
+  unfolding partOf orRefused
+  no-row h = rw (le-ltb row (g .room) h)
 
--- a row in the room, with its first byte and length
-pub record Row (words : List ℕ) (row first size : ℕ) : Type 0 where
-  pub below : row < roomOf (length words)
-  pub first-is : first ≡ firstOf words row
-  pub size-is : size ≡ lengthOf words row
+  -- a row in the room, with its first byte and length
+  module _ (h : row < g .room) {first size : ℕ} (f : first ≡ getD words (cellOf g row 1) 0) (s : size ≡ getD words (cellOf g row 2) 0) where
+    pub empty : size ≡ 0 → Refused 23 row ≡ partOf g file words row
+    unfolding partOf orRefused lengthOf
+    empty e = rw (lt-ltb row (g .room) h, ← s, e)
 
-pub row-of : (words : List ℕ) (row : ℕ) {r at first size : ℕ} → r ≡ roomOf (length words) → row < r → at ≡ 6 * row → first ≡ getD words (at + 1) 0 → size ≡ getD words (at + 2) 0 → Row words row first size
-unfolding firstOf lengthOf
-row-of words row e h a f s = record { below = rw (← e) h; first-is = rw (← a) f; size-is = rw (← a) s }
+    pub past : 0 < size → length file < first + size → Refused 23 row ≡ partOf g file words row
+    unfolding partOf orRefused firstOf lengthOf
+    past z e = rw (lt-ltb row (g .room) h, ← f, ← s, lt-ltb 0 size z, lt-leb (first + size) (length file) e)
 
-pub empty : (file words : List ℕ) (row : ℕ) {first size : ℕ} → Row words row first size → size ≡ 0 → Refused 23 row ≡ partOf file words row
-unfolding partOf orRefused
-empty file words row {size = size} w e =
-    let z : lengthOf words row ≡ 0 = rw (← w .size-is) e in
-    rw (lt-ltb row (roomOf (length words)) (w .below), z)
+    pub there : 0 < size → first + size ≤ length file → Found first size ≡ partOf g file words row
+    unfolding partOf orRefused firstOf lengthOf
+    there z e = rw (lt-ltb row (g .room) h, ← f, ← s, lt-ltb 0 size z, le-leb (first + size) (length file) e)
 
-pub past : (file words : List ℕ) (row : ℕ) {first size : ℕ} → Row words row first size → 0 < size → length file < first + size → Refused 23 row ≡ partOf file words row
-unfolding partOf orRefused
-past file words row {first} {size} w s e =
-    rw (lt-ltb row (roomOf (length words)) (w .below), ← w .first-is, ← w .size-is, lt-ltb 0 size s, lt-leb (first + size) (length file) e)
-
-pub there : (file words : List ℕ) (row : ℕ) {first size : ℕ} → Row words row first size → 0 < size → first + size ≤ length file → Found first size ≡ partOf file words row
-unfolding partOf orRefused
-there file words row {first} {size} w s e =
-    rw (lt-ltb row (roomOf (length words)) (w .below), ← w .first-is, ← w .size-is, lt-ltb 0 size s, le-leb (first + size) (length file) e)
-
--- a part that was found lies in the file
-pub inside : (file words : List ℕ) (row : ℕ) {first size : ℕ} → Found first size ≡ partOf file words row → first + size ≤ length file
-unfolding partOf orRefused
-inside file words row {first} {size} = go (ltb row (roomOf (length words))) (ltb 0 (lengthOf words row)) (leb (firstOf words row + lengthOf words row) (length file)) refl where
-  go : (a b d : Bool) → leb (firstOf words row + lengthOf words row) (length file) ≡ d
-      → Found first size ≡ orRefused a 23 row (orRefused b 23 row (orRefused d 23 row (Found (firstOf words row) (lengthOf words row)))) → first + size ≤ length file
-  go false b d q e = differ cc
-  go true false d q e = differ cc
-  go true true false q e = differ cc
-  go true true true q e =
-      let f : first ≡ firstOf words row = cc in
-      let s : size ≡ lengthOf words row = cc in
-      omega (arith, leb-true (firstOf words row + lengthOf words row) (length file) q)
+  -- a part that was found lies in the file
+  pub inside : {first size : ℕ} → Found first size ≡ partOf g file words row → first + size ≤ length file
+  unfolding partOf orRefused
+  inside {first} {size} = go (ltb row (g .room)) (ltb 0 (lengthOf g words row)) (leb (firstOf g words row + lengthOf g words row) (length file)) refl where
+    go : (a b d : Bool) → leb (firstOf g words row + lengthOf g words row) (length file) ≡ d
+        → Found first size ≡ orRefused a 23 row (orRefused b 23 row (orRefused d 23 row (Found (firstOf g words row) (lengthOf g words row)))) → first + size ≤ length file
+    go false b d q e = differ cc
+    go true false d q e = differ cc
+    go true true false q e = differ cc
+    go true true true q e =
+        let f : first ≡ firstOf g words row = cc in
+        let s : size ≡ lengthOf g words row = cc in
+        omega (arith, leb-true (firstOf g words row + lengthOf g words row) (length file) q)
 
 -- a text's count, by the type id before it
 pub count-refused : (bytes : List ℕ) {n p : ℕ} → sevenAt bytes 0 ≡ refused n p → refused n p ≡ countAt bytes
@@ -99,21 +87,21 @@ module _ (bytes : List ℕ) (first kind row : ℕ) where
   unfolding textIn orRefused behind
   whole-text k {n} {start} e h = rw (eq-eqb kind 13 k, e, eq-eqb n (length bytes - start) h)
 
-module _ (file words : List ℕ) (row : ℕ) where
+module _ (g : Grid) (file words : List ℕ) (row : ℕ) where
   module _ {A : Type 0} (refuse : ℕ → ℕ → A) (found : (bytes : List ℕ) (first kind : ℕ) → A) where
-    pub lookup-refused : {number at : ℕ} → Refused number at ≡ partOf file words row → refuse number at ≡ lookup refuse found file words row
+    pub lookup-refused : {number at : ℕ} → Refused number at ≡ partOf g file words row → refuse number at ≡ lookup refuse found g file words row
     unfolding lookup inPart
     lookup-refused e = rw (← e)
 
-    pub lookup-found : {first size at kind : ℕ} → Found first size ≡ partOf file words row → at ≡ 6 * row → kind ≡ getD words at 0
-        → found (take (first + size - first) (drop first file)) first kind ≡ lookup refuse found file words row
+    pub lookup-found : {first size kind : ℕ} → Found first size ≡ partOf g file words row → kind ≡ getD words (cellOf g row 0) 0
+        → found (take (first + size - first) (drop first file)) first kind ≡ lookup refuse found g file words row
     unfolding lookup inPart kindOf
-    lookup-found {first} {size} e a k =
+    lookup-found {first} {size} e k =
         let z : first + size - first ≡ size = omega arith in
-        rw (← e, ← a, ← k, z)
+        rw (← e, ← k, z)
 
-  pub part-length : {first size : ℕ} → Found first size ≡ partOf file words row → length (take (first + size - first) (drop first file)) ≡ size
+  pub part-length : {first size : ℕ} → Found first size ≡ partOf g file words row → length (take (first + size - first) (drop first file)) ≡ size
   part-length {first} {size} e =
       let z : first + size - first ≡ size = omega arith in
-      let h = inside file words row e in
+      let h = inside g file words row e in
       rw z (length-take-le size (drop first file) (rw length-drop (omega arith)))

@@ -11,6 +11,7 @@ use borrow.Author.Tests.{eqb-true}
 use Rattle.laws.specs.Small.{differ}
 use Rattle.reading.specs.Answer.{Answer, refused, read}
 use Rattle.reading.specs.Reads.{Small, small-drop, small-left}
+use Rattle.ids.specs.declared.Grid.{Grid}
 use Rattle.lookups.specs.declared.Span.{Span}
 use Rattle.lookups.specs.declared.Span.the-variants.{Refused, Found}
 use Rattle.lookups.specs.Parts.{orRefused, kindOf, partOf, inPart, lookup, Lies, spanned}
@@ -47,23 +48,23 @@ module _ (bytes : List ℕ) (small : Small bytes) (first kind row : ℕ) {f z : 
     go true (refused n p) q e = differ cc
     go true (read n start) q e = counted n start (count-next bytes small q .0) (eqb n (length bytes - start)) refl e
 
-module _ (file words : List ℕ) (row : ℕ) where
-  pub part-lies : (s : Span) → s ≡ partOf file words row → Lies (length file) s
+module _ (g : Grid) (file words : List ℕ) (row : ℕ) where
+  pub part-lies : (s : Span) → s ≡ partOf g file words row → Lies (length file) s
   part-lies (Refused number at) e = tt
-  part-lies (Found first size) e = inside file words row e
+  part-lies (Found first size) e = inside g file words row e
 
-  text-inside : Small file → {f z : ℕ} → Found f z ≡ textOf file words row → f + z ≤ length file
+  text-inside : Small file → {f z : ℕ} → Found f z ≡ textOf g file words row → f + z ≤ length file
   unfolding textOf lookup inPart
-  text-inside small {f} {z} = go (partOf file words row) refl where
-    go : (p : Span) → p ≡ partOf file words row → Found f z ≡ inPart Refused p (λ first size. textIn (take size (drop first file)) first (kindOf words row) row) → f + z ≤ length file
+  text-inside small {f} {z} = go (partOf g file words row) refl where
+    go : (p : Span) → p ≡ partOf g file words row → Found f z ≡ inPart Refused p (λ first size. textIn (take size (drop first file)) first (kindOf g words row) row) → f + z ≤ length file
     go (Refused number at) q e = differ cc
     go (Found first size) q e =
-        let h = inside file words row q in
+        let h = inside g file words row q in
         let l : length (take size (drop first file)) ≡ size = length-take-le size (drop first file) (rw length-drop (omega arith)) in
         let s : Small (take size (drop first file)) = small-left (take size (drop first file)) (drop size (drop first file)) (rw take-append-drop (small-drop first file small)) in
-        let t = text-in-part (take size (drop first file)) s first (kindOf words row) row e in
+        let t = text-in-part (take size (drop first file)) s first (kindOf g words row) row e in
         omega (arith, h, l, t)
 
-  pub text-lies : Small file → (s : Span) → s ≡ textOf file words row → Lies (length file) s
+  pub text-lies : Small file → (s : Span) → s ≡ textOf g file words row → Lies (length file) s
   text-lies small (Refused number at) e = tt
   text-lies small (Found first size) e = text-inside small e

@@ -1,10 +1,12 @@
 -- What the tests of a time lookup say. Assumes nothing.
 use mathlib.Core.Path.{_≡_}
 use mathlib.Core.List.{List}
-use Prim.Native.Nat.{ℕ, _*_}
+use Prim.Native.Nat.{ℕ}
 use lib.IntN.{ℤ}
 use lib.ListN.{getD}
 use borrow.Author.Tests.{eq-eqb, ne-eqb}
+use Rattle.ids.specs.declared.Grid.{Grid}
+use Rattle.ids.specs.Position.{cellOf}
 use Rattle.ticks.specs.Split.{splitOf}
 use Rattle.lookups.specs.declared.Whole.the-variants as whole
 use Rattle.lookups.specs.declared.Moment.the-variants.{Refused, At}
@@ -12,16 +14,16 @@ use Rattle.lookups.specs.Parts.{kindOf}
 use Rattle.lookups.specs.Signs.{signedOf}
 use Rattle.lookups.specs.Times.{asTime, timeOf}
 
-module _ (file words : List ℕ) (row : ℕ) where
-  pub time-refused : {number at : ℕ} → whole.Refused number at ≡ signedOf file words row → Refused number at ≡ timeOf file words row
+module _ (g : Grid) (file words : List ℕ) (row : ℕ) where
+  pub time-refused : {number at : ℕ} → whole.Refused number at ≡ signedOf g file words row → Refused number at ≡ timeOf g file words row
   unfolding timeOf asTime
   time-refused e = rw (← e)
 
-  module _ {t : ℤ} {at kind : ℕ} (e : whole.Number t ≡ signedOf file words row) (a : at ≡ 6 * row) (k : kind ≡ getD words at 0) where
-    pub no-time : (kind ≡ 20 → ⊥) → Refused 24 row ≡ timeOf file words row
+  module _ {t : ℤ} {kind : ℕ} (e : whole.Number t ≡ signedOf g file words row) (k : kind ≡ getD words (cellOf g row 0) 0) where
+    pub no-time : (kind ≡ 20 → ⊥) → Refused 24 row ≡ timeOf g file words row
     unfolding timeOf asTime kindOf
-    no-time h = rw (← e, ← a, ← k, ne-eqb kind 20 h)
+    no-time h = rw (← e, ← k, ne-eqb kind 20 h)
 
-    pub a-time : kind ≡ 20 → At (splitOf t) ≡ timeOf file words row
+    pub a-time : kind ≡ 20 → At (splitOf t) ≡ timeOf g file words row
     unfolding timeOf asTime kindOf
-    a-time h = rw (← e, ← a, ← k, eq-eqb kind 20 h)
+    a-time h = rw (← e, ← k, eq-eqb kind 20 h)

@@ -1,10 +1,12 @@
 -- The part of a file that a row names (01, "Looking up"). Assumes nothing.
 use mathlib.Core.Bool.{Bool, cond}
 use mathlib.Core.List.{List, []}
-use Prim.Native.Nat.{ℕ, _+_, _*_, _≤_}
+use Prim.Native.Nat.{ℕ, _+_, _≤_}
 use lib.Dec.{ltb, leb}
 use lib.ListN.{length, getD, take, drop}
-use Rattle.reading.specs.File.{roomOf}
+use Rattle.ids.specs.declared.Grid.{Grid}
+use Rattle.ids.specs.Position.{cellOf}
+use Rattle.words.specs.Grids.{rowsGrid}
 use Rattle.lookups.specs.declared.Span.{Span}
 use Rattle.lookups.specs.declared.Span.the-variants.{Refused, Found}
 
@@ -13,22 +15,26 @@ unfoldable pub orRefused : Bool → (number row : ℕ) → Span → Span
 orRefused test number row found = cond test found (Refused number row)
 
 -- 01, "The row table": "Six make a row: kind; first byte; length"
-unfoldable pub kindOf : (words : List ℕ) (row : ℕ) → ℕ
-kindOf words row = getD words (6 * row) 0
+unfoldable pub kindOf : (g : Grid) (words : List ℕ) (row : ℕ) → ℕ
+kindOf g words row = getD words (cellOf g row 0) 0
 
-unfoldable pub firstOf : (words : List ℕ) (row : ℕ) → ℕ
-firstOf words row = getD words (6 * row + 1) 0
+unfoldable pub firstOf : (g : Grid) (words : List ℕ) (row : ℕ) → ℕ
+firstOf g words row = getD words (cellOf g row 1) 0
 
-unfoldable pub lengthOf : (words : List ℕ) (row : ℕ) → ℕ
-lengthOf words row = getD words (6 * row + 2) 0
+unfoldable pub lengthOf : (g : Grid) (words : List ℕ) (row : ℕ) → ℕ
+lengthOf g words row = getD words (cellOf g row 2) 0
 
 -- 01: "It refuses with 23 and an empty part if the row number is not below the room, or the row has length 0 or runs past the file"
-unfoldable pub partOf : (file words : List ℕ) (row : ℕ) → Span
-partOf file words row =
-    orRefused (ltb row (roomOf (length words))) 23 row
-    (orRefused (ltb 0 (lengthOf words row)) 23 row
-    (orRefused (leb (firstOf words row + lengthOf words row) (length file)) 23 row
-    (Found (firstOf words row) (lengthOf words row))))
+unfoldable pub partOf : (g : Grid) (file words : List ℕ) (row : ℕ) → Span
+partOf g file words row =
+    orRefused (ltb row (g .room)) 23 row
+    (orRefused (ltb 0 (lengthOf g words row)) 23 row
+    (orRefused (leb (firstOf g words row + lengthOf g words row) (length file)) 23 row
+    (Found (firstOf g words row) (lengthOf g words row))))
+
+-- the same in a table by rows
+abbrev pub rowsPart : (file words : List ℕ) (row : ℕ) → Span
+rowsPart file words row = partOf (rowsGrid (length words)) file words row
 
 -- what is answered for a refusal, and what for a part
 unfoldable pub inPart : {A : Type 0} → (refuse : ℕ → ℕ → A) → Span → (found : ℕ → ℕ → A) → A
@@ -36,8 +42,8 @@ inPart refuse (Refused number row) found = refuse number row
 inPart refuse (Found first size) found = found first size
 
 -- 01: "For these 23 precedes 24": the refusal of a row's part, or what its bytes, its first byte and the row's kind give
-unfoldable pub lookup : {A : Type 0} → (refuse : ℕ → ℕ → A) → (found : (bytes : List ℕ) (first kind : ℕ) → A) → (file words : List ℕ) (row : ℕ) → A
-lookup refuse found file words row = inPart refuse (partOf file words row) (λ first size. found (take size (drop first file)) first (kindOf words row))
+unfoldable pub lookup : {A : Type 0} → (refuse : ℕ → ℕ → A) → (found : (bytes : List ℕ) (first kind : ℕ) → A) → (g : Grid) (file words : List ℕ) (row : ℕ) → A
+lookup refuse found g file words row = inPart refuse (partOf g file words row) (λ first size. found (take size (drop first file)) first (kindOf g words row))
 
 -- a part that lies in a file of so many bytes
 abbrev pub Lies : (size : ℕ) → Span → Type 0

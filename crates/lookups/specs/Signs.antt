@@ -5,6 +5,8 @@ use Prim.Native.Nat.{ℕ, _-_, _/_, _≤_, _^_}
 use lib.Dec.{leb, eqb}
 use lib.IntN.{ℤ, pos, negsuc}
 use lib.ListN.{length}
+use Rattle.ids.specs.declared.Grid.{Grid}
+use Rattle.words.specs.Grids.{rowsGrid}
 use Rattle.reading.specs.Answer.{Answer, refused, read}
 use Rattle.reading.specs.Little.{littleAt}
 use Rattle.lookups.specs.declared.Whole.{Whole}
@@ -38,5 +40,9 @@ signedIn bytes kind row =
     (cond (eqb kind 7) (lastBytes bytes 8 row)
     (cond (eqb kind 20) (lastBytes bytes 8 row) (Refused 24 row)))))
 
-unfoldable pub signedOf : (file words : List ℕ) (row : ℕ) → Whole
-signedOf file words row = lookup Refused (λ bytes first kind. signedIn bytes kind row) file words row
+unfoldable pub signedOf : (g : Grid) (file words : List ℕ) (row : ℕ) → Whole
+signedOf g file words row = lookup Refused (λ bytes first kind. signedIn bytes kind row) g file words row
+
+-- the same in a table by rows
+abbrev pub rowsSigned : (file words : List ℕ) (row : ℕ) → Whole
+rowsSigned file words row = signedOf (rowsGrid (length words)) file words row

@@ -3,6 +3,8 @@ use mathlib.Core.List.{List}
 use Prim.Native.Nat.{ℕ, _+_, _-_}
 use lib.Dec.{eqb}
 use lib.ListN.{length}
+use Rattle.ids.specs.declared.Grid.{Grid}
+use Rattle.words.specs.Grids.{rowsGrid}
 use Rattle.reading.specs.Answer.{Answer, refused, read, bind}
 use Rattle.reading.specs.Seven.{sevenAt}
 use Rattle.lookups.specs.declared.Span.{Span}
@@ -22,5 +24,9 @@ behind first size row (read count start) = orRefused (eqb count (size - start)) 
 unfoldable pub textIn : (bytes : List ℕ) (first kind row : ℕ) → Span
 textIn bytes first kind row = orRefused (eqb kind 13) 24 row (behind first (length bytes) row (countAt bytes))
 
-unfoldable pub textOf : (file words : List ℕ) (row : ℕ) → Span
-textOf file words row = lookup Refused (λ bytes first kind. textIn bytes first kind row) file words row
+unfoldable pub textOf : (g : Grid) (file words : List ℕ) (row : ℕ) → Span
+textOf g file words row = lookup Refused (λ bytes first kind. textIn bytes first kind row) g file words row
+
+-- the same in a table by rows
+abbrev pub rowsText : (file words : List ℕ) (row : ℕ) → Span
+rowsText file words row = textOf (rowsGrid (length words)) file words row

@@ -2,7 +2,10 @@
 use mathlib.Core.Bool.{Bool, true, false}
 use mathlib.Core.List.{List}
 use Prim.Native.Nat.{ℕ}
+use lib.ListN.{length}
 use lib.Dec.{eqb}
+use Rattle.ids.specs.declared.Grid.{Grid}
+use Rattle.words.specs.Grids.{rowsGrid}
 use Rattle.ticks.specs.Split.{splitOf}
 use Rattle.lookups.specs.declared.Whole.{Whole}
 use Rattle.lookups.specs.declared.Whole.the-variants as whole
@@ -18,5 +21,9 @@ asTime row (whole.Number ticks) true = At (splitOf ticks)
 asTime row (whole.Number ticks) false = Refused 24 row
 
 -- 01: "A time in ticks is split into whole seconds, rounded down, and 0 to 9,999,999 ticks". Kind 20, TimeSpan, alone is a time here: the other signed kinds count no ticks, and DateTime is not signed.
-unfoldable pub timeOf : (file words : List ℕ) (row : ℕ) → Moment
-timeOf file words row = asTime row (signedOf file words row) (eqb (kindOf words row) 20)
+unfoldable pub timeOf : (g : Grid) (file words : List ℕ) (row : ℕ) → Moment
+timeOf g file words row = asTime row (signedOf g file words row) (eqb (kindOf g words row) 20)
+
+-- the same in a table by rows
+abbrev pub rowsTime : (file words : List ℕ) (row : ℕ) → Moment
+rowsTime file words row = timeOf (rowsGrid (length words)) file words row

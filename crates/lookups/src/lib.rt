@@ -1,14 +1,15 @@
 // Looking up the values of rows (01, "Looking up").
 use answers::Number;
+use ids::Grid;
 use ids::RowNumber;
 ghost use mathlib.Core.Path.{_≡_};
 ghost use Prim.Native.Nat.{_+_, _-_, _≤_, _<_, _^_};
 ghost use lib.ListN.{length};
 ghost use Rattle.answers.specs.Told.{told};
-ghost use Rattle.lookups.specs.Parts.{partOf, Lies, spanned};
-ghost use Rattle.lookups.specs.Texts.{countAt, textIn, textOf};
-ghost use Rattle.lookups.specs.Signs.{twos, Within, signedFrom, signedIn, signedOf};
-ghost use Rattle.lookups.specs.Times.{timeOf};
+ghost use Rattle.lookups.specs.Parts.{partOf, rowsPart, Lies, spanned};
+ghost use Rattle.lookups.specs.Texts.{countAt, textIn, textOf, rowsText};
+ghost use Rattle.lookups.specs.Signs.{twos, Within, signedFrom, signedIn, signedOf, rowsSigned};
+ghost use Rattle.lookups.specs.Times.{timeOf, rowsTime};
 
 // A refusal's number and the row number; or the first byte of a part of the file, and its length.
 pub enum Span {
@@ -16,17 +17,16 @@ pub enum Span {
     Found(usize, usize),
 }
 
-// The part of the file that a row names.
-pub fn part(file: &[u8], words: &[u32], row: RowNumber) -> Span
-    ensures { λ r. ⌜ r ≡ partOf (now (file .entry)) (now (words .entry)) (row .0) ⌝ }
+// The part of the file that a row names, in a table of a shape.
+fn part_of(file: &[u8], words: &[u32], grid: Grid, row: RowNumber) -> Span
+    ensures { λ r. ⌜ r ≡ partOf grid (now (file .entry)) (now (words .entry)) (row .0) ⌝ }
 {
     let number = row.0;
-    if words::room(words.len()) <= number {
+    if grid.room <= number {
         return Span::Refused(23, number);
     }
-    let at = RowNumber(number).position();
-    let first = words::word(words, at + 1) as usize;
-    let length = words::word(words, at + 2) as usize;
+    let first = words::word_of(words, grid, row, 1) as usize;
+    let length = words::word_of(words, grid, row, 2) as usize;
     if length == 0 {
         return Span::Refused(23, number);
     }
@@ -35,6 +35,13 @@ pub fn part(file: &[u8], words: &[u32], row: RowNumber) -> Span
         return Span::Refused(23, number);
     }
     Span::Found(first, length)
+}
+
+// The part of the file that a row names.
+pub fn part(file: &[u8], words: &[u32], row: RowNumber) -> Span
+    ensures { λ r. ⌜ r ≡ rowsPart (now (file .entry)) (now (words .entry)) (row .0) ⌝ }
+{
+    part_of(file, words, words::grid(words.len()), row)
 }
 
 // The bytes of a span, none where it is a refusal.
@@ -53,7 +60,7 @@ fn bytes_of(file: &[u8], span: Span) -> &[u8]
 
 // The bytes of the part that a row names, none on a refusal.
 pub fn part_bytes<'a>(file: &'a [u8], words: &[u32], row: RowNumber) -> &'a [u8]
-    ensures { λ r. ⌜ now r ≡ spanned (now (file .entry)) (partOf (now (file .entry)) (now (words .entry)) (row .0)) ⌝ }
+    ensures { λ r. ⌜ now r ≡ spanned (now (file .entry)) (rowsPart (now (file .entry)) (now (words .entry)) (row .0)) ⌝ }
 {
     bytes_of(file, part(file, words, row))
 }
@@ -89,24 +96,31 @@ fn text_in(bytes: &[u8], first: usize, kind: u32, row: u32) -> Span
     }
 }
 
-// The bytes of a text behind its type id and count.
-pub fn text(file: &[u8], words: &[u32], row: RowNumber) -> Span
-    ensures { λ r. ⌜ r ≡ textOf (now (file .entry)) (now (words .entry)) (row .0) ⌝ }
+// The bytes of a text behind its type id and count, in a table of a shape.
+fn text_of(file: &[u8], words: &[u32], grid: Grid, row: RowNumber) -> Span
+    ensures { λ r. ⌜ r ≡ textOf grid (now (file .entry)) (now (words .entry)) (row .0) ⌝ }
 {
     let number = row.0;
-    match part(file, words, RowNumber(number)) {
+    match part_of(file, words, grid, row) {
         Span::Refused(refusal, at) => Span::Refused(refusal, at),
         Span::Found(first, length) => {
             let end = first + length;
-            let kind = words::word(words, RowNumber(number).position());
+            let kind = words::word_of(words, grid, row, 0);
             text_in(&file[first..end], first, kind, number)
         }
     }
 }
 
+// The bytes of a text behind its type id and count.
+pub fn text(file: &[u8], words: &[u32], row: RowNumber) -> Span
+    ensures { λ r. ⌜ r ≡ rowsText (now (file .entry)) (now (words .entry)) (row .0) ⌝ }
+{
+    text_of(file, words, words::grid(words.len()), row)
+}
+
 // The bytes of a text, none on a refusal.
 pub fn text_bytes<'a>(file: &'a [u8], words: &[u32], row: RowNumber) -> &'a [u8]
-    ensures { λ r. ⌜ now r ≡ spanned (now (file .entry)) (textOf (now (file .entry)) (now (words .entry)) (row .0)) ⌝ }
+    ensures { λ r. ⌜ now r ≡ spanned (now (file .entry)) (rowsText (now (file .entry)) (now (words .entry)) (row .0)) ⌝ }
 {
     bytes_of(file, text(file, words, row))
 }
@@ -177,19 +191,26 @@ fn signed_in(bytes: &[u8], kind: u32, row: u32) -> Whole
     Whole::Refused(24, row)
 }
 
-// The signed number in the last bytes of a row's part.
-pub fn signed(file: &[u8], words: &[u32], row: RowNumber) -> Whole
-    ensures { λ r. ⌜ r ≡ signedOf (now (file .entry)) (now (words .entry)) (row .0) ⌝ }
+// The signed number in the last bytes of a row's part, in a table of a shape.
+fn signed_of(file: &[u8], words: &[u32], grid: Grid, row: RowNumber) -> Whole
+    ensures { λ r. ⌜ r ≡ signedOf grid (now (file .entry)) (now (words .entry)) (row .0) ⌝ }
 {
     let number = row.0;
-    match part(file, words, RowNumber(number)) {
+    match part_of(file, words, grid, row) {
         Span::Refused(refusal, at) => Whole::Refused(refusal, at),
         Span::Found(first, length) => {
             let end = first + length;
-            let kind = words::word(words, RowNumber(number).position());
+            let kind = words::word_of(words, grid, row, 0);
             signed_in(&file[first..end], kind, number)
         }
     }
+}
+
+// The signed number in the last bytes of a row's part.
+pub fn signed(file: &[u8], words: &[u32], row: RowNumber) -> Whole
+    ensures { λ r. ⌜ r ≡ rowsSigned (now (file .entry)) (now (words .entry)) (row .0) ⌝ }
+{
+    signed_of(file, words, words::grid(words.len()), row)
 }
 
 // A refusal's number and the row number; or a time.
@@ -198,19 +219,26 @@ pub enum Moment {
     At(ticks::Time),
 }
 
-// The time in a row's part, whose kind is TimeSpan.
-pub fn time(file: &[u8], words: &[u32], row: RowNumber) -> Moment
-    ensures { λ r. ⌜ r ≡ timeOf (now (file .entry)) (now (words .entry)) (row .0) ⌝ }
+// The time in a row's part, whose kind is TimeSpan, in a table of a shape.
+fn time_of(file: &[u8], words: &[u32], grid: Grid, row: RowNumber) -> Moment
+    ensures { λ r. ⌜ r ≡ timeOf grid (now (file .entry)) (now (words .entry)) (row .0) ⌝ }
 {
     let number = row.0;
-    match signed(file, words, RowNumber(number)) {
+    match signed_of(file, words, grid, row) {
         Whole::Refused(refusal, at) => Moment::Refused(refusal, at),
         Whole::Number(count) => {
-            let kind = words::word(words, RowNumber(number).position());
+            let kind = words::word_of(words, grid, row, 0);
             if kind != 20 {
                 return Moment::Refused(24, number);
             }
             Moment::At(ticks::split_ticks(count))
         }
     }
+}
+
+// The time in a row's part, whose kind is TimeSpan.
+pub fn time(file: &[u8], words: &[u32], row: RowNumber) -> Moment
+    ensures { λ r. ⌜ r ≡ rowsTime (now (file .entry)) (now (words .entry)) (row .0) ⌝ }
+{
+    time_of(file, words, words::grid(words.len()), row)
 }

@@ -10,8 +10,9 @@ use lib.ListN.{length, getD, take, drop, length-drop}
 use lib.Seq.{take-add, drop-drop, drop-cons, length-take-le}
 use lib.Dec.{leb}
 use borrow.Author.Tests.{leb-true, leb-false}
+use Rattle.layout.specs.Number.{valueOf}
 use Rattle.reading.specs.Answer.{read, refused}
-use Rattle.reading.specs.Little.{valueOf, value-append, littleAt, little-there, little-missing}
+use Rattle.reading.specs.Little.{value-append, littleAt, little-there, little-missing}
 
 -- k bytes from i on, low first, and that they are bytes
 pub record Little (s : List ℕ) (i k r : ℕ) : Type 0 where

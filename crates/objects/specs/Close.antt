@@ -11,10 +11,10 @@ use Rattle.laws.specs.Small.{differ}
 use Rattle.layout.specs.Target.{Target, spriteFont, kindOf}
 use Rattle.layout.specs.Tree.{Trees, none, tree, count, size}
 use Rattle.layout.specs.Slot as L
-use Rattle.layout.specs.Slot.{each, fontSlots}
+use Rattle.layout.specs.Slot.{Plan, each, fontSlots}
 use Rattle.layout.specs.Layout.{Lays}
 use Rattle.layout.specs.Resource.{Within}
-use Rattle.layout.specs.Rows.{Row, row, nothing}
+use Rattle.layout.specs.Rows.{row, width}
 use Rattle.layout.specs.Named.{plain, fixedKind}
 use Rattle.layout.specs.Number.{between}
 use Rattle.reading.specs.Answer.{Answer, refused, read, bind, check, Ok, not-read, is-read}
@@ -24,6 +24,7 @@ use Rattle.reading.specs.Heads.{Opening, headAt}
 use Rattle.reading.specs.Walk.{Taken, Outcome, point, sequence, rawAt, walk}
 use Rattle.reading.specs.Sound.{Read, walks-sound}
 use Rattle.reading.specs.Bounds.{sequence-bounds}
+use Rattle.reading.specs.Drafts.{Draft, drafted}
 use Rattle.types.specs.Code.{Lawful}
 use Rattle.types.specs.Laws.{of-kind}
 use Rattle.fonts.specs.FontWords.{fontWords}
@@ -31,30 +32,31 @@ use Rattle.fonts.specs.Bridge.{font-judged, other-kind}
 use Rattle.table.specs.declared.Head.{Head}
 use Rattle.table.specs.declared.Walk.{Walk}
 use Rattle.table.specs.declared.Walk.the-variants.{Done, Refused}
+use Rattle.ids.specs.declared.Grid.{Grid}
 use Rattle.table.specs.Written.{written, putRow, written-under, length-written}
-use Rattle.table.specs.Contract.{seen, Walked, Free, put-free}
-use Rattle.table.specs.Leaf.{inWord, in-word, valueRow, value-row}
+use Rattle.table.specs.Contract.{seen, reaching, Walked, Free, put-leaf}
+use Rattle.table.specs.Leaf.{valueRow, value-row}
 use Rattle.table.specs.Loop.{Got, got, lost, refusing, reading}
 use Rattle.heads.specs.Below.{font-head}
 use Rattle.objects.specs.Start.{under}
 
 -- only a font has a rule over its children
-unfoldable pub keeps : (file words : List ℕ) (kind number : ℕ) → Bool
-keeps file words kind number = cond (eqb kind 33) (fontWords file words number) true
+unfoldable pub keeps : Grid → (file words : List ℕ) (kind number : ℕ) → Bool
+keeps g file words kind number = cond (eqb kind 33) (fontWords g file words number) true
 
 -- a refusal below is the value's; else its rule, then its row
-abbrev pub closeAnswer : (file w : List ℕ) → Head → (kind at : ℕ) → Walk → Walk
-closeAnswer file w h kind at (Refused m p) = Refused m p
-closeAnswer file w h kind at (Done used next) = cond (keeps file w kind (h .row .0)) (Done used next) (Refused 22 at)
+abbrev pub closeAnswer : Grid → (file w : List ℕ) → Head → (kind at : ℕ) → Walk → Walk
+closeAnswer g file w h kind at (Refused m p) = Refused m p
+closeAnswer g file w h kind at (Done r) = cond (keeps g file w kind (h .row .0)) (Done r) (Refused 22 at)
 
-abbrev pub closeWords : (file w : List ℕ) → Head → (kind children : ℕ) → Walk → List ℕ
-closeWords file w h kind n (Refused m p) = w
-closeWords file w h kind n (Done used next) = cond (keeps file w kind (h .row .0)) (putRow w (h .row .0) (valueRow h kind (inWord n) next)) w
+abbrev pub closeWords : Grid → (file w : List ℕ) → Head → (kind children : ℕ) → Walk → List ℕ
+closeWords g file w h kind n (Refused m p) = w
+closeWords g file w h kind n (Done r) = cond (keeps g file w kind (h .row .0)) (putRow g w (h .row .0) (valueRow h kind n (r .next))) w
 
--- the value's length and its number of children fit a word
-abbrev pub Closable : Head → (children : ℕ) → Walk → Type 0
-Closable h n (Refused m p) = Unit {0}
-Closable h n (Done used next) = (h .first ≤ next) × (next < 2 ^ 32) × (n < 2 ^ 32)
+-- the value's length fits a word
+abbrev pub Closable : Head → Walk → Type 0
+Closable h (Refused m p) = Unit {0}
+Closable h (Done r) = (h .first ≤ r .next) × (r .next < 2 ^ 32)
 
 -- as many children as slots, and a row for each
 laid-count : (readers : List Target) (refers : Target → ℕ → Type 0) (slots : List L.Slot) (ts : Trees) (bs : List ℕ) → Lays readers refers (each slots) ts bs → (count ts ≡ length slots) × (count ts ≤ size ts)
@@ -66,11 +68,12 @@ laid-count readers refers (x ∷ slots) (tree k i own cs rest) bs w =
     let r = laid-count readers refers slots rest (w .1) (w .4) in
     (ap suc (r .0), omega (arith, r .1))
 
-module _ (file : List ℕ) (small : Small file) (readers : List Target) (shared room below : ℕ) where
-  pub counted : (slots : List L.Slot) (at used parent : ℕ) (a : Taken) (e : ℕ) → sequence (λ y b v. walk file readers shared room below y b v parent) (each slots) at used ≡ read a e
+module _ (g : Grid) (file : List ℕ) (small : Small file) (readers : List Target) (shared below : ℕ) where
+  -- children that stand in slots which no child has a say in
+  pub slots-counted : (slots : List L.Slot) (at used parent : ℕ) (a : Taken) (e : ℕ) → sequence (λ y b v. walk file readers shared (g .room) below y b v parent) (each slots) at used ≡ read a e
       → (count (a .2) ≡ length slots) × (used + length slots ≤ a .0)
-  counted slots at used parent a e q = go (sequence (λ y b v. walk file readers shared room below y b v parent) (each slots) at used) (walks-sound file readers shared room small below (each slots) at used parent) q where
-    go : (o : Outcome) → Ok (Read file readers shared room small below (each slots) at used parent) o → o ≡ read a e → (count (a .2) ≡ length slots) × (used + length slots ≤ a .0)
+  slots-counted slots at used parent a e q = go (sequence (λ y b v. walk file readers shared (g .room) below y b v parent) (each slots) at used) (walks-sound file readers shared (g .room) small below (each slots) at used parent) q where
+    go : (o : Outcome) → Ok (Read file readers shared (g .room) small below (each slots) at used parent) o → o ≡ read a e → (count (a .2) ≡ length slots) × (used + length slots ≤ a .0)
     go o not-read p = differ cc
     go o (is-read {a = b} {e = f} v) p =
         let qb : b ≡ a = cc in
@@ -78,52 +81,55 @@ module _ (file : List ℕ) (small : Small file) (readers : List Target) (shared 
         let d : (count (b .2) ≡ length slots) × (used + length slots ≤ b .0) = (c .0, omega (arith, c .0, c .1, v .used-is)) in
         rw qb at d
 
-  module _ (t : Target) (lawful : Lawful t) (h : Head) (at : ℕ) (w₀ : List ℕ) (long : 6 * room ≤ length w₀) (few : room < 2 ^ 32) (free : h .row .0 < room) where
+  module _ (t : Target) (lawful : Lawful t) (h : Head) (at : ℕ) (w₀ : List ℕ) (long : width * g .room ≤ length w₀) (few : g .room < 2 ^ 32) (free : h .row .0 < g .room) where
     abbrev pub rawOf : Outcome
-    rawOf = rawAt file readers shared room (under file readers shared room below (h .row .0)) t (h .first) at (h .row .0) (h .parent) (h .detail)
+    rawOf = rawAt file readers shared (g .room) (under file readers shared (g .room) below (h .row .0)) t (h .first) at (h .row .0) (h .parent) (h .detail)
 
-    pub raw-refused : {n p : ℕ} {w : List ℕ} → headAt file t at ≡ refused n p → Walked w₀ w (h .row .0) (seen rawOf) (Refused n p)
+    pub raw-refused : {n p : ℕ} {w : List ℕ} → headAt file t at ≡ refused n p → Walked g w₀ w (h .row .0) (seen rawOf) (Refused n p)
     unfolding rawAt bind
     raw-refused e = refusing (rw e)
 
-    module _ {o : Opening} {next : ℕ} (opened : headAt file t at ≡ read o next) (slots : List L.Slot) (plan : o .1 ≡ each slots) where
+    module _ {o : Opening} {next : ℕ} (opened : headAt file t at ≡ read o next) (plan : Plan) (planned : o .1 ≡ plan) where
       abbrev seq : Outcome
-      seq = sequence (λ y b v. walk file readers shared room below y b v (suc (h .row .0))) (each slots) next (suc (h .row .0))
+      seq = sequence (λ y b v. walk file readers shared (g .room) below y b v (suc (h .row .0))) plan next (suc (h .row .0))
+
+      -- the children's rows have the room
+      rows-fit : (a : Taken) (e : ℕ) → seq ≡ read a e → suc (h .row .0) + length (a .1) ≤ g .room
+      rows-fit a e q =
+          let k = sequence-bounds file readers shared (g .room) small below plan next (suc (h .row .0)) (suc (h .row .0)) a e q in
+          omega (arith, k .counted, k .fits (omega arith))
 
       -- the font rule over the words is that over the trees
-      rule : (a : Taken) (e : ℕ) (w₁ : List ℕ) → seq ≡ read a e → w₁ ≡ written w₀ (suc (h .row .0)) (a .1) → (b : Bool) → eqb (kindOf t) 33 ≡ b → fontOk point t (a .2) ≡ cond b (fontWords file w₁ (h .row .0)) true
+      rule : (a : Taken) (e : ℕ) (w₁ : List ℕ) → seq ≡ read a e → w₁ ≡ written g w₀ (suc (h .row .0)) (a .1) → (b : Bool) → eqb (kindOf t) 33 ≡ b → fontOk point t (a .2) ≡ cond b (fontWords g file w₁ (h .row .0)) true
       unfolding plain fixedKind
       rule a e w₁ q words false z = other-kind t (a .2) (eqb-false (kindOf t) 33 z)
       rule a e w₁ q words true z =
           let s : t ≡ spriteFont = of-kind t spriteFont 33 lawful (eqb-true (kindOf t) 33 z) refl in
           let op : headAt file spriteFont at ≡ read o next = rw s at opened in
-          let g : _≡_ {A = Answer Opening} (read ([], each fontSlots) at) (read o next) = sym (font-head file at) ∙ op in
+          let y : _≡_ {A = Answer Opening} (read ([], each fontSlots) at) (read o next) = sym (font-head file at) ∙ op in
           let o₁ : ([], each fontSlots) ≡ o = cc in
-          let p : each fontSlots ≡ each slots = ap (λ (y : Opening). y .1) o₁ ∙ plan in
-          let q′ : sequence (λ y b v. walk file readers shared room below y b v (suc (h .row .0))) (each fontSlots) next (suc (h .row .0)) ≡ read a e = rw p q in
-          let k = sequence-bounds file readers shared room small below (each slots) next (suc (h .row .0)) (suc (h .row .0)) a e q in
-          let l : length w₁ ≡ length w₀ = ap length words ∙ length-written w₀ (suc (h .row .0)) (a .1) in
-          rw s (font-judged file small readers shared room below next (h .row .0) a e q′ w₀ w₁ words (omega (arith, k .counted, k .fits (omega arith))))
+          let p : each fontSlots ≡ plan = ap (λ (y : Opening). y .1) o₁ ∙ planned in
+          let q′ : sequence (λ y b v. walk file readers shared (g .room) below y b v (suc (h .row .0))) (each fontSlots) next (suc (h .row .0)) ≡ read a e = rw p q in
+          rw s (font-judged g file small readers shared (g .room) below next (h .row .0) a e q′ w₀ w₁ words long few (rows-fit a e q))
 
-      kept : (w₁ : List ℕ) (n e u : ℕ) → Closable h n (Done u e) → n ≡ length slots → (g : Got w₀ w₁ (suc (h .row .0)) seq e u) → (b : Bool) → fontOk point t (g .taken .2) ≡ b
-          → Walked w₀ (cond b (putRow w₁ (h .row .0) (valueRow h (kindOf t) (inWord n) e)) w₁) (h .row .0) (seen rawOf) (cond b (Done u e) (Refused 22 at))
+      kept : (w₁ : List ℕ) (n e u : ℕ) → Closable h (reaching u e) → (y : Got g w₀ w₁ (suc (h .row .0)) seq e u) → n ≡ count (y .taken .2) → (b : Bool) → fontOk point t (y .taken .2) ≡ b
+          → Walked g w₀ (cond b (putRow g w₁ (h .row .0) (valueRow h (kindOf t) n e)) w₁) (h .row .0) (seen rawOf) (cond b (reaching u e) (Refused 22 at))
       unfolding rawAt bind check
-      kept w₁ n e u c z g false f = refusing (rw (opened, plan, g .is, f))
-      kept w₁ n e u c z g true f =
-          let a = g .taken in
-          let k : count (a .2) ≡ n = counted slots next (suc (h .row .0)) (suc (h .row .0)) a e (g .is) .0 ∙ sym z in
-          let x : Row = row (kindOf t) (h .first) (e - h .first) n (h .parent) (h .detail) nothing in
-          let l : length w₁ ≡ length w₀ = ap length (g .words) ∙ length-written w₀ (suc (h .row .0)) (a .1) in
-          let there : Free w₁ (h .row .0) = record { there = omega arith; few = omega arith } in
-          let fits : valueRow h (kindOf t) (inWord n) e ≡ x = rw (in-word n (c .2)) (value-row h (kindOf t) n e (c .0) (c .1)) in
-          let words = ap (putRow w₁ (h .row .0)) fits ∙ put-free w₁ (h .row .0) x there ∙ ap (λ w. written w (h .row .0) (x ∷ [])) (g .words) ∙ written-under w₀ (h .row .0) x (a .1) in
-          reading (a .0, x ∷ a .1, tree (kindOf t) (h .detail) (o .0) (a .2) none) (rw (opened, plan, g .is, f, k)) (sym (g .rows-used)) words
+      kept w₁ n e u c y z false f = refusing (rw (opened, planned, y .is, f))
+      kept w₁ n e u c y z true f =
+          let a = y .taken in
+          let x : Draft = drafted (row (kindOf t) (h .first) (e - h .first) n (h .parent) (h .detail)) in
+          let l : length w₁ ≡ length w₀ = ap length (y .words) ∙ length-written g w₀ (suc (h .row .0)) (a .1) in
+          let there : Free g w₁ (h .row .0) = record { long = omega arith; there = free; few = omega arith } in
+          let words = ap (putRow g w₁ (h .row .0)) (value-row h (kindOf t) n e (c .0) (c .1)) ∙ put-leaf g w₁ (h .row .0) x there ∙ ap (λ w. written g w (h .row .0) (x ∷ [])) (y .words)
+          ∙ written-under g w₀ (h .row .0) x (a .1) (rows-fit a e (y .is)) in
+          reading (a .0, x ∷ a .1, tree (kindOf t) (h .detail) (o .0) (a .2) none) (rw (opened, planned, y .is, f, z)) (sym (y .rows-used)) words
 
-      -- the children were walked and the value ended
-      pub raw-closed : (w₁ : List ℕ) (n : ℕ) (walked : Walk) → Closable h n walked → n ≡ length slots → Walked w₀ w₁ (suc (h .row .0)) (seen seq) walked
-          → Walked w₀ (closeWords file w₁ h (kindOf t) n walked) (h .row .0) (seen rawOf) (closeAnswer file w₁ h (kindOf t) at walked)
+      -- the children were walked and the value ended, with their number
+      pub raw-closed : (w₁ : List ℕ) (n : ℕ) (walked : Walk) → Closable h walked → ((a : Taken) (e : ℕ) → seq ≡ read a e → n ≡ count (a .2)) → Walked g w₀ w₁ (suc (h .row .0)) (seen seq) walked
+          → Walked g w₀ (closeWords g file w₁ h (kindOf t) n walked) (h .row .0) (seen rawOf) (closeAnswer g file w₁ h (kindOf t) at walked)
       unfolding rawAt bind keeps
-      raw-closed w₁ n (Refused m p) c z d = refusing (rw (opened, plan, lost d refl))
-      raw-closed w₁ n (Done u e) c z d =
-          let g = got d refl in
-          kept w₁ n e u c z g (keeps file w₁ (kindOf t) (h .row .0)) (rule (g .taken) e w₁ (g .is) (g .words) (eqb (kindOf t) 33) refl)
+      raw-closed w₁ n (Refused m p) c z d = refusing (rw (opened, planned, lost d refl))
+      raw-closed w₁ n (Done r) c z d =
+          let y = got d refl in
+          kept w₁ n (r .next) (r .used) c y (z (y .taken) (r .next) (y .is)) (keeps g file w₁ (kindOf t) (h .row .0)) (rule (y .taken) (r .next) w₁ (y .is) (y .words) (eqb (kindOf t) 33) refl)

@@ -12,7 +12,7 @@ use Rattle.layout.specs.Target.{Target, fixed, char, string, object as anything
 use Rattle.layout.specs.Tree.{none, tree}
 use Rattle.layout.specs.Slot as L
 use Rattle.layout.specs.Slot.{Plan, raw, object}
-use Rattle.layout.specs.Rows.{row, nothing}
+use Rattle.layout.specs.Rows.{row}
 use Rattle.layout.specs.Named.{plain, fixedKind}
 use Rattle.layout.specs.Number.{between}
 use Rattle.reading.specs.Answer.{Answer, refused, read, bind, check}
@@ -37,6 +37,7 @@ use Rattle.objects.specs.declared.start.Identified.the-variants.{Null, R
 use Rattle.objects.specs.declared.start.Started.{Started}
 use Rattle.objects.specs.declared.start.Started.the-variants.{Raw, Plain}
 use Rattle.objects.specs.declared.start.Started.the-variants.{Null as NullValue, Refused as RefusedValue}
+use Rattle.reading.specs.Drafts.{drafted}
 
 -- 01: "A type id counts readers": the position that it names in a list of at most 64
 abbrev pub positionIn : (id : ℕ) → ℕ
@@ -214,7 +215,7 @@ at-id {id = suc j} {i = i} e = let q : i ≡ j = cc in ap suc (sym q)
 
 -- the row and the tree of a null
 abbrev pub nulled : (at next used parent : ℕ) → Outcome
-nulled at next used parent = done next (suc used) (row 0 at (next - at) 0 parent 0 nothing ∷ []) (tree 0 0 [] none none)
+nulled at next used parent = done next (suc used) (drafted (row 0 at (next - at) 0 parent 0) ∷ []) (tree 0 0 [] none none)
 
 -- what stands after an object's type id
 pub record Invokes (file codes : List ℕ) (readers : List Target) (x : L.Slot) (at place from id : ℕ) : Type 0 where

@@ -1,13 +1,15 @@
 -- One turn of each loop: the places of a row, of the rows from one on, and of the readers from one on. Assumes nothing.
-use mathlib.Core.Path.{_≡_, refl}
+use mathlib.Core.Path.{_≡_, refl, sym, ap, _∙_}
 use mathlib.Core.Bool.{true, false}
 use mathlib.Core.List.{List, [], _∷_, _++_}
 use Prim.Native.Nat.{ℕ, zero, suc, _+_, _-_, _<_, _≤_}
 use native.Mathlib.Omega.{arith}
 use lib.Dec.{eqb}
-use lib.ListN.{getD}
+use lib.ListN.{length, getD}
 use borrow.Author.Tests.{eq-eqb, ne-eqb}
-use Rattle.ids.specs.Position.{firstWord}
+use Rattle.ids.specs.declared.Grid.{Grid}
+use Rattle.ids.specs.Position.{cellOf}
+use Rattle.words.specs.Grids.{rowsGrid}
 use Rattle.reading.specs.Seven.{sevenAt}
 use Rattle.shortest.specs.Short.{numbered}
 use Rattle.shortest.specs.Places.{numberOf, past, idPlaces, rawPlace, countPlaces}
@@ -24,14 +26,18 @@ module _ (file : List ℕ) where
   no-count kind at e = rw (ne-eqb kind 13 e)
 
   -- a row's places, by the words that the code has read
-  module _ (table : List ℕ) (row at kind first detail : ℕ) (a : at ≡ firstWord row) (k : kind ≡ getD table at 0) (f : first ≡ getD table (at + 1) 0) (d : detail ≡ getD table (at + 5) 0) where
+  module _ (table : List ℕ) (g : Grid) (row kind first detail : ℕ) (a : g ≡ rowsGrid (length table))
+      (k : kind ≡ getD table (cellOf g row 0) 0) (f : first ≡ getD table (cellOf g row 1) 0) (d : detail ≡ getD table (cellOf g row 5) 0) where
+    word-is : (j : ℕ) → getD table (cellOf (rowsGrid (length table)) row j) 0 ≡ getD table (cellOf g row j) 0
+    word-is j = ap (λ (h : Grid). getD table (cellOf h row j) 0) (sym a)
+
     pub with-id : true ≡ numbered kind detail → placesIn file table row ≡ first ∷ countPlaces file kind (past (sevenAt file first) first)
     unfolding placesIn rowPlaces idPlaces rawPlace
-    with-id n = rw (← a, ← k, ← f, ← d, ← n)
+    with-id n = rw (word-is 0 ∙ sym k, word-is 1 ∙ sym f, word-is 5 ∙ sym d, ← n)
 
     pub without-id : false ≡ numbered kind detail → placesIn file table row ≡ countPlaces file kind first
     unfolding placesIn rowPlaces idPlaces rawPlace
-    without-id n = rw (← a, ← k, ← f, ← d, ← n)
+    without-id n = rw (word-is 0 ∙ sym k, word-is 1 ∙ sym f, word-is 5 ∙ sym d, ← n)
 
   -- the rows from number i on
   pub next-row : (table : List ℕ) (rows i : ℕ) → i < rows → tablePlaces file table (rows - i) i ≡ placesIn file table i ++ tablePlaces file table (rows - (i + 1)) (i + 1)

@@ -2,13 +2,16 @@
 use mathlib.Core.Path.{_≡_, refl, sym, ap, _∙_}
 use mathlib.Core.Bool.{cond}
 use mathlib.Core.List.{List, [], _∷_, _++_, append-assoc}
-use Prim.Native.Nat.{ℕ, zero, suc, _+_, _*_, _-_, _<_, _≤_}
+use Prim.Native.Nat.{ℕ, zero, suc, _+_, _*_, _<_, _≤_}
 use native.Mathlib.Omega.{arith}
 use lib.Dec.{leb}
 use borrow.Author.Tests.{le-leb, lt-leb}
 use lib.ListN.{length, getD, length-append}
-use Rattle.layout.specs.Rows.{Row, row, words, flat}
+use Rattle.layout.specs.Rows.{Row, words, width, flat}
+use Rattle.reading.specs.Grid.{cell}
 use Rattle.reading.specs.Seven.{sevenAt}
+use Rattle.ids.specs.Position.{cellOf}
+use Rattle.words.specs.Grids.{rowsGrid}
 use Rattle.shortest.specs.Places.{past, idPlaces, rawPlace, countPlaces, rowsPlaces}
 use Rattle.shortest.specs.Rewrites.{padding}
 use Rattle.shortest.specs.Lists.{entriesPlaces, entriesEnd, filePlaces}
@@ -19,9 +22,13 @@ module _ (file : List ℕ) where
   rowPlaces kind first detail = idPlaces file kind first detail ++ countPlaces file kind (rawPlace file kind first detail)
 
   module _ (table : List ℕ) where
+    -- word j of the row with the number i, in a table by rows
+    abbrev wordIn : (i j : ℕ) → ℕ
+    wordIn i j = getD table (cellOf (rowsGrid (length table)) i j) 0
+
     -- of the row with the number i
     unfoldable pub placesIn : (i : ℕ) → List ℕ
-    placesIn i = rowPlaces (getD table (6 * i) 0) (getD table (6 * i + 1) 0) (getD table (6 * i + 5) 0)
+    placesIn i = rowPlaces (wordIn i 0) (wordIn i 1) (wordIn i 5)
 
     -- of n rows, the first of which has the number i
     unfoldable pub tablePlaces : (n i : ℕ) → List ℕ
@@ -43,31 +50,24 @@ getD-behind [] l k = let z : 0 + k ≡ k = omega arith in rw z
 getD-behind (b ∷ before) l k = let z : suc (length before) + k ≡ suc (length before + k) = omega arith in rw z (getD-behind before l k)
 
 module _ (file : List ℕ) where
-  row-here : (before l : List ℕ) (i kind first z children parent detail : ℕ) → length before ≡ 6 * i
-      → placesIn file (before ++ (kind ∷ first ∷ z ∷ children ∷ parent ∷ detail ∷ l)) i ≡ rowPlaces file kind first detail
-  unfolding placesIn
-  row-here before l i kind first z children parent detail e =
-      let six = kind ∷ first ∷ z ∷ children ∷ parent ∷ detail ∷ l in
-      let a : 6 * i ≡ length before + 0 = omega arith in
-      rw (a, getD-behind before six 0)
-      (let b : length before + 0 + 1 ≡ length before + 1 = omega arith in
-      let c : length before + 0 + 5 ≡ length before + 5 = omega arith in
-      rw (b, c, getD-behind before six 1, getD-behind before six 5))
+  -- the row behind i rows
+  row-here : (before l : List ℕ) (i : ℕ) (r : Row) → length before ≡ width * i → placesIn file (before ++ (words r ++ l)) i ≡ rowPlaces file (r .kind) (r .first) (r .detail)
+  unfolding placesIn cell words
+  row-here before l i r e = rw (← e, getD-behind before (words r ++ l) 0, getD-behind before (words r ++ l) 1, getD-behind before (words r ++ l) 5)
 
-  places-from : (before : List ℕ) (i : ℕ) (rows : List Row) (rest : List ℕ) → length before ≡ 6 * i
+  places-from : (before : List ℕ) (i : ℕ) (rows : List Row) (rest : List ℕ) → length before ≡ width * i
       → tablePlaces file (before ++ (flat rows ++ rest)) (length rows) i ≡ rowsPlaces file rows
   unfolding tablePlaces rowsPlaces rowPlaces flat words
   places-from before i [] rest e = refl
-  places-from before i (row kind first z children parent detail wants ∷ rows) rest e =
-      let six = kind ∷ first ∷ z ∷ children ∷ parent ∷ detail ∷ [] in
-      let l : length (before ++ six) ≡ 6 * suc i = omega (arith, length-append before six) in
-      let m : before ++ (six ++ (flat rows ++ rest)) ≡ (before ++ six) ++ (flat rows ++ rest) = sym (append-assoc before six (flat rows ++ rest)) in
-      let here = rowPlaces file kind first detail in
-      let table = before ++ (six ++ (flat rows ++ rest)) in
-      ap (λ (x : List ℕ). x ++ tablePlaces file table (length rows) (suc i)) (row-here before (flat rows ++ rest) i kind first z children parent detail e)
+  places-from before i (r ∷ rows) rest e =
+      let l : length (before ++ words r) ≡ width * suc i = omega (arith, length-append before (words r)) in
+      let m : before ++ (words r ++ (flat rows ++ rest)) ≡ (before ++ words r) ++ (flat rows ++ rest) = sym (append-assoc before (words r) (flat rows ++ rest)) in
+      let here = rowPlaces file (r .kind) (r .first) (r .detail) in
+      let table = before ++ (words r ++ (flat rows ++ rest)) in
+      ap (λ (x : List ℕ). x ++ tablePlaces file table (length rows) (suc i)) (row-here before (flat rows ++ rest) i r e)
       ∙ ap (λ (x : List ℕ). here ++ tablePlaces file x (length rows) (suc i)) m
-      ∙ ap (λ (x : List ℕ). here ++ x) (places-from (before ++ six) (suc i) rows rest l)
-      ∙ append-assoc (idPlaces file kind first detail) (countPlaces file kind (rawPlace file kind first detail)) (rowsPlaces file rows)
+      ∙ ap (λ (x : List ℕ). here ++ x) (places-from (before ++ words r) (suc i) rows rest l)
+      ∙ append-assoc (idPlaces file (r .kind) (r .first) (r .detail)) (countPlaces file (r .kind) (rawPlace file (r .kind) (r .first) (r .detail))) (rowsPlaces file rows)
 
   -- the table's words say the same places as the rows
   pub table-places : (rows : List Row) (rest : List ℕ) (readers : ℕ) → placesOf file (flat rows ++ rest) readers (length rows) ≡ filePlaces file readers rows

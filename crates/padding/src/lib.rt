@@ -71,10 +71,10 @@ fn row_padding(file: &[u8], words: &[u32], row: u32) -> usize
     requires { ⌜ length (now file) ≤ 16777216 ⌝ }
     ensures { λ r. ⌜ (r ≡ paddingOf (now (file .entry)) (placesIn (now (file .entry)) (now (words .entry)) row)) × (r ≤ 33554432) ⌝ }
 {
-    let at = RowNumber(row).position();
-    let kind = words::word(words, at);
-    let first = words::word(words, at + 1) as usize;
-    if numbered(kind, words::word(words, at + 5)) {
+    let grid = words::grid(words.len());
+    let kind = words::word_of(words, grid, RowNumber(row), 0);
+    let first = words::word_of(words, grid, RowNumber(row), 1) as usize;
+    if numbered(kind, words::word_of(words, grid, RowNumber(row), 5)) {
         let id = measure(file, first);
         return id.padding + count_padding(file, kind, id.next);
     }

@@ -15,7 +15,6 @@ use Rattle.layout.specs.Tree.{Trees, none, tree, count, size}
 use Rattle.layout.specs.Slot.{object}
 use Rattle.layout.specs.Layout.{Lays}
 use Rattle.layout.specs.Resource.{Within, Resource}
-use Rattle.layout.specs.Rows.{Row, nothing, rowsOf}
 use Rattle.layout.specs.File.{FileTree, sharedOf, header, objectsPlan, Entries, Lists, FileLays, fileRows}
 use Rattle.reading.specs.Answer.{read, bind, check, Ok, is-read, ok-bind, ok-check}
 use Rattle.reading.specs.Reads.{Small, seam}
@@ -26,6 +25,7 @@ use Rattle.reading.specs.Sound.{Read, walks-sound}
 use Rattle.reading.specs.File.{Named, Judges, rootKinds, Loaded, objectsAt, finished, fileAt}
 use Rattle.reading.specs.Front.{Headed, header-complete, header-sound, lists-reads}
 use Rattle.reading.specs.References.{Every, judged-complete, judged-sound, change, every-row, roots-are, rows-length, slots-count}
+use Rattle.reading.specs.Drafts.{Draft, nothing, draftsOf, bare, length-bare, drafts-bare}
 
 kinds-after : (ts : Trees) → drop 1 (kinds ts) ≡ kinds (sharedOf ts)
 unfolding kinds sharedOf
@@ -74,20 +74,31 @@ module _ (named : List ℕ → Target → Type 0) where
     parts = rw (behind-header ft file w) (w .parts);
   }
 
+  -- the drafts of a file tree as it stands in its bytes
+  unfoldable pub fileDrafts : (ft : FileTree) (bs : List ℕ) → FileLays named ft bs → List Draft
+  fileDrafts ft bs w =
+      draftsOf (w .readers) (Resource (sharedOf (ft .objects))) (objectsPlan (count (sharedOf (ft .objects)))) (ft .objects) (w .values) (w .laid)
+      (10 + length (w .before)) 0 0
+
+  pub file-bare : (ft : FileTree) (bs : List ℕ) (w : FileLays named ft bs) → bare (fileDrafts ft bs w) ≡ fileRows named ft bs w
+  unfolding fileDrafts fileRows
+  file-bare ft bs w =
+      drafts-bare (w .readers) (Resource (sharedOf (ft .objects))) (ft .objects) (objectsPlan (count (sharedOf (ft .objects)))) (w .values) (w .laid) (10 + length (w .before)) 0 0
+
   -- a row for each value in the file tree
   pub rows-count : (ft : FileTree) (file : List ℕ) (w : FileLays named ft file) → length (fileRows named ft file w) ≡ size (ft .objects)
-  unfolding fileRows
+  unfolding fileDrafts
   rows-count ft file w =
-      rows-length (w .readers) (Resource (sharedOf (ft .objects))) (objectsPlan (count (sharedOf (ft .objects)))) (ft .objects) (w .values) (w .laid) (10 + length (w .before)) 0 0
+      sym (ap length (file-bare ft file w)) ∙ length-bare (fileDrafts ft file w) ∙ rows-length (w .readers) (Resource (sharedOf (ft .objects))) (objectsPlan (count (sharedOf (ft .objects)))) (ft .objects) (w .values) (w .laid) (10 + length (w .before)) 0 0
 
   -- what is read of a file tree that stands in a file
   abbrev pub loadedOf : (ft : FileTree) (file : List ℕ) → FileLays named ft file → Loaded
-  loadedOf ft file w = record { tree = ft; rows = fileRows named ft file w; readers = length (ft .names); shared = count (sharedOf (ft .objects)) }
+  loadedOf ft file w = record { tree = ft; rows = fileDrafts ft file w; readers = length (ft .names); shared = count (sharedOf (ft .objects)) }
 
   -- the file is the bytes of the file tree, the rows are its rows, and there is room for them
   pub record IsFile (file : List ℕ) (room : ℕ) (a : Loaded) (e : ℕ) : Type 0 where
     pub lays : FileLays named (a .tree) file
-    pub rows-are : a .rows ≡ fileRows named (a .tree) file lays
+    pub rows-are : a .rows ≡ fileDrafts (a .tree) file lays
     pub readers-are : a .readers ≡ length (a .tree .names)
     pub shared-are : a .shared ≡ count (sharedOf (a .tree .objects))
     pub room-left : size (a .tree .objects) ≤ room
@@ -95,7 +106,7 @@ module _ (named : List ℕ → Target → Type 0) where
   module _ (nameOf : List ℕ → Named) (judges : Judges named nameOf) (file : List ℕ) (room : ℕ) where
     pub file-complete : (ft : FileTree) (w : FileLays named ft file) → size (ft .objects) ≤ room
         → fileAt nameOf file room ≡ read (loadedOf ft file w) (length file)
-    unfolding fileAt objectsAt finished bind check fileRows
+    unfolding fileAt objectsAt finished bind check fileDrafts
     file-complete ft w fit =
         let ts = ft .objects in
         let shared = sharedOf ts in
@@ -104,7 +115,7 @@ module _ (named : List ℕ → Target → Type 0) where
         let plan = objectsPlan s in
         let readers = w .readers in
         let at = 10 + length (w .before) in
-        let rows = rowsOf readers (Resource shared) plan ts (w .values) (w .laid) at 0 0 in
+        let rows = draftsOf readers (Resource shared) plan ts (w .values) (w .laid) at 0 0 in
         let rest : drop 10 file ≡ w .before ++ w .values = behind-header ft file w in
         let rest′ : drop 10 file ≡ (w .before ++ w .values) ++ [] = rest ∙ sym (append-nil (w .before ++ w .values)) in
         let every : Every (suits ks) rows
@@ -121,21 +132,21 @@ module _ (named : List ℕ → Target → Type 0) where
         → Headed file platform flags → Lists named names readers s before → at ≡ 10 + length before → drop 10 file ≡ before ++ drop at file
         → (a : Taken) (e : ℕ) → Read file readers s room small 32 (objectsPlan s) at 0 0 a e
         → Ok (IsFile file room) (finished file platform flags names (length readers) s a e)
-    unfolding finished fileRows
+    unfolding finished fileDrafts
     finished-sound platform flags names readers s at before small h l here front a e r =
         let ts = a .2 in
         let shared = sharedOf ts in
         let ks = kinds shared in
         let c : count shared ≡ s = shared-count readers (Within s) s ts (r .bytes) (r .laid) in
         let k : drop 1 (rootKinds (a .1)) ≡ ks
-        = ap (λ (rows : List Row). drop 1 (rootKinds rows)) (r .rows-are) ∙ ap (drop 1) (roots-are readers (Within s) (objectsPlan s) ts (r .bytes) (r .laid) at 0) ∙ kinds-after ts in
+        = ap (λ (rows : List Draft). drop 1 (rootKinds rows)) (r .rows-are) ∙ ap (drop 1) (roots-are readers (Within s) (objectsPlan s) ts (r .bytes) (r .laid) at 0) ∙ kinds-after ts in
         ok-check (eqb e (length file)) 20 e _ (λ t. judged-sound (drop 1 (rootKinds (a .1))) (a .1) _ (λ every.
-        let every′ : Every (suits ks) (rowsOf readers (Within s) (objectsPlan s) ts (r .bytes) (r .laid) at 0 0) = rw (← k, ← r .rows-are) every in
+        let every′ : Every (suits ks) (draftsOf readers (Within s) (objectsPlan s) ts (r .bytes) (r .laid) at 0 0) = rw (← k, ← r .rows-are) every in
         let m = change readers (Within s) (Resource shared) (suits ks) (λ t id p q. resource-sound shared t id (rw c p) q) (objectsPlan s) ts (r .bytes) (r .laid) at 0 0 every′ in
         let end : drop e file ≡ [] = ap (λ (n : ℕ). drop n file) (eqb-true e (length file) t) ∙ drop-length file in
         let values : drop at file ≡ r .bytes = r .there ∙ ap (λ (l : List ℕ). r .bytes ++ l) end ∙ append-nil (r .bytes) in
         let moved : (v : Lays readers (Resource shared) (objectsPlan (count shared)) ts (r .bytes))
-        × (a .1 ≡ rowsOf readers (Resource shared) (objectsPlan (count shared)) ts (r .bytes) v (10 + length before) 0 0)
+        × (a .1 ≡ draftsOf readers (Resource shared) (objectsPlan (count shared)) ts (r .bytes) v (10 + length before) 0 0)
         = rw (c, ← here) (m .0, r .rows-are ∙ sym (m .1)) in
         is-read (record {
           lays = record {

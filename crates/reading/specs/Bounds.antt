@@ -7,20 +7,21 @@ use native.Mathlib.Omega.{arith}
 use lib.ListN.{length, drop, length-append, length-drop}
 use Rattle.laws.specs.Small.{differ}
 use Rattle.layout.specs.Target.{Target}
-use Rattle.layout.specs.Tree.{Trees, none, tree, size}
+use Rattle.layout.specs.Tree.{Trees, none, tree, size, told, count}
 use Rattle.layout.specs.Slot.{Slot, raw, object, reference, leaf, Plan, stop, put}
 use Rattle.layout.specs.Layout.{Value, Lays}
 use Rattle.layout.specs.Resource.{Within}
-use Rattle.layout.specs.Rows.{Below, rawRows, valueRows, rowsOf}
+use Rattle.layout.specs.Rows.{rawRows, notedRows, valueRows}
 use Rattle.reading.specs.Answer.{read, Ok, not-read, is-read}
 use Rattle.reading.specs.Reads.{Small}
 use Rattle.reading.specs.Walk.{Taken, Outcome, sequence, walk}
 use Rattle.reading.specs.Sound.{Read, ReadValue, walk-sound, walks-sound}
+use Rattle.reading.specs.Drafts.{Below, valueDrafts, draftsOf}
 
 module _ (readers : List Target) (refers : Target → ℕ → Type 0) where
   value-length : (below : Plan → List ℕ → Type 0) (rows : Below below) (cs : Trees) → ((plan : Plan) (b : List ℕ) (v : below plan b) (at n parent : ℕ) → length (rows plan b v at n parent) ≡ size cs)
       → (x : Slot) (kind id : ℕ) (own bs : List ℕ) (w : Value readers refers below x kind id own cs bs) (at n parent : ℕ)
-      → length (valueRows readers refers below rows x kind id own cs bs w at n parent) ≡ suc (size cs)
+      → length (valueDrafts readers refers below rows x kind id own cs bs w at n parent) ≡ suc (size cs)
   unfolding Value valueRows rawRows size
   value-length below rows cs h (raw t) kind id own bs w at n parent = let g = w .1 in ap suc (h (g .plan) (g .children) (g .laid) (at + length (g .head)) (suc n) (suc n))
   value-length below rows cs h (object t) kind id own bs (inl w) at n parent = rw (w .childless)
@@ -30,14 +31,14 @@ module _ (readers : List Target) (refers : Target → ℕ → Type 0) where
   value-length below rows cs h (leaf x) kind id own bs w at n parent = rw (w .1)
 
   -- there is a row for each value; 01: "each tree in it is one row"
-  pub rows-length : (plan : Plan) (ts : Trees) (bs : List ℕ) (w : Lays readers refers plan ts bs) (at n parent : ℕ) → length (rowsOf readers refers plan ts bs w at n parent) ≡ size ts
-  unfolding Lays rowsOf size
+  pub rows-length : (plan : Plan) (ts : Trees) (bs : List ℕ) (w : Lays readers refers plan ts bs) (at n parent : ℕ) → length (draftsOf readers refers plan ts bs w at n parent) ≡ size ts
+  unfolding Lays notedRows size
   rows-length stop none bs w at n parent = refl
   rows-length (put x go) none bs w at n parent = absurd w
   rows-length stop (tree k i own cs rest) bs w at n parent = absurd w
   rows-length (put x go) (tree k i own cs rest) bs w at n parent =
-      let v = value-length (λ plan b. Lays readers refers plan cs b) (λ plan b v a n p. rowsOf readers refers plan cs b v a n p) cs (λ plan b v a n q. rows-length plan cs b v a n q) x k i own (w .0) (w .3) at n parent in
-      let r = rows-length (go own) rest (w .1) (w .4) (at + length (w .0)) (n + suc (size cs)) parent in
+      let v = value-length (λ plan b. Lays readers refers plan cs b) (λ plan b v a n p. draftsOf readers refers plan cs b v a n p) cs (λ plan b v a n q. rows-length plan cs b v a n q) x k i own (w .0) (w .3) at n parent in
+      let r = rows-length (go (told k own)) rest (w .1) (w .4) (at + length (w .0)) (n + suc (size cs)) parent in
       rw (length-append, v, r)
 
 -- what was read ends at or behind its start and inside the file, and took as many rows as it says, within the room
@@ -50,10 +51,14 @@ pub record Bounds (file : List ℕ) (room at used : ℕ) (a : Taken) (e : ℕ) :
 ends : (file bytes : List ℕ) (at e : ℕ) → drop at file ≡ bytes ++ drop e file → e ≡ at + length bytes → at ≤ length file → e ≤ length file
 ends file bytes at e there end h = omega (arith, length-drop at file, length-drop e file, simp length-append at (ap length there))
 
+one-tree : (k i : ℕ) (own : List ℕ) (cs : Trees) → count (tree k i own cs none) ≡ 1
+unfolding count
+one-tree k i own cs = refl
+
 module _ (file : List ℕ) (readers : List Target) (shared room : ℕ) (small : Small file) where
   value-bounds : {d : ℕ} {x : Slot} (at used parent : ℕ) (a : Taken) (e : ℕ) → ReadValue file readers shared room small d x at used parent a e → Bounds file room at used a e
   value-bounds at used parent a e v =
-      let l = value-length readers (Within shared) (λ plan b. Lays readers (Within shared) plan (v .children) b) (λ plan b w a n p. rowsOf readers (Within shared) plan (v .children) b w a n p)
+      let l = value-length readers (Within shared) (λ plan b. Lays readers (Within shared) plan (v .children) b) (λ plan b w a n p. draftsOf readers (Within shared) plan (v .children) b w a n p)
       (v .children) (λ plan b w a n q. rows-length readers (Within shared) plan (v .children) b w a n q) _ (v .kind) (v .id) (v .own) (v .bytes) (v .laid) at used parent in
       let m : length (a .1) ≡ suc (size (v .children)) = ap length (v .rows-are) ∙ l in
       record {
@@ -71,6 +76,15 @@ module _ (file : List ℕ) (readers : List Target) (shared room : ℕ) (small : 
         let qb : b ≡ a = cc in
         let qf : f ≡ e = cc in
         rw (qb, qf) at (value-bounds at used parent b f v)
+
+  -- a value is one tree
+  pub walk-single : (d : ℕ) (x : Slot) (at used parent : ℕ) (a : Taken) (e : ℕ) → walk file readers shared room d x at used parent ≡ read a e → count (a .2) ≡ 1
+  walk-single d x at used parent a e q = go (walk file readers shared room d x at used parent) (walk-sound file readers shared room small d x at used parent) q where
+    go : (o : Outcome) → Ok (ReadValue file readers shared room small d x at used parent) o → o ≡ read a e → count (a .2) ≡ 1
+    go o not-read p = differ cc
+    go o (is-read {a = b} {e = f} v) p =
+        let qb : b ≡ a = cc in
+        rw (← qb) (rw (v .tree-is) (one-tree (v .kind) (v .id) (v .own) (v .children)))
 
   pub sequence-bounds : (d : ℕ) (plan : Plan) (at used parent : ℕ) (a : Taken) (e : ℕ)
       → sequence (λ y b v. walk file readers shared room d y b v parent) plan at used ≡ read a e → Bounds file room at used a e

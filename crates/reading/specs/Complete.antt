@@ -7,18 +7,19 @@ use native.Mathlib.Omega.{arith}
 use lib.ListN.{length, drop, length-append}
 use borrow.Author.Tests.{lt-ltb, le-leb}
 use Rattle.layout.specs.Target.{Target}
-use Rattle.layout.specs.Tree.{Trees, none, tree, size, depth}
+use Rattle.layout.specs.Tree.{Trees, none, tree, size, depth, told, toldOf}
 use Rattle.layout.specs.Slot.{Leaf, level, Slot, raw, object, reference, leaf, Plan, stop, put}
 use Rattle.layout.specs.Layout.{Leafed, Raw, Value, Lays}
 use Rattle.layout.specs.Resource.{Within}
-use Rattle.layout.specs.Rows.{Below, rawRows, valueRows, rowsOf}
+use Rattle.layout.specs.Rows.{rawRows, notedRows, valueRows}
 use Rattle.reading.specs.Answer.{read, bind, check}
 use Rattle.reading.specs.Reads.{seam}
 use Rattle.reading.specs.Seven.{seven-reads}
 use Rattle.reading.specs.Rules.{reader, reader-complete, serves, serves-complete, head-invoked, null-id}
 use Rattle.reading.specs.Font.{font-complete}
 use Rattle.reading.specs.Heads.{headAt, head-reads, leaf-reads}
-use Rattle.reading.specs.Walk.{Outcome, done, ownOf, before, point, point-is, sequence, rawAt, byReader, objectAt, valueAt, walk}
+use Rattle.reading.specs.Walk.{Outcome, done, before, point, point-is, sequence, rawAt, byReader, objectAt, valueAt, walk}
+use Rattle.reading.specs.Drafts.{Below, rawDrafts, valueDrafts, draftsOf}
 
 leaf-kind : (x : Leaf) (kind : ℕ) (own bs : List ℕ) → Leafed x kind own bs → (kind ≡ 35) × Leafed x 35 own bs
 unfolding Leafed
@@ -36,7 +37,7 @@ module _ (file : List ℕ) (readers : List Target) (shared room : ℕ) where
       → (t : Target) (kind : ℕ) (own bs rest : List ℕ) (w : Raw below t kind own cs bs) (first z at parent id : ℕ)
       → drop at file ≡ bs ++ rest → at + length bs ≡ first + z
       → rawAt file readers shared room below′ t first at used parent id
-      ≡ done (at + length bs) (suc used + size cs) (rawRows below rows t kind own cs bs w first z at used parent id) (tree kind id own cs none)
+      ≡ done (at + length bs) (suc used + size cs) (rawDrafts below rows t kind own cs bs w first z at used parent id) (tree kind id own cs none)
   unfolding rawAt bind rawRows check
   raw-complete below rows below′ cs used agrees t kind own bs rest w first z at parent id e q =
       let hb = w .head in
@@ -55,7 +56,7 @@ module _ (file : List ℕ) (readers : List Target) (shared room : ℕ) where
       → (x : Slot) (kind id : ℕ) (own bs rest : List ℕ) (w : Value readers (Within shared) below x kind id own cs bs) (at parent : ℕ)
       → drop at file ≡ bs ++ rest
       → valueAt file readers shared room below′ x at used parent
-      ≡ done (at + length bs) (suc used + size cs) (valueRows readers (Within shared) below rows x kind id own cs bs w at used parent) (tree kind id own cs none)
+      ≡ done (at + length bs) (suc used + size cs) (valueDrafts readers (Within shared) below rows x kind id own cs bs w at used parent) (tree kind id own cs none)
   unfolding valueAt valueRows Value bind objectAt byReader check size
   value-complete below rows below′ cs used g (raw t) kind id own bs rest w at parent e =
       rw (w .0) (raw-complete below rows below′ cs used g t kind own bs rest (w .1) at (length bs) at parent 0 e refl)
@@ -88,8 +89,8 @@ module _ (file : List ℕ) (readers : List Target) (shared room : ℕ) where
   pub complete : (d : ℕ) (plan : Plan) (ts : Trees) (bs rest : List ℕ) (w : Lays readers (Within shared) plan ts bs) (at used parent : ℕ)
       → depth ts ≤ d → used + size ts ≤ room → drop at file ≡ bs ++ rest
       → sequence (λ x a u. walk file readers shared room d x a u parent) plan at used
-      ≡ done (at + length bs) (used + size ts) (rowsOf readers (Within shared) plan ts bs w at used parent) ts
-  unfolding Lays sequence rowsOf size depth walk check bind before ownOf
+      ≡ done (at + length bs) (used + size ts) (draftsOf readers (Within shared) plan ts bs w at used parent) ts
+  unfolding Lays sequence notedRows size depth walk check bind before toldOf
   complete d stop none bs rest w at used parent hd hr e =
       let l : at + length bs ≡ at = omega (arith, ap length w) in
       let z : used + 0 ≡ used = omega arith in
@@ -108,8 +109,8 @@ module _ (file : List ℕ) (readers : List Target) (shared room : ℕ) where
       let p : used + (suc (size cs) + size more) ≡ used + suc (size cs) + size more = omega arith in
       let hr′ : used < room = omega arith in
       let hd′ : depth cs ≤ d = omega arith in
-      let v = value-complete (λ plan b. Lays readers (Within shared) plan cs b) (λ plan b v a u p. rowsOf readers (Within shared) plan cs b v a u p)
+      let v = value-complete (λ plan b. Lays readers (Within shared) plan cs b) (λ plan b v a u p. draftsOf readers (Within shared) plan cs b v a u p)
       (λ plan a u. sequence (λ y b v. walk file readers shared room d y b v (suc used)) plan a u) cs used
       (λ plan b rest′ w′ a q. complete d plan cs b rest′ w′ a (suc used) (suc used) hd′ (omega arith) q)
       x k i own b₁ (b₂ ++ rest) (w .3) at parent e₁ in
-      rw (lt-ltb used room hr′, v, n, complete (suc d) (go own) more b₂ rest (w .4) (at + length b₁) (used + suc (size cs)) parent (omega arith) (omega arith) e₂, l, p)
+      rw (lt-ltb used room hr′, v, n, complete (suc d) (go (told k own)) more b₂ rest (w .4) (at + length b₁) (used + suc (size cs)) parent (omega arith) (omega arith) e₂, l, p)

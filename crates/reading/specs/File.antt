@@ -6,14 +6,16 @@ use Prim.Native.Nat.{ℕ, zero, suc, _*_, _-_, _/_, min}
 use lib.Dec.{ltb, leb, eqb}
 use lib.ListN.{length, take, drop, getD, replicate}
 use Rattle.layout.specs.Target.{Target}
-use Rattle.layout.specs.Rows.{Row, row, flat}
 use Rattle.layout.specs.File.{FileTree, objectsPlan}
+use Rattle.layout.specs.Rows.{flat, Row, width}
+use Rattle.layout.specs.Number.{valueOf}
 use Rattle.reading.specs.Answer.{Answer, refused, read, bind, check, within}
 use Rattle.reading.specs.Reads.{some}
 use Rattle.reading.specs.Seven.{sevenAt}
-use Rattle.reading.specs.Little.{littleAt, valueOf}
+use Rattle.reading.specs.Little.{littleAt}
 use Rattle.reading.specs.Resource.{suits}
 use Rattle.reading.specs.Walk.{Taken, Outcome, sequence, walk}
+use Rattle.reading.specs.Drafts.{Draft, bare}
 
 -- 01, offset 3: "`w`, `m` or `x`"
 unfoldable pub isPlatform : ℕ → Bool
@@ -54,19 +56,19 @@ unfoldable pub rootKind : (parent kind : ℕ) → List ℕ → List ℕ
 rootKind zero kind kinds = kind ∷ kinds
 rootKind (suc parent) kind kinds = kinds
 
-unfoldable pub rootKinds : List Row → List ℕ
+unfoldable pub rootKinds : List Draft → List ℕ
 rootKinds [] = []
-rootKinds (row kind first z children parent id wants ∷ rows) = rootKind parent kind (rootKinds rows)
+rootKinds (d ∷ rows) = rootKind (d .row .parent) (d .row .kind) (rootKinds rows)
 
 -- 01: "17 last, in row order", at the reference: what each row wants of the shared objects, which have these kinds
-unfoldable pub judged : {A : Type 0} → (shared : List ℕ) → List Row → Answer A → Answer A
+unfoldable pub judged : {A : Type 0} → (shared : List ℕ) → List Draft → Answer A → Answer A
 judged shared [] x = x
-judged shared (row kind first z children parent id wants ∷ rows) x = check (suits shared wants id) 17 first (judged shared rows x)
+judged shared (d ∷ rows) x = check (suits shared (d .wants) (d .row .detail)) 17 (d .row .first) (judged shared rows x)
 
 -- a file that was read: its file tree, which no program holds, its rows, the number of readers and the shared count
 pub record Loaded : Type 0 where
   pub tree : FileTree
-  pub rows : List Row
+  pub rows : List Draft
   pub readers : ℕ
   pub shared : ℕ
 
@@ -119,11 +121,11 @@ pub data Load : Type 0 where
 
 unfoldable pub toLoad : Answer Loaded → Load
 toLoad (refused number place) = refusal number place
-toLoad (read a e) = accepted (a .rows) (a .readers) (a .shared)
+toLoad (read a e) = accepted (bare (a .rows)) (a .readers) (a .shared)
 
 -- 01: "Room is the number of whole rows in the words, at most 65,536"
 unfoldable pub roomOf : (words : ℕ) → ℕ
-roomOf words = min (words / 6) 65536
+roomOf words = min (words / width) 65536
 
 -- what loading answers for a file, where so many words are lent
 unfoldable pub loadOf : (List ℕ → Named) → (file : List ℕ) (words : ℕ) → Load
@@ -132,4 +134,4 @@ loadOf nameOf file words = toLoad (fileAt nameOf file (roomOf words))
 -- what loading leaves in the words lent; 01: "Every word not in a used row is zero"
 unfoldable pub tableOf : Load → (words : ℕ) → List ℕ
 tableOf (refusal number place) words = replicate words 0
-tableOf (accepted rows readers shared) words = flat rows ++ replicate (words - 6 * length rows) 0
+tableOf (accepted rows readers shared) words = flat rows ++ replicate (words - width * length rows) 0

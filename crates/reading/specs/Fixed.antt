@@ -9,11 +9,11 @@ use lib.Dec.{leb, eqb}
 use lib.ListN.{length, getD, take, drop, length-append, length-drop, take-append-drop, drop-of-length-le}
 use lib.Seq.{length-take-le, getD-append-add}
 use borrow.Author.Tests.{leb-true, le-leb, eqb-true, eq-eqb}
-use Rattle.layout.specs.Number.{little}
+use Rattle.layout.specs.Number.{little, valueOf}
 use Rattle.layout.specs.Fixed.{sizes, Boolean, DateTime, Decimal, Fixed}
 use Rattle.reading.specs.Answer.{Answer, refused, read}
 use Rattle.reading.specs.Reads.{Small, small-drop, Reads, convert, some, some-reads, here-reads, field, field-reads}
-use Rattle.reading.specs.Little.{valueOf, length-little, value-little, little-value}
+use Rattle.reading.specs.Little.{length-little, value-little, little-value}
 
 -- 01: "Boolean is 0 or 1"
 unfoldable pub isBoolean : List ℕ → Bool

@@ -10,14 +10,14 @@ use lib.ListN.{length, take, drop, getD, length-drop, take-append-drop}
 use lib.Seq.{drop-cons, drop-drop, length-take-le}
 use borrow.Author.Tests.{leb-true, le-leb, lt-ltb, eqb-true, eq-eqb}
 use Rattle.laws.specs.Small.{differ}
-use Rattle.layout.specs.Number.{little}
+use Rattle.layout.specs.Number.{little, valueOf}
 use Rattle.layout.specs.Text.{ascii}
 use Rattle.layout.specs.Target.{Target}
 use Rattle.layout.specs.File.{Platform, header, Entry, Entries, Lists}
 use Rattle.reading.specs.Answer.{read, check, Ok, not-read, is-read, ok-check, within, within-true, true-within}
 use Rattle.reading.specs.Reads.{Small, small-drop, small-left, Reads, pure-reads, bind-reads, check-reads, here-reads, convert, some-reads}
 use Rattle.reading.specs.Seven.{seven-reads}
-use Rattle.reading.specs.Little.{little-reads, valueOf, little-value, value-little}
+use Rattle.reading.specs.Little.{little-reads, little-value, value-little}
 use Rattle.reading.specs.File.{isPlatform, headerAt, Named, unknown, known, Judges, judge, readerAt, readersAt, listsAt}
 
 -- ---- the header

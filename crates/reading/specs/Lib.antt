@@ -9,6 +9,8 @@ pub mod Rules
 pub mod Font
 pub mod Resource
 pub mod Heads
+pub mod Grid
+pub mod Drafts
 pub mod Walk
 pub mod Complete
 pub mod Sound

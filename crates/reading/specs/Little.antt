@@ -6,14 +6,9 @@ use native.Mathlib.Omega.{arith}
 use native.Mathlib.Nat.{pow-succ', mul-add, mul-assoc}
 use lib.ListN.{length, take, drop}
 use borrow.Author.Tests.{le-leb, lt-leb}
-use Rattle.layout.specs.Number.{little}
+use Rattle.layout.specs.Number.{little, valueOf}
 use Rattle.reading.specs.Answer.{Answer, read, refused, bind, check}
 use Rattle.reading.specs.Reads.{Small, Reads, pure-reads, bind-reads, convert, some, some-reads, next-of}
-
--- the number that bytes make, low first
-unfoldable pub valueOf : List ℕ → ℕ
-valueOf [] = 0
-valueOf (b ∷ bs) = b + 256 * valueOf bs
 
 pub length-little : (k n : ℕ) → length (little k n) ≡ k
 unfolding little

@@ -7,40 +7,41 @@ use Prim.Native.Nat.{ℕ, zero, suc, _+_, _*_}
 use native.Mathlib.Omega.{arith}
 use lib.ListN.{length}
 use Rattle.layout.specs.Target.{Target, kindOf}
-use Rattle.layout.specs.Tree.{Trees, none, tree, count, size}
+use Rattle.layout.specs.Tree.{Trees, none, tree, count, size, told}
 use Rattle.layout.specs.Slot.{Slot, raw, object, reference, leaf, Plan, stop, put, each}
 use Rattle.layout.specs.Layout.{Raw, Value, Lays}
-use Rattle.layout.specs.Rows.{Wants, nothing, resource, Row, row, words, flat, Below, rawRows, valueRows, rowsOf}
+use Rattle.layout.specs.Rows.{row, words, flat, rawRows, notedRows, valueRows, Row, width}
 use Rattle.reading.specs.Answer.{Answer, check, Ok, ok-check}
 use Rattle.reading.specs.Resource.{kinds, suits}
 pub use Rattle.reading.specs.Bounds.{rows-length}
 use Rattle.reading.specs.File.{judged, rootKind, rootKinds}
+use Rattle.reading.specs.Drafts.{Wants, nothing, resource, Draft, Below, rawDrafts, valueDrafts, draftsOf}
 
 -- what each row wants is kept
-unfoldable pub Every : (Wants → ℕ → Bool) → List Row → Type 0
+unfoldable pub Every : (Wants → ℕ → Bool) → List Draft → Type 0
 Every p [] = Unit {0}
-Every p (row kind first z children parent id wants ∷ rows) = (p wants id ≡ true) × Every p rows
+Every p (d ∷ rows) = (p (d .wants) (d .row .detail) ≡ true) × Every p rows
 
-every-parts : (p : Wants → ℕ → Bool) (a b : List Row) → Every p (a ++ b) → Every p a × Every p b
+every-parts : (p : Wants → ℕ → Bool) (a b : List Draft) → Every p (a ++ b) → Every p a × Every p b
 unfolding Every
 every-parts p [] b h = (tt, h)
-every-parts p (row kind first z children parent id wants ∷ a) b h = let r = every-parts p a b (h .1) in ((h .0, r .0), r .1)
+every-parts p (d ∷ a) b h = let r = every-parts p a b (h .1) in ((h .0, r .0), r .1)
 
-every-append : (p : Wants → ℕ → Bool) (a b : List Row) → Every p a → Every p b → Every p (a ++ b)
+every-append : (p : Wants → ℕ → Bool) (a b : List Draft) → Every p a → Every p b → Every p (a ++ b)
 unfolding Every
 every-append p [] b h g = g
-every-append p (row kind first z children parent id wants ∷ a) b h g = (h .0, every-append p a b (h .1) g)
+every-append p (d ∷ a) b h g = (h .0, every-append p a b (h .1) g)
 
-pub judged-complete : {A : Type 0} (shared : List ℕ) (rows : List Row) (x : Answer A) → Every (suits shared) rows → judged shared rows x ≡ x
+pub judged-complete : {A : Type 0} (shared : List ℕ) (rows : List Draft) (x : Answer A) → Every (suits shared) rows → judged shared rows x ≡ x
 unfolding judged Every check
 judged-complete shared [] x h = refl
-judged-complete shared (row kind first z children parent id wants ∷ rows) x h = rw (h .0) (judged-complete shared rows x (h .1))
+judged-complete shared (d ∷ rows) x h = rw (h .0) (judged-complete shared rows x (h .1))
 
-pub judged-sound : {A : Type 0} {Q : A → ℕ → Type 0} (shared : List ℕ) (rows : List Row) (x : Answer A) → (Every (suits shared) rows → Ok Q x) → Ok Q (judged shared rows x)
+pub judged-sound : {A : Type 0} {Q : A → ℕ → Type 0} (shared : List ℕ) (rows : List Draft) (x : Answer A) → (Every (suits shared) rows → Ok Q x) → Ok Q (judged shared rows x)
 unfolding judged Every
 judged-sound shared [] x f = f tt
-judged-sound shared (row kind first z children parent id wants ∷ rows) x f =
-    ok-check (suits shared wants id) 17 first _ (λ t. judged-sound shared rows x (λ h. f (t, h)))
+judged-sound shared (d ∷ rows) x f =
+    ok-check (suits shared (d .wants) (d .row .detail)) 17 (d .row .first) _ (λ t. judged-sound shared rows x (λ h. f (t, h)))
 
 -- a rule for references may be changed for another that follows from it and from what the rows keep
 module _ (readers : List Target) (refers refers′ : Target → ℕ → Type 0) (p : Wants → ℕ → Bool)
@@ -52,9 +53,9 @@ module _ (readers : List Target) (refers refers′ : Target → ℕ → Type 0) 
 
   raw-change : (below below′ : Plan → List ℕ → Type 0) (rows : Below below) (rows′ : Below below′) → Changes below below′ rows rows′
       → (t : Target) (kind : ℕ) (own : List ℕ) (cs : Trees) (bs : List ℕ) (w : Raw below t kind own cs bs) (first z at n parent id : ℕ)
-      → Every p (rawRows below rows t kind own cs bs w first z at n parent id)
+      → Every p (rawDrafts below rows t kind own cs bs w first z at n parent id)
       → (w′ : Raw below′ t kind own cs bs)
-      × (rawRows below′ rows′ t kind own cs bs w′ first z at n parent id ≡ rawRows below rows t kind own cs bs w first z at n parent id)
+      × (rawDrafts below′ rows′ t kind own cs bs w′ first z at n parent id ≡ rawDrafts below rows t kind own cs bs w first z at n parent id)
   unfolding rawRows Every
   raw-change below below′ rows rows′ h t kind own cs bs w first z at n parent id a =
       let g = h (w .plan) (w .children) (w .laid) (at + length (w .head)) (suc n) (suc n) (a .1) in (
@@ -73,9 +74,9 @@ module _ (readers : List Target) (refers refers′ : Target → ℕ → Type 0) 
 
   value-change : (below below′ : Plan → List ℕ → Type 0) (rows : Below below) (rows′ : Below below′) → Changes below below′ rows rows′
       → (x : Slot) (kind id : ℕ) (own : List ℕ) (cs : Trees) (bs : List ℕ) (w : Value readers refers below x kind id own cs bs) (at n parent : ℕ)
-      → Every p (valueRows readers refers below rows x kind id own cs bs w at n parent)
+      → Every p (valueDrafts readers refers below rows x kind id own cs bs w at n parent)
       → (w′ : Value readers refers′ below′ x kind id own cs bs)
-      × (valueRows readers refers′ below′ rows′ x kind id own cs bs w′ at n parent ≡ valueRows readers refers below rows x kind id own cs bs w at n parent)
+      × (valueDrafts readers refers′ below′ rows′ x kind id own cs bs w′ at n parent ≡ valueDrafts readers refers below rows x kind id own cs bs w at n parent)
   unfolding Value valueRows Every
   value-change below below′ rows rows′ h (raw t) kind id own cs bs w at n parent a =
       let g = raw-change below below′ rows rows′ h t kind own cs bs (w .1) at (length bs) at n parent 0 a in ((w .0, g .0), g .1)
@@ -98,20 +99,20 @@ module _ (readers : List Target) (refers refers′ : Target → ℕ → Type 0) 
       (record { kind-of = w .kind-of; empty = w .empty; childless = w .childless; named = step t id (w .named) (a .0); number = w .number }, refl)
   value-change below below′ rows rows′ h (leaf x) kind id own cs bs w at n parent a = (w, refl)
 
-  pub change : (plan : Plan) (ts : Trees) (bs : List ℕ) (w : Lays readers refers plan ts bs) (at n parent : ℕ) → Every p (rowsOf readers refers plan ts bs w at n parent)
-      → (w′ : Lays readers refers′ plan ts bs) × (rowsOf readers refers′ plan ts bs w′ at n parent ≡ rowsOf readers refers plan ts bs w at n parent)
-  unfolding Lays rowsOf
+  pub change : (plan : Plan) (ts : Trees) (bs : List ℕ) (w : Lays readers refers plan ts bs) (at n parent : ℕ) → Every p (draftsOf readers refers plan ts bs w at n parent)
+      → (w′ : Lays readers refers′ plan ts bs) × (draftsOf readers refers′ plan ts bs w′ at n parent ≡ draftsOf readers refers plan ts bs w at n parent)
+  unfolding Lays notedRows
   change stop none bs w at n parent a = (w, refl)
   change (put x go) none bs w at n parent a = absurd w
   change stop (tree k i own cs rest) bs w at n parent a = absurd w
   change (put x go) (tree k i own cs rest) bs w at n parent a =
-      let va = valueRows readers refers (λ plan b. Lays readers refers plan cs b) (λ plan b v a n p. rowsOf readers refers plan cs b v a n p) x k i own cs (w .0) (w .3) at n parent in
-      let ra = rowsOf readers refers (go own) rest (w .1) (w .4) (at + length (w .0)) (n + suc (size cs)) parent in
+      let va = valueDrafts readers refers (λ plan b. Lays readers refers plan cs b) (λ plan b v a n p. draftsOf readers refers plan cs b v a n p) x k i own cs (w .0) (w .3) at n parent in
+      let ra = draftsOf readers refers (go (told k own)) rest (w .1) (w .4) (at + length (w .0)) (n + suc (size cs)) parent in
       let both = every-parts p va ra a in
       let v = value-change (λ plan b. Lays readers refers plan cs b) (λ plan b. Lays readers refers′ plan cs b)
-      (λ plan b v a n p. rowsOf readers refers plan cs b v a n p) (λ plan b v a n p. rowsOf readers refers′ plan cs b v a n p)
+      (λ plan b v a n p. draftsOf readers refers plan cs b v a n p) (λ plan b v a n p. draftsOf readers refers′ plan cs b v a n p)
       (λ plan b v a n p h. change plan cs b v a n p h) x k i own cs (w .0) (w .3) at n parent (both .0) in
-      let r = change (go own) rest (w .1) (w .4) (at + length (w .0)) (n + suc (size cs)) parent (both .1) in
+      let r = change (go (told k own)) rest (w .1) (w .4) (at + length (w .0)) (n + suc (size cs)) parent (both .1) in
       ((w .0, w .1, w .2, v .0, r .0), rw (v .1, r .1))
 
 -- what the rule for references says, the rows keep; other rows want nothing
@@ -122,7 +123,7 @@ module _ (readers : List Target) (refers : Target → ℕ → Type 0) (p : Wants
 
   value-every : (below : Plan → List ℕ → Type 0) (rows : Below below) → Keeps below rows
       → (x : Slot) (kind id : ℕ) (own : List ℕ) (cs : Trees) (bs : List ℕ) (w : Value readers refers below x kind id own cs bs) (at n parent : ℕ)
-      → Every p (valueRows readers refers below rows x kind id own cs bs w at n parent)
+      → Every p (valueDrafts readers refers below rows x kind id own cs bs w at n parent)
   unfolding Value valueRows rawRows Every
   value-every below rows h (raw t) kind id own cs bs w at n parent =
       let g = w .1 in (free 0, h (g .plan) (g .children) (g .laid) (at + length (g .head)) (suc n) (suc n))
@@ -132,29 +133,31 @@ module _ (readers : List Target) (refers : Target → ℕ → Type 0) (p : Wants
   value-every below rows h (reference t) kind id own cs bs w at n parent = (step t id (w .named), tt)
   value-every below rows h (leaf x) kind id own cs bs w at n parent = (free 0, tt)
 
-  pub every-row : (plan : Plan) (ts : Trees) (bs : List ℕ) (w : Lays readers refers plan ts bs) (at n parent : ℕ) → Every p (rowsOf readers refers plan ts bs w at n parent)
-  unfolding Lays rowsOf Every
+  pub every-row : (plan : Plan) (ts : Trees) (bs : List ℕ) (w : Lays readers refers plan ts bs) (at n parent : ℕ) → Every p (draftsOf readers refers plan ts bs w at n parent)
+  unfolding Lays notedRows Every
   every-row stop none bs w at n parent = tt
   every-row (put x go) none bs w at n parent = absurd w
   every-row stop (tree k i own cs rest) bs w at n parent = absurd w
   every-row (put x go) (tree k i own cs rest) bs w at n parent =
-      every-append p (valueRows readers refers (λ plan b. Lays readers refers plan cs b) (λ plan b v a n p. rowsOf readers refers plan cs b v a n p) x k i own cs (w .0) (w .3) at n parent)
-      (rowsOf readers refers (go own) rest (w .1) (w .4) (at + length (w .0)) (n + suc (size cs)) parent)
-      (value-every (λ plan b. Lays readers refers plan cs b) (λ plan b v a n p. rowsOf readers refers plan cs b v a n p) (λ plan b v a n q. every-row plan cs b v a n q) x k i own cs (w .0) (w .3) at n parent)
-      (every-row (go own) rest (w .1) (w .4) (at + length (w .0)) (n + suc (size cs)) parent)
+      every-append p (valueDrafts readers refers (λ plan b. Lays readers refers plan cs b) (λ plan b v a n p. draftsOf readers refers plan cs b v a n p) x k i own cs (w .0) (w .3) at n parent)
+      (draftsOf readers refers (go (told k own)) rest (w .1) (w .4) (at + length (w .0)) (n + suc (size cs)) parent)
+      (value-every (λ plan b. Lays readers refers plan cs b) (λ plan b v a n p. draftsOf readers refers plan cs b v a n p) (λ plan b v a n q. every-row plan cs b v a n q) x k i own cs (w .0) (w .3) at n parent)
+      (every-row (go (told k own)) rest (w .1) (w .4) (at + length (w .0)) (n + suc (size cs)) parent)
 
--- a row is six words
-pub length-flat : (rows : List Row) → length (flat rows) ≡ 6 * length rows
+-- the words of rows
+pub length-flat : (rows : List Row) → length (flat rows) ≡ width * length rows
 unfolding flat words
 length-flat [] = refl
-length-flat (row kind first z children parent id wants ∷ rows) = omega (arith, length-flat rows)
+length-flat (r ∷ rows) = omega (arith, length-flat rows)
 
 -- the rows with no parent
-pub roots-append : (a b : List Row) → rootKinds (a ++ b) ≡ rootKinds a ++ rootKinds b
+pub roots-append : (a b : List Draft) → rootKinds (a ++ b) ≡ rootKinds a ++ rootKinds b
 unfolding rootKinds rootKind
 roots-append [] b = refl
-roots-append (row kind first z children zero id wants ∷ a) b = ap (λ (l : List ℕ). kind ∷ l) (roots-append a b)
-roots-append (row kind first z children (suc parent) id wants ∷ a) b = roots-append a b
+roots-append (d ∷ a) b = go (d .row .parent) (roots-append a b) where
+  go : (parent : ℕ) → rootKinds (a ++ b) ≡ rootKinds a ++ rootKinds b → rootKind parent (d .row .kind) (rootKinds (a ++ b)) ≡ rootKind parent (d .row .kind) (rootKinds a) ++ rootKinds b
+  go zero e = ap (λ (l : List ℕ). d .row .kind ∷ l) e
+  go (suc parent) e = e
 
 module _ (readers : List Target) (refers : Target → ℕ → Type 0) where
   abbrev NoRoots : (below : Plan → List ℕ → Type 0) → Below below → Type 0
@@ -162,7 +165,7 @@ module _ (readers : List Target) (refers : Target → ℕ → Type 0) where
 
   value-roots : (below : Plan → List ℕ → Type 0) (rows : Below below) → NoRoots below rows
       → (x : Slot) (kind id : ℕ) (own : List ℕ) (cs : Trees) (bs : List ℕ) (w : Value readers refers below x kind id own cs bs) (at n parent : ℕ)
-      → rootKinds (valueRows readers refers below rows x kind id own cs bs w at n parent) ≡ rootKind parent kind []
+      → rootKinds (valueDrafts readers refers below rows x kind id own cs bs w at n parent) ≡ rootKind parent kind []
   unfolding Value valueRows rawRows rootKinds
   value-roots below rows h (raw t) kind id own cs bs w at n parent = let g = w .1 in rw (h (g .plan) (g .children) (g .laid) (at + length (g .head)) (suc n) n)
   value-roots below rows h (object t) kind id own cs bs (inl w) at n parent = rw (w .kind-of)
@@ -171,29 +174,29 @@ module _ (readers : List Target) (refers : Target → ℕ → Type 0) where
   value-roots below rows h (reference t) kind id own cs bs w at n parent = refl
   value-roots below rows h (leaf x) kind id own cs bs w at n parent = refl
 
-  no-roots : (plan : Plan) (ts : Trees) (bs : List ℕ) (w : Lays readers refers plan ts bs) (at n parent : ℕ) → rootKinds (rowsOf readers refers plan ts bs w at n (suc parent)) ≡ []
-  unfolding Lays rowsOf rootKinds rootKind
+  no-roots : (plan : Plan) (ts : Trees) (bs : List ℕ) (w : Lays readers refers plan ts bs) (at n parent : ℕ) → rootKinds (draftsOf readers refers plan ts bs w at n (suc parent)) ≡ []
+  unfolding Lays notedRows rootKinds rootKind
   no-roots stop none bs w at n parent = refl
   no-roots (put x go) none bs w at n parent = absurd w
   no-roots stop (tree k i own cs rest) bs w at n parent = absurd w
   no-roots (put x go) (tree k i own cs rest) bs w at n parent =
       rw (
         roots-append,
-        value-roots (λ plan b. Lays readers refers plan cs b) (λ plan b v a n p. rowsOf readers refers plan cs b v a n p) (λ plan b v a n q. no-roots plan cs b v a n q) x k i own cs (w .0) (w .3) at n (suc parent),
-        no-roots (go own) rest (w .1) (w .4) (at + length (w .0)) (n + suc (size cs)) parent,
+        value-roots (λ plan b. Lays readers refers plan cs b) (λ plan b v a n p. draftsOf readers refers plan cs b v a n p) (λ plan b v a n q. no-roots plan cs b v a n q) x k i own cs (w .0) (w .3) at n (suc parent),
+        no-roots (go (told k own)) rest (w .1) (w .4) (at + length (w .0)) (n + suc (size cs)) parent,
       )
 
   -- the kinds of the rows with no parent are those of the trees
-  pub roots-are : (plan : Plan) (ts : Trees) (bs : List ℕ) (w : Lays readers refers plan ts bs) (at n : ℕ) → rootKinds (rowsOf readers refers plan ts bs w at n 0) ≡ kinds ts
-  unfolding Lays rowsOf rootKinds rootKind kinds
+  pub roots-are : (plan : Plan) (ts : Trees) (bs : List ℕ) (w : Lays readers refers plan ts bs) (at n : ℕ) → rootKinds (draftsOf readers refers plan ts bs w at n 0) ≡ kinds ts
+  unfolding Lays notedRows rootKinds rootKind kinds
   roots-are stop none bs w at n = refl
   roots-are (put x go) none bs w at n = absurd w
   roots-are stop (tree k i own cs rest) bs w at n = absurd w
   roots-are (put x go) (tree k i own cs rest) bs w at n =
       rw (
         roots-append,
-        value-roots (λ plan b. Lays readers refers plan cs b) (λ plan b v a n p. rowsOf readers refers plan cs b v a n p) (λ plan b v a n q. no-roots plan cs b v a n q) x k i own cs (w .0) (w .3) at n 0,
-        roots-are (go own) rest (w .1) (w .4) (at + length (w .0)) (n + suc (size cs)),
+        value-roots (λ plan b. Lays readers refers plan cs b) (λ plan b v a n p. draftsOf readers refers plan cs b v a n p) (λ plan b v a n q. no-roots plan cs b v a n q) x k i own cs (w .0) (w .3) at n 0,
+        roots-are (go (told k own)) rest (w .1) (w .4) (at + length (w .0)) (n + suc (size cs)),
       )
 
   -- slots and trees are as many

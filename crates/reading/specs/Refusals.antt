@@ -12,8 +12,9 @@ use borrow.Author.Tests.{leb-true}
 use Rattle.laws.specs.Small.{differ}
 use Rattle.layout.specs.Target.{Target, fixed, char, string, object, texture, texture2D, spriteFont, page, enum, nullable, array, list, dictionary}
 use Rattle.layout.specs.Slot.{Leaf, level, Slot, raw, reference, leaf, object as an-object, Plan, stop, put}
-use Rattle.layout.specs.Rows.{Wants, Row, row}
 use Rattle.layout.specs.File.{objectsPlan}
+use Rattle.layout.specs.Rows.{row}
+use Rattle.layout.specs.Tree.{toldOf}
 use Rattle.reading.specs.Answer.{Answer, refused, read, bind, check}
 use Rattle.reading.specs.Reads.{some, field}
 use Rattle.reading.specs.Seven.{group, groups, sevenAt}
@@ -22,8 +23,9 @@ use Rattle.reading.specs.Utf8.{size, charOf, charAt}
 use Rattle.reading.specs.Fixed.{fixedAt}
 use Rattle.reading.specs.Rules.{Found, missing, found, reader}
 use Rattle.reading.specs.Heads.{ownAt, whole, fixedHeadAt, textAt, flagAt, countAt, imageAt, leafAt, headAt}
-use Rattle.reading.specs.Walk.{Taken, Outcome, ownOf, sequence, rawAt, byReader, objectAt, valueAt, walk}
+use Rattle.reading.specs.Walk.{Taken, Outcome, sequence, rawAt, byReader, objectAt, valueAt, walk}
 use Rattle.reading.specs.File.{headerAt, Named, unknown, known, judge, judged, Loaded, objectsAt, finished, readerAt, readersAt, listsAt, fileAt, refusal, toLoad, roomOf, loadOf}
+use Rattle.reading.specs.Drafts.{Draft}
 
 -- ---- what an answer tells
 
@@ -51,12 +53,11 @@ pub record Fault (most number place : ℕ) : Type 0 where
   pub placed : place ≤ most
 
 -- the first byte of each row is at most at `most`
-data Firsts (most : ℕ) : List Row → Type 0 where
+data Firsts (most : ℕ) : List Draft → Type 0 where
   no-rows : Firsts most []
-  one-more : {kind first z children parent id : ℕ} {wants : Wants} {rows : List Row}
-      → first ≤ most → Firsts most rows → Firsts most (row kind first z children parent id wants ∷ rows)
+  one-more : {d : Draft} {rows : List Draft} → d .row .first ≤ most → Firsts most rows → Firsts most (d ∷ rows)
 
-firsts-append : {most : ℕ} {a b : List Row} → Firsts most a → Firsts most b → Firsts most (a ++ b)
+firsts-append : {most : ℕ} {a b : List Draft} → Firsts most a → Firsts most b → Firsts most (a ++ b)
 firsts-append no-rows g = g
 firsts-append (one-more h f) g = one-more h (firsts-append f g)
 
@@ -176,7 +177,7 @@ module _ (file : List ℕ) (most : ℕ) (fits : length file ≤ most) where
   unfolding sequence
   sequence-inside step f stop at used h = of-read (h, no-rows)
   sequence-inside step f (put x go) at used h =
-      tells-bind (f x at used h) (λ a n p. tells-bind (sequence-inside step f (go (ownOf (a .2))) n (a .0) (p .0))
+      tells-bind (f x at used h) (λ a n p. tells-bind (sequence-inside step f (go (toldOf (a .2))) n (a .0) (p .0))
       (λ b e q. of-read (q .0, firsts-append (p .1) (q .1))))
 
   module _ (readers : List Target) (shared room : ℕ) where
@@ -214,11 +215,11 @@ module _ (file : List ℕ) (most : ℕ) (fits : length file ≤ most) where
         (λ plan a u k. sequence-inside (λ y b v. walk file readers shared room d y b v (suc used)) (λ y b v g. walk-inside d y b v (suc used) g) plan a u k) x at used parent h)
 
   -- 17 is at a row's first byte
-  judged-inside : {A : Type 0} {Q : A → ℕ → Type 0} {rows : List Row} (shared : List ℕ) (x : Answer A)
+  judged-inside : {A : Type 0} {Q : A → ℕ → Type 0} {rows : List Draft} (shared : List ℕ) (x : Answer A)
       → Firsts (length file) rows → Tells (Fault most) Q x → Tells (Fault most) Q (judged shared rows x)
   unfolding judged
   judged-inside shared x no-rows g = g
-  judged-inside shared x (one-more {first = first} h f) g = tells-check _ 17 first _ (fault 17 refl refl h) (λ t. judged-inside shared x f g)
+  judged-inside shared x (one-more {d = d} h f) g = tells-check _ 17 (d .row .first) _ (fault 17 refl refl h) (λ t. judged-inside shared x f g)
 
   finished-inside : (platform flags : ℕ) (names : List (List ℕ)) (readers shared : ℕ) (a : Taken) (e : ℕ) → Rows a e → Inside (finished file platform flags names readers shared a e)
   unfolding finished

@@ -10,7 +10,7 @@ use borrow.Author.Tests.{eqb-true, eq-eqb}
 use Rattle.layout.specs.Target.{Target, kindOf}
 use Rattle.layout.specs.Tree.{Trees, none, tree, count, kindAt}
 use Rattle.layout.specs.Resource.{Resource}
-use Rattle.layout.specs.Rows.{Wants, nothing, resource}
+use Rattle.reading.specs.Drafts.{Wants, nothing, resource}
 
 -- the kinds of trees, in order
 unfoldable pub kinds : Trees → List ℕ

@@ -9,19 +9,20 @@ use lib.ListN.{length, drop, length-append}
 use borrow.Author.Tests.{leb-true, ltb-true}
 use Rattle.layout.specs.Number.{Seven}
 use Rattle.layout.specs.Target.{Target, kindOf, spriteFont}
-use Rattle.layout.specs.Tree.{Trees, none, tree, count, size, depth, childrenAt}
+use Rattle.layout.specs.Tree.{Trees, none, tree, count, size, depth, childrenAt, toldOf, told}
 use Rattle.layout.specs.Slot.{Slot, raw, object, reference, leaf, Plan, stop, put, each, fontSlots}
 use Rattle.layout.specs.Head.{Head}
 use Rattle.layout.specs.Layout.{Raw, Value, Lays}
 use Rattle.layout.specs.Resource.{Within}
-use Rattle.layout.specs.Rows.{Row, row, nothing, resource, rawRows, valueRows, rowsOf}
+use Rattle.layout.specs.Rows.{row, rawRows, notedRows, valueRows}
 use Rattle.reading.specs.Answer.{read, Ok, not-read, is-read, ok-bind, ok-check, ok-weaken}
 use Rattle.reading.specs.Reads.{Small, Spans}
 use Rattle.reading.specs.Seven.{seven-reads}
 use Rattle.reading.specs.Rules.{Found, missing, found, reader, reader-sound, serves, serves-sound}
 use Rattle.reading.specs.Font.{fontOk, font-sound, font-characters, Characters}
 use Rattle.reading.specs.Heads.{head-reads, leaf-reads}
-use Rattle.reading.specs.Walk.{Taken, Outcome, done, ownOf, before, point, point-is, sequence, rawAt, byReader, objectAt, valueAt, walk}
+use Rattle.reading.specs.Walk.{Taken, Outcome, done, before, point, point-is, sequence, rawAt, byReader, objectAt, valueAt, walk}
+use Rattle.reading.specs.Drafts.{Draft, rawDrafts, valueDrafts, draftsOf, drafted, wanting}
 
 -- a font's plan is that of its eight fields
 font-plan : (t : Target) (own : List ℕ) (plan : Plan) (bs : List ℕ) → Head t own plan bs → t ≡ spriteFont → plan ≡ each fontSlots
@@ -36,7 +37,7 @@ module _ (file : List ℕ) (readers : List Target) (shared room : ℕ) (small : 
     pub there : drop at file ≡ bytes ++ drop e file
     pub end : e ≡ at + length bytes
     pub used-is : a .0 ≡ used + size (a .2)
-    pub rows-are : a .1 ≡ rowsOf readers (Within shared) plan (a .2) bytes laid at used parent
+    pub rows-are : a .1 ≡ draftsOf readers (Within shared) plan (a .2) bytes laid at used parent
     pub deep : depth (a .2) ≤ d
     pub room-left : used ≤ room → a .0 ≤ room
 
@@ -52,24 +53,24 @@ module _ (file : List ℕ) (readers : List Target) (shared room : ℕ) (small : 
     pub there : drop at file ≡ bytes ++ drop e file
     pub end : e ≡ at + length bytes
     pub used-is : a .0 ≡ used + suc (size children)
-    pub rows-are : a .1 ≡ valueRows readers (Within shared) (λ plan b. Lays readers (Within shared) plan children b)
-        (λ plan b v a n p. rowsOf readers (Within shared) plan children b v a n p) x kind id own children bytes laid at used parent
+    pub rows-are : a .1 ≡ valueDrafts readers (Within shared) (λ plan b. Lays readers (Within shared) plan children b)
+        (λ plan b v a n p. draftsOf readers (Within shared) plan children b v a n p) x kind id own children bytes laid at used parent
     pub deep : suc (depth children) ≤ d
     pub room-left : a .0 ≤ room
 
   pub sequence-sound : (d parent : ℕ) (step : Slot → ℕ → ℕ → Outcome) → ((x : Slot) (at used : ℕ) → Ok (ReadValue d x at used parent) (step x at used))
       → (plan : Plan) (at used : ℕ) → Ok (Read d plan at used parent) (sequence step plan at used)
-  unfolding sequence Lays rowsOf size depth before ownOf
+  unfolding sequence Lays notedRows size depth before toldOf
   sequence-sound d parent step h stop at used =
       let l : at ≡ at + 0 = omega arith in
       let n : used ≡ used + 0 = omega arith in
       is-read {a = (used, [], none)} (record { bytes = []; laid = refl; there = refl; end = l; used-is = n; rows-are = refl; deep = omega arith; room-left = λ k. k })
   sequence-sound d parent step h (put x go) at used =
       ok-bind (h x at used)
-      (λ a e v. ok-bind (sequence-sound d parent step h (go (ownOf (a .2))) e (a .0))
+      (λ a e v. ok-bind (sequence-sound d parent step h (go (toldOf (a .2))) e (a .0))
       (λ b e′ v₀. is-read {a = (b .0, a .1 ++ b .1, before (a .2) (b .2))} (rw (v .tree-is)
-      (let o : ownOf (a .2) ≡ v .own = rw (v .tree-is) in
-      let v′ : Read d (go (v .own)) e (a .0) parent b e′ = rw o at v₀ in
+      (let o : toldOf (a .2) ≡ told (v .kind) (v .own) = rw (v .tree-is) in
+      let v′ : Read d (go (told (v .kind) (v .own))) e (a .0) parent b e′ = rw o at v₀ in
       let b₁ = v .bytes in
       let b₂ = v′ .bytes in
       let q : drop at file ≡ (b₁ ++ b₂) ++ drop e′ file = v .there ∙ ap (λ (l : List ℕ). b₁ ++ l) (v′ .there) ∙ sym (append-assoc b₁ b₂ (drop e′ file)) in
@@ -96,8 +97,8 @@ module _ (file : List ℕ) (readers : List Target) (shared room : ℕ) (small : 
     pub there : drop at file ≡ bytes ++ drop e file
     pub end : e ≡ at + length bytes
     pub used-is : a .0 ≡ used + suc (size children)
-    pub rows-are : a .1 ≡ rawRows (λ plan b. Lays readers (Within shared) plan children b)
-        (λ plan b v a n p. rowsOf readers (Within shared) plan children b v a n p) t (kindOf t) own children bytes laid first (before + length bytes) at used parent id
+    pub rows-are : a .1 ≡ rawDrafts (λ plan b. Lays readers (Within shared) plan children b)
+        (λ plan b v a n p. draftsOf readers (Within shared) plan children b v a n p) t (kindOf t) own children bytes laid first (before + length bytes) at used parent id
     pub deep : depth children ≤ d
     pub room-left : a .0 ≤ room
 
@@ -110,7 +111,7 @@ module _ (file : List ℕ) (readers : List Target) (shared room : ℕ) (small : 
         ok-bind (head-reads file t .sound small at)
         (λ o next hw. ok-bind (h (o .1) next)
         (λ a e v. ok-check (fontOk point t (a .2)) 22 at _
-        (λ b. is-read {a = (a .0, row (kindOf t) first (e - first) (count (a .2)) parent id nothing ∷ a .1, tree (kindOf t) id (o .0) (a .2) none)}
+        (λ b. is-read {a = (a .0, drafted (row (kindOf t) first (e - first) (count (a .2)) parent id) ∷ a .1, tree (kindOf t) id (o .0) (a .2) none)}
         (let hb = hw .0 in
         let cb = v .bytes in
         let g : drop at file ≡ (hb ++ cb) ++ drop e file = hw .2 ∙ ap (λ (l : List ℕ). hb ++ l) (v .there) ∙ sym (append-assoc hb cb (drop e file)) in
@@ -180,11 +181,11 @@ module _ (file : List ℕ) (readers : List Target) (shared room : ℕ) (small : 
         }))
 
     -- a value without children, by its bytes; `z` is its row by its length
-    childless : (x : Slot) (kind id : ℕ) (own bytes : List ℕ) (at next parent : ℕ) (z : ℕ → Row)
+    childless : (x : Slot) (kind id : ℕ) (own bytes : List ℕ) (at next parent : ℕ) (z : ℕ → Draft)
         (laid : Value readers (Within shared) (λ plan b. Lays readers (Within shared) plan none b) x kind id own none bytes)
         → drop at file ≡ bytes ++ drop next file → next ≡ at + length bytes
-        → z (length bytes) ∷ [] ≡ valueRows readers (Within shared) (λ plan b. Lays readers (Within shared) plan none b)
-        (λ plan b v a n p. rowsOf readers (Within shared) plan none b v a n p) x kind id own none bytes laid at used parent
+        → z (length bytes) ∷ [] ≡ valueDrafts readers (Within shared) (λ plan b. Lays readers (Within shared) plan none b)
+        (λ plan b v a n p. draftsOf readers (Within shared) plan none b v a n p) x kind id own none bytes laid at used parent
         → Ok (ReadValue (suc d) x at used parent) (done next (suc used) (z (next - at) ∷ []) (tree kind id own none none))
     unfolding size depth
     childless x kind id own bytes at next parent z laid there end rows =
@@ -210,7 +211,7 @@ module _ (file : List ℕ) (readers : List Target) (shared room : ℕ) (small : 
         → Ok (ReadValue (suc d) (object t) at used parent) (objectAt file readers shared room below t id at next used parent)
     unfolding objectAt Value valueRows size depth
     id-value t zero at next parent q =
-        childless (object t) 0 0 [] (q .0) at next parent (λ z. row 0 at z 0 parent 0 nothing)
+        childless (object t) 0 0 [] (q .0) at next parent (λ z. drafted (row 0 at z 0 parent 0))
         (inl (record { kind-of = refl; id-of = refl; empty = refl; childless = refl; number = q .1 })) (q .2) (q .3) refl
     id-value t (suc i) at next parent q = reader-value t i at next parent q (reader readers (suc i)) refl
 
@@ -239,11 +240,11 @@ module _ (file : List ℕ) (readers : List Target) (shared room : ℕ) (small : 
     value-sound (reference t) at parent =
         ok-bind (seven-reads file .sound small at)
         (λ id next q. ok-check (leb id shared) 16 at _
-        (λ b. childless (reference t) 36 id [] (q .0) at next parent (λ z. row 36 at z 0 parent id (resource (kindOf t)))
+        (λ b. childless (reference t) 36 id [] (q .0) at next parent (λ z. wanting t (row 36 at z 0 parent id))
         (record { kind-of = refl; empty = refl; childless = refl; named = leb-true id shared b; number = q .1 }) (q .2) (q .3) refl))
     value-sound (leaf x) at parent =
         ok-bind (leaf-reads file x .sound small at)
-        (λ own next q. childless (leaf x) 35 0 own (q .0) at next parent (λ z. row 35 at z 0 parent 0 nothing) (refl, refl, q .1) (q .2) (q .3) refl)
+        (λ own next q. childless (leaf x) 35 0 own (q .0) at next parent (λ z. drafted (row 35 at z 0 parent 0)) (refl, refl, q .1) (q .2) (q .3) refl)
 
   pub walk-sound : (d : ℕ) (x : Slot) (at used parent : ℕ) → Ok (ReadValue d x at used parent) (walk file readers shared room d x at used parent)
   unfolding walk

@@ -6,22 +6,23 @@ use Prim.Native.Nat.{ℕ, _+_, _*_, _-_, _≤_}
 use native.Mathlib.Omega.{arith}
 use lib.ListN.{length, take, drop, replicate, length-append, length-replicate}
 use lib.Seq.{take-append-seam, take-length}
-use Rattle.layout.specs.Number.{little}
+use Rattle.layout.specs.Number.{little, valueOf}
 use Rattle.layout.specs.Text.{ascii}
 use Rattle.layout.specs.Target.{Target}
 use Rattle.layout.specs.Tree.{Trees, count, size}
 use Rattle.layout.specs.Slot.{Slot, each}
 use Rattle.layout.specs.Layout.{Lays}
 use Rattle.layout.specs.Resource.{Within}
-use Rattle.layout.specs.Rows.{Row, flat}
 use Rattle.layout.specs.File.{FileTree, sharedOf, header, FileLays, fileRows}
+use Rattle.layout.specs.Rows.{Row, flat, width}
 use Rattle.reading.specs.Answer.{Answer, refused, read, Ok, not-read, is-read}
 use Rattle.reading.specs.Reads.{Small}
-use Rattle.reading.specs.Little.{valueOf, value-little}
+use Rattle.reading.specs.Little.{value-little}
 use Rattle.reading.specs.Unique.{unique}
 use Rattle.reading.specs.File.{Named, Judges, Loaded, fileAt, Load, refusal, accepted, toLoad, roomOf, loadOf, tableOf}
 use Rattle.reading.specs.References.{length-flat}
-use Rattle.reading.specs.Accepts.{loadedOf, rows-count, file-complete, IsFile, file-sound}
+use Rattle.reading.specs.Accepts.{loadedOf, rows-count, file-complete, IsFile, file-sound, file-bare}
+use Rattle.reading.specs.Drafts.{bare}
 
 -- ---- What the statements speak of
 
@@ -57,7 +58,7 @@ module _ (named : List ℕ → Target → Type 0) (nameOf : List ℕ → Named) 
     pub rows-are : (f : Fitting named file words)
         → loadOf nameOf file words ≡ accepted (rowsIn named f) (length (f .tree .names)) (count (sharedOf (f .tree .objects)))
     unfolding loadOf toLoad
-    rows-are f = rw (file-complete named nameOf judges file (roomOf words) (f .tree) (f .lays) (f .room))
+    rows-are f = rw (file-complete named nameOf judges file (roomOf words) (f .tree) (f .lays) (f .room), file-bare named (f .tree) file (f .lays))
 
     fitting : (x : Answer Loaded) → Ok (IsFile named file (roomOf words)) x → Accepts (toLoad x) → Fitting named file words
     unfolding Accepts toLoad
@@ -88,7 +89,7 @@ module _ (named : List ℕ → Target → Type 0) (nameOf : List ℕ → Named) 
       let p : read (loadedOf named f₁ file w₁) (length file) ≡ read (loadedOf named f₂ file w₂) (length file)
       = sym (file-complete named nameOf judges file room f₁ w₁ (omega arith)) ∙ file-complete named nameOf judges file room f₂ w₂ (omega arith) in
       let q : loadedOf named f₁ file w₁ ≡ loadedOf named f₂ file w₂ = cc in
-      (ap (λ (l : Loaded). l .tree) q, ap (λ (l : Loaded). l .rows) q)
+      (ap (λ (l : Loaded). l .tree) q, sym (file-bare named f₁ file w₁) ∙ ap (λ (l : Loaded). bare (l .rows)) q ∙ file-bare named f₂ file w₂)
 
   -- four bytes of the header say how long the bytes of a file tree are
   says-length : (f : FileTree) (bs rest : List ℕ) → FileLays named f bs → valueOf (take 4 (drop 6 (bs ++ rest))) ≡ length bs
@@ -108,14 +109,14 @@ module _ (named : List ℕ → Target → Type 0) (nameOf : List ℕ → Named) 
 
   module _ (file : List ℕ) (words : ℕ) where
     -- where a file tree fits, there is a row for each value in it, and the rows fit the words
-    pub rows-fit : (f : Fitting named file words) → (length (rowsIn named f) ≡ size (f .tree .objects)) × (6 * length (rowsIn named f) ≤ words)
+    pub rows-fit : (f : Fitting named file words) → (length (rowsIn named f) ≡ size (f .tree .objects)) × (width * length (rowsIn named f) ≤ words)
     unfolding roomOf
     rows-fit f =
         let n = rows-count named (f .tree) file (f .lays) in
         (n, omega (arith, f .room))
 
     -- and the table is the rows' words, and then, 01: "Every word not in a used row is zero"
-    pub table-is : (f : Fitting named file words) → tableOf (loadOf nameOf file words) words ≡ flat (rowsIn named f) ++ replicate (words - 6 * length (rowsIn named f)) 0
+    pub table-is : (f : Fitting named file words) → tableOf (loadOf nameOf file words) words ≡ flat (rowsIn named f) ++ replicate (words - width * length (rowsIn named f)) 0
     unfolding tableOf
     table-is f = rw (rows-are file words f)
 

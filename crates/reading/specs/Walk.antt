@@ -5,30 +5,26 @@ use Prim.Native.Nat.{ℕ, zero, suc, _+_, _-_}
 use lib.Dec.{ltb, leb}
 use Rattle.layout.specs.Text.{Character}
 use Rattle.layout.specs.Target.{Target, kindOf}
-use Rattle.layout.specs.Tree.{Trees, none, tree, count}
+use Rattle.layout.specs.Tree.{Trees, none, tree, count, toldOf}
 use Rattle.layout.specs.Slot.{Slot, raw, object, reference, leaf, Plan, stop, put}
-use Rattle.layout.specs.Rows.{Row, row, nothing, resource}
+use Rattle.layout.specs.Rows.{row}
 use Rattle.reading.specs.Answer.{Answer, refused, read, bind, check}
 use Rattle.reading.specs.Seven.{sevenAt}
 use Rattle.reading.specs.Utf8.{charAt, char-reads}
 use Rattle.reading.specs.Rules.{Found, missing, found, reader, serves}
 use Rattle.reading.specs.Font.{fontOk}
 use Rattle.reading.specs.Heads.{headAt, leafAt}
+use Rattle.reading.specs.Drafts.{Draft, drafted, wanting}
 
 -- what reading values gives: how many rows are used, the new rows, and the trees, which no program holds
 abbrev pub Taken : Type 0
-Taken = ℕ × List Row × Trees
+Taken = ℕ × List Draft × Trees
 
 abbrev pub Outcome : Type 0
 Outcome = Answer Taken
 
-abbrev pub done : (next used : ℕ) → List Row → Trees → Outcome
+abbrev pub done : (next used : ℕ) → List Draft → Trees → Outcome
 done next used rows trees = read (used, rows, trees) next
-
--- the own bytes of the first of some trees
-unfoldable pub ownOf : Trees → List ℕ
-ownOf none = []
-ownOf (tree k i own cs rest) = own
 
 -- one value's tree before the trees of the values after it
 unfoldable pub before : Trees → Trees → Trees
@@ -51,7 +47,7 @@ point-is c own w = rw (char-reads own .complete c own [] 0 w (rw append-nil))
 unfoldable pub sequence : (Slot → ℕ → ℕ → Outcome) → Plan → (at used : ℕ) → Outcome
 sequence step stop at used = done at used [] none
 sequence step (put x go) at used =
-    bind (step x at used) (λ a n. bind (sequence step (go (ownOf (a .2))) n (a .0)) (λ b n′. done n′ (b .0) (a .1 ++ b .1) (before (a .2) (b .2))))
+    bind (step x at used) (λ a n. bind (sequence step (go (toldOf (a .2))) n (a .0)) (λ b n′. done n′ (b .0) (a .1 ++ b .1) (before (a .2) (b .2))))
 
 -- under a reader list, a shared count and a number of rows
 module _ (file : List ℕ) (readers : List Target) (shared room : ℕ) where
@@ -61,7 +57,7 @@ module _ (file : List ℕ) (readers : List Target) (shared room : ℕ) where
       bind (headAt file t at)
       (λ h next. bind (below (h .1) next (suc used))
       (λ a e. check (fontOk point t (a .2)) 22 at
-      (done e (a .0) (row (kindOf t) first (e - first) (count (a .2)) parent id nothing ∷ a .1) (tree (kindOf t) id (h .0) (a .2) none))))
+      (done e (a .0) (drafted (row (kindOf t) first (e - first) (count (a .2)) parent id) ∷ a .1) (tree (kindOf t) id (h .0) (a .2) none))))
 
   -- 13 before 14
   unfoldable pub byReader : Found → (Plan → ℕ → ℕ → Outcome) → Target → (id at next used parent : ℕ) → Outcome
@@ -69,7 +65,7 @@ module _ (file : List ℕ) (readers : List Target) (shared room : ℕ) where
   byReader (found u) below t id at next used parent = check (serves t u) 14 at (rawAt below u at next used parent id)
 
   unfoldable pub objectAt : (Plan → ℕ → ℕ → Outcome) → Target → (id at next used parent : ℕ) → Outcome
-  objectAt below t zero at next used parent = done next (suc used) (row 0 at (next - at) 0 parent 0 nothing ∷ []) (tree 0 0 [] none none)
+  objectAt below t zero at next used parent = done next (suc used) (drafted (row 0 at (next - at) 0 parent 0) ∷ []) (tree 0 0 [] none none)
   objectAt below t (suc i) at next used parent = byReader (reader readers (suc i)) below t (suc i) at next used parent
 
   unfoldable pub valueAt : (Plan → ℕ → ℕ → Outcome) → Slot → (at used parent : ℕ) → Outcome
@@ -77,9 +73,9 @@ module _ (file : List ℕ) (readers : List Target) (shared room : ℕ) where
   valueAt below (object t) at used parent = bind (sevenAt file at) (λ id next. objectAt below t id at next used parent)
   valueAt below (reference t) at used parent =
       bind (sevenAt file at)
-      (λ id next. check (leb id shared) 16 at (done next (suc used) (row 36 at (next - at) 0 parent id (resource (kindOf t)) ∷ []) (tree 36 id [] none none)))
+      (λ id next. check (leb id shared) 16 at (done next (suc used) (wanting t (row 36 at (next - at) 0 parent id) ∷ []) (tree 36 id [] none none)))
   valueAt below (leaf x) at used parent =
-      bind (leafAt file x at) (λ own next. done next (suc used) (row 35 at (next - at) 0 parent 0 nothing ∷ []) (tree 35 0 own none none))
+      bind (leafAt file x at) (λ own next. done next (suc used) (drafted (row 35 at (next - at) 0 parent 0) ∷ []) (tree 35 0 own none none))
 
   -- 01: "At a value's start: 18, 19, then its bytes"; `depth` is the depth left
   unfoldable pub walk : (depth : ℕ) → Slot → (at used parent : ℕ) → Outcome

@@ -1,93 +1,73 @@
--- One row in the words: what its words say, and its judgement. Assumes nothing.
-use mathlib.Core.Path.{_≡_, refl, sym, ap, _∙_}
-use mathlib.Core.Bool.{Bool, true, false, cond}
+-- One of some rows that stand in the words: what its words say, and its judgement. Assumes nothing.
+use mathlib.Core.Path.{_≡_, refl, ap, _∙_}
+use mathlib.Core.Bool.{Bool, true, false}
 use mathlib.Core.List.{List, [], _∷_, _++_}
-use Prim.Native.Nat.{ℕ, suc, _+_, _*_}
+use Prim.Native.Nat.{ℕ, suc, _+_, _*_, _<_, _≤_}
 use native.Mathlib.Omega.{arith}
-use lib.ListN.{length, getD, set}
-use lib.Dec.{eqb}
-use lib.Seq.{getD-append-add}
-use borrow.Author.Tests.{eqb-true, eqb-false}
-use Rattle.layout.specs.Rows.{nothing, resource, Row, row, words}
+use lib.ListN.{length, getD, set, length-append}
+use lib.Seq.{getD-at, set-at}
+use borrow.Author.Tests.{eq-eqb, ne-eqb}
+use Rattle.layout.specs.Rows.{Row, words, width}
+use Rattle.reading.specs.Grid.{shapeOf, writtenRows, Wide, rows-at, set-row}
+use Rattle.reading.specs.Drafts.{Wants, nothing, resource}
 use Rattle.reading.specs.Resource.{suits}
-use Rattle.reading.specs.File.{rootKind, rootKinds}
-use Rattle.table.specs.Written.{draft}
+use Rattle.ids.specs.declared.Grid.{Grid}
+use Rattle.ids.specs.Position.{cellOf}
+use Rattle.table.specs.Written.{marked}
 use Rattle.resources.specs.declared.Settled.{Settled}
 use Rattle.resources.specs.declared.Settled.the-variants.{Fine, Wrong}
-use Rattle.resources.specs.Marked.{Marked}
-use Rattle.resources.specs.Settled.{settledOf, Settles}
+use Rattle.resources.specs.Marked.{RowMarked}
 use Rattle.resources.specs.Total.{fitted, rowSettled}
 
-set-append-add : (a b : List ℕ) (k v : ℕ) → set (a ++ b) (length a + k) v ≡ a ++ set b k v
-set-append-add [] b k v = let e : 0 + k ≡ k = omega arith in rw e
-set-append-add (x ∷ a) b k v =
-    let e : suc (length a) + k ≡ suc (length a + k) = omega arith in
-    rw e (ap (λ (l : List ℕ). x ∷ l) (set-append-add a b k v))
+-- rows and the rows after them are wide
+pub wide-append : (a b : List (List ℕ)) → Wide a → Wide b → Wide (a ++ b)
+unfolding Wide
+wide-append [] b h k = k
+wide-append (r ∷ a) b h k = (h .0, wide-append a b (h .1) k)
 
--- a row's words stand behind `before`
-pub record Stands (w : List ℕ) (at : ℕ) (before : List ℕ) (x : Row) (behind : List ℕ) : Type 0 where
-  pub there : w ≡ before ++ (draft x ++ behind)
-  pub place : length before ≡ at
+-- the words with rows stored from the first on
+abbrev pub stored : Grid → (w : List ℕ) → List (List ℕ) → List ℕ
+stored g w rows = writtenRows (shapeOf (g .columns)) (g .room) w 0 rows
 
-pub word-at : {w : List ℕ} {at : ℕ} {before : List ℕ} {x : Row} {behind : List ℕ} (k : ℕ) → Stands w at before x behind → getD w (at + k) 0 ≡ getD (draft x ++ behind) k 0
-word-at {w} {at} {before} {x} {behind} k s = rw (s .there, ← s .place) (getD-append-add before (draft x ++ behind) k 0)
+-- what a judgement answers, and the words without the row's mark or with it
+abbrev pub cleared : Bool → (first : ℕ) (without with : List ℕ) → Settled × List ℕ
+cleared true first without with = (Fine, without)
+cleared false first without with = (Wrong first, with)
 
-pub first-word : {w : List ℕ} {at : ℕ} {before : List ℕ} {x : Row} {behind : List ℕ} → Stands w at before x behind → getD w at 0 ≡ getD (draft x ++ behind) 0 0
-first-word {w} {at} s = let e : at ≡ at + 0 = omega arith in ap (λ (i : ℕ). getD w i 0) e ∙ word-at 0 s
+module _ (g : Grid) (w : List ℕ) (long : width * g .room ≤ length w) where
+  -- a row behind some others
+  module _ (done : List (List ℕ)) (x : List ℕ) (more : List (List ℕ)) (wide : Wide (done ++ (x ∷ more))) (fits : length (done ++ (x ∷ more)) ≤ g .room) where
+    -- its words
+    pub word-at : (j : ℕ) → j < width → getD (stored g w (done ++ (x ∷ more))) (cellOf g (length done) j) 0 ≡ getD x j 0
+    word-at j h =
+        let l : length (done ++ (x ∷ more)) ≡ length done + suc (length more) = length-append done (x ∷ more) in
+        let z : 0 + length done ≡ length done = omega arith in
+        (rw z at (rows-at (shapeOf (g .columns)) (g .room) w 0 (done ++ (x ∷ more)) (length done) j wide (omega arith) (omega arith) h long))
+        ∙ ap (λ (r : List ℕ). getD r j 0) (getD-at done x more [] (length done) refl)
 
-set-word : {w : List ℕ} {at : ℕ} {before : List ℕ} {x : Row} {behind : List ℕ} (k v : ℕ) → Stands w at before x behind → set w (at + k) v ≡ before ++ set (draft x ++ behind) k v
-set-word {w} {at} {before} {x} {behind} k v s = rw (s .there, ← s .place) (set-append-add before (draft x ++ behind) k v)
+    -- a store into it
+    pub set-word : (j v : ℕ) → j < width → set (stored g w (done ++ (x ∷ more))) (cellOf g (length done) j) v ≡ stored g w (done ++ (set x j v ∷ more))
+    set-word j v h =
+        let l : length (done ++ (x ∷ more)) ≡ length done + suc (length more) = length-append done (x ∷ more) in
+        let z : 0 + length done ≡ length done = omega arith in
+        (rw z at (set-row (shapeOf (g .columns)) (g .room) w 0 (done ++ (x ∷ more)) (length done) j v wide (omega arith) (omega arith) h))
+        ∙ rw (getD-at done x more [] (length done) refl, set-at done x more (set x j v) (length done) refl)
 
-root-draft : (x : Row) (behind : List ℕ) (more : List Row) → rootKind (getD (draft x ++ behind) 4 0) (getD (draft x ++ behind) 0 0) (rootKinds more) ≡ rootKinds (x ∷ more)
-unfolding draft rootKinds
-root-draft (row kind first z children parent id nothing) behind more = refl
-root-draft (row kind first z children parent id (resource wanted)) behind more = refl
+  -- a draft behind some rows is judged, and becomes a row of 01
+  module _ (shared : List ℕ) (done : List (List ℕ)) (r : Row) (more : List (List ℕ)) where
+    abbrev draft : Wants → List ℕ
+    draft wants = words (marked (record { row = r; wants = wants }))
 
--- the first and the fifth word say whether the row has no parent, and its kind
-pub root-word : {w : List ℕ} {at : ℕ} {before : List ℕ} {x : Row} {behind : List ℕ} (more : List Row) → Stands w at before x behind → rootKind (getD w (at + 4) 0) (getD w at 0) (rootKinds more) ≡ rootKinds (x ∷ more)
-root-word {x = x} {behind} more s = rw (word-at 4 s, first-word s) (root-draft x behind more)
-
-module _ (shared : List ℕ) where
-  -- a row of another kind than 36 wants nothing
-  other-row : {w : List ℕ} {at : ℕ} {before : List ℕ} (x : Row) {behind : List ℕ} → Stands w at before x behind → Marked (x ∷ []) → (getD w at 0 ≡ 36 → ⊥)
-      → Settles shared (x ∷ []) w (before ++ (words x ++ behind)) Fine
-  unfolding draft words Marked settledOf suits
-  other-row (row kind first z children parent id nothing) s m k = record { answers = refl; leaves = s .there }
-  other-row (row kind first z children parent id (resource wanted)) s m k = absurd (k (first-word s ∙ m .0 .0))
-
-  -- a reference whose resource suits it: its mark is cleared
-  fitting-row : {w : List ℕ} {at : ℕ} {before : List ℕ} (x : Row) {behind : List ℕ} → Stands w at before x behind → Marked (x ∷ []) → getD w at 0 ≡ 36
-      → suits shared (resource (getD w (at + 3) 0)) (getD w (at + 5) 0) ≡ true
-      → Settles shared (x ∷ []) (set w (at + 3) 0) (before ++ (words x ++ behind)) Fine
-  unfolding draft words Marked settledOf
-  fitting-row (row kind first z children parent id nothing) s m k t = absurd (m .0 (sym (first-word s) ∙ k))
-  fitting-row (row kind first z children parent id (resource wanted)) s m k t =
-      let t′ : suits shared (resource wanted) id ≡ true = rw (word-at 3 s, word-at 5 s) at t in
-      record { answers = rw t′; leaves = rw (m .0 .1) (set-word 3 0 s) }
-
-  -- a reference whose resource does not suit it
-  wrong-row : {w : List ℕ} {at : ℕ} {before : List ℕ} (x : Row) {behind : List ℕ} (exit : List ℕ) → Stands w at before x behind → Marked (x ∷ []) → getD w at 0 ≡ 36
-      → suits shared (resource (getD w (at + 3) 0)) (getD w (at + 5) 0) ≡ false
-      → Settles shared (x ∷ []) exit (before ++ (words x ++ behind)) (Wrong (getD w (at + 1) 0))
-  unfolding draft Marked settledOf
-  wrong-row (row kind first z children parent id nothing) exit s m k t = absurd (m .0 (sym (first-word s) ∙ k))
-  wrong-row (row kind first z children parent id (resource wanted)) exit s m k t =
-      let t′ : suits shared (resource wanted) id ≡ false = rw (word-at 3 s, word-at 5 s) at t in
-      record { answers = rw t′ (ap Wrong (word-at 1 s)); leaves = refl }
-
-  -- row i of the words is judged and cleared as its row says
-  module _ {w : List ℕ} (i : ℕ) {before : List ℕ} (x : Row) {behind : List ℕ} (s : Stands w (6 * i) before x behind) (m : Marked (x ∷ [])) where
-    abbrev Whole : Settled × List ℕ → Type 0
-    Whole o = Settles shared (x ∷ []) (o .1) (before ++ (words x ++ behind)) (o .0)
-
-    reference-settles : getD w (6 * i) 0 ≡ 36 → (b : Bool) → suits shared (resource (getD w (6 * i + 3) 0)) (getD w (6 * i + 5) 0) ≡ b → Whole (fitted b w i)
-    reference-settles k true t = fitting-row x s m k t
-    reference-settles k false t = wrong-row x w s m k t
-
-    kind-settles : (b : Bool) → eqb (getD w (6 * i) 0) 36 ≡ b → Whole (cond b (fitted (suits shared (resource (getD w (6 * i + 3) 0)) (getD w (6 * i + 5) 0)) w i) (Fine, w))
-    kind-settles true e = reference-settles (eqb-true (getD w (6 * i) 0) 36 e) _ refl
-    kind-settles false e = other-row x s m (eqb-false (getD w (6 * i) 0) 36 e)
-
-    pub row-settles : Whole (rowSettled shared w i)
-    unfolding rowSettled
-    row-settles = kind-settles _ refl
+    pub row-settled : (wants : Wants) → RowMarked wants (r .kind) (r .children) → Wide (done ++ (draft wants ∷ more)) → length (done ++ (draft wants ∷ more)) ≤ g .room
+        → rowSettled g shared (stored g w (done ++ (draft wants ∷ more))) (length done)
+        ≡ cleared (suits shared wants (r .detail)) (r .first) (stored g w (done ++ (words r ∷ more))) (stored g w (done ++ (draft wants ∷ more)))
+    unfolding rowSettled words suits
+    row-settled nothing m wide fits = rw (word-at done (draft nothing) more wide fits 0 (omega arith), ne-eqb (r .kind) 36 m)
+    row-settled (resource wanted) m wide fits =
+        let x = draft (resource wanted) in
+        rw (word-at done x more wide fits 0 (omega arith), word-at done x more wide fits 3 (omega arith), word-at done x more wide fits 5 (omega arith), eq-eqb (r .kind) 36 (m .0))
+        (go (suits shared (resource wanted) (r .detail))) where
+          go : (b : Bool) → fitted g b (stored g w (done ++ (draft (resource wanted) ∷ more))) (length done)
+              ≡ cleared b (r .first) (stored g w (done ++ (words r ∷ more))) (stored g w (done ++ (draft (resource wanted) ∷ more)))
+          go true = rw (m .1, set-word done (draft (resource wanted)) more wide fits 3 0 (omega arith))
+          go false = rw (word-at done (draft (resource wanted)) more wide fits 1 (omega arith))

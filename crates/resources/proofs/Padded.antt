@@ -1,13 +1,15 @@
 -- The kinds of the rows that have no parent, as they are put into an array and looked up. Assumes nothing.
 use mathlib.Core.Path.{_≡_, refl, sym, ap, _∙_}
 use mathlib.Core.List.{List, [], _∷_, _++_, append-nil, append-assoc}
-use Prim.Native.Nat.{ℕ, zero, suc, _+_, _*_, _-_, _≤_, _<_}
+use Prim.Native.Nat.{ℕ, zero, suc, _+_, _-_, _≤_, _<_}
 use native.Mathlib.Omega.{arith}
 use lib.ListN.{length, getD, take, drop, set, replicate, length-append, length-take}
 use lib.Seq.{set-at, getD-drop, take-all, take-append-le}
-use Rattle.layout.specs.Rows.{Wants, nothing, resource}
+use Rattle.reading.specs.Drafts.{Wants, nothing, resource}
 use Rattle.reading.specs.File.{rootKind}
 use Rattle.reading.specs.Resource.{suits}
+use Rattle.ids.specs.declared.Grid.{Grid}
+use Rattle.ids.specs.Position.{cellOf}
 use Rattle.resources.specs.declared.Settled.{Settled}
 use Rattle.resources.specs.declared.Settled.the-variants.{Fine, Wrong}
 use Rattle.resources.specs.Roots.{padded, Holds}
@@ -50,42 +52,43 @@ unfolding rootKind
 root-append zero kind more = refl
 root-append (suc parent) kind more = refl
 
--- the first i rows were looked at: the array holds kinds, and those of the rows from i on stand behind them
-pub record Found (w : List ℕ) (used : ℕ) (array : List ℕ) (n i : ℕ) : Type 0 where
-  found : List ℕ
-  holds : Holds array n found
-  few : length found ≤ 257
-  all : take 257 (found ++ rootsFrom w (used - i) i) ≡ rootsOf w used
+module _ (g : Grid) (w : List ℕ) (used : ℕ) where
+  -- the first i rows were looked at: the array holds kinds, and those of the rows from i on stand behind them
+  pub record Found (array : List ℕ) (n i : ℕ) : Type 0 where
+    found : List ℕ
+    holds : Holds array n found
+    few : length found ≤ 257
+    all : take 257 (found ++ rootsFrom g w (used - i) i) ≡ rootsOf g w used
 
-pub found-none : (w : List ℕ) (used : ℕ) → Found w used (replicate 257 0) 0 0
-found-none w used =
-    let z : used - 0 ≡ used = omega arith in
-    record { found = []; holds = none-found; few = omega arith; all = rw z }
+  pub found-none : Found (replicate 257 0) 0 0
+  found-none =
+      let z : used - 0 ≡ used = omega arith in
+      record { found = []; holds = none-found; few = omega arith; all = rw z }
 
--- one more row was looked at, and its kind was put behind the others if it has no parent
-pub found-more : {w array exit : List ℕ} {used n m : ℕ} (i : ℕ) {at kind parent : ℕ} → i < used → at ≡ 6 * i → kind ≡ getD w at 0 → parent ≡ getD w (at + 4) 0 → Found w used array n i
-    → ((found : List ℕ) → Holds array n found → length found ≤ 257 → Holds exit m (take 257 (found ++ rootKind parent kind [])))
-    → Found w used exit m (i + 1)
-unfolding rootsFrom
-found-more {w} {array} {exit} {used} {n} {m} i {at} {kind} {parent} h a k p f g =
-    let z : used - i ≡ suc (used - (i + 1)) = omega arith in
-    let more = rootsFrom w (used - (i + 1)) (i + 1) in
-    let e : rootsFrom w (used - i) i ≡ rootKind parent kind [] ++ more = rw (z, p, k, a) (root-append (getD w (6 * i + 4) 0) (getD w (6 * i) 0) more) in
-    let all : take 257 (f .found ++ (rootKind parent kind [] ++ more)) ≡ rootsOf w used = rw e at (f .all) in
-    record {
-      found = take 257 (f .found ++ rootKind parent kind []);
-      holds = g (f .found) (f .holds) (f .few);
-      few = omega (arith, length-take 257 (f .found ++ rootKind parent kind []));
-      all = take-first 257 (f .found ++ rootKind parent kind []) more ∙ ap (take 257) (append-assoc (f .found) (rootKind parent kind []) more) ∙ all;
-    }
+  -- one more row was looked at, and its kind was put behind the others if it has no parent
+  pub found-more : {array exit : List ℕ} {n m : ℕ} (i : ℕ) {kind parent : ℕ} → i < used → kind ≡ getD w (cellOf g i 0) 0 → parent ≡ getD w (cellOf g i 4) 0 → Found array n i
+      → ((found : List ℕ) → Holds array n found → length found ≤ 257 → Holds exit m (take 257 (found ++ rootKind parent kind [])))
+      → Found exit m (i + 1)
+  unfolding rootsFrom
+  found-more {array} {exit} {n} {m} i {kind} {parent} h k p f holds =
+      let z : used - i ≡ suc (used - (i + 1)) = omega arith in
+      let more = rootsFrom g w (used - (i + 1)) (i + 1) in
+      let e : rootsFrom g w (used - i) i ≡ rootKind parent kind [] ++ more = rw (z, p, k) (root-append (getD w (cellOf g i 4) 0) (getD w (cellOf g i 0) 0) more) in
+      let all : take 257 (f .found ++ (rootKind parent kind [] ++ more)) ≡ rootsOf g w used = rw e at (f .all) in
+      record {
+        found = take 257 (f .found ++ rootKind parent kind []);
+        holds = holds (f .found) (f .holds) (f .few);
+        few = omega (arith, length-take 257 (f .found ++ rootKind parent kind []));
+        all = take-first 257 (f .found ++ rootKind parent kind []) more ∙ ap (take 257) (append-assoc (f .found) (rootKind parent kind []) more) ∙ all;
+      }
 
-pub found-all : {w array : List ℕ} {used n : ℕ} (i : ℕ) → used ≤ i → Found w used array n i → array ≡ padded (rootsOf w used)
-unfolding rootsFrom
-found-all {w} {used = used} i h f =
-    let z : used - i ≡ 0 = omega arith in
-    let all : take 257 (f .found ++ []) ≡ rootsOf w used = rw z at (f .all) in
-    let e : f .found ≡ rootsOf w used = sym (take-all 257 (f .found) (f .few)) ∙ ap (take 257) (sym (append-nil (f .found))) ∙ all in
-    f .holds .array-is ∙ ap padded e
+  pub found-all : {array : List ℕ} {n : ℕ} (i : ℕ) → used ≤ i → Found array n i → array ≡ padded (rootsOf g w used)
+  unfolding rootsFrom
+  found-all i h f =
+      let z : used - i ≡ 0 = omega arith in
+      let all : take 257 (f .found ++ []) ≡ rootsOf g w used = rw z at (f .all) in
+      let e : f .found ≡ rootsOf g w used = sym (take-all 257 (f .found) (f .few)) ∙ ap (take 257) (sym (append-nil (f .found))) ∙ all in
+      f .holds .array-is ∙ ap padded e
 
 zeros : (n i : ℕ) → _≡_ {A = ℕ} (getD (replicate n 0) i 0) 0
 zeros zero i = refl
@@ -104,16 +107,17 @@ padded-suits kinds (resource wanted) zero = refl
 padded-suits kinds (resource wanted) (suc i) =
     rw (getD-drop 1 (kinds ++ replicate (257 - length kinds) 0) i 0, getD-drop 1 kinds i 0, padded-at kinds (257 - length kinds) (1 + i))
 
-padded-row : (kinds w : List ℕ) (i : ℕ) → rowSettled (drop 1 (padded kinds)) w i ≡ rowSettled (drop 1 kinds) w i
-unfolding rowSettled
-padded-row kinds w i = rw (padded-suits kinds (resource (getD w (6 * i + 3) 0)) (getD w (6 * i + 5) 0))
+same-onward : (o : Settled) (w : List ℕ) (f h : List ℕ → Settled × List ℕ) → ((v : List ℕ) → f v ≡ h v) → onward o w f ≡ onward o w h
+same-onward Fine w f h e = e w
+same-onward (Wrong first) w f h e = refl
 
-same-onward : (o : Settled) (w : List ℕ) (f g : List ℕ → Settled × List ℕ) → ((v : List ℕ) → f v ≡ g v) → onward o w f ≡ onward o w g
-same-onward Fine w f g e = e w
-same-onward (Wrong first) w f g e = refl
+module _ (g : Grid) (kinds : List ℕ) where
+  padded-row : (w : List ℕ) (i : ℕ) → rowSettled g (drop 1 (padded kinds)) w i ≡ rowSettled g (drop 1 kinds) w i
+  unfolding rowSettled
+  padded-row w i = rw (padded-suits kinds (resource (getD w (cellOf g i 3) 0)) (getD w (cellOf g i 5) 0))
 
--- the zeros behind the kinds change nothing
-pub padded-rows : (kinds : List ℕ) (left i : ℕ) (w : List ℕ) → rowsSettled (drop 1 (padded kinds)) left i w ≡ rowsSettled (drop 1 kinds) left i w
-unfolding rowsSettled
-padded-rows kinds zero i w = refl
-padded-rows kinds (suc left) i w = rw (padded-row kinds w i) (same-onward (rowSettled (drop 1 kinds) w i .0) (rowSettled (drop 1 kinds) w i .1) _ _ (λ v. padded-rows kinds left (i + 1) v))
+  -- the zeros behind the kinds change nothing
+  pub padded-rows : (left i : ℕ) (w : List ℕ) → rowsSettled g (drop 1 (padded kinds)) left i w ≡ rowsSettled g (drop 1 kinds) left i w
+  unfolding rowsSettled
+  padded-rows zero i w = refl
+  padded-rows (suc left) i w = rw (padded-row w i) (same-onward (rowSettled g (drop 1 kinds) w i .0) (rowSettled g (drop 1 kinds) w i .1) _ _ (λ v. padded-rows left (i + 1) v))

@@ -1,162 +1,97 @@
--- The rows in the words, of which the first i are judged and cleared. Assumes nothing.
+-- Drafts that stand in the words, behind rows that are judged and cleared. Assumes nothing.
 use mathlib.Core.Path.{_≡_, refl, sym, ap, _∙_}
 use mathlib.Core.Bool.{Bool, true, false}
-use mathlib.Core.List.{List, [], _∷_, _++_, append-nil, append-assoc}
-use Prim.Native.Nat.{ℕ, zero, suc, _+_, _*_, _≤_, _<_}
+use mathlib.Core.List.{List, [], _∷_, _++_, map, append-assoc}
+use Prim.Native.Nat.{ℕ, suc, _+_, _*_, _≤_}
 use native.Mathlib.Omega.{arith}
-use native.Mathlib.Numerals.{add-one}
-use lib.ListN.{length, getD, take, drop, take-append-drop, drop-of-length-le}
-use lib.Seq.{drop-cons, take-suc, take-all, length-take-le}
-use Rattle.laws.specs.Small.{differ}
-use Rattle.layout.specs.Rows.{nothing, Row, row, words, flat}
+use lib.ListN.{length, drop, length-append}
+use lib.Seq.{take-all}
+use Rattle.layout.specs.Rows.{words, width}
+use Rattle.reading.specs.Grid.{Wide}
+use Rattle.reading.specs.Drafts.{Draft, bare}
 use Rattle.reading.specs.Resource.{suits}
 use Rattle.reading.specs.File.{rootKinds}
-use Rattle.reading.specs.References.{length-flat}
-use Rattle.table.specs.Written.{draft, drafts, drafts-append, length-drafts}
+use Rattle.ids.specs.declared.Grid.{Grid}
+use Rattle.table.specs.Written.{marked, drafts, length-drafts, wide-drafts, written}
 use Rattle.resources.specs.declared.Settled.{Settled}
-use Rattle.resources.specs.declared.Settled.the-variants.{Fine, Wrong}
 use Rattle.resources.specs.Marked.{Marked}
-use Rattle.resources.specs.Settled.{orWrong, settledOf, Settles, Drafted}
-use Rattle.resources.specs.Total.{rootsFrom, rootsOf, rowSettled, onward, rowsSettled, settleOf}
-use Rattle.resources.proofs.OneRow.{Stands, root-word, row-settles}
+use Rattle.resources.specs.Settled.{settledOf, settled, Settles, Drafted}
+use Rattle.resources.specs.Total.{rootsFrom, rootsOf, onward, rowsSettled, settleOf}
+use Rattle.resources.proofs.OneRow.{stored, wide-append, word-at, cleared, row-settled}
 
-abbrev pub rowAt : List Row → ℕ → Row
-rowAt rows i = getD rows i (row 0 0 0 0 0 0 nothing)
+module _ (g : Grid) (w : List ℕ) (long : width * g .room ≤ length w) where
+  -- rows that are stored, and drafts behind them
+  record Stand (v : List ℕ) (i : ℕ) (done : List (List ℕ)) (ds : List Draft) : Type 0 where
+    there : v ≡ stored g w (done ++ drafts ds)
+    place : i ≡ length done
+    wide : Wide done
+    fits : length done + length ds ≤ g .room
 
-flat-append : (a b : List Row) → flat (a ++ b) ≡ flat a ++ flat b
-unfolding flat
-flat-append [] b = refl
-flat-append (r ∷ a) b = rw (flat-append a b) (sym (append-assoc (words r) (flat a) (flat b)))
+  -- the rows of both
+  all-wide : {v : List ℕ} {i : ℕ} {done : List (List ℕ)} {ds : List Draft} → Stand v i done ds → Wide (done ++ drafts ds)
+  all-wide {done = done} {ds} s = wide-append done (drafts ds) (s .wide) (wide-drafts ds)
 
-pub marked-at : (rows : List Row) (i : ℕ) → i < length rows → Marked rows → Marked (rowAt rows i ∷ [])
-unfolding Marked
-marked-at [] i h m = absurd (omega arith)
-marked-at (row kind first z children parent id wants ∷ rows) zero h m = (m .0, tt)
-marked-at (row kind first z children parent id wants ∷ rows) (suc i) h m = marked-at rows i (omega arith) (m .1)
+  all-fit : {v : List ℕ} {i : ℕ} {done : List (List ℕ)} {ds : List Draft} → Stand v i done ds → length (done ++ drafts ds) ≤ g .room
+  all-fit {done = done} {ds} s = omega (arith, length-append done (drafts ds), length-drafts ds, s .fits)
 
-module _ (rows : List Row) (rest : List ℕ) where
-  -- the words behind row i
-  abbrev pub behind : ℕ → List ℕ
-  behind i = drafts (drop (i + 1) rows) ++ rest
-
-  -- the first i rows are cleared, and the others are drafts
-  abbrev pub passed : ℕ → List ℕ
-  passed i = flat (take i rows) ++ (drafts (drop i rows) ++ rest)
-
-  next-draft : (i : ℕ) → i < length rows → drafts (drop i rows) ++ rest ≡ draft (rowAt rows i) ++ behind i
-  unfolding drafts
-  next-draft i h = rw (add-one, drop-cons rows i (row 0 0 0 0 0 0 nothing) h) (append-assoc (draft (rowAt rows i)) (drafts (drop (suc i) rows)) rest)
-
-  length-passed : (i : ℕ) → i < length rows → length (flat (take i rows)) ≡ 6 * i
-  length-passed i h = rw (length-flat, length-take-le i rows (omega arith))
-
-  -- row i stands behind the cleared rows
-  pub stands : {w : List ℕ} (i : ℕ) → i < length rows → w ≡ passed i → Stands w (6 * i) (flat (take i rows)) (rowAt rows i) (behind i)
-  stands i h e = record { there = e ∙ ap (λ (l : List ℕ). flat (take i rows) ++ l) (next-draft i h); place = length-passed i h }
-
-  -- row i stands behind drafts
-  pub stands-draft : {w : List ℕ} (i : ℕ) → i < length rows → w ≡ drafts rows ++ rest → Stands w (6 * i) (drafts (take i rows)) (rowAt rows i) (behind i)
-  stands-draft i h e =
-      let d : drafts rows ≡ drafts (take i rows) ++ drafts (drop i rows) = ap drafts (sym (take-append-drop i rows)) ∙ drafts-append (take i rows) (drop i rows) in
+  -- the first draft, or its row, is one of the rows before
+  step : {v : List ℕ} {i : ℕ} (done : List (List ℕ)) (x : List ℕ) (ds : List Draft) → v ≡ stored g w (done ++ (x ∷ drafts ds)) → length x ≡ width → i ≡ length done → Wide done
+      → length done + suc (length ds) ≤ g .room → Stand v (i + 1) (done ++ (x ∷ [])) ds
+  unfolding Wide
+  step done x ds e l p h f =
+      let n : length (done ++ (x ∷ [])) ≡ length done + 1 = length-append done (x ∷ []) in
       record {
-        there = e ∙ rw d (append-assoc (drafts (take i rows)) (drafts (drop i rows)) rest ∙ ap (λ (l : List ℕ). drafts (take i rows) ++ l) (next-draft i h));
-        place = rw (length-drafts, length-take-le i rows (omega arith));
+        there = e ∙ ap (stored g w) (sym (append-assoc done (x ∷ []) (drafts ds)));
+        place = omega (arith, n);
+        wide = wide-append done (x ∷ []) h (l, tt);
+        fits = omega (arith, n);
       }
 
-  -- row i is cleared too
-  pub passed-more : (i : ℕ) → i < length rows → flat (take i rows) ++ (words (rowAt rows i) ++ behind i) ≡ passed (i + 1)
-  unfolding flat
-  passed-more i h =
-      rw (add-one, take-suc rows i (row 0 0 0 0 0 0 nothing) h, flat-append, append-nil)
-      (sym (append-assoc (flat (take i rows)) (words (rowAt rows i)) (drafts (drop (suc i) rows) ++ rest)))
+  -- the kinds of the roots among the drafts
+  roots-from : {v : List ℕ} {i : ℕ} {done : List (List ℕ)} (ds : List Draft) → Stand v i done ds → rootsFrom g v (length ds) i ≡ rootKinds ds
+  unfolding rootsFrom rootKinds drafts words
+  roots-from [] s = refl
+  roots-from {v} {i} {done} (d ∷ ds) s =
+      let x = words (marked d) in
+      rw (
+        roots-from ds (step done x ds (s .there) refl (s .place) (s .wide) (s .fits)),
+        s .there,
+        s .place,
+        word-at g w long done x (drafts ds) (all-wide s) (all-fit s) 4 (omega arith),
+        word-at g w long done x (drafts ds) (all-wide s) (all-fit s) 0 (omega arith),
+      )
 
-  pub passed-none : drafts rows ++ rest ≡ passed 0
-  unfolding flat
-  passed-none = refl
+  module _ (shared : List ℕ) where
+    -- the first draft is judged, and those behind it if it is fine
+    on-settled : (d : Draft) (ds : List Draft) (b : Bool) → suits shared (d .wants) (d .row .detail) ≡ b → (without with end : List ℕ) (more : List ℕ → Settled × List ℕ)
+        → Settles shared ds (more without .1) end (more without .0)
+        → let o = cleared b (d .row .first) without with in Settles shared (d ∷ ds) (onward (o .0) (o .1) more .1) end (onward (o .0) (o .1) more .0)
+    unfolding settledOf
+    on-settled d ds true e without with end more h = record { answers = rw e (h .answers); leaves = h .leaves }
+    on-settled d ds false e without with end more h = record { answers = rw e; leaves = refl }
 
-  pub passed-all : (i : ℕ) → length rows ≤ i → passed i ≡ flat rows ++ rest
-  unfolding drafts
-  passed-all i h = rw (take-all i rows h, drop-of-length-le rows {i = i} h)
+    -- the drafts are judged and cleared
+    rows-settled : {v : List ℕ} {i : ℕ} {done : List (List ℕ)} (ds : List Draft) → Marked ds → Stand v i done ds
+        → Settles shared ds (rowsSettled g shared (length ds) i v .1) (stored g w (done ++ map words (bare ds))) (rowsSettled g shared (length ds) i v .0)
+    unfolding rowsSettled settledOf drafts Marked words
+    rows-settled {done = done} [] m s = record { answers = refl; leaves = s .there }
+    rows-settled {v} {i} {done} (d ∷ ds) m s =
+        let next = rows-settled ds (m .1) (step {v = stored g w (done ++ (words (d .row) ∷ drafts ds))} {i = length done} done (words (d .row)) ds refl refl refl (s .wide) (s .fits)) in
+        rw (s .there, s .place, row-settled g w long shared done (d .row) (drafts ds) (d .wants) (m .0) (all-wide s) (all-fit s))
+        (on-settled d ds (suits shared (d .wants) (d .row .detail)) refl _ _ _ (λ u. rowsSettled g shared (length ds) (length done + 1) u)
+        (rw (append-assoc done (words (d .row) ∷ []) (map words (bare ds))) at next))
 
-next-row : (rows : List Row) (i : ℕ) → i < length rows → drop i rows ≡ rowAt rows i ∷ drop (i + 1) rows
-next-row rows i h = rw add-one (drop-cons rows i (row 0 0 0 0 0 0 nothing) h)
+-- nothing stands before the drafts of a file
+none-before : {g : Grid} {entry w : List ℕ} {used : ℕ} {ds : List Draft} (d : Drafted g entry used ds w) → Stand g w (d .long) entry 0 [] ds
+unfolding written Wide
+none-before d = record { there = d .stand; place = refl; wide = tt; fits = omega (arith, d .fits) }
 
--- the kinds of the roots among the rows from i on
-roots-from : (rows : List Row) (rest : List ℕ) {w : List ℕ} (left i : ℕ) → left + i ≡ length rows → w ≡ drafts rows ++ rest → rootsFrom w left i ≡ rootKinds (drop i rows)
-unfolding rootsFrom rootKinds
-roots-from rows rest zero i l e = rw (drop-of-length-le rows {i = i} (omega arith))
-roots-from rows rest (suc left) i l e =
-    rw (roots-from rows rest left (i + 1) (omega arith) e, next-row rows i (omega arith)) (root-word (drop (i + 1) rows) (stands-draft rows rest i (omega arith) e))
+-- there is room for the kinds of all roots
+roots-drafted : {g : Grid} {entry w : List ℕ} {used : ℕ} {ds : List Draft} → Drafted g entry used ds w → rootsOf g entry used ≡ rootKinds ds
+roots-drafted {g} {entry} {w} {used} {ds} d = rw (d .count, roots-from g w (d .long) ds (none-before d)) (take-all 257 (rootKinds ds) (d .few))
 
--- there is room for those of all rows
-pub roots-drafted : {w rest : List ℕ} {used : ℕ} {rows : List Row} → Drafted w used rows rest → rootsOf w used ≡ rootKinds rows
-roots-drafted {w} {rest} {used} {rows} d = rw (roots-from rows rest {w = w} used 0 (omega (arith, d .count)) (d .stand)) (take-all 257 (rootKinds rows) (d .few))
-
--- the answer for the rows from i on, by the answer for row i
-module _ (shared : List ℕ) where
-  fine-first : (x : Row) (more : List Row) → Fine ≡ settledOf shared (x ∷ []) → settledOf shared (x ∷ more) ≡ settledOf shared more
-  unfolding settledOf
-  fine-first (row kind first z children parent id wants) more e = go (suits shared wants id) e where
-    go : (b : Bool) → Fine ≡ orWrong b first Fine → orWrong b first (settledOf shared more) ≡ settledOf shared more
-    go true q = refl
-    go false q = differ cc
-
-  wrong-first : (x : Row) (more : List Row) (p : ℕ) → Wrong p ≡ settledOf shared (x ∷ []) → Wrong p ≡ settledOf shared (x ∷ more)
-  unfolding settledOf
-  wrong-first (row kind first z children parent id wants) more p e = go (suits shared wants id) e where
-    go : (b : Bool) → Wrong p ≡ orWrong b first Fine → Wrong p ≡ orWrong b first (settledOf shared more)
-    go true q = differ cc
-    go false q = q
-
-  -- the first i rows are judged and cleared, and the rest gives the answer
-  record Passed (rows : List Row) (rest w : List ℕ) (i : ℕ) : Type 0 where
-    words-are : w ≡ passed rows rest i
-    answer : settledOf shared rows ≡ settledOf shared (drop i rows)
-
-  start : {rows : List Row} {rest w : List ℕ} → w ≡ drafts rows ++ rest → Passed rows rest w 0
-  start {rows} {rest} e = record { words-are = e ∙ passed-none rows rest; answer = refl }
-
-  turn : {rows : List Row} {rest w exit : List ℕ} (i : ℕ) → i < length rows → Passed rows rest w i
-      → Settles shared (rowAt rows i ∷ []) exit (flat (take i rows) ++ (words (rowAt rows i) ++ behind rows rest i)) Fine → Passed rows rest exit (i + 1)
-  turn {rows} {rest} i h p s = record {
-    words-are = s .leaves ∙ passed-more rows rest i h;
-    answer = p .answer ∙ rw (next-row rows i h) (fine-first (rowAt rows i) (drop (i + 1) rows) (s .answers));
-  }
-
-  give-up : {rows : List Row} {rest w exit cleared cleared′ : List ℕ} (i first : ℕ) → i < length rows → Passed rows rest w i
-      → Settles shared (rowAt rows i ∷ []) exit cleared (Wrong first) → Settles shared rows exit cleared′ (Wrong first)
-  give-up {rows} i first h p s = record {
-    answers = rw (p .answer, next-row rows i h) (wrong-first (rowAt rows i) (drop (i + 1) rows) first (s .answers));
-    leaves = refl;
-  }
-
-  stop : {rows : List Row} {rest w : List ℕ} (i : ℕ) → length rows ≤ i → Passed rows rest w i → Settles shared rows w (flat rows ++ rest) Fine
-  unfolding settledOf
-  stop {rows} {rest} i h p = record {
-    answers = rw (p .answer, drop-of-length-le rows {i = i} h);
-    leaves = p .words-are ∙ passed-all rows rest i h;
-  }
-
-  -- rows that stand in the words as drafts are judged and cleared
-  module _ (rows : List Row) (rest : List ℕ) (m : Marked rows) where
-    abbrev Whole : Settled × List ℕ → Type 0
-    Whole o = Settles shared rows (o .1) (flat rows ++ rest) (o .0)
-
-    on-settles : {w : List ℕ} (i : ℕ) → i < length rows → Passed rows rest w i → (o : Settled) (v : List ℕ) → Settles shared (rowAt rows i ∷ []) v (flat (take i rows) ++ (words (rowAt rows i) ++ behind rows rest i)) o
-        → (more : List ℕ → Settled × List ℕ) → ((v : List ℕ) → Passed rows rest v (i + 1) → Whole (more v)) → Whole (onward o v more)
-    on-settles i h p Fine v s more on = on v (turn i h p s)
-    on-settles i h p (Wrong first) v s more on = give-up i first h p s
-
-    from-settles : (left i : ℕ) {w : List ℕ} → left + i ≡ length rows → Passed rows rest w i → Whole (rowsSettled shared left i w)
-    unfolding rowsSettled
-    from-settles zero i l p = stop i (omega arith) p
-    from-settles (suc left) i {w} l p =
-        on-settles i (omega arith) p (rowSettled shared w i .0) (rowSettled shared w i .1)
-        (row-settles shared i (rowAt rows i) (stands rows rest i (omega arith) (p .words-are)) (marked-at rows i (omega arith) m))
-        (λ v. rowsSettled shared left (i + 1) v) (λ v q. from-settles left (i + 1) (omega arith) q)
-
--- what is answered and left where rows stand in the words as drafts
-pub drafted-settles : {w rest : List ℕ} {used : ℕ} {rows : List Row} → Drafted w used rows rest
-    → Settles (drop 1 (rootKinds rows)) rows (settleOf w used .1) (flat rows ++ rest) (settleOf w used .0)
-drafted-settles {w} {rest} {used} {rows} d =
-    rw (roots-drafted d) (from-settles (drop 1 (rootKinds rows)) rows rest (d .marked) used 0 (omega (arith, d .count)) (start (drop 1 (rootKinds rows)) (d .stand)))
+-- what is answered and left where drafts stand in the words
+pub drafted-settles : {g : Grid} {entry w : List ℕ} {used : ℕ} {ds : List Draft} → Drafted g entry used ds w
+    → Settles (drop 1 (rootKinds ds)) ds (settleOf g entry used .1) (settled g w ds) (settleOf g entry used .0)
+unfolding settled
+drafted-settles {g} {entry} {w} {used} {ds} d = rw (roots-drafted d, d .count) (rows-settled g w (d .long) (drop 1 (rootKinds ds)) ds (d .marked) (none-before d))

@@ -3,3 +3,4 @@ pub mod Settled
 pub mod Roots
 pub mod Objects
 pub mod Total
+pub mod Flat

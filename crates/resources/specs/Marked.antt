@@ -6,12 +6,13 @@ use Prim.Native.Nat.{ℕ, suc, _+_, _<_}
 use native.Mathlib.Omega.{arith}
 use lib.ListN.{length, getD}
 use Rattle.layout.specs.Target.{Target, kindOf, fixed, char, string, object, texture, texture2D, spriteFont, page, enum, nullable, array, list, dictionary}
-use Rattle.layout.specs.Tree.{Trees, none, tree, size}
+use Rattle.layout.specs.Tree.{Trees, none, tree, size, told}
 use Rattle.layout.specs.Slot.{Leaf, level, Slot, raw, object, reference, leaf, Plan, stop, put}
 use Rattle.layout.specs.Fixed.{sizes}
 use Rattle.layout.specs.Head.{Head}
 use Rattle.layout.specs.Layout.{Raw, Value, Lays, Leafed}
-use Rattle.layout.specs.Rows.{Wants, nothing, resource, Row, row, Below, rawRows, valueRows, rowsOf}
+use Rattle.layout.specs.Rows.{rawRows, valueRows, notedRows}
+use Rattle.reading.specs.Drafts.{Wants, nothing, resource, Draft, Below, rawDrafts, valueDrafts, draftsOf}
 
 -- a row wants a resource exactly if its kind is 36, and then it has no children
 abbrev pub RowMarked : Wants → (kind children : ℕ) → Type 0
@@ -19,14 +20,14 @@ RowMarked nothing kind children = kind ≡ 36 → ⊥
 RowMarked (resource wanted) kind children = (kind ≡ 36) × (children ≡ 0)
 
 -- every row does so
-unfoldable pub Marked : List Row → Type 0
+unfoldable pub Marked : List Draft → Type 0
 Marked [] = Unit {0}
-Marked (row kind first z children parent id wants ∷ rows) = RowMarked wants kind children × Marked rows
+Marked (d ∷ ds) = RowMarked (d .wants) (d .row .kind) (d .row .children) × Marked ds
 
-marked-append : (a b : List Row) → Marked a → Marked b → Marked (a ++ b)
+marked-append : (a b : List Draft) → Marked a → Marked b → Marked (a ++ b)
 unfolding Marked
 marked-append [] b h g = g
-marked-append (row kind first z children parent id wants ∷ a) b h g = (h .0, marked-append a b (h .1) g)
+marked-append (d ∷ a) b h g = (h .0, marked-append a b (h .1) g)
 
 -- no reader reads a shared reference
 head-kind : (t : Target) (own : List ℕ) (plan : Plan) (bs : List ℕ) → Head t own plan bs → kindOf t ≡ 36 → ⊥
@@ -51,7 +52,7 @@ module _ (readers : List Target) (refers : Target → ℕ → Type 0) where
 
   raw-marked : (below : Plan → List ℕ → Type 0) (rows : Below below) → MarkedBelow below rows
       → (t : Target) (kind : ℕ) (own : List ℕ) (cs : Trees) (bs : List ℕ) (w : Raw below t kind own cs bs) (first z at n parent id : ℕ)
-      → Marked (rawRows below rows t kind own cs bs w first z at n parent id)
+      → Marked (rawDrafts below rows t kind own cs bs w first z at n parent id)
   unfolding rawRows Marked
   raw-marked below rows h t kind own cs bs w first z at n parent id =
       (λ e. head-kind t own (w .plan) (w .head) (w .headed) (sym (w .kind-of) ∙ e), h (w .plan) (w .children) (w .laid) (at + length (w .head)) (suc n) (suc n))
@@ -62,7 +63,7 @@ module _ (readers : List Target) (refers : Target → ℕ → Type 0) where
 
   value-marked : (below : Plan → List ℕ → Type 0) (rows : Below below) → MarkedBelow below rows
       → (x : Slot) (kind id : ℕ) (own : List ℕ) (cs : Trees) (bs : List ℕ) (w : Value readers refers below x kind id own cs bs) (at n parent : ℕ)
-      → Marked (valueRows readers refers below rows x kind id own cs bs w at n parent)
+      → Marked (valueDrafts readers refers below rows x kind id own cs bs w at n parent)
   unfolding Value valueRows Marked
   value-marked below rows h (raw t) kind id own cs bs w at n parent = raw-marked below rows h t kind own cs bs (w .1) at (length bs) at n parent 0
   value-marked below rows h (object t) kind id own cs bs (inl w) at n parent = (λ e. omega arith, tt)
@@ -72,13 +73,13 @@ module _ (readers : List Target) (refers : Target → ℕ → Type 0) where
   value-marked below rows h (leaf x) kind id own cs bs w at n parent = (λ e. leaf-kind x kind own bs (w .2) e, tt)
 
   -- the rows of values that were laid out are marked
-  pub marked-rows : (plan : Plan) (ts : Trees) (bs : List ℕ) (w : Lays readers refers plan ts bs) (at n parent : ℕ) → Marked (rowsOf readers refers plan ts bs w at n parent)
-  unfolding Lays rowsOf Marked
+  pub marked-rows : (plan : Plan) (ts : Trees) (bs : List ℕ) (w : Lays readers refers plan ts bs) (at n parent : ℕ) → Marked (draftsOf readers refers plan ts bs w at n parent)
+  unfolding Lays notedRows Marked
   marked-rows stop none bs w at n parent = tt
   marked-rows (put x go) none bs w at n parent = absurd w
   marked-rows stop (tree k i own cs rest) bs w at n parent = absurd w
   marked-rows (put x go) (tree k i own cs rest) bs w at n parent =
-      marked-append (valueRows readers refers (λ plan b. Lays readers refers plan cs b) (λ plan b v a n p. rowsOf readers refers plan cs b v a n p) x k i own cs (w .0) (w .3) at n parent)
-      (rowsOf readers refers (go own) rest (w .1) (w .4) (at + length (w .0)) (n + suc (size cs)) parent)
-      (value-marked (λ plan b. Lays readers refers plan cs b) (λ plan b v a n p. rowsOf readers refers plan cs b v a n p) (λ plan b v a n q. marked-rows plan cs b v a n q) x k i own cs (w .0) (w .3) at n parent)
-      (marked-rows (go own) rest (w .1) (w .4) (at + length (w .0)) (n + suc (size cs)) parent)
+      marked-append (valueDrafts readers refers (λ plan b. Lays readers refers plan cs b) (λ plan b v a n p. draftsOf readers refers plan cs b v a n p) x k i own cs (w .0) (w .3) at n parent)
+      (draftsOf readers refers (go (told k own)) rest (w .1) (w .4) (at + length (w .0)) (n + suc (size cs)) parent)
+      (value-marked (λ plan b. Lays readers refers plan cs b) (λ plan b v a n p. draftsOf readers refers plan cs b v a n p) (λ plan b v a n q. marked-rows plan cs b v a n q) x k i own cs (w .0) (w .3) at n parent)
+      (marked-rows (go (told k own)) rest (w .1) (w .4) (at + length (w .0)) (n + suc (size cs)) parent)

@@ -1,63 +1,57 @@
 -- The rows that reading the objects of a file leaves in the words are those that the last pass takes. Assumes nothing.
-use mathlib.Core.Path.{_≡_, ap, _∙_}
-use mathlib.Core.List.{List, _++_}
-use Prim.Native.Nat.{ℕ, suc, _+_, _*_, _≤_}
+use mathlib.Core.Path.{_≡_, refl, ap, _∙_}
+use mathlib.Core.List.{List}
+use Prim.Native.Nat.{ℕ, suc, _*_, _≤_}
 use native.Mathlib.Omega.{arith}
-use lib.ListN.{length, drop, replicate, length-replicate}
-use lib.Seq.{sets-eq}
+use lib.ListN.{length, replicate, length-replicate}
 use Rattle.laws.specs.Small.{differ}
 use Rattle.layout.specs.Target.{Target, object as anything}
 use Rattle.layout.specs.Resource.{Within}
-use Rattle.layout.specs.Rows.{Row}
+use Rattle.layout.specs.Rows.{width}
 use Rattle.layout.specs.Slot.{object}
 use Rattle.layout.specs.Tree.{count, size}
 use Rattle.layout.specs.File.{objectsPlan}
 use Rattle.reading.specs.Answer.{Ok, not-read, is-read, read}
 use Rattle.reading.specs.Reads.{Small}
 use Rattle.reading.specs.Resource.{length-kinds}
+use Rattle.reading.specs.Drafts.{Draft}
 use Rattle.reading.specs.Walk.{Taken, Outcome}
 use Rattle.reading.specs.Sound.{Read, walks-sound}
 use Rattle.reading.specs.File.{objectsAt, rootKinds}
 use Rattle.reading.specs.References.{roots-are, rows-length, slots-count}
-use Rattle.table.specs.Written.{drafts, written, length-drafts}
+use Rattle.ids.specs.declared.Grid.{Grid}
+use Rattle.table.specs.Written.{written}
 use Rattle.resources.specs.Marked.{marked-rows}
 use Rattle.resources.specs.Settled.{Drafted}
 
--- rows that are written from the first on stand before the rest of the words
-written-first : (w : List ℕ) (rows : List Row) (used : ℕ) → used ≡ length rows → 6 * used ≤ length w → written w 0 rows ≡ drafts rows ++ drop (6 * used) w
-unfolding written
-written-first w rows used c h =
-    let l : length (drafts rows) ≡ 6 * used = omega (arith, length-drafts rows) in
-    let z : 0 + 6 * used ≡ 6 * used = omega arith in
-    sets-eq (drafts rows) w 0 (omega arith) ∙ rw (l, z)
-
-module _ (file : List ℕ) (readers : List Target) (shared room : ℕ) (small : Small file) (few : shared ≤ 256) where
-  read-drafted : (w : List ℕ) (at : ℕ) (a : Taken) (e : ℕ) → Read file readers shared room small 32 (objectsPlan shared) at 0 0 a e → 6 * a .0 ≤ length w
-      → Drafted (written w 0 (a .1)) (a .0) (a .1) (drop (6 * a .0) w)
+module _ (g : Grid) (file : List ℕ) (readers : List Target) (shared : ℕ) (small : Small file) (few : shared ≤ 256) where
+  read-drafted : (w : List ℕ) (at : ℕ) (a : Taken) (e : ℕ) → Read file readers shared (g .room) small 32 (objectsPlan shared) at 0 0 a e → width * g .room ≤ length w
+      → Drafted g (written g w 0 (a .1)) (a .0) (a .1) w
   unfolding objectsPlan
   read-drafted w at a e r h =
       let rows-are = r .rows-are in
       let l : length (a .1) ≡ size (a .2) = ap length rows-are ∙ rows-length readers (Within shared) (objectsPlan shared) (a .2) (r .bytes) (r .laid) at 0 0 in
       let n : a .0 ≡ length (a .1) = omega (arith, r .used-is) in
       let k : length (rootKinds (a .1)) ≡ count (a .2) =
-      ap (λ (rows : List Row). length (rootKinds rows)) rows-are
+      ap (λ (ds : List Draft). length (rootKinds ds)) rows-are
       ∙ ap length (roots-are readers (Within shared) (objectsPlan shared) (a .2) (r .bytes) (r .laid) at 0) ∙ length-kinds (a .2) in
       let m : count (a .2) ≡ length (replicate (suc shared) (object anything)) = slots-count readers (Within shared) (replicate (suc shared) (object anything)) (a .2) (r .bytes) (r .laid) in
       record {
-        stand = written-first w (a .1) (a .0) n h;
+        stand = refl;
         count = n;
+        fits = omega (arith, n, r .room-left (omega arith));
+        long = h;
         marked = rw rows-are (marked-rows readers (Within shared) (objectsPlan shared) (a .2) (r .bytes) (r .laid) at 0 0);
         few = omega (arith, length-replicate (suc shared) (object anything));
       }
 
   -- what stands in the words after the objects of a file were read
-  pub objects-drafted : (w : List ℕ) (at : ℕ) (a : Taken) (e : ℕ) → objectsAt file room readers shared at ≡ read a e → 6 * a .0 ≤ length w
-      → Drafted (written w 0 (a .1)) (a .0) (a .1) (drop (6 * a .0) w)
+  pub objects-drafted : (w : List ℕ) (at : ℕ) (a : Taken) (e : ℕ) → objectsAt file (g .room) readers shared at ≡ read a e → width * g .room ≤ length w
+      → Drafted g (written g w 0 (a .1)) (a .0) (a .1) w
   unfolding objectsAt
-  objects-drafted w at a e q h = go (objectsAt file room readers shared at) (walks-sound file readers shared room small 32 (objectsPlan shared) at 0 0) q where
-    go : (o : Outcome) → Ok (Read file readers shared room small 32 (objectsPlan shared) at 0 0) o → o ≡ read a e → Drafted (written w 0 (a .1)) (a .0) (a .1) (drop (6 * a .0) w)
+  objects-drafted w at a e q h = go (objectsAt file (g .room) readers shared at) (walks-sound file readers shared (g .room) small 32 (objectsPlan shared) at 0 0) q where
+    go : (o : Outcome) → Ok (Read file readers shared (g .room) small 32 (objectsPlan shared) at 0 0) o → o ≡ read a e → Drafted g (written g w 0 (a .1)) (a .0) (a .1) w
     go o not-read p = differ cc
     go o (is-read {a = b} {e = f} v) p =
         let qb : b ≡ a = cc in
-        let k : 6 * b .0 ≤ length w = rw qb h in
-        rw qb at (read-drafted w at b f v k)
+        rw qb at (read-drafted w at b f v h)

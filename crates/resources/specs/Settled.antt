@@ -1,14 +1,17 @@
 -- What the last pass over the rows answers and leaves (01, refusal 17: "resource of the wrong type (a null resource fits)", "17 last, in row order", at the reference). Assumes nothing.
 use mathlib.Core.Path.{_≡_, refl}
 use mathlib.Core.Bool.{Bool, true, false}
-use mathlib.Core.List.{List, [], _∷_, _++_}
-use Prim.Native.Nat.{ℕ, _≤_}
+use mathlib.Core.List.{List, [], _∷_, map}
+use Prim.Native.Nat.{ℕ, _*_, _≤_}
 use lib.ListN.{length, drop}
-use Rattle.layout.specs.Rows.{Row, row, flat}
+use Rattle.layout.specs.Rows.{width, words}
 use Rattle.reading.specs.Answer.{Answer, refused, check}
 use Rattle.reading.specs.Resource.{suits}
+use Rattle.reading.specs.Grid.{shapeOf, writtenRows}
+use Rattle.reading.specs.Drafts.{Draft, bare}
 use Rattle.reading.specs.File.{rootKinds, judged}
-use Rattle.table.specs.Written.{drafts}
+use Rattle.ids.specs.declared.Grid.{Grid}
+use Rattle.table.specs.Written.{written}
 use Rattle.resources.specs.declared.Settled.{Settled}
 use Rattle.resources.specs.declared.Settled.the-variants.{Fine, Wrong}
 use Rattle.resources.specs.Marked.{Marked}
@@ -19,9 +22,9 @@ orWrong true first rest = rest
 orWrong false first rest = Wrong first
 
 -- the first byte of the first row whose resource does not suit it, where the shared objects have these kinds
-unfoldable pub settledOf : (shared : List ℕ) → List Row → Settled
+unfoldable pub settledOf : (shared : List ℕ) → List Draft → Settled
 settledOf shared [] = Fine
-settledOf shared (row kind first z children parent id wants ∷ rows) = orWrong (suits shared wants id) first (settledOf shared rows)
+settledOf shared (d ∷ ds) = orWrong (suits shared (d .wants) (d .row .detail)) (d .row .first) (settledOf shared ds)
 
 -- 01's number and place for each case
 abbrev pub answered : {A : Type 0} → Settled → Answer A → Answer A
@@ -29,20 +32,26 @@ answered Fine x = x
 answered (Wrong first) x = refused 17 first
 
 -- it is what judging the rows says
-pub judged-is : {A : Type 0} (shared : List ℕ) (rows : List Row) (x : Answer A) → judged shared rows x ≡ answered (settledOf shared rows) x
+pub judged-is : {A : Type 0} (shared : List ℕ) (ds : List Draft) (x : Answer A) → judged shared ds x ≡ answered (settledOf shared ds) x
 unfolding judged settledOf check
 judged-is shared [] x = refl
-judged-is shared (row kind first z children parent id wants ∷ rows) x = go (suits shared wants id) (judged-is shared rows x) where
-  go : (b : Bool) → judged shared rows x ≡ answered (settledOf shared rows) x → check b 17 first (judged shared rows x) ≡ answered (orWrong b first (settledOf shared rows)) x
+judged-is shared (d ∷ ds) x = go (suits shared (d .wants) (d .row .detail)) (judged-is shared ds x) where
+  go : (b : Bool) → judged shared ds x ≡ answered (settledOf shared ds) x → check b 17 (d .row .first) (judged shared ds x) ≡ answered (orWrong b (d .row .first) (settledOf shared ds)) x
   go true e = e
   go false e = refl
 
--- the first `used` rows stand in the words as drafts, as reading leaves them; 01: "shared count (0 to 256)"
-pub record Drafted (words : List ℕ) (used : ℕ) (rows : List Row) (rest : List ℕ) : Type 0 where
-  pub stand : words ≡ drafts rows ++ rest
-  pub count : used ≡ length rows
-  pub marked : Marked rows
-  pub few : length (rootKinds rows) ≤ 257
+-- the first `used` rows of the words are drafts, as reading leaves them, stored over the words w; 01: "shared count (0 to 256)"
+pub record Drafted (g : Grid) (entry : List ℕ) (used : ℕ) (ds : List Draft) (w : List ℕ) : Type 0 where
+  pub stand : entry ≡ written g w 0 ds
+  pub count : used ≡ length ds
+  pub fits : length ds ≤ g .room
+  pub long : width * g .room ≤ length w
+  pub marked : Marked ds
+  pub few : length (rootKinds ds) ≤ 257
+
+-- the rows of 01, stored over the words w
+unfoldable pub settled : Grid → (w : List ℕ) → List Draft → List ℕ
+settled g w ds = writtenRows (shapeOf (g .columns)) (g .room) w 0 (map words (bare ds))
 
 -- what is left in the words: the rows without marks, or anything after a refusal
 abbrev pub leftOf : Settled → (exit cleared : List ℕ) → List ℕ
@@ -50,10 +59,10 @@ leftOf Fine exit cleared = cleared
 leftOf (Wrong first) exit cleared = exit
 
 -- rows are judged, and their marks are cleared
-pub record Settles (shared : List ℕ) (rows : List Row) (exit cleared : List ℕ) (r : Settled) : Type 0 where
-  pub answers : r ≡ settledOf shared rows
+pub record Settles (shared : List ℕ) (ds : List Draft) (exit cleared : List ℕ) (r : Settled) : Type 0 where
+  pub answers : r ≡ settledOf shared ds
   pub leaves : exit ≡ leftOf r exit cleared
 
 -- drafts that stand in the words are judged, and become the rows of 01
-abbrev pub SettlesDrafts : (entry exit : List ℕ) (used : ℕ) → Settled → Type 0
-SettlesDrafts entry exit used r = (rows : List Row) (rest : List ℕ) → Drafted entry used rows rest → Settles (drop 1 (rootKinds rows)) rows exit (flat rows ++ rest) r
+abbrev pub SettlesDrafts : Grid → (entry exit : List ℕ) (used : ℕ) → Settled → Type 0
+SettlesDrafts g entry exit used r = (ds : List Draft) (w : List ℕ) → Drafted g entry used ds w → Settles (drop 1 (rootKinds ds)) ds exit (settled g w ds) r

@@ -1,44 +1,50 @@
 -- What the last pass answers and leaves, for every input, by the words alone; rows that the words do not have read as 0. Assumes nothing.
 use mathlib.Core.Bool.{Bool, true, false, cond}
 use mathlib.Core.List.{List, []}
-use Prim.Native.Nat.{ℕ, zero, suc, _+_, _*_}
+use Prim.Native.Nat.{ℕ, zero, suc, _+_}
 use lib.Dec.{eqb}
 use lib.ListN.{getD, take, drop, set}
-use Rattle.layout.specs.Rows.{resource}
+use Rattle.reading.specs.Drafts.{resource}
 use Rattle.reading.specs.Resource.{suits}
 use Rattle.reading.specs.File.{rootKind}
+use Rattle.ids.specs.declared.Grid.{Grid}
+use Rattle.ids.specs.Position.{cellOf}
 use Rattle.resources.specs.declared.Settled.{Settled}
 use Rattle.resources.specs.declared.Settled.the-variants.{Fine, Wrong}
-
--- the kinds of the rows that have no parent, among so many rows from row i on
-unfoldable pub rootsFrom : List ℕ → (left i : ℕ) → List ℕ
-rootsFrom w zero i = []
-rootsFrom w (suc left) i = rootKind (getD w (6 * i + 4) 0) (getD w (6 * i) 0) (rootsFrom w left (i + 1))
-
--- the first 257 of them, for the primary and the shared objects
-abbrev pub rootsOf : List ℕ → (used : ℕ) → List ℕ
-rootsOf w used = take 257 (rootsFrom w used 0)
-
--- a reference in row i: its fourth word becomes 0 if its resource suits it, else its first byte is the answer
-abbrev pub fitted : Bool → List ℕ → (i : ℕ) → Settled × List ℕ
-fitted true w i = (Fine, set w (6 * i + 3) 0)
-fitted false w i = (Wrong (getD w (6 * i + 1) 0), w)
 
 -- the first row that is not fine is the answer
 abbrev pub onward : Settled → List ℕ → (List ℕ → Settled × List ℕ) → Settled × List ℕ
 onward Fine w rest = rest w
 onward (Wrong first) w rest = (Wrong first, w)
 
-module _ (shared : List ℕ) where
-  -- row i, where the shared objects have these kinds: only a row of kind 36 is a reference
-  unfoldable pub rowSettled : List ℕ → (i : ℕ) → Settled × List ℕ
-  rowSettled w i = cond (eqb (getD w (6 * i) 0) 36) (fitted (suits shared (resource (getD w (6 * i + 3) 0)) (getD w (6 * i + 5) 0)) w i) (Fine, w)
+module _ (g : Grid) where
+  -- the kinds of the rows that have no parent, among so many rows from row i on
+  unfoldable pub rootsFrom : List ℕ → (left i : ℕ) → List ℕ
+  rootsFrom w zero i = []
+  rootsFrom w (suc left) i = rootKind (getD w (cellOf g i 4) 0) (getD w (cellOf g i 0) 0) (rootsFrom w left (i + 1))
+
+  -- the first 257 of them, for the primary and the shared objects
+  abbrev pub rootsOf : List ℕ → (used : ℕ) → List ℕ
+  rootsOf w used = take 257 (rootsFrom w used 0)
+
+  -- a reference in row i: its fourth word becomes 0 if its resource suits it, else its first byte is the answer
+  abbrev pub fitted : Bool → List ℕ → (i : ℕ) → Settled × List ℕ
+  fitted true w i = (Fine, set w (cellOf g i 3) 0)
+  fitted false w i = (Wrong (getD w (cellOf g i 1) 0), w)
+
+  -- whether the resource that row i names suits it, where the shared objects have these kinds
+  abbrev pub suited : (shared w : List ℕ) (i : ℕ) → Bool
+  suited shared w i = suits shared (resource (getD w (cellOf g i 3) 0)) (getD w (cellOf g i 5) 0)
+
+  -- row i: only a row of kind 36 is a reference
+  unfoldable pub rowSettled : (shared w : List ℕ) → (i : ℕ) → Settled × List ℕ
+  rowSettled shared w i = cond (eqb (getD w (cellOf g i 0) 0) 36) (fitted (suited shared w i) w i) (Fine, w)
 
   -- so many rows from row i on (01: "17 last, in row order")
-  unfoldable pub rowsSettled : (left i : ℕ) → List ℕ → Settled × List ℕ
-  rowsSettled zero i w = (Fine, w)
-  rowsSettled (suc left) i w = onward (rowSettled w i .0) (rowSettled w i .1) (λ v. rowsSettled left (i + 1) v)
+  unfoldable pub rowsSettled : (shared : List ℕ) → (left i : ℕ) → List ℕ → Settled × List ℕ
+  rowsSettled shared zero i w = (Fine, w)
+  rowsSettled shared (suc left) i w = onward (rowSettled shared w i .0) (rowSettled shared w i .1) (λ v. rowsSettled shared left (i + 1) v)
 
--- the first `used` rows, where the roots among them are the primary and then the shared objects
-abbrev pub settleOf : List ℕ → (used : ℕ) → Settled × List ℕ
-settleOf w used = rowsSettled (drop 1 (rootsOf w used)) used 0 w
+  -- the first `used` rows, where the roots among them are the primary and then the shared objects
+  abbrev pub settleOf : List ℕ → (used : ℕ) → Settled × List ℕ
+  settleOf w used = rowsSettled (drop 1 (rootsOf w used)) used 0 w

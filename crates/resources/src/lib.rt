@@ -1,11 +1,13 @@
 // The last pass over the rows (01, "17 last, in row order"): it judges whether each shared reference names a resource
 // of the type that it wants, and clears the kind that the reference's row has in the place of its number of children.
+use ids::Grid;
 use ids::Position;
 use ids::ResourceId;
 use ids::RowNumber;
+use words::word_of;
 ghost use mathlib.Core.Path.{_≡_};
-ghost use lib.ListN.{drop, set};
-ghost use Rattle.layout.specs.Rows.{resource};
+ghost use lib.ListN.{getD, drop, set};
+ghost use Rattle.reading.specs.Drafts.{resource};
 ghost use Rattle.reading.specs.Resource.{suit, suits};
 ghost use Rattle.resources.specs.Settled.{SettlesDrafts};
 ghost use Rattle.resources.specs.Roots.{padded, Notes};
@@ -41,16 +43,15 @@ fn note(kinds: &mut [u32; 257], n: usize, parent: u32, kind: u32) -> usize
 }
 
 // The kinds of the first 257 rows that have no parent: the primary's, then those of the shared objects; zeros behind them.
-fn root_kinds(words: &[u32], used: u32) -> [u32; 257]
-    ensures { λ r. ⌜ r ≡ padded (rootsOf (now (words .entry)) used) ⌝ }
+fn root_kinds(words: &[u32], grid: Grid, used: u32) -> [u32; 257]
+    ensures { λ r. ⌜ r ≡ padded (rootsOf grid (now (words .entry)) used) ⌝ }
 {
     let mut kinds = [0u32; 257];
     let mut n = 0;
     let mut i = 0;
     while i < used {
-        let at = RowNumber(i).position();
-        let kind = words::word(words, at);
-        let parent = words::word(words, at + 4);
+        let kind = word_of(words, grid, RowNumber(i), 0);
+        let parent = word_of(words, grid, RowNumber(i), 4);
         n = note(&mut kinds, n, parent, kind);
         i += 1;
     }
@@ -67,7 +68,17 @@ fn suits_kind(wanted: u32, kind: u32) -> bool
     kind == wanted
 }
 
-// The same by the resource's id, where `kinds` has the primary's kind and then those of the shared objects.
+// The kind at a place, 0 where there is none.
+fn kind_at(kinds: &[u32], at: usize) -> u32
+    ensures { λ r. ⌜ r ≡ getD (now (kinds .entry)) at 0 ⌝ }
+{
+    if at < kinds.len() {
+        return kinds[at];
+    }
+    0
+}
+
+// A resource suits by its id, where `kinds` has the primary's kind and then those of the shared objects.
 fn suits_id(kinds: &[u32], id: ResourceId, wanted: u32) -> bool
     ensures { λ r. ⌜ r ≡ suits (drop 1 (now (kinds .entry))) (resource wanted) (id .0) ⌝ }
 {
@@ -75,37 +86,36 @@ fn suits_id(kinds: &[u32], id: ResourceId, wanted: u32) -> bool
         Position::Null => true,
         Position::At(i) => {
             let at = i as usize + 1;
-            suits_kind(wanted, words::word(kinds, at))
+            suits_kind(wanted, kind_at(kinds, at))
         }
     }
 }
 
 // Judges one row and clears its mark.
-fn judge_row(words: &mut [u32], row: RowNumber, kinds: &[u32]) -> Settled
-    ensures { λ r. ⌜ r ≡ rowSettled (drop 1 (now (kinds .entry))) (now (words .entry)) (row .0) .0 ⌝ }
-    ensures { λ _. ⌜ now (words .exit) ≡ rowSettled (drop 1 (now (kinds .entry))) (now (words .entry)) (row .0) .1 ⌝ }
+fn judge_row(words: &mut [u32], grid: Grid, row: RowNumber, kinds: &[u32]) -> Settled
+    ensures { λ r. ⌜ r ≡ rowSettled grid (drop 1 (now (kinds .entry))) (now (words .entry)) (row .0) .0 ⌝ }
+    ensures { λ _. ⌜ now (words .exit) ≡ rowSettled grid (drop 1 (now (kinds .entry))) (now (words .entry)) (row .0) .1 ⌝ }
 {
-    let at = row.position();
-    if words::word(words, at) != 36 {
+    if word_of(words, grid, row, 0) != 36 {
         return Settled::Fine;
     }
-    let wanted = words::word(words, at + 3);
-    let id = words::word(words, at + 5);
+    let wanted = word_of(words, grid, row, 3);
+    let id = word_of(words, grid, row, 5);
     if suits_id(kinds, ResourceId(id), wanted) {
-        put_word(words, at + 3, 0);
+        put_word(words, row.cell(grid, 3), 0);
         return Settled::Fine;
     }
-    Settled::Wrong(words::word(words, at + 1))
+    Settled::Wrong(word_of(words, grid, row, 1))
 }
 
 // Judges the rows in order.
-fn judge_rows(words: &mut [u32], used: u32, kinds: &[u32]) -> Settled
-    ensures { λ r. ⌜ r ≡ rowsSettled (drop 1 (now (kinds .entry))) used 0 (now (words .entry)) .0 ⌝ }
-    ensures { λ _. ⌜ now (words .exit) ≡ rowsSettled (drop 1 (now (kinds .entry))) used 0 (now (words .entry)) .1 ⌝ }
+fn judge_rows(words: &mut [u32], grid: Grid, used: u32, kinds: &[u32]) -> Settled
+    ensures { λ r. ⌜ r ≡ rowsSettled grid (drop 1 (now (kinds .entry))) used 0 (now (words .entry)) .0 ⌝ }
+    ensures { λ _. ⌜ now (words .exit) ≡ rowsSettled grid (drop 1 (now (kinds .entry))) used 0 (now (words .entry)) .1 ⌝ }
 {
     let mut i = 0;
     while i < used {
-        match judge_row(words, RowNumber(i), kinds) {
+        match judge_row(words, grid, RowNumber(i), kinds) {
             Settled::Fine => {}
             Settled::Wrong(first) => {
                 return Settled::Wrong(first);
@@ -117,11 +127,11 @@ fn judge_rows(words: &mut [u32], used: u32, kinds: &[u32]) -> Settled
 }
 
 // Judges the references of the first `used` rows, and clears their marks: drafts that stand in the words become the rows of 01.
-pub fn settle(words: &mut [u32], used: u32) -> Settled
-    ensures { λ r. ⌜ SettlesDrafts (now (words .entry)) (now (words .exit)) used r ⌝ }
-    ensures { λ r. ⌜ r ≡ settleOf (now (words .entry)) used .0 ⌝ }
-    ensures { λ _. ⌜ now (words .exit) ≡ settleOf (now (words .entry)) used .1 ⌝ }
+pub fn settle(words: &mut [u32], grid: Grid, used: u32) -> Settled
+    ensures { λ r. ⌜ SettlesDrafts grid (now (words .entry)) (now (words .exit)) used r ⌝ }
+    ensures { λ r. ⌜ r ≡ settleOf grid (now (words .entry)) used .0 ⌝ }
+    ensures { λ _. ⌜ now (words .exit) ≡ settleOf grid (now (words .entry)) used .1 ⌝ }
 {
-    let kinds = root_kinds(words, used);
-    judge_rows(words, used, &kinds)
+    let kinds = root_kinds(words, grid, used);
+    judge_rows(words, grid, used, &kinds)
 }

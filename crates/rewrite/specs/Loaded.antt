@@ -4,7 +4,7 @@ use mathlib.Core.List.{List, _++_}
 use Prim.Native.Nat.{ℕ, _*_, _-_}
 use lib.ListN.{length, replicate, length-replicate}
 use Rattle.laws.specs.Small.{differ}
-use Rattle.layout.specs.Rows.{Row, flat}
+use Rattle.layout.specs.Rows.{Row, flat, width}
 use Rattle.layout.specs.Named.{named}
 use Rattle.reading.specs.Answer.{Answer, refused, read}
 use Rattle.reading.specs.Reads.{Small}
@@ -39,7 +39,7 @@ module _ (file : List ℕ) (words : ℕ) where
         (rw (e₁, e₂), refl, sym (ap (λ (k : ℕ). replicate k 0) (length-replicate words 0)))
     go (read a f) e = differ cc
 
-  accepted-table : (rs : List Row) (rd sh : ℕ) → tableOf (accepted rs rd sh) words ≡ flat rs ++ replicate (words - 6 * length rs) 0
+  accepted-table : (rs : List Row) (rd sh : ℕ) → tableOf (accepted rs rd sh) words ≡ flat rs ++ replicate (words - width * length rs) 0
   unfolding tableOf
   accepted-table rs rd sh = refl
 
@@ -57,8 +57,8 @@ module _ (file : List ℕ) (words : ℕ) where
         let e₂ : readers ≡ rd = cc in
         let a = accepted-is named judgedName judges file words small rs rd sh q in
         let f = a .0 in
-        let rest : List ℕ = replicate (words - 6 * length rs) 0 in
-        let t : tableOf (loadOf judgedName file words) words ≡ flat rs ++ replicate (words - 6 * length rs) 0 = ap (λ (y : Load). tableOf y words) q ∙ accepted-table rs rd sh in
+        let rest : List ℕ = replicate (words - width * length rs) 0 in
+        let t : tableOf (loadOf judgedName file words) words ≡ flat rs ++ replicate (words - width * length rs) 0 = ap (λ (y : Load). tableOf y words) q ∙ accepted-table rs rd sh in
         let p : placesOf file (tableOf (loadOf judgedName file words) words) readers rows ≡ filePlaces file (length (f .tree .names)) (rowsIn named f)
         = ap (λ (y : List ℕ). placesOf file y readers rows) t ∙ ap (placesOf file (flat rs ++ rest) readers) e₁ ∙ table-places file rs rest readers
         ∙ ap (λ (k : ℕ). filePlaces file k rs) (e₂ ∙ a .2) ∙ ap (filePlaces file (length (f .tree .names))) (a .1) in

@@ -71,10 +71,10 @@ fn write_count(file: &[u8], out: &mut [u8], c: Cursor, kind: u32, at: usize) -> 
 fn write_row(file: &[u8], words: &[u32], out: &mut [u8], c: Cursor, row: u32) -> Cursor
     ensures { λ r. ⌜ Writes (now (file .entry)) (now (out .entry)) (now (out .exit)) c (placesIn (now (file .entry)) (now (words .entry)) row) r ⌝ }
 {
-    let at = RowNumber(row).position();
-    let kind = words::word(words, at);
-    let first = words::word(words, at + 1) as usize;
-    if padding::numbered(kind, words::word(words, at + 5)) {
+    let grid = words::grid(words.len());
+    let kind = words::word_of(words, grid, RowNumber(row), 0);
+    let first = words::word_of(words, grid, RowNumber(row), 1) as usize;
+    if padding::numbered(kind, words::word_of(words, grid, RowNumber(row), 5)) {
         let id = padding::measure(file, first);
         let next = id.next;
         let behind = write_number(file, out, c, first, id.value, next);

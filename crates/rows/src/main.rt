@@ -1,5 +1,7 @@
 // Loads the file on standard input, and prints its rows or its refusal.
+use ids::Grid;
 use ids::RowNumber;
+use ids::WIDTH;
 use load::Loading;
 
 // The bytes behind the first `at` of the buffer, and where they end; nothing where they do not fit.
@@ -21,29 +23,14 @@ fn put_number(out: &mut [u8], at: usize, n: u64) -> usize {
     put(out, at, &digits[..size])
 }
 
-fn wide(x: u32) -> u64 {
-    x as u64
-}
-
-// A word of a row, or 0 behind the table.
-fn word(words: &[u32], row: u32, k: usize) -> u64 {
-    let start = RowNumber(row).position();
-    if words.len() < start {
-        return 0;
-    }
-    if words.len() - start <= k {
-        return 0;
-    }
-    wide(words[start + k])
-}
-
-// A row's number and its six words.
-fn put_row(out: &mut [u8], at: usize, words: &[u32], row: u32) -> usize {
+// A row's number and its words.
+fn put_row(out: &mut [u8], at: usize, words: &[u32], grid: Grid, row: u32) -> usize {
     let mut next = put_number(out, at, row as u64);
     let mut k = 0;
-    while k < 6 {
+    while k < WIDTH {
+        let word = words::word_of(words, grid, RowNumber(row), k);
         next = put(out, next, b" ");
-        next = put_number(out, next, word(words, row, k));
+        next = put_number(out, next, word as u64);
         k += 1;
     }
     put(out, next, b"\n")
@@ -51,10 +38,11 @@ fn put_row(out: &mut [u8], at: usize, words: &[u32], row: u32) -> usize {
 
 // Each row on its line, behind the first `at` bytes of the buffer, and all of it written.
 fn print_rows(out: &mut [u8], at: usize, words: &[u32], rows: u32) {
+    let grid = words::grid(words.len());
     let mut next = at;
     let mut row = 0;
     while row < rows {
-        next = put_row(out, next, words, row);
+        next = put_row(out, next, words, grid, row);
         row += 1;
     }
     printing::write_start(out, next);
@@ -73,7 +61,7 @@ fn put_counts(out: &mut [u8], rows: u32, readers: u32, shared: u32) -> usize {
 
 // Loads the file with room for 1,024 rows, and prints the answer.
 fn print_file(file: &[u8], out: &mut [u8]) {
-    let mut words = [0u32; 6144];
+    let mut words = [0u32; 1024 * WIDTH as usize];
     match load::load(file, &mut words) {
         Loading::Refused { number, place } => printing::print_refusal(number, place),
         Loading::Loaded {

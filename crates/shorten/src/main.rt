@@ -1,9 +1,10 @@
 // Writes the file on standard input with its seven-bit numbers in their shortest forms; a refusal goes to standard error alone.
+use ids::WIDTH;
 use rewrite::Rewriting;
 
 // Rewrites the file, with room for 1,024 rows.
 fn shorten(file: &[u8], out: &mut [u8]) {
-    let mut words = [0u32; 6144];
+    let mut words = [0u32; 1024 * WIDTH as usize];
     match rewrite::rewrite(file, &mut words, out) {
         Rewriting::Refused { number, place } => printing::tell_refusal(number, place),
         Rewriting::Rewritten { length } => printing::write_start(out, length),

@@ -9,10 +9,10 @@ use lib.Dec.{eqb}
 use lib.ListN.{length, drop, length-append}
 use Rattle.layout.specs.Number.{Seven}
 use Rattle.layout.specs.Target.{Target}
-use Rattle.layout.specs.Tree.{Trees, none, tree, count, size}
+use Rattle.layout.specs.Tree.{Trees, none, tree, count, size, told}
 use Rattle.layout.specs.Slot.{Slot, raw, object, reference, leaf, Plan, stop, put}
 use Rattle.layout.specs.Layout.{Raw, Value, Lays}
-use Rattle.layout.specs.Rows.{Row, row, rawRows, valueRows, rowsOf}
+use Rattle.layout.specs.Rows.{Row, rawRows, valueRows, notedRows, rowsOf}
 use Rattle.reading.specs.Answer.{Answer, refused, read}
 use Rattle.reading.specs.Reads.{seam}
 use Rattle.reading.specs.Seven.{sevenAt, seven-reads}
@@ -42,8 +42,8 @@ module _ (file : List ℕ) where
 
   unfoldable pub rowsPlaces : List Row → List ℕ
   rowsPlaces [] = []
-  rowsPlaces (row kind first z children parent detail wants ∷ rows) =
-      idPlaces kind first detail ++ (countPlaces kind (rawPlace kind first detail) ++ rowsPlaces rows)
+  rowsPlaces (r ∷ rows) =
+      idPlaces (r .kind) (r .first) (r .detail) ++ (countPlaces (r .kind) (rawPlace (r .kind) (r .first) (r .detail)) ++ rowsPlaces rows)
 
   -- the file's bytes from `at` to `end` have numbers at these places, and with each in its shortest form they are `bs`
   pub data Shortened : (at end : ℕ) (places bs : List ℕ) → Type 0 where
@@ -58,7 +58,7 @@ module _ (file : List ℕ) where
   places-append : (a b : List Row) → rowsPlaces (a ++ b) ≡ rowsPlaces a ++ rowsPlaces b
   unfolding rowsPlaces
   places-append [] b = refl
-  places-append (row kind first z children parent detail wants ∷ a) b = rw (places-append a b) (simp append-assoc)
+  places-append (r ∷ a) b = rw (places-append a b) (simp append-assoc)
 
   pub number-is : (n at : ℕ) (bs rest : List ℕ) → Seven n bs → drop at file ≡ bs ++ rest → sevenAt file at ≡ read n (at + length bs)
   number-is n at bs rest w d = seven-reads file .complete n bs rest at w d
@@ -140,7 +140,7 @@ module _ (file : List ℕ) where
         rw (i .0, i .1, i .2) (joined (number nb rest d refl w) (f (at + length nb) refl))
 
     value-shortened : (x : Slot) (kind id : ℕ) (own bs : List ℕ) (w : Value readers refers Under x kind id own cs bs) (at n q : ℕ) (rest : List ℕ) → drop at file ≡ bs ++ rest
-        → Shortened at (at + length bs) (rowsPlaces (valueRows readers refers Under below x kind id own cs bs w at n q)) (idBytes kind id ++ (body kind own (count cs) ++ short cs))
+        → Shortened at (at + length bs) (rowsPlaces (valueRows (λ r. r) (λ t r. r) readers refers Under below x kind id own cs bs w at n q)) (idBytes kind id ++ (body kind own (count cs) ++ short cs))
     unfolding Value valueRows rawRows rowsPlaces numbered short count
     value-shortened (raw t) kind id own bs w at n q rest d =
         let i = without-id kind at 0 (form-numbered (raw-form readers refers cs t kind own bs (w .1))) in
@@ -163,12 +163,12 @@ module _ (file : List ℕ) where
   -- trees that stand in the file, with the numbers of their rows in their shortest forms, are their shortest bytes
   pub lays-shortened : (readers : List Target) (refers : Target → ℕ → Type 0) (plan : Plan) (ts : Trees) (bs : List ℕ) (w : Lays readers refers plan ts bs) (at n q : ℕ) (rest : List ℕ)
       → drop at file ≡ bs ++ rest → Shortened at (at + length bs) (rowsPlaces (rowsOf readers refers plan ts bs w at n q)) (short ts)
-  unfolding Lays rowsOf short
+  unfolding Lays notedRows short
   lays-shortened readers refers stop none bs w at n q rest d = rw none-places (copied rest (rw w at d) (ap (λ (b : List ℕ). at + length b) w))
   lays-shortened readers refers (put x go) none bs w at n q rest d = absurd w
   lays-shortened readers refers stop (tree k i own cs others) bs w at n q rest d = absurd w
   lays-shortened readers refers (put x go) (tree k i own cs others) bs w at n q rest d =
       let c = split at bs (w .0) (w .1) rest (w .2) d in
       let v = value-shortened readers refers cs (λ plan b v at n q rest d. lays-shortened readers refers plan cs b v at n q rest d) x k i own (w .0) (w .3) at n q (w .1 ++ rest) (c .0) in
-      let r = lays-shortened readers refers (go own) others (w .1) (w .4) (at + length (w .0)) (n + suc (size cs)) q rest (c .1) in
+      let r = lays-shortened readers refers (go (told k own)) others (w .1) (w .4) (at + length (w .0)) (n + suc (size cs)) q rest (c .1) in
       rw (places-append, c .2) (joined v r)

@@ -10,7 +10,7 @@ use lib.ListN.{length, length-append, getD, replicate, length-replicate}
 use borrow.Author.Tests.{ne-eqb}
 use Rattle.layout.specs.Number.{Seven, little}
 use Rattle.layout.specs.Target.{Target, fixed, char, string, object as anything, texture, texture2D, spriteFont, page, enum, nullable, array, list, dictionary, kindOf}
-use Rattle.layout.specs.Tree.{Trees, none, tree, count}
+use Rattle.layout.specs.Tree.{Trees, none, tree, count, told}
 use Rattle.layout.specs.Slot.{Leaf, level, Slot, raw, object, reference, leaf, slotOf, Plan, stop, put, each, pairs, leaves}
 use Rattle.layout.specs.Fixed.{sizes}
 use Rattle.layout.specs.Image.{levels}
@@ -193,6 +193,6 @@ lays-short readers refers (put x go) none bs w = absurd w
 lays-short readers refers stop (tree k i own cs rest) bs w = absurd w
 lays-short readers refers (put x go) (tree k i own cs rest) bs w =
     let v = value-short readers refers cs (λ plan b y. lays-short readers refers plan cs b y) x k i own (w .0) (w .3) in
-    let r = lays-short readers refers (go own) rest (w .1) (w .4) in
+    let r = lays-short readers refers (go (told k own)) rest (w .1) (w .4) in
     let s = idBytes k i ++ (body k own (count cs) ++ short cs) in
     rw (w .2) (shortens-append (s, short rest, refl, v .form, r .form) v r)

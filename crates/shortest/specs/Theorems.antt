@@ -14,6 +14,7 @@ use Rattle.reading.specs.Answer.{Answer, refused, read}
 use Rattle.reading.specs.Reads.{Small}
 use Rattle.reading.specs.File as load
 use Rattle.reading.specs.File.{Named, Judges, Loaded, accepted, fileAt, toLoad, roomOf, loadOf}
+use Rattle.reading.specs.Drafts.{bare}
 use Rattle.reading.specs.Refusals.{TenOrEleven, refusal-number, refusal-place}
 use Rattle.reading.specs.Accepts.{file-complete}
 use Rattle.reading.specs.Theorems.{Fitting, rowsIn, rows-are, accepted-is}
@@ -80,8 +81,8 @@ module _ (named : List ℕ → Target → Type 0) (nameOf : List ℕ → Named) 
         let e₂ : q ≡ p = cc in
         (omega (arith, a .1), omega (arith, b .1))
     go (read a next) f e =
-        let l : loadOf nameOf file words ≡ accepted (a .rows) (a .readers) (a .shared) = ap toLoad f in
-        let g = accepted-is named nameOf judges file words small (a .rows) (a .readers) (a .shared) l .0 in
+        let l : loadOf nameOf file words ≡ accepted (bare (a .rows)) (a .readers) (a .shared) = ap toLoad f in
+        let g = accepted-is named nameOf judges file words small (bare (a .rows)) (a .readers) (a .shared) l .0 in
         let r : fitted (shortFile (g .tree)) out ≡ refusal n p = sym (rewrite-is file words out g) ∙ ap (λ (y : Answer Loaded). byLoad y out) f ∙ e in
         let t = fitted-refusal (shortFile (g .tree)) out r in
         (omega (arith, t .0), omega (arith, t .1, least file words g file (g .lays) .no-longer, g .lays .short))

@@ -4,13 +4,20 @@ use mathlib.Core.List.{List, [], _∷_}
 use Prim.Native.Nat.{ℕ, suc, _+_, _-_, _%_, _≤_, _<_, _^_}
 use native.Mathlib.Omega.{arith}
 use native.Mathlib.Numerals.{add-one}
-use Rattle.layout.specs.Rows.{Row, row, Wants}
+use Rattle.layout.specs.Rows.{Row, row}
 use Rattle.reading.specs.Answer.{Answer, refused, read}
+use Rattle.reading.specs.Drafts.{Wants, Draft}
+use Rattle.ids.specs.declared.Grid.{Grid}
 use Rattle.table.specs.declared.Head.{Head}
+use Rattle.table.specs.declared.RowWords.{RowWords}
 use Rattle.table.specs.declared.Walk.{Walk}
-use Rattle.table.specs.declared.Walk.the-variants.{Done, Refused}
-use Rattle.table.specs.Written.{putRow, rowOf, marks}
-use Rattle.table.specs.Contract.{Seen, Free, Ahead, Walked, put-leaf}
+use Rattle.table.specs.declared.Walk.the-variants.{Refused}
+use Rattle.table.specs.Written.{putRow, marks}
+use Rattle.table.specs.Contract.{Seen, Free, Ahead, Walked, reaching, put-leaf}
+
+-- a row by the words that the code has of it
+abbrev pub rowOf : RowWords → Row
+rowOf r = row (r .kind) (r .first) (r .bytes) (r .children) (r .parent) (r .detail)
 
 -- a number as a word holds it
 unfoldable pub inWord : ℕ → ℕ
@@ -22,26 +29,26 @@ in-word n h = omega arith
 
 -- the row of a value that ends before `next`
 abbrev pub valueRow : Head → (kind children next : ℕ) → Row
-valueRow h kind children next = rowOf kind (inWord (h .first)) (inWord (next - h .first)) children (h .parent) (h .detail)
+valueRow h kind children next = row kind (inWord (h .first)) (inWord (next - h .first)) children (h .parent) (h .detail)
 
 -- a value that ends at or behind its first byte, where the numbers fit
 pub value-row : (h : Head) (kind children next : ℕ) → h .first ≤ next → next < 2 ^ 32
-    → valueRow h kind children next ≡ rowOf kind (h .first) (next - h .first) children (h .parent) (h .detail)
+    → valueRow h kind children next ≡ row kind (h .first) (next - h .first) children (h .parent) (h .detail)
 value-row h kind children next a f = rw (in-word (h .first) (omega arith), in-word (next - h .first) (omega arith))
 
 -- what is answered once the bytes of a value without children are read, or refused
 abbrev pub leafAnswer : {A : Type 0} → (u : ℕ) → Answer A → Walk
 leafAnswer u (refused n p) = Refused n p
-leafAnswer u (read a next) = Done (inWord (u + 1)) next
+leafAnswer u (read a next) = reaching (inWord (u + 1)) next
 
 -- and what the words then hold: its row, if they have it
-abbrev pub leafWords : {A : Type 0} → List ℕ → Head → (kind mark : ℕ) → Answer A → List ℕ
-leafWords w h kind mark (refused n p) = w
-leafWords w h kind mark (read a next) = putRow w (h .row .0) (valueRow h kind mark next)
+abbrev pub leafWords : {A : Type 0} → Grid → List ℕ → Head → (kind mark : ℕ) → Answer A → List ℕ
+leafWords g w h kind mark (refused n p) = w
+leafWords g w h kind mark (read a next) = putRow g w (h .row .0) (valueRow h kind mark next)
 
 -- the row of a value without children that ends at `next`
-abbrev pub leafRow : Head → (kind : ℕ) → Wants → (next : ℕ) → Row
-leafRow h kind wants next = row kind (h .first) (next - h .first) 0 (h .parent) (h .detail) wants
+abbrev pub leafRow : Head → (kind : ℕ) → Wants → (next : ℕ) → Draft
+leafRow h kind wants next = record { row = row kind (h .first) (next - h .first) 0 (h .parent) (h .detail); wants = wants }
 
 -- its bytes were read, or refused
 abbrev pub leafOf : {A : Type 0} → Head → (kind : ℕ) → Wants → Answer A → Answer Seen
@@ -54,9 +61,9 @@ mute (refused n p) = refused n p
 mute (read a e) = read tt e
 
 -- where the words have the row and the numbers fit
-pub leaf-walked : {A : Type 0} (w : List ℕ) (h : Head) (kind : ℕ) (wants : Wants) (x : Answer A) → Free w (h .row .0) → Ahead (h .first) x
-    → Walked w (leafWords w h kind (marks wants) x) (h .row .0) (leafOf h kind wants x) (leafAnswer (h .row .0) x)
-leaf-walked w h kind wants (refused n p) f a = record { answers = refl; writes = refl }
-leaf-walked w h kind wants (read v next) f a =
+pub leaf-walked : {A : Type 0} (g : Grid) (w : List ℕ) (h : Head) (kind : ℕ) (wants : Wants) (x : Answer A) → Free g w (h .row .0) → Ahead (h .first) x
+    → Walked g w (leafWords g w h kind (marks wants 0) x) (h .row .0) (leafOf h kind wants x) (leafAnswer (h .row .0) x)
+leaf-walked g w h kind wants (refused n p) f a = record { answers = refl; writes = refl }
+leaf-walked g w h kind wants (read v next) f a =
     let u : inWord (h .row .0 + 1) ≡ suc (h .row .0) = in-word (h .row .0 + 1) (f .few) ∙ add-one (h .row .0) in
-    record { answers = rw u; writes = rw (value-row h kind (marks wants) next (a .0) (a .1)) (put-leaf w (h .row .0) kind (h .first) (next - h .first) (h .parent) (h .detail) wants f) }
+    record { answers = rw u; writes = rw (value-row h kind (marks wants 0) next (a .0) (a .1)) (put-leaf g w (h .row .0) (leafRow h kind wants next) f) }

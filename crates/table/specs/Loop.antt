@@ -1,149 +1,176 @@
--- Values one after the other, as a loop reads them: what is known after i of them. Assumes nothing.
+-- Values one after the other as a plan says, as a loop reads them: what is known after some of them. Assumes nothing.
 use mathlib.Core.Path.{_≡_, refl, sym, ap, _∙_}
 use mathlib.Core.List.{List, [], _∷_, _++_, append-assoc, append-nil}
-use Prim.Native.Nat.{ℕ, suc, _+_, _<_, _≤_}
+use Prim.Native.Nat.{ℕ, zero, suc, _+_, _<_, _≤_}
 use native.Mathlib.Omega.{arith}
-use native.Mathlib.Numerals.{add-one}
-use lib.ListN.{length, getD, drop, length-append, drop-of-length-le}
-use lib.Seq.{drop-cons}
+use lib.ListN.{length, length-append}
 use Rattle.laws.specs.Small.{differ}
-use Rattle.layout.specs.Rows.{Row}
-use Rattle.layout.specs.Slot.{Slot, each}
+use Rattle.layout.specs.Tree.{Trees, none, tree, count, toldOf}
+use Rattle.layout.specs.Slot.{Slot, Plan, stop, put}
 use Rattle.reading.specs.Answer.{Answer, refused, read, bind}
+use Rattle.reading.specs.Drafts.{Draft}
 use Rattle.reading.specs.Walk.{Taken, Outcome, sequence, before}
 use Rattle.reading.specs.Bounds.{Bounds}
+use Rattle.ids.specs.declared.Grid.{Grid}
+use Rattle.table.specs.declared.Reached.{Reached}
 use Rattle.table.specs.declared.Walk.{Walk}
-use Rattle.table.specs.declared.Walk.the-variants.{Done, Refused}
+use Rattle.table.specs.declared.Walk.the-variants.{Refused}
 use Rattle.table.specs.Written.{written, written-none, written-append, length-written}
-use Rattle.table.specs.Contract.{Seen, seen, Walked}
+use Rattle.table.specs.Contract.{Seen, seen, reaching, Walked}
 
 -- what a caller knows of values that were read
-pub record Got (entry exit : List ℕ) (used : ℕ) (o : Outcome) (next u : ℕ) : Type 0 where
+pub record Got (g : Grid) (entry exit : List ℕ) (used : ℕ) (o : Outcome) (next u : ℕ) : Type 0 where
   pub taken : Taken
   pub is : o ≡ read taken next
   pub rows-used : taken .0 ≡ u
-  pub words : exit ≡ written entry used (taken .1)
+  pub words : exit ≡ written g entry used (taken .1)
 
-got-of : (o : Outcome) {entry exit : List ℕ} {used next u : ℕ} → Walked entry exit used (seen o) (Done u next) → Got entry exit used o next u
+got-of : (g : Grid) (o : Outcome) {entry exit : List ℕ} {used next u : ℕ} → Walked g entry exit used (seen o) (reaching u next) → Got g entry exit used o next u
 unfolding seen
-got-of (refused n p) {next = next} {u = u} m =
-    let a : Done u next ≡ Refused n p = m .answers in
+got-of g (refused n p) {next = next} {u = u} m =
+    let a : reaching u next ≡ Refused n p = m .answers in
     differ cc
-got-of (read a e) {next = next} {u = u} m =
-    let q : Done u next ≡ Done (a .0) e = m .answers in
-    let e₁ : e ≡ next = cc in
-    let e₂ : a .0 ≡ u = cc in
+got-of g (read a e) {next = next} {u = u} m =
+    let q : reaching u next ≡ reaching (a .0) e = m .answers in
+    let z : _≡_ {A = Reached} (record { used = u; next = next }) (record { used = a .0; next = e }) = cc in
+    let e₁ : e ≡ next = sym (ap (λ (r : Reached). r .next) z) in
+    let e₂ : a .0 ≡ u = sym (ap (λ (r : Reached). r .used) z) in
     record { taken = a; is = rw e₁; rows-used = e₂; words = m .writes }
 
-pub got : {o : Outcome} {entry exit : List ℕ} {used : ℕ} {r : Walk} {next u : ℕ} → Walked entry exit used (seen o) r → r ≡ Done u next → Got entry exit used o next u
-got {o = o} {entry} {exit} {used} m e = got-of o (record { answers = sym e ∙ m .answers; writes = m .writes })
+pub got : {g : Grid} {o : Outcome} {entry exit : List ℕ} {used : ℕ} {r : Walk} {next u : ℕ} → Walked g entry exit used (seen o) r → r ≡ reaching u next → Got g entry exit used o next u
+got {g = g} {o = o} m e = got-of g o (record { answers = sym e ∙ m .answers; writes = m .writes })
 
-lost-of : (o : Outcome) {entry exit : List ℕ} {used n p : ℕ} → Walked entry exit used (seen o) (Refused n p) → o ≡ refused n p
+lost-of : (g : Grid) (o : Outcome) {entry exit : List ℕ} {used n p : ℕ} → Walked g entry exit used (seen o) (Refused n p) → o ≡ refused n p
 unfolding seen
-lost-of (refused m q) {n = n} {p = p} h =
+lost-of g (refused m q) {n = n} {p = p} h =
     let a : Refused n p ≡ Refused m q = h .answers in
     let e₁ : m ≡ n = cc in
     let e₂ : q ≡ p = cc in
     rw (e₁, e₂)
-lost-of (read a e) {n = n} {p = p} h =
-    let q : Refused n p ≡ Done (a .0) e = h .answers in
+lost-of g (read a e) {n = n} {p = p} h =
+    let q : Refused n p ≡ reaching (a .0) e = h .answers in
     differ cc
 
-pub lost : {o : Outcome} {entry exit : List ℕ} {used : ℕ} {r : Walk} {n p : ℕ} → Walked entry exit used (seen o) r → r ≡ Refused n p → o ≡ refused n p
-lost {o = o} m e = lost-of o (record { answers = sym e ∙ m .answers; writes = m .writes })
+pub lost : {g : Grid} {o : Outcome} {entry exit : List ℕ} {used : ℕ} {r : Walk} {n p : ℕ} → Walked g entry exit used (seen o) r → r ≡ Refused n p → o ≡ refused n p
+lost {g = g} {o = o} m e = lost-of g o (record { answers = sym e ∙ m .answers; writes = m .writes })
 
 -- a refusal, whatever the words hold
-pub refusing : {o : Outcome} {entry exit : List ℕ} {used n p : ℕ} → o ≡ refused n p → Walked entry exit used (seen o) (Refused n p)
+pub refusing : {g : Grid} {o : Outcome} {entry exit : List ℕ} {used n p : ℕ} → o ≡ refused n p → Walked g entry exit used (seen o) (Refused n p)
 unfolding seen
 refusing e = rw e (record { answers = refl; writes = refl })
 
 -- values that were read
-pub reading : {o : Outcome} {entry exit : List ℕ} {used : ℕ} (a : Taken) {next u : ℕ} → o ≡ read a next → u ≡ a .0 → exit ≡ written entry used (a .1) → Walked entry exit used (seen o) (Done u next)
+pub reading : {g : Grid} {o : Outcome} {entry exit : List ℕ} {used : ℕ} (a : Taken) {next u : ℕ} → o ≡ read a next → u ≡ a .0 → exit ≡ written g entry used (a .1)
+    → Walked g entry exit used (seen o) (reaching u next)
 unfolding seen
 reading a e c w = rw (e, c) (record { answers = refl; writes = w })
 
--- rows before those of what follows
-abbrev pub prefixed : List Row → Answer Seen → Answer Seen
-prefixed rows (refused n p) = refused n p
-prefixed rows (read a e) = read (a .0, rows ++ a .1) e
+-- what a program has of values below another: the rows used, the new rows and how many values there are
+abbrev pub Counted : Type 0
+Counted = ℕ × List Draft × ℕ
 
-prefixed-none : (o : Answer Seen) → prefixed [] o ≡ o
+unfoldable pub counted : Outcome → Answer Counted
+counted (refused n p) = refused n p
+counted (read a e) = read (a .0, a .1, count (a .2)) e
+
+-- rows and a number of values before what follows
+abbrev pub prefixed : List Draft → ℕ → Answer Counted → Answer Counted
+prefixed rows k (refused n p) = refused n p
+prefixed rows k (read a e) = read (a .0, rows ++ a .1, k + a .2) e
+
+prefixed-none : (o : Answer Counted) → prefixed [] 0 o ≡ o
 prefixed-none (refused n p) = refl
-prefixed-none (read a e) = refl
+prefixed-none (read a e) = let z : 0 + a .2 ≡ a .2 = omega arith in ap (λ (k : ℕ). read (a .0, a .1, k) e) z
 
-prefixed-more : (rows more : List Row) (o : Answer Seen) → prefixed rows (prefixed more o) ≡ prefixed (rows ++ more) o
-prefixed-more rows more (refused n p) = refl
-prefixed-more rows more (read a e) = simp append-assoc
+prefixed-more : (rows more : List Draft) (i : ℕ) (o : Answer Counted) → prefixed rows i (prefixed more 1 o) ≡ prefixed (rows ++ more) (i + 1) o
+prefixed-more rows more i (refused n p) = refl
+prefixed-more rows more i (read a e) = let z : i + (1 + a .2) ≡ i + 1 + a .2 = omega arith in rw (append-assoc rows more (a .1), z)
 
-rest-seen : (a : Taken) (o : Outcome) → seen (bind o (λ b n. read (b .0, a .1 ++ b .1, before (a .2) (b .2)) n)) ≡ prefixed (a .1) (seen o)
-unfolding seen bind
-rest-seen a (refused n p) = refl
-rest-seen a (read b n) = refl
+count-before : (t rest : Trees) → count t ≡ 1 → count (before t rest) ≡ 1 + count rest
+unfolding count before
+count-before none rest e = absurd (omega arith)
+count-before (tree k i own cs x) rest e = omega arith
 
-module _ (file : List ℕ) (room : ℕ) (step : Slot → ℕ → ℕ → Outcome) (slots : List Slot) (w₀ : List ℕ) (at used : ℕ) where
-  -- i values are read, with their rows; the rest gives what is left
-  pub record Reading (w : List ℕ) (next row i : ℕ) : Type 0 where
-    pub rows : List Row
-    pub whole : prefixed rows (seen (sequence step (each (drop i slots)) next row)) ≡ seen (sequence step (each slots) at used)
+rest-counted : (a : Taken) → count (a .2) ≡ 1 → (o : Outcome) → counted (bind o (λ b n. read (b .0, a .1 ++ b .1, before (a .2) (b .2)) n)) ≡ prefixed (a .1) 1 (counted o)
+unfolding counted bind
+rest-counted a h (refused n p) = refl
+rest-counted a h (read b n) = rw (count-before (a .2) (b .2) h)
+
+-- what was counted is what was seen
+pub counted-read : (o : Outcome) {u i e : ℕ} {rows : List Draft} → counted o ≡ read (u, rows, i) e → (a : Taken) × (o ≡ read a e) × (a .0 ≡ u) × (a .1 ≡ rows) × (count (a .2) ≡ i)
+unfolding counted
+counted-read (refused n p) q = differ cc
+counted-read (read a f) {u = u} {i = i} {e = e} {rows = rows} q =
+    let z : f ≡ e = cc in
+    let t : _≡_ {A = Counted} (a .0, a .1, count (a .2)) (u, rows, i) = cc in
+    (a, rw z, ap (λ (x : Counted). x .0) t, ap (λ (x : Counted). x .1) t, ap (λ (x : Counted). x .2) t)
+
+pub counted-refused : (o : Outcome) {n p : ℕ} → counted o ≡ refused n p → o ≡ refused n p
+unfolding counted
+counted-refused (refused n p) q = cc
+counted-refused (read a f) q = differ cc
+
+module _ (g : Grid) (file : List ℕ) (step : Slot → ℕ → ℕ → Outcome) (plan₀ : Plan) (w₀ : List ℕ) (at used : ℕ) where
+  -- i values are read, with their rows; `plan` is what is left
+  pub record Reading (w : List ℕ) (plan : Plan) (next row i : ℕ) : Type 0 where
+    pub rows : List Draft
+    pub whole : prefixed rows i (counted (sequence step plan next row)) ≡ counted (sequence step plan₀ at used)
     pub counts : row ≡ used + length rows
-    pub words : w ≡ written w₀ used rows
-    pub turns : i ≤ length slots
+    pub words : w ≡ written g w₀ used rows
     pub ahead : at ≤ next
     pub inside : at ≤ length file → next ≤ length file
-    pub fits : used ≤ room → row ≤ room
+    pub fits : used ≤ g .room → row ≤ g .room
 
-  pub start : Reading w₀ at used 0
+  pub start : Reading w₀ plan₀ at used 0
   start = record {
     rows = [];
-    whole = prefixed-none (seen (sequence step (each slots) at used));
+    whole = prefixed-none (counted (sequence step plan₀ at used));
     counts = omega arith;
-    words = sym (written-none w₀ used);
-    turns = omega arith;
+    words = sym (written-none g w₀ used);
     ahead = omega arith;
     inside = λ h. h;
     fits = λ h. h;
   }
 
-  pub same : {w : List ℕ} {next row i : ℕ} → Reading w next row i → length w ≡ length w₀
-  same r = rw (r .words) (length-written w₀ used (r .rows))
+  pub same : {w : List ℕ} {plan : Plan} {next row i : ℕ} → Reading w plan next row i → length w ≡ length w₀
+  same r = rw (r .words) (length-written g w₀ used (r .rows))
 
-  next-slot : (i : ℕ) (x : Slot) → i < length slots → getD slots i x ≡ x → drop i slots ≡ x ∷ drop (i + 1) slots
-  next-slot i x h e = rw (add-one i) (drop-cons slots i x h ∙ ap (λ (y : Slot). y ∷ drop (suc i) slots) e)
-
-  pub turn : {w w′ : List ℕ} {next row i : ℕ} (x : Slot) {a u : ℕ} → Reading w next row i → i < length slots → getD slots i x ≡ x
-      → (g : Got w w′ row (step x next row) a u) → Bounds file room next row (g .taken) a → Reading w′ a u (i + 1)
-  unfolding sequence each bind
-  turn {w} {w′} {next} {row} {i} x {a} {u} r h e g b =
-      let t = g .taken in
-      let more : List Row = t .1 in
-      let rest : Answer Seen = seen (sequence step (each (drop (i + 1) slots)) a (t .0)) in
-      let one : seen (sequence step (each (drop i slots)) next row) ≡ prefixed more rest = rw (next-slot i x h e, g .is) (rest-seen t (sequence step (each (drop (i + 1) slots)) a (t .0))) in
+  -- one value: what is left goes by the number that it tells
+  pub turn : {w w′ : List ℕ} {next row i : ℕ} (x : Slot) (go : ℕ → Plan) {a u : ℕ} → Reading w (put x go) next row i
+      → (y : Got g w w′ row (step x next row) a u) → count (y .taken .2) ≡ 1 → Bounds file (g .room) next row (y .taken) a
+      → Reading w′ (go (toldOf (y .taken .2))) a u (i + 1)
+  unfolding sequence bind
+  turn {w} {w′} {next} {row} {i} x go {a} {u} r y h b =
+      let t = y .taken in
+      let more : List Draft = t .1 in
+      let plan = go (toldOf (t .2)) in
+      let rest : Answer Counted = counted (sequence step plan a (t .0)) in
+      let one : counted (sequence step (put x go) next row) ≡ prefixed more 1 rest = rw (y .is) (rest-counted t h (sequence step plan a (t .0))) in
       let k : row ≡ used + length (r .rows) = r .counts in
       let c : t .0 ≡ row + length more = b .counted in
-      let q : t .0 ≡ u = g .rows-used in
+      let q : t .0 ≡ u = y .rows-used in
       let l : length (r .rows ++ more) ≡ length (r .rows) + length more = length-append (r .rows) more in
       record {
         rows = r .rows ++ more;
-        whole = rw (← q) (sym (prefixed-more (r .rows) more rest) ∙ ap (prefixed (r .rows)) (sym one) ∙ r .whole);
+        whole = rw (← q) (sym (prefixed-more (r .rows) more i rest) ∙ ap (prefixed (r .rows) i) (sym one) ∙ r .whole);
         counts = omega arith;
-        words = g .words ∙ rw (r .words, k) (written-append w₀ used (r .rows) more);
-        turns = omega arith;
+        words = y .words ∙ rw (r .words, k) (written-append g w₀ used (r .rows) more);
         ahead = omega (arith, b .ahead, r .ahead);
         inside = λ p. b .inside (r .inside p);
         fits = λ p. rw (← q) (b .fits (r .fits p));
       }
 
-  pub stop : {w : List ℕ} {next row i : ℕ} → Reading w next row i → length slots ≤ i → Walked w₀ w used (seen (sequence step (each slots) at used)) (Done row next)
-  unfolding sequence each seen
-  stop {w} {next} {row} {i} r h =
-      let e : drop i slots ≡ [] = drop-of-length-le slots {i = i} h in
-      let x : read (row, r .rows ++ []) next ≡ seen (sequence step (each slots) at used) = rw e at (r .whole) in
-      rw (← x, append-nil (r .rows)) (record { answers = refl; writes = r .words })
+  -- nothing is left: the rows stand in the words, and there are i values
+  pub ended : {w : List ℕ} {next row i : ℕ} → (r : Reading w stop next row i)
+      → (counted (sequence step plan₀ at used) ≡ read (row, r .rows, i) next) × (w ≡ written g w₀ used (r .rows))
+  unfolding sequence counted count
+  ended {w} {next} {row} {i} r =
+      let z : i + 0 ≡ i = omega arith in
+      (sym (r .whole) ∙ rw (append-nil (r .rows), z), r .words)
 
-  pub give-up : {w w′ : List ℕ} {next row i : ℕ} (x : Slot) {n p : ℕ} → Reading w next row i → i < length slots → getD slots i x ≡ x
-      → step x next row ≡ refused n p → Walked w₀ w′ used (seen (sequence step (each slots) at used)) (Refused n p)
-  unfolding sequence each bind seen
-  give-up {w} {w′} {next} {row} {i} x {n} {p} r h e b =
-      let one : seen (sequence step (each (drop i slots)) next row) ≡ refused n p = rw (next-slot i x h e, b) in
-      let all : refused n p ≡ seen (sequence step (each slots) at used) = sym (ap (prefixed (r .rows)) one) ∙ r .whole in
-      rw (← all) (record { answers = refl; writes = refl })
+  pub give-up : {w : List ℕ} {next row i : ℕ} (x : Slot) (go : ℕ → Plan) {n p : ℕ} → Reading w (put x go) next row i
+      → step x next row ≡ refused n p → counted (sequence step plan₀ at used) ≡ refused n p
+  unfolding sequence bind counted
+  give-up {w} {next} {row} {i} x go {n} {p} r b =
+      let one : counted (sequence step (put x go) next row) ≡ refused n p = rw b in
+      sym (r .whole) ∙ ap (prefixed (r .rows) i) one

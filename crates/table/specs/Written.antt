@@ -1,119 +1,83 @@
 -- Rows in the lent words (01, "The row table"). Assumes nothing.
 use mathlib.Core.Path.{_≡_, refl, sym, ap, _∙_}
 use mathlib.Core.Bool.{cond}
-use mathlib.Core.List.{List, [], _∷_, _++_, append-assoc}
+use mathlib.Core.List.{List, [], _∷_, _++_}
 use Prim.Native.Nat.{ℕ, suc, _+_, _*_, _<_, _≤_}
 use native.Mathlib.Omega.{arith}
-use lib.Dec.{leb}
-use lib.ListN.{length, set, length-append}
-use lib.Seq.{sets, length-sets, set-comm}
-use Rattle.layout.specs.Rows.{Row, row, Wants, nothing, resource}
+use lib.Dec.{ltb}
+use lib.ListN.{length, set}
+use Rattle.layout.specs.Rows.{Row, row, width, words}
+use Rattle.reading.specs.Grid as grid
+use Rattle.reading.specs.Grid.{shapeOf, puts, writtenRows, Wide}
+use Rattle.reading.specs.Drafts.{Wants, nothing, resource, Draft}
+use Rattle.ids.specs.declared.Grid.{Grid}
+use Rattle.ids.specs.Position.{cellOf}
 
--- a row's six words while values are read: a reference has the kind that it wants of its resource in the place of its number of children, which is 0, until the last pass has judged and cleared it
-unfoldable pub draft : Row → List ℕ
-draft (row kind first z children parent detail nothing) = kind ∷ first ∷ z ∷ children ∷ parent ∷ detail ∷ []
-draft (row kind first z children parent detail (resource wanted)) = kind ∷ first ∷ z ∷ wanted ∷ parent ∷ detail ∷ []
+-- a row while values are read: a reference has the kind that it wants of its resource in the place of its number of children, which is 0, until the last pass has judged and cleared it
+abbrev pub marks : Wants → (children : ℕ) → ℕ
+marks nothing children = children
+marks (resource wanted) children = wanted
 
--- what stands in that place for what is wanted, where there are no children
-abbrev pub marks : Wants → ℕ
-marks nothing = 0
-marks (resource wanted) = wanted
+abbrev pub marked : Draft → Row
+marked d = row (d .row .kind) (d .row .first) (d .row .bytes) (marks (d .wants) (d .row .children)) (d .row .parent) (d .row .detail)
 
--- rows one after the other
-unfoldable pub drafts : List Row → List ℕ
+-- the words of rows one after the other
+unfoldable pub drafts : List Draft → List (List ℕ)
 drafts [] = []
-drafts (r ∷ rs) = draft r ++ drafts rs
+drafts (d ∷ ds) = words (marked d) ∷ drafts ds
 
 -- the words with rows stored from row number u on
-unfoldable pub written : List ℕ → (u : ℕ) → List Row → List ℕ
-written w u rows = sets w (6 * u) (drafts rows)
+unfoldable pub written : Grid → List ℕ → (u : ℕ) → List Draft → List ℕ
+written g w u ds = writtenRows (shapeOf (g .columns)) (g .room) w u (drafts ds)
 
-pub same-draft : (w : List ℕ) (u : ℕ) (r s : Row) → draft r ≡ draft s → written w u (r ∷ []) ≡ written w u (s ∷ [])
-unfolding written drafts
-same-draft w u r s e = rw e
+-- one row's words, where the words have its last one; else they stay
+unfoldable pub putRow : Grid → List ℕ → (u : ℕ) → Row → List ℕ
+putRow g w u r = cond (ltb (cellOf g u 5) (length w)) (puts (shapeOf (g .columns)) (g .room) w u 0 (words r)) w
 
--- a row's six words, whatever it wants of a resource
-abbrev pub rowOf : (kind first size children parent detail : ℕ) → Row
-rowOf kind first z children parent detail = row kind first z children parent detail nothing
+-- a row that was put is a row that is written
+pub put-written : (g : Grid) (w : List ℕ) (u : ℕ) (d : Draft) → puts (shapeOf (g .columns)) (g .room) w u 0 (words (marked d)) ≡ written g w u (d ∷ [])
+unfolding written drafts writtenRows
+put-written g w u d = refl
 
--- one row, where the words have it; else they stay
-unfoldable pub putRow : List ℕ → (u : ℕ) → Row → List ℕ
-putRow w u r = cond (leb (6 * u + 6) (length w)) (written w u (r ∷ [])) w
-
--- a row without children, by what stands in that place
-pub marked : (w : List ℕ) (u kind first z parent detail : ℕ) (wants : Wants)
-    → written w u (rowOf kind first z (marks wants) parent detail ∷ []) ≡ written w u (row kind first z 0 parent detail wants ∷ [])
-unfolding draft
-marked w u kind first z parent detail nothing = refl
-marked w u kind first z parent detail (resource wanted) = same-draft w u (rowOf kind first z wanted parent detail) (row kind first z 0 parent detail (resource wanted)) refl
-
-pub length-written : (w : List ℕ) (u : ℕ) (rows : List Row) → length (written w u rows) ≡ length w
-unfolding written
-length-written w u rows = length-sets w (6 * u) (drafts rows)
-
-sets-append : (w : List ℕ) (i : ℕ) (xs ys : List ℕ) → sets (sets w i xs) (i + length xs) ys ≡ sets w i (xs ++ ys)
-sets-append w i [] ys = let h : i + 0 ≡ i = omega arith in rw h
-sets-append w i (x ∷ xs) ys =
-    let h : i + suc (length xs) ≡ suc i + length xs = omega arith in
-    rw h (sets-append (set w i x) (suc i) xs ys)
-
--- a store before a run of stores may go first
-set-sets : (w : List ℕ) (i j a : ℕ) (xs : List ℕ) → i < j → set (sets w j xs) i a ≡ sets (set w i a) j xs
-set-sets w i j a [] h = refl
-set-sets w i j a (x ∷ xs) h =
-    set-sets (set w j x) i (suc j) a xs (omega arith)
-    ∙ ap (λ (l : List ℕ). sets l (suc j) xs) (set-comm w j i x a (λ e. omega arith))
-
--- a run of stores before a run of stores may go first
-sets-sets : (w : List ℕ) (i j : ℕ) (xs ys : List ℕ) → i + length xs ≤ j → sets (sets w j ys) i xs ≡ sets (sets w i xs) j ys
-sets-sets w i j [] ys h = refl
-sets-sets w i j (x ∷ xs) ys h =
-    ap (λ (l : List ℕ). sets l (suc i) xs) (set-sets w i j x ys (omega arith))
-    ∙ sets-sets (set w i x) (suc i) j xs ys (omega arith)
-
-pub drafts-append : (rs qs : List Row) → drafts (rs ++ qs) ≡ drafts rs ++ drafts qs
-unfolding drafts
-drafts-append [] qs = refl
-drafts-append (r ∷ rs) qs = rw (drafts-append rs qs) (sym (append-assoc (draft r) (drafts rs) (drafts qs)))
-
-length-draft : (r : Row) → length (draft r) ≡ 6
-unfolding draft
-length-draft (row k f l c p d nothing) = refl
-length-draft (row k f l c p d (resource e)) = refl
-
-pub length-drafts : (rs : List Row) → length (drafts rs) ≡ 6 * length rs
+pub length-drafts : (ds : List Draft) → length (drafts ds) ≡ length ds
 unfolding drafts
 length-drafts [] = refl
-length-drafts (r ∷ rs) = rw (length-append, length-draft r, length-drafts rs) (omega arith)
+length-drafts (d ∷ ds) = ap suc (length-drafts ds)
 
-pub written-none : (w : List ℕ) (u : ℕ) → written w u [] ≡ w
-unfolding written drafts
-written-none w u = refl
+pub wide-drafts : (ds : List Draft) → Wide (drafts ds)
+unfolding drafts Wide words
+wide-drafts [] = tt
+wide-drafts (d ∷ ds) = (refl, wide-drafts ds)
+
+pub drafts-append : (rs qs : List Draft) → drafts (rs ++ qs) ≡ drafts rs ++ drafts qs
+unfolding drafts
+drafts-append [] qs = refl
+drafts-append (r ∷ rs) qs = ap (λ (l : List (List ℕ)). words (marked r) ∷ l) (drafts-append rs qs)
+
+pub length-written : (g : Grid) (w : List ℕ) (u : ℕ) (ds : List Draft) → length (written g w u ds) ≡ length w
+unfolding written
+length-written g w u ds = grid.length-rows (shapeOf (g .columns)) (g .room) w u (drafts ds)
+
+pub written-none : (g : Grid) (w : List ℕ) (u : ℕ) → written g w u [] ≡ w
+unfolding written drafts writtenRows
+written-none g w u = refl
 
 -- rows, and then the rows after them
-pub written-append : (w : List ℕ) (u : ℕ) (rs qs : List Row) → written (written w u rs) (u + length rs) qs ≡ written w u (rs ++ qs)
+pub written-append : (g : Grid) (w : List ℕ) (u : ℕ) (rs qs : List Draft) → written g (written g w u rs) (u + length rs) qs ≡ written g w u (rs ++ qs)
 unfolding written
-written-append w u rs qs =
-    let h : 6 * (u + length rs) ≡ 6 * u + length (drafts rs) = omega (arith, length-drafts rs) in
-    rw (h, drafts-append rs qs) (sets-append w (6 * u) (drafts rs) (drafts qs))
+written-append g w u rs qs =
+    rw (← length-drafts rs, drafts-append rs qs) (grid.written-append (shapeOf (g .columns)) (g .room) w u (drafts rs) (drafts qs))
 
 -- the rows of the children, and then their parent's row before them
-pub written-under : (w : List ℕ) (u : ℕ) (r : Row) (rs : List Row) → written (written w (suc u) rs) u (r ∷ []) ≡ written w u (r ∷ rs)
-unfolding written
-written-under w u r rs =
-    let h : 6 * suc u ≡ 6 * u + length (drafts (r ∷ [])) = omega (arith, length-drafts (r ∷ [])) in
-    let l : drafts (r ∷ rs) ≡ drafts (r ∷ []) ++ drafts rs = drafts-append (r ∷ []) rs in
-    rw (h, l) (sets-sets w (6 * u) (6 * u + length (drafts (r ∷ []))) (drafts (r ∷ [])) (drafts rs) (omega arith)
-    ∙ sets-append w (6 * u) (drafts (r ∷ [])) (drafts rs))
+pub written-under : (g : Grid) (w : List ℕ) (u : ℕ) (d : Draft) (ds : List Draft) → suc u + length ds ≤ g .room
+    → written g (written g w (suc u) ds) u (d ∷ []) ≡ written g w u (d ∷ ds)
+unfolding written drafts words
+written-under g w u d ds h =
+    grid.written-under (shapeOf (g .columns)) (g .room) w u (words (marked d)) (drafts ds) refl (wide-drafts ds) (omega (arith, length-drafts ds))
 
--- six stores at i, i + 1, .. are the row's run of stores
-pub six : (w : List ℕ) (i k f l c p d : ℕ)
-    → set (set (set (set (set (set w i k) (i + 1) f) (i + 2) l) (i + 3) c) (i + 4) p) (i + 5) d ≡ sets w i (drafts (rowOf k f l c p d ∷ []))
-unfolding drafts draft
-six w i k f l c p d =
-    let h1 : i + 1 ≡ suc i = omega arith in
-    let h2 : i + 2 ≡ suc (suc i) = omega arith in
-    let h3 : i + 3 ≡ suc (suc (suc i)) = omega arith in
-    let h4 : i + 4 ≡ suc (suc (suc (suc i))) = omega arith in
-    let h5 : i + 5 ≡ suc (suc (suc (suc (suc i)))) = omega arith in
-    rw (h1, h2, h3, h4, h5)
+-- six stores into the cells of a row
+pub six : (g : Grid) (w : List ℕ) (u k f b c p d : ℕ)
+    → set (set (set (set (set (set w (cellOf g u 0) k) (cellOf g u 1) f) (cellOf g u 2) b) (cellOf g u 3) c) (cellOf g u 4) p) (cellOf g u 5) d
+    ≡ puts (shapeOf (g .columns)) (g .room) w u 0 (words (row k f b c p d))
+unfolding puts words
+six g w u k f b c p d = refl

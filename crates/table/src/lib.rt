@@ -1,14 +1,16 @@
-// The row table: six words to a row (01, "The row table"), and what a walk over values answers.
+// The row table (01, "The row table"), and what a walk over values answers.
 use answers::Number;
+use ids::Grid;
 use ids::RowNumber;
 ghost use mathlib.Core.Path.{_≡_};
 ghost use Prim.Native.Nat.{_-_};
-ghost use Rattle.table.specs.Written.{putRow, rowOf};
-ghost use Rattle.table.specs.Leaf.{inWord, leafAnswer, leafWords};
+ghost use Rattle.fill.specs.Fill.{cleared};
+ghost use Rattle.ids.specs.Position.{cellOf};
+ghost use Rattle.table.specs.Written.{putRow};
+ghost use Rattle.table.specs.Leaf.{rowOf, valueRow, inWord, leafAnswer, leafWords};
 ghost use Rattle.answers.specs.Told.{told};
 
-// What is known of a value before its bytes are read: its row's number, its first byte, and the words that its row
-// has for its parent's row number plus 1 and for its type id or resource id.
+// What is known of a value before its bytes are read: its row's number, its first byte, its parent's row number plus 1, and its type id or resource id.
 pub struct Head {
     pub row: RowNumber,
     pub first: usize,
@@ -16,38 +18,54 @@ pub struct Head {
     pub detail: u32,
 }
 
-// A value, or values one after the other: the rows used so far and the next byte, or a refusal's number and place.
+// The words of a row.
+pub struct RowWords {
+    pub kind: u32,
+    pub first: u32,
+    pub bytes: u32,
+    pub children: u32,
+    pub parent: u32,
+    pub detail: u32,
+}
+
+// What a walk reaches: the rows used so far and the next byte.
+pub struct Reached {
+    pub used: u32,
+    pub next: usize,
+}
+
+// A value, or values one after the other: what the walk reaches, or a refusal's number and place.
 pub enum Walk {
-    Done { used: u32, next: usize },
+    Done(Reached),
     Refused { number: u32, place: usize },
 }
 
 // Puts a row into the words, if they have it.
-pub fn put_row(
-    words: &mut [u32],
-    row: RowNumber,
-    kind: u32,
-    first: u32,
-    size: u32,
-    children: u32,
-    parent: u32,
-    detail: u32,
-)
-    ensures { λ _. ⌜ now (words .exit) ≡ putRow (now (words .entry)) (row .0) (rowOf kind first size children parent detail) ⌝ }
+pub fn put_row(words: &mut [u32], grid: Grid, row: RowNumber, r: RowWords)
+    ensures { λ _. ⌜ now (words .exit) ≡ putRow grid (now (words .entry)) (row .0) (rowOf r) ⌝ }
 {
-    let at = row.position();
-    if words.len() < 6 {
+    let sixth = row.cell(grid, 5);
+    if words.len() <= sixth {
         return;
     }
-    if words.len() - 6 < at {
-        return;
-    }
-    words[at] = kind;
-    words[at + 1] = first;
-    words[at + 2] = size;
-    words[at + 3] = children;
-    words[at + 4] = parent;
-    words[at + 5] = detail;
+    let first = row.cell(grid, 0);
+    let second = row.cell(grid, 1);
+    let third = row.cell(grid, 2);
+    let fourth = row.cell(grid, 3);
+    let fifth = row.cell(grid, 4);
+    words[first] = r.kind;
+    words[second] = r.first;
+    words[third] = r.bytes;
+    words[fourth] = r.children;
+    words[fifth] = r.parent;
+    words[sixth] = r.detail;
+}
+
+// Zeros behind the rows before row `used`, in a table by rows.
+pub fn clear_behind(words: &mut [u32], grid: Grid, used: RowNumber)
+    ensures { λ _. ⌜ now (words .exit) ≡ cleared (now (words .entry)) (cellOf grid (used .0) 0) ⌝ }
+{
+    fill::clear(words, used.cell(grid, 0));
 }
 
 // A number as a word holds it: its remainder by 2 to the 32.
@@ -67,19 +85,35 @@ pub fn span(first: usize, next: usize) -> u32
     word(next - first)
 }
 
+// The row of a value that ends before `next`.
+pub fn row_words(h: Head, kind: u32, children: u32, next: usize) -> RowWords
+    ensures { λ r. ⌜ rowOf r ≡ valueRow h kind children next ⌝ }
+{
+    let first = word(h.first);
+    let bytes = span(h.first, next);
+    RowWords {
+        kind,
+        first,
+        bytes,
+        children,
+        parent: h.parent,
+        detail: h.detail,
+    }
+}
+
 // A value without children, once its bytes are read; `mark` is the kind that a reference wants, else 0.
-pub fn leaf(words: &mut [u32], h: Head, kind: u32, mark: u32, read: Number) -> Walk
+pub fn leaf(words: &mut [u32], grid: Grid, h: Head, kind: u32, mark: u32, read: Number) -> Walk
     ensures { λ r. ⌜ r ≡ leafAnswer (h .row .0) (told read) ⌝ }
-    ensures { λ _. ⌜ now (words .exit) ≡ leafWords (now (words .entry)) h kind mark (told read) ⌝ }
+    ensures { λ _. ⌜ now (words .exit) ≡ leafWords grid (now (words .entry)) h kind mark (told read) ⌝ }
 {
     match read {
         Number::Refused(number, place) => Walk::Refused { number, place },
         Number::Read(_, next) => {
-            let first = word(h.first);
-            let size = span(h.first, next);
-            let used = std::num::wrapping_add_u32(h.row.0, 1);
-            put_row(words, h.row, kind, first, size, mark, h.parent, h.detail);
-            Walk::Done { next, used }
+            let row = h.row;
+            let r = row_words(h, kind, mark, next);
+            put_row(words, grid, row, r);
+            let used = std::num::wrapping_add_u32(row.0, 1);
+            Walk::Done(Reached { used, next })
         }
     }
 }

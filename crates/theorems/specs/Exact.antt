@@ -9,7 +9,7 @@ use Rattle.layout.specs.Tree.{Trees, count}
 use Rattle.layout.specs.Slot.{Slot, each}
 use Rattle.layout.specs.Layout.{Lays}
 use Rattle.layout.specs.Resource.{Within}
-use Rattle.layout.specs.Rows.{Row, flat}
+use Rattle.layout.specs.Rows.{Row, flat, width}
 use Rattle.layout.specs.File.{FileTree, sharedOf, FileLays, fileRows}
 use Rattle.layout.specs.Named.{named}
 use Rattle.reading.specs.Theorems as T
@@ -43,7 +43,7 @@ Accepted (Loaded rows readers shared) = Unit {0}
 
 -- so many words that begin with the rows; 01: "Every word not in a used row is zero"
 abbrev pub table : List Row → (words : ℕ) → List ℕ
-table rows words = flat rows ++ replicate (words - 6 * length rows) 0
+table rows words = flat rows ++ replicate (words - width * length rows) 0
 
 -- For a file, the number of words lent, the words as they are left and the answer. No reading is in it.
 pub record Exact (file : List ℕ) (words : ℕ) (left : List ℕ) (r : Loading) : Type 0 where

@@ -7,9 +7,9 @@ use native.Mathlib.Omega.{arith}
 use lib.ListN.{length, take, drop, drop-of-length-le}
 use lib.Seq.{length-take-le}
 use borrow.Author.Tests.{le-leb, lt-leb, ne-eqb}
+use Rattle.layout.specs.Number.{valueOf}
 use Rattle.reading.specs.Answer.{read, refused, bind, check}
 use Rattle.reading.specs.Reads.{some, field}
-use Rattle.reading.specs.Little.{valueOf}
 use Rattle.reading.specs.Fixed.{rule, fixedAt, sized, value-drop}
 use Rattle.values.specs.Word.{fourAt}
 

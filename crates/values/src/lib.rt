@@ -4,7 +4,7 @@ ghost use mathlib.Core.Path.{_≡_};
 ghost use Prim.Native.Nat.{_+_, _≤_};
 ghost use lib.ListN.{length, getD, take, drop};
 ghost use Rattle.layout.specs.Fixed.{sizes};
-ghost use Rattle.reading.specs.Little.{valueOf};
+ghost use Rattle.layout.specs.Number.{valueOf};
 ghost use Rattle.reading.specs.Fixed.{isBoolean, isDateTime, isDecimal, rule, fixedAt, sized};
 ghost use Rattle.answers.specs.Told.{told};
 ghost use Rattle.values.specs.Word.{fourAt};

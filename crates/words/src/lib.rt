@@ -1,12 +1,18 @@
-// The words of a row table that a caller lends: the word at a place, and how many rows there is room for.
+// The words of a row table that a caller lends: the word of a row, how many rows there is room for, and its shape by rows.
+use ids::Grid;
+use ids::RowNumber;
+use ids::WIDTH;
 ghost use mathlib.Core.Path.{_≡_};
 ghost use lib.ListN.{getD};
 ghost use Rattle.reading.specs.File.{roomOf};
+ghost use Rattle.ids.specs.Position.{cellOf};
+ghost use Rattle.words.specs.Grids.{rowsGrid};
 
-// The word at a place, 0 where there is none.
-pub fn word(words: &[u32], at: usize) -> u32
-    ensures { λ r. ⌜ r ≡ getD (now (words .entry)) at 0 ⌝ }
+// A word of a row, 0 where there is none.
+pub fn word_of(words: &[u32], grid: Grid, row: RowNumber, word: u32) -> u32
+    ensures { λ r. ⌜ r ≡ getD (now (words .entry)) (cellOf grid (row .0) word) 0 ⌝ }
 {
+    let at = row.cell(grid, word);
     if at < words.len() {
         return words[at];
     }
@@ -17,9 +23,19 @@ pub fn word(words: &[u32], at: usize) -> u32
 pub fn room(words: usize) -> u32
     ensures { λ r. ⌜ r ≡ roomOf words ⌝ }
 {
-    let rows = words / 6;
+    let rows = words / WIDTH as usize;
     if 65536 < rows {
         return 65536;
     }
     rows as u32
+}
+
+// A table by rows, with the room of so many words.
+pub fn grid(words: usize) -> Grid
+    ensures { λ r. ⌜ r ≡ rowsGrid words ⌝ }
+{
+    Grid {
+        room: room(words),
+        columns: false,
+    }
 }

@@ -1,6 +1,7 @@
-use Prim.Native.Nat.{ℕ}
+use Prim.Native.Nat.{ℕ, _*_}
 use mathlib.Core.Path.{ap, _∙_}
 use lib.ListN.{length-replicate}
+use Rattle.layout.specs.Rows.{width}
 use Rattle.reading.specs.File.{loadOf}
 use Rattle.readers.specs.Judged.{judgedName}
 use Rattle.builder.specs.Packed.{packed}
@@ -17,7 +18,7 @@ xnb-load-rows-requires c κs = search needs
 
 returns : tie.Need-returns
 returns c =
-    ap (λ (t : ℕ × ℕ × ℕ). t .0) (c .before .xnb-load-rows .ensures .0) ∙ load-packed _ ∙ ap (λ n. packed (loadOf judgedName (c .before .before .before .before .before .before .args .file .now) n)) (length-replicate {A = ℕ} 6144 0)
+    ap (λ (t : ℕ × ℕ × ℕ). t .0) (c .before .xnb-load-rows .ensures .0) ∙ load-packed _ ∙ ap (λ n. packed (loadOf judgedName (c .before .before .before .before .before .before .args .file .now) n)) (length-replicate {A = ℕ} (1024 * width) 0)
 
 pub xnb-load-spec : {M : Type 1} → statement M
 xnb-load-spec = tie.close (tie.spec slice-aggregate-xnb-load-rows xnb-load-rows-requires returns)

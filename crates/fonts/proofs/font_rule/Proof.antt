@@ -1,12 +1,12 @@
-use mathlib.Core.Path.{sym, _∙_}
-use Rattle.fonts.specs.FontWords.{by-rows}
+use mathlib.Core.Path.{refl, sym, ap, _∙_}
+use Rattle.fonts.specs.FontWords.{beyond, wordAt, by-rows}
 use Rattle.fonts.proofs.Laws.{no, yes}
 use borrow.Author.Needs.{needs}
 use Rattle.fonts.proofs.font_rule.Statement.{statement}
 use Rattle.fonts.proofs.font_rule.Tie as tie
 
-add-texture : tie.Need-add-texture
-add-texture c = search needs
+row-beyond-requires : tie.Need-row-beyond-requires
+row-beyond-requires c κs = search needs
 
 row-after-requires : tie.Need-row-after-requires
 row-after-requires c κs = search needs
@@ -20,48 +20,70 @@ row-after-requires-3 c κs = search needs
 row-after-requires-4 : tie.Need-row-after-requires-4
 row-after-requires-4 c κs = search needs
 
-add-kerning : tie.Need-add-kerning
-add-kerning c = search needs
+row-beyond-requires-2 : tie.Need-row-beyond-requires-2
+row-beyond-requires-2 c κs = search needs
 
 all-there-requires : tie.Need-all-there-requires
 all-there-requires c κs = search needs
 
 returns : tie.Need-returns
-returns c = no _ (c .before .all-there .ensures) (c .if1 .taken) ∙ sym (by-rows _ _ _ (c .before .before .before .before .before .row-after .ensures .0) (c .before .before .before .before .row-after2 .ensures .0) (c .before .before .before .row-after3 .ensures .0) (c .before .before .row-after4 .ensures .0))
+returns c =
+    let k = c .before .before in
+    let four = k .before in
+    let three = four .before in
+    let two = three .before in
+    let one = two .before in
+    let rows = by-rows _ _ _ _ (one .before .row-beyond .ensures) (one .row-after .ensures) (two .row-after2 .ensures) (three .row-after3 .ensures) (k .row-beyond2 .ensures ∙ ap (λ r. beyond r 2) (four .row-after4 .ensures)) refl in
+    no _ (c .before .all-there .ensures) (c .if1 .taken) ∙ sym rows
 
 all-equal-requires : tie.Need-all-equal-requires
 all-equal-requires c κs = search needs
 
 returns-2 : tie.Need-returns-2
-returns-2 c = yes (c .before .before .before .all-there .ensures) (c .before .before .if1 .left) (no _ (c .before .all-equal .ensures) (c .if2 .taken)) ∙ sym (by-rows _ _ _ (c .before .before .before .before .before .before .before .row-after .ensures .0) (c .before .before .before .before .before .before .row-after2 .ensures .0) (c .before .before .before .before .before .row-after3 .ensures .0) (c .before .before .before .before .row-after4 .ensures .0))
+returns-2 c =
+    let k = c .before .before .before .before in
+    let four = k .before in
+    let three = four .before in
+    let two = three .before in
+    let one = two .before in
+    let rows = by-rows _ _ _ _ (one .before .row-beyond .ensures) (one .row-after .ensures) (two .row-after2 .ensures) (three .row-after3 .ensures) (k .row-beyond2 .ensures ∙ ap (λ r. beyond r 2) (four .row-after4 .ensures)) refl in
+    yes (c .before .before .before .all-there .ensures) (c .before .before .if1 .left) (no _ (c .before .all-equal .ensures) (c .if2 .taken)) ∙ sym rows
 
-add-rising : tie.Need-add-rising
-add-rising c = search needs
+row-beyond-requires-3 : tie.Need-row-beyond-requires-3
+row-beyond-requires-3 c κs = search needs
 
-word-requires : tie.Need-word-requires
-word-requires c κs = search needs
+word-of-requires : tie.Need-word-of-requires
+word-of-requires c κs = search needs
 
 rising-requires : tie.Need-rising-requires
 rising-requires c κs = search needs
 
 returns-3 : tie.Need-returns-3
-returns-3 c = yes (c .before .before .before .before .before .all-there .ensures) (c .before .before .before .before .if1 .left) (yes (c .before .before .before .all-equal .ensures) (c .before .before .if2 .left) (c .rising .ensures ∙ rw (c .before .word .ensures))) ∙ sym (by-rows _ _ _ (c .before .before .before .before .before .before .before .before .before .row-after .ensures .0) (c .before .before .before .before .before .before .before .before .row-after2 .ensures .0) (c .before .before .before .before .before .before .before .row-after3 .ensures .0) (c .before .before .before .before .before .before .row-after4 .ensures .0))
+unfolding wordAt
+returns-3 c =
+    let k = c .before .before .before .before .before .before .before in
+    let four = k .before in
+    let three = four .before in
+    let two = three .before in
+    let one = two .before in
+    let rows = by-rows _ _ _ _ (one .before .row-beyond .ensures) (one .row-after .ensures) (two .row-after2 .ensures) (three .row-after3 .ensures) (k .row-beyond2 .ensures ∙ ap (λ r. beyond r 2) (four .row-after4 .ensures)) (c .before .before .row-beyond3 .ensures) in
+    yes (c .before .before .before .before .before .before .all-there .ensures) (c .before .before .before .before .before .if1 .left) (yes (c .before .before .before .before .all-equal .ensures) (c .before .before .before .if2 .left) (c .rising .ensures ∙ rw (c .before .word-of .ensures))) ∙ sym rows
 
 pub font-rule-spec : {M : Type 1} → statement M
 font-rule-spec =
     tie.close
     (tie.spec
-    add-texture
+    row-beyond-requires
     row-after-requires
     row-after-requires-2
     row-after-requires-3
     row-after-requires-4
-    add-kerning
+    row-beyond-requires-2
     all-there-requires
     returns
     all-equal-requires
     returns-2
-    add-rising
-    word-requires
+    row-beyond-requires-3
+    word-of-requires
     rising-requires
     returns-3)

@@ -1,24 +1,21 @@
-use native.Mathlib.Omega.{arith}
-use Rattle.fonts.specs.FontWords.{after}
+use Rattle.fonts.specs.FontWords.{wordAt, after}
 use borrow.Author.Needs.{needs}
 use Rattle.fonts.proofs.row_after.Statement.{statement}
 use Rattle.fonts.proofs.row_after.Tie as tie
 
-add-result : tie.Need-add-result
-add-result c = search needs
+row-beyond-requires : tie.Need-row-beyond-requires
+row-beyond-requires c κs = search needs
 
-word-requires : tie.Need-word-requires
-word-requires c κs = search needs
+word-of-requires : tie.Need-word-of-requires
+word-of-requires c κs = search needs
 
-cast-result : tie.Need-cast-result
-cast-result c = search needs
-
-add-result-2 : tie.Need-add-result-2
-add-result-2 c = search needs
+row-beyond-requires-2 : tie.Need-row-beyond-requires-2
+row-beyond-requires-2 c κs = search needs
 
 returns : tie.Need-returns
-unfolding after
-returns c = (cc (c .word .ensures), omega arith)
+unfolding after wordAt
+returns c = cc (c .row-beyond2 .ensures, c .before .word-of .ensures, c .before .before .row-beyond .ensures)
 
 pub row-after-spec : {M : Type 1} → statement M
-row-after-spec = tie.close (tie.spec add-result word-requires cast-result add-result-2 returns)
+row-after-spec =
+    tie.close (tie.spec row-beyond-requires word-of-requires row-beyond-requires-2 returns)

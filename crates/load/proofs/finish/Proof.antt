@@ -1,5 +1,4 @@
-use mathlib.Core.Path.{sym, ap, _∙_}
-use Rattle.fill.specs.Fill.{cleared}
+use mathlib.Core.Path.{sym, _∙_}
 use Rattle.load.specs.Laws.{not-the-end, wrong-resource, all-well, loads-refused}
 use borrow.Author.Needs.{needs}
 use Rattle.load.proofs.finish.Statement.{statement}
@@ -7,7 +6,7 @@ use Rattle.load.proofs.finish.Tie as tie
 
 returns : tie.Need-returns
 returns c =
-    λ platform flags names a rest d. loads-refused _ (c .before .before .before .args .words .now) _ (not-the-end _ platform flags names _ _ a _ (c .if1 .taken))
+    λ by platform flags names a w d. loads-refused _ ((c .before .before .before .args) .words .now) _ (not-the-end _ platform flags names _ _ a _ ((c .if1) .taken))
 
 settle-requires : tie.Need-settle-requires
 settle-requires c κs = search needs
@@ -15,48 +14,32 @@ settle-requires c κs = search needs
 enum-known-first : tie.Need-enum-known-first
 enum-known-first c = search needs
 
-cast-t14 : tie.Need-cast-t14
-cast-t14 c = search needs
+cast-t15 : tie.Need-cast-t15
+cast-t15 c = search needs
 
 enum-told : tie.Need-enum-told
 enum-told c = search needs
 
-position-requires : tie.Need-position-requires
-position-requires c κs = search needs
-
-clear-requires : tie.Need-clear-requires
-clear-requires c κs = search needs
+clear-behind-requires : tie.Need-clear-behind-requires
+clear-behind-requires c κs = search needs
 
 same-length : tie.Need-same-length
 same-length c = search needs
 
 returns-2 : tie.Need-returns-2
 returns-2 c =
-    λ platform flags names a rest d.
-    let s = c .before .before .before .before .before .settle .ensures .0 (a .1) rest d in
-    loads-refused _ (c .before .before .before .before .before .before .before .before .before .before .args .words .now) _ (wrong-resource _ platform flags names _ _ a _ (c .before .before .before .before .before .before .before .if1 .left) (sym (s .answers) ∙ c .before .first .given .1))
+    λ by platform flags names a w d.
+    let s = (c .before .before .before .before .before .settle) .ensures .0 (a .1) w d in
+    loads-refused _ ((c .before .before .before .before .before .before .before .before .before .before .args) .words .now) _ (wrong-resource _ platform flags names _ _ a _ ((c .before .before .before .before .before .before .before .if1) .left) (sym (s .answers) ∙ (c .before .first) .given .1))
 
 same-length-2 : tie.Need-same-length-2
 same-length-2 c = search needs
 
 returns-3 : tie.Need-returns-3
 returns-3 c =
-    λ platform flags names a rest d.
-    let s = rw (c .before .before .before .before .before .enum-told .given .1) at (c .before .before .before .before .before .before .before .before .before .settle .ensures .0 (a .1) rest d) in
-    all-well _ platform flags names _ _ a _ (c .before .before .before .before .before .before .before .before .before .before .before .if1 .left) d (s .answers) (s .leaves) (c .before .before .clear .ensures ∙ ap (cleared _) (c .before .before .before .position .ensures))
+    λ by platform flags names a w d.
+    let s = rw ((c .before .before .before .before .enum-told) .given .1) at ((c .before .before .before .before .before .before .before .before .settle) .ensures .0 (a .1) w d) in
+    all-well _ platform flags names _ _ a _ ((c .before .before .before .before .before .before .before .before .before .before .if1) .left) by d (s .answers) (s .leaves) ((c .before .before .clear-behind) .ensures)
 
 pub finish-spec : {M : Type 1} → statement M
-finish-spec =
-    tie.close
-    (tie.spec
-    returns
-    settle-requires
-    enum-known-first
-    cast-t14
-    enum-told
-    position-requires
-    clear-requires
-    same-length
-    returns-2
-    same-length-2
-    returns-3)
+finish-spec = tie.close (tie.spec returns settle-requires enum-known-first cast-t15 enum-told clear-behind-requires same-length returns-2 same-length-2 returns-3)

@@ -1,17 +1,19 @@
+use mathlib.Core.Path.{refl, ap}
 use native.Mathlib.Omega.{arith}
+use Rattle.ids.specs.declared.Grid.{Grid}
 use Rattle.reading.specs.File.{roomOf}
 use Rattle.load.specs.Laws.{load-refused, load-loaded}
 use borrow.Author.Needs.{needs}
 use Rattle.load.proofs.load.Statement.{statement}
 use Rattle.load.proofs.load.Tie as tie
 
-room-requires : tie.Need-room-requires
-room-requires c κs = search needs
+grid-requires : tie.Need-grid-requires
+grid-requires c κs = search needs
 
 load-rows-requires : tie.Need-load-rows-requires
 unfolding roomOf
 load-rows-requires c κs =
-    omega (arith, c .before .room .ensures)
+    omega (arith, ap (λ (g : Grid). g .room) (c .before .grid .ensures))
 
 enum-known-number : tie.Need-enum-known-number
 enum-known-number c = search needs
@@ -27,7 +29,7 @@ same-length c = search needs
 
 returns : tie.Need-returns
 returns c =
-    let l = rw (c .before .before .before .before .before .before .before .before .before .before .before .room .ensures, c .before .before .before .before .before .number .given .1) at (c .before .before .before .before .before .before .before .before .before .load-rows .ensures) in
+    let l = (rw (c .before .before .before .before .before .before .before .before .before .before .before .grid .ensures, c .before .before .before .before .before .number .given .1) at (c .before .before .before .before .before .before .before .before .before .load-rows .ensures)) refl in
     load-refused (c .before .before .before .before .before .before .before .before .before .before .before .before .before .before .args .file .now) (c .before .before .before .before .before .before .before .before .before .before .before .before .before .before .args .words .now) _ l (search needs) (c .before .before .clear .ensures)
 
 same-length-2 : tie.Need-same-length-2
@@ -35,14 +37,14 @@ same-length-2 c = search needs
 
 returns-2 : tie.Need-returns-2
 returns-2 c =
-    let l = rw (c .before .before .before .before .before .before .before .room .ensures, c .before .rows .given .1) at (c .before .before .before .before .before .load-rows .ensures) in
+    let l = (rw (c .before .before .before .before .before .before .before .grid .ensures, c .before .rows .given .1) at (c .before .before .before .before .before .load-rows .ensures)) refl in
     load-loaded (c .before .before .before .before .before .before .before .before .before .before .args .file .now) (c .before .before .before .before .before .before .before .before .before .before .args .words .now) l
 
 pub load-spec : {M : Type 1} → statement M
 load-spec =
     tie.close
     (tie.spec
-    room-requires
+    grid-requires
     load-rows-requires
     enum-known-number
     clear-requires

@@ -11,7 +11,7 @@ part-requires c κs = search needs
 bytes-of-requires : tie.Need-bytes-of-requires
 bytes-of-requires c κs =
     let a = c .before .before .before .args in
-    part-lies (a .file .now) (a .words .now) (a .row .0) _ (c .part .ensures)
+    part-lies _ (a .file .now) (a .words .now) (a .row .0) _ (c .part .ensures)
 
 returns : tie.Need-returns
 returns c = c .bytes-of .ensures ∙ ap (spanned (c .before .before .before .before .args .file .now)) (c .before .part .ensures)

@@ -1,73 +1,20 @@
-use mathlib.Core.Path.{sym, _∙_}
-use native.Mathlib.Omega.{arith}
-use Rattle.lookups.specs.declared.Whole.the-variants.{Refused}
-use Rattle.lookups.specs.Signs.{signedIn, signedOf}
-use Rattle.lookups.proofs.Laws.{inside, lookup-refused, lookup-found}
+use mathlib.Core.Path.{ap, _∙_}
+use Rattle.ids.specs.declared.Grid.{Grid}
+use Rattle.lookups.specs.Signs.{signedOf}
 use borrow.Author.Needs.{needs}
 use Rattle.lookups.proofs.signed.Statement.{statement}
 use Rattle.lookups.proofs.signed.Tie as tie
 
-part-requires : tie.Need-part-requires
-part-requires c κs = search needs
+grid-requires : tie.Need-grid-requires
+grid-requires c κs = search needs
 
-enum-known-refusal : tie.Need-enum-known-refusal
-enum-known-refusal c = search needs
-
-enum-known-first : tie.Need-enum-known-first
-enum-known-first c = search needs
-
-add-end : tie.Need-add-end
-add-end c =
-    let a = c .before .before .before .before .before .before .args in
-    let h = inside (a .file .now) (a .words .now) (a .row .0) (sym (c .before .first .given .1) ∙ c .before .before .before .part .ensures) in
-    omega (arith, h)
-
-position-requires : tie.Need-position-requires
-position-requires c κs = search needs
-
-word-requires : tie.Need-word-requires
-word-requires c κs = search needs
-
-sub-signed-in : tie.Need-sub-signed-in
-sub-signed-in c = search needs
-
-part-signed-in-start : tie.Need-part-signed-in-start
-part-signed-in-start c = search needs
-
-part-signed-in-end : tie.Need-part-signed-in-end
-part-signed-in-end c =
-    let a = c .before .before .before .before .before .before .before .before .args in
-    let h = inside (a .file .now) (a .words .now) (a .row .0) (sym (c .before .before .before .first .given .1) ∙ c .before .before .before .before .before .part .ensures) in
-    omega (arith, h)
-
-signed-in-requires : tie.Need-signed-in-requires
-signed-in-requires c κs = search needs
+signed-of-requires : tie.Need-signed-of-requires
+signed-of-requires c κs = search needs
 
 returns : tie.Need-returns
-unfolding signedOf
 returns c =
-    let a = c .before .before .before .before .before .before .args in
-    lookup-refused (a .file .now) (a .words .now) (a .row .0) Refused (λ bytes first kind. signedIn bytes kind (a .row .0)) (sym (c .before .refusal .given .1) ∙ c .before .before .before .part .ensures)
-
-returns-2 : tie.Need-returns-2
-unfolding signedOf
-returns-2 c =
-    let a = c .before .before .before .before .before .before .before .before .before .before .args in
-    c .signed-in .ensures ∙ lookup-found (a .file .now) (a .words .now) (a .row .0) Refused (λ bytes first kind. signedIn bytes kind (a .row .0)) (sym (c .before .before .before .before .before .first .given .1) ∙ c .before .before .before .before .before .before .before .part .ensures) (c .before .before .before .position .ensures) (c .before .before .word .ensures)
+    let a = c .before .before .before .before .args in
+    c .signed-of .ensures ∙ ap (λ (g : Grid). signedOf g (a .file .now) (a .words .now) (a .row .0)) (c .before .grid .ensures)
 
 pub signed-spec : {M : Type 1} → statement M
-signed-spec =
-    tie.close
-    (tie.spec
-    part-requires
-    enum-known-refusal
-    enum-known-first
-    add-end
-    position-requires
-    word-requires
-    sub-signed-in
-    part-signed-in-start
-    part-signed-in-end
-    signed-in-requires
-    returns
-    returns-2)
+signed-spec = tie.close (tie.spec grid-requires signed-of-requires returns)

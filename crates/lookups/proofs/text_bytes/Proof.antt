@@ -14,7 +14,7 @@ bytes-of-requires : tie.Need-bytes-of-requires
 bytes-of-requires c κs =
     let a = c .before .before .before .args in
     let known = c .before .before .shared-slice-known .given in
-    text-lies (a .file .now) (a .words .now) (a .row .0) (small-by-index (a .file .now) (λ i h. omega (arith, known i))) _ (c .text .ensures)
+    text-lies _ (a .file .now) (a .words .now) (a .row .0) (small-by-index (a .file .now) (λ i h. omega (arith, known i))) _ (c .text .ensures)
 
 returns : tie.Need-returns
 returns c = c .bytes-of .ensures ∙ ap (spanned (c .before .before .before .before .args .file .now)) (c .before .text .ensures)

@@ -10,11 +10,11 @@ use Rattle.resources.proofs.judge_rows.Statement.{statement}
 use Rattle.resources.proofs.judge_rows.Tie as tie
 
 abbrev Inv-loop : tie.InvT-loop
-Inv-loop words₀ used kinds i₀ words i =
-    (length words ≡ length words₀) × (rowsSettled (drop 1 kinds) (used - i) i words ≡ rowsSettled (drop 1 kinds) used 0 words₀)
+Inv-loop words₀ grid used kinds i₀ words i =
+    (length words ≡ length words₀) × (rowsSettled grid (drop 1 kinds) (used - i) i words ≡ rowsSettled grid (drop 1 kinds) used 0 words₀)
 
 abbrev μ-loop : tie.MeasureT-loop
-μ-loop words₀ used kinds i₀ words i = used - i
+μ-loop words₀ grid used kinds i₀ words i = used - i
 
 loop-holds : tie.Need-loop-holds Inv-loop μ-loop
 loop-holds c =
@@ -38,7 +38,7 @@ returns : tie.Need-returns Inv-loop μ-loop
 returns c =
     let at = c .before .before .before .before .before .before .before .before in
     let j = rw (c .before .first .given .1) at (c .before .before .before .before .before .judge-row .ensures) in
-    let e = rows-turn _ _ _ _ (c .before .before .before .before .before .before .before .loop-test .taken) (j .0) (j .1) in
+    let e = rows-turn _ _ _ _ _ (c .before .before .before .before .before .before .before .loop-test .taken) (j .0) (j .1) in
     rw (sym (at .loop .inv .1) ∙ e) (refl, refl)
 
 add-i : tie.Need-add-i Inv-loop μ-loop
@@ -51,14 +51,14 @@ loop-again : tie.Need-loop-again Inv-loop μ-loop
 loop-again c =
     let at = c .before .before .before .before .before .before .before in
     let j = rw (c .enum-told .given .1) at (c .before .before .before .before .judge-row .ensures) in
-    let e = rows-turn _ _ _ _ (c .before .before .before .before .before .before .loop-test .taken) (j .0) (j .1) in
+    let e = rows-turn _ _ _ _ _ (c .before .before .before .before .before .before .loop-test .taken) (j .0) (j .1) in
     (search needs, sym e ∙ at .loop .inv .1)
 
 same-length-2 : tie.Need-same-length-2 Inv-loop μ-loop
 same-length-2 c = search needs
 
 returns-2 : tie.Need-returns-2 Inv-loop μ-loop
-returns-2 c = rw (sym (c .before .loop .inv .1) ∙ rows-end _ _ _ _ (c .loop-test .left)) (refl, refl)
+returns-2 c = rw (sym (c .before .loop .inv .1) ∙ rows-end _ _ _ _ _ (c .loop-test .left)) (refl, refl)
 
 pub judge-rows-spec : {M : Type 1} → statement M
 judge-rows-spec =

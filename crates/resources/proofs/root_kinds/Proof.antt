@@ -6,25 +6,19 @@ use Rattle.resources.proofs.root_kinds.Statement.{statement}
 use Rattle.resources.proofs.root_kinds.Tie as tie
 
 abbrev Inv-loop : tie.InvT-loop
-Inv-loop words used kinds₀ n₀ i₀ kinds n i = Found words used kinds n i
+Inv-loop words grid used kinds₀ n₀ i₀ kinds n i = Found grid words used kinds n i
 
 abbrev μ-loop : tie.MeasureT-loop
-μ-loop words used kinds₀ n₀ i₀ kinds n i = used - i
+μ-loop words grid used kinds₀ n₀ i₀ kinds n i = used - i
 
 loop-holds : tie.Need-loop-holds Inv-loop μ-loop
-loop-holds c = found-none _ _
+loop-holds c = found-none _ _ _
 
-position-requires : tie.Need-position-requires Inv-loop μ-loop
-position-requires c κs = search needs
+word-of-requires : tie.Need-word-of-requires Inv-loop μ-loop
+word-of-requires c κs = search needs
 
-word-requires : tie.Need-word-requires Inv-loop μ-loop
-word-requires c κs = search needs
-
-add-word : tie.Need-add-word Inv-loop μ-loop
-add-word c = search needs
-
-word-requires-2 : tie.Need-word-requires-2 Inv-loop μ-loop
-word-requires-2 c κs = search needs
+word-of-requires-2 : tie.Need-word-of-requires-2 Inv-loop μ-loop
+word-of-requires-2 c κs = search needs
 
 note-requires : tie.Need-note-requires Inv-loop μ-loop
 note-requires c κs = search needs
@@ -37,12 +31,11 @@ loop-less c = search needs
 
 loop-again : tie.Need-loop-again Inv-loop μ-loop
 loop-again c =
-    let at = c .before .before .before .before .before .before in
-    found-more (at .loop .i) (c .before .before .before .before .before .loop-test .taken) (c .before .before .before .before .position .ensures)
-    (c .before .before .before .word .ensures) (c .before .before .word2 .ensures) (at .loop .inv) (c .note .ensures)
+    let at = c .before .before .before .before .before in
+    found-more _ _ _ (at .loop .i) (c .before .before .before .before .loop-test .taken) (c .before .before .before .word-of .ensures) (c .before .before .word-of2 .ensures) (at .loop .inv) (c .note .ensures)
 
 returns : tie.Need-returns Inv-loop μ-loop
-returns c = found-all _ (c .loop-test .left) (c .before .loop .inv)
+returns c = found-all _ _ _ _ (c .loop-test .left) (c .before .loop .inv)
 
 pub root-kinds-spec : {M : Type 1} → statement M
 root-kinds-spec =
@@ -51,10 +44,8 @@ root-kinds-spec =
     Inv-loop
     μ-loop
     loop-holds
-    position-requires
-    word-requires
-    add-word
-    word-requires-2
+    word-of-requires
+    word-of-requires-2
     note-requires
     add-i
     loop-less

@@ -9,7 +9,7 @@ use lib.Seq.{getD-drop}
 use Rattle.laws.specs.Small.{differ}
 use Rattle.ids.specs.Position.{positionOf}
 use Rattle.ids.specs.declared.Position.the-variants.{Null, At}
-use Rattle.layout.specs.Rows.{resource}
+use Rattle.reading.specs.Drafts.{resource}
 use Rattle.reading.specs.Resource.{suit, suits}
 use borrow.Author.Needs.{needs}
 use Rattle.resources.proofs.suits_id.Statement.{statement}
@@ -30,8 +30,8 @@ cast-at c = search needs
 add-at : tie.Need-add-at
 add-at c = search needs
 
-word-requires : tie.Need-word-requires
-word-requires c κs = search needs
+kind-at-requires : tie.Need-kind-at-requires
+kind-at-requires c κs = search needs
 
 suits-kind-requires : tie.Need-suits-kind-requires
 suits-kind-requires c κs = search needs
@@ -58,7 +58,7 @@ returns-2 : tie.Need-returns-2
 returns-2 c =
     let at = c .before .before .before in
     let a = at .before .before .before .before .args in
-    c .suits-kind .ensures ∙ rw (c .before .word .ensures) (at-suits (a .kinds .now) (a .wanted) (a .id .0) _ (sym (at .before .before .position .ensures) ∙ at .i .given .1))
+    c .suits-kind .ensures ∙ rw (c .before .kind-at .ensures) (at-suits (a .kinds .now) (a .wanted) (a .id .0) _ (sym (at .before .before .position .ensures) ∙ at .i .given .1))
 
 pub suits-id-spec : {M : Type 1} → statement M
 suits-id-spec =
@@ -69,7 +69,7 @@ suits-id-spec =
     enum-known-i
     cast-at
     add-at
-    word-requires
+    kind-at-requires
     suits-kind-requires
     returns
     returns-2)

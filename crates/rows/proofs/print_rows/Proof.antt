@@ -6,10 +6,13 @@ use Rattle.rows.proofs.print_rows.Statement.{statement}
 use Rattle.rows.proofs.print_rows.Tie as tie
 
 abbrev Inv-loop : tie.InvT-loop
-Inv-loop out₀ at words rows next₀ row₀ out next row = (row ≤ rows) × (length out ≡ length out₀)
+Inv-loop out₀ at words rows grid next₀ row₀ out next row = (row ≤ rows) × (length out ≡ length out₀)
 
 abbrev μ-loop : tie.MeasureT-loop
-μ-loop out₀ at words rows next₀ row₀ out next row = rows - row
+μ-loop out₀ at words rows grid next₀ row₀ out next row = rows - row
+
+grid-requires : tie.Need-grid-requires Inv-loop μ-loop
+grid-requires c κs = search needs
 
 loop-holds : tie.Need-loop-holds Inv-loop μ-loop
 loop-holds c = search needs
@@ -41,6 +44,7 @@ print-rows-spec =
     (tie.spec
     Inv-loop
     μ-loop
+    grid-requires
     loop-holds
     put-row-requires
     add-row

@@ -4,6 +4,12 @@ use borrow.Author.Needs.{needs}
 use Rattle.words.proofs.room.Statement.{statement}
 use Rattle.words.proofs.room.Tie as tie
 
+cast-rows : tie.Need-cast-rows
+cast-rows c = search needs
+
+div-rows : tie.Need-div-rows
+div-rows c = search needs
+
 returns : tie.Need-returns
 unfolding roomOf
 returns c =
@@ -18,4 +24,4 @@ returns-2 c =
     omega (arith, c .if1 .left)
 
 pub room-spec : {M : Type 1} → statement M
-room-spec = tie.close (tie.spec returns cast-result returns-2)
+room-spec = tie.close (tie.spec cast-rows div-rows returns cast-result returns-2)

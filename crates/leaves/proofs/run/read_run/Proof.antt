@@ -8,13 +8,13 @@ use Rattle.leaves.proofs.run.read_run.Statement.{statement}
 use Rattle.leaves.proofs.run.read_run.Tie as tie
 
 abbrev Inv-loop : tie.InvT-loop
-Inv-loop file words₀ room shared run at used depth parent n next₀ row₀ i₀ words next row i =
+Inv-loop file words₀ grid shared run at used depth parent n next₀ row₀ i₀ words next row i =
     (n ≡ length (runSlots run))
     × (length words ≡ length words₀)
-    × (runFrom file room shared run depth parent (n - i) i next row words ≡ runOf file room shared run depth parent at used words₀)
+    × (runFrom grid file shared run depth parent (n - i) i next row words ≡ runOf grid file shared run depth parent at used words₀)
 
 abbrev μ-loop : tie.MeasureT-loop
-μ-loop file words₀ room shared run at used depth parent n next₀ row₀ i₀ words next row i = n - i
+μ-loop file words₀ grid shared run at used depth parent n next₀ row₀ i₀ words next row i = n - i
 
 turns-requires : tie.Need-turns-requires Inv-loop μ-loop
 turns-requires c κs = search needs
@@ -30,8 +30,8 @@ turn-requires c κs = omega (arith, c .before .loop .inv .0, c .loop-test .taken
 read-plain-requires : tie.Need-read-plain-requires Inv-loop μ-loop
 read-plain-requires c κs = search needs
 
-enum-known-u : tie.Need-enum-known-u Inv-loop μ-loop
-enum-known-u c = search needs
+enum-known-reached : tie.Need-enum-known-reached Inv-loop μ-loop
+enum-known-reached c = search needs
 
 enum-known-number : tie.Need-enum-known-number Inv-loop μ-loop
 enum-known-number c = search needs
@@ -44,7 +44,7 @@ returns c =
     let at = c .before .before .before .before .before .before .before .before .before in
     let a = at .before .before .before .before .args in
     let read = c .before .before .before .before .before .read-plain in
-    let e = run-turn (a .file .now) (a .room) (a .shared) (a .run) (a .depth) (a .parent) _ _ _ _ _ _ _ _ (c .before .before .before .before .before .before .before .before .loop-test .taken) (c .before .before .before .before .before .before .before .turn .ensures) (sym (c .before .number .given .1) ∙ read .ensures .0) (read .ensures .1) in
+    let e = run-turn (a .grid) (a .file .now) (a .shared) (a .run) (a .depth) (a .parent) _ _ _ _ _ _ _ _ (c .before .before .before .before .before .before .before .before .loop-test .taken) (c .before .before .before .before .before .before .before .turn .ensures) (sym (c .before .number .given .1) ∙ read .ensures .0) (read .ensures .1) in
     rw (sym (at .loop .inv .2) ∙ e) (refl, refl)
 
 add-i : tie.Need-add-i Inv-loop μ-loop
@@ -58,7 +58,7 @@ loop-again c =
     let at = c .before .before .before .before .before .before .before .before .before in
     let a = at .before .before .before .before .args in
     let read = c .before .before .before .before .before .read-plain in
-    let e = run-turn (a .file .now) (a .room) (a .shared) (a .run) (a .depth) (a .parent) _ _ _ _ _ _ _ _ (c .before .before .before .before .before .before .before .before .loop-test .taken) (c .before .before .before .before .before .before .before .turn .ensures) (sym (c .before .u .given .1) ∙ read .ensures .0) (read .ensures .1) in
+    let e = run-turn (a .grid) (a .file .now) (a .shared) (a .run) (a .depth) (a .parent) _ _ _ _ _ _ _ _ (c .before .before .before .before .before .before .before .before .loop-test .taken) (c .before .before .before .before .before .before .before .turn .ensures) (sym (c .before .reached .given .1) ∙ read .ensures .0) (read .ensures .1) in
     (at .loop .inv .0, search needs, sym e ∙ at .loop .inv .2)
 
 same-length-2 : tie.Need-same-length-2 Inv-loop μ-loop
@@ -67,7 +67,7 @@ same-length-2 c = search needs
 returns-2 : tie.Need-returns-2 Inv-loop μ-loop
 returns-2 c =
     let a = c .before .before .before .before .before .args in
-    rw (sym (c .before .loop .inv .2) ∙ run-end (a .file .now) (a .room) (a .shared) (a .run) (a .depth) (a .parent) _ _ _ _ _ (c .loop-test .left)) (refl, refl)
+    rw (sym (c .before .loop .inv .2) ∙ run-end (a .grid) (a .file .now) (a .shared) (a .run) (a .depth) (a .parent) _ _ _ _ _ (c .loop-test .left)) (refl, refl)
 
 pub read-run-spec : {M : Type 1} → statement M
 read-run-spec =
@@ -79,7 +79,7 @@ read-run-spec =
     loop-holds
     turn-requires
     read-plain-requires
-    enum-known-u
+    enum-known-reached
     enum-known-number
     same-length
     returns

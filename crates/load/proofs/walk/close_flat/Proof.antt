@@ -4,9 +4,10 @@ use native.Mathlib.Omega.{arith}
 use lib.ListN.{length}
 use Rattle.reading.specs.Reads.{small-by-index}
 use Rattle.reading.specs.Heads.{headAt}
+use Rattle.table.specs.Leaf.{inWord}
 use Rattle.leaves.specs.Run.{run-walked}
 use Rattle.load.specs.Walks.{OpenedAs, begin-below}
-use Rattle.load.specs.Steps.{raw-told, raw-ends, nothing-below}
+use Rattle.load.specs.Steps.{raw-told, raw-ends, nothing-below, slots-are}
 use borrow.Author.Needs.{needs}
 use Rattle.load.proofs.walk.close_flat.Statement.{statement}
 use Rattle.load.proofs.walk.close_flat.Tie as tie
@@ -29,6 +30,9 @@ enum-known-below c = search needs
 turns-requires : tie.Need-turns-requires
 turns-requires c κs = search needs
 
+word-requires : tie.Need-word-requires
+word-requires c κs = search needs
+
 read-run-requires : tie.Need-read-run-requires
 read-run-requires c κs = search needs
 
@@ -45,25 +49,30 @@ same-length : tie.Need-same-length
 same-length c = search needs
 
 returns : tie.Need-returns
+unfolding inWord
 returns c = λ codes readers t i k o.
     let a = c .before .before .before .before .before .before .before .before .before .before .args in
+    let r = c .before .before .before .before .before .before .before .before .before .before .pre in
     let small = small-by-index (a .file .now) (λ j h. omega (arith, c .before .before .before .before .before .before .before .before .before .shared-slice-known .given j)) in
     let v = rw (c .before .before .before .before .before .enum-told .given .1) at (o .stands) in
     let e = c .before .before .before .close .ensures in
-    rw (c .walked-step .ensures, e .0, e .1) (raw-told (a .file .now) codes readers (a .shared) (a .room) (a .depth) t (a .place) (a .h) (a .at) _ (raw-ends (a .file .now) (a .room) (a .h) (a .at) t readers (a .shared) (a .depth) 0 (a .kind) _ small (c .before .before .before .before .before .before .before .before .before .before .pre) (i .stands .lawful) o (sym (ap length v)) k (nothing-below _ (o .slots) (a .words .now) (a .next) (a .h .row .0 + 1) v)))
+    let n = slots-are (a .grid) (a .file .now) small readers (a .shared) (a .depth) (o .slots) (a .next) (a .h .row .0 + 1) 0 (omega (arith, r .free)) (r .few) (rw v refl) in
+    rw (c .walked-step .ensures, e .0, e .1) (raw-told (a .grid) (a .file .now) codes readers (a .shared) (a .depth) t (a .place) (a .h) (a .at) _ (raw-ends (a .grid) (a .file .now) (a .h) (a .at) t readers (a .shared) (a .depth) 0 (a .kind) _ small r (i .stands .lawful) o n k (nothing-below (a .grid) _ (o .slots) (a .words .now) (a .next) (a .h .row .0 + 1) v)))
 
 same-length-2 : tie.Need-same-length-2
 same-length-2 c = search needs
 
 returns-2 : tie.Need-returns-2
 returns-2 c = λ codes readers t i k o.
-    let a = c .before .before .before .before .before .before .before .before .before .before .before .before .before .before .before .before .args in
-    let small = small-by-index (a .file .now) (λ j h. omega (arith, c .before .before .before .before .before .before .before .before .before .before .before .before .before .before .before .shared-slice-known .given j)) in
-    let v = rw (c .before .before .before .before .before .before .before .before .before .before .before .below .given .1) at (o .stands) in
+    let a = c .before .before .before .before .before .before .before .before .before .before .before .before .before .before .before .before .before .args in
+    let r = c .before .before .before .before .before .before .before .before .before .before .before .before .before .before .before .before .before .pre in
+    let small = small-by-index (a .file .now) (λ j h. omega (arith, c .before .before .before .before .before .before .before .before .before .before .before .before .before .before .before .before .shared-slice-known .given j)) in
+    let v = rw (c .before .before .before .before .before .before .before .before .before .before .before .before .below .given .1) at (o .stands) in
     let run = c .before .before .before .before .before .before .before .read-run .ensures in
     let e = c .before .before .before .close2 .ensures in
-    let below = run-walked (a .file .now) small (a .room) (a .shared) _ (v .1) readers (a .depth) (a .h .row .0 + 1) (a .words .now) (a .next) (a .h .row .0 + 1) (begin-below t small (c .before .before .before .before .before .before .before .before .before .before .before .before .before .before .before .before .pre) (o .is)) in
-    rw (c .walked-step2 .ensures, e .0, e .1) (raw-told (a .file .now) codes readers (a .shared) (a .room) (a .depth) t (a .place) (a .h) (a .at) _ (raw-ends (a .file .now) {w₁ = c .before .before .before .before .before .before .before .read-run .last .1 .0} (a .room) (a .h) (a .at) t readers (a .shared) (a .depth) (c .before .before .before .before .before .before .before .before .before .turns .result) (a .kind) (c .before .before .before .before .before .before .before .read-run .result) small (c .before .before .before .before .before .before .before .before .before .before .before .before .before .before .before .before .pre) (i .stands .lawful) o (c .before .before .before .before .before .before .before .before .before .turns .ensures ∙ sym (ap length (v .0))) k (rw (v .0, run .0, run .1) below)))
+    let below = run-walked (a .grid) (a .file .now) small (a .shared) _ (v .1) readers (a .depth) (a .h .row .0 + 1) (a .words .now) (a .next) (a .h .row .0 + 1) (begin-below t small r (o .is)) in
+    let n = slots-are (a .grid) (a .file .now) small readers (a .shared) (a .depth) (o .slots) (a .next) (a .h .row .0 + 1) (c .before .before .before .before .before .before .before .before .before .word .result) (omega (arith, r .free)) (r .few) (c .before .before .before .before .before .before .before .before .before .word .ensures ∙ ap inWord (c .before .before .before .before .before .before .before .before .before .before .turns .ensures ∙ sym (ap length (v .0)))) in
+    rw (c .walked-step2 .ensures, e .0, e .1) (raw-told (a .grid) (a .file .now) codes readers (a .shared) (a .depth) t (a .place) (a .h) (a .at) _ (raw-ends (a .grid) (a .file .now) {w₁ = c .before .before .before .before .before .before .before .read-run .last .1 .0} (a .h) (a .at) t readers (a .shared) (a .depth) (c .before .before .before .before .before .before .before .before .before .word .result) (a .kind) (c .before .before .before .before .before .before .before .read-run .result) small r (i .stands .lawful) o n k (rw (v .0, run .0, run .1) below)))
 
 returns-3 : tie.Need-returns-3
 returns-3 c = λ codes readers t i k o.
@@ -80,6 +89,7 @@ close-flat-spec =
     walked-step-requires
     enum-known-below
     turns-requires
+    word-requires
     read-run-requires
     close-requires-2
     walked-step-requires-2

@@ -32,7 +32,7 @@ returns c = λ readers t i.
     let a = c .before .before .before .before .before .before .before .args in
     let r = c .before .before .before .before .before .before .before .pre in
     let small = small-by-index (a .file .now) (λ j h. omega (arith, c .before .before .before .before .before .before .shared-slice-known .given j)) in
-    raw-refused (a .file .now) small readers (a .shared) (a .room) (a .depth) t (i .stands .lawful) (a .h) (a .at) _ (r .long) (r .few) (r .free) (refused-as (a .codes .now) (headAt (a .file .now) t (a .at)) (c .before .before .before .«open» .ensures .0 t (i .stands) (i .plain)) (c .before .number .given .1))
+    raw-refused (a .grid) (a .file .now) small readers (a .shared) (a .depth) t (i .stands .lawful) (a .h) (a .at) _ (r .long) (r .few) (r .free) (refused-as (a .codes .now) (headAt (a .file .now) t (a .at)) (c .before .before .before .«open» .ensures .0 t (i .stands) (i .plain)) (c .before .number .given .1))
 
 same-length : tie.Need-same-length
 same-length c = search needs

@@ -1,6 +1,6 @@
 use Prim.Native.Nat.{ℕ, _-_}
 use native.Mathlib.Omega.{arith}
-use Rattle.layout.specs.Rows.{nothing}
+use Rattle.reading.specs.Drafts.{nothing}
 use Rattle.reading.specs.Answer.{read}
 use Rattle.reading.specs.Reads.{small-by-index}
 use Rattle.table.specs.Contract.{seen, Free}
@@ -63,7 +63,7 @@ returns-2 c = λ rd readers x h l s.
     let small = small-by-index (a .file .now) (λ i h. omega (arith, c .before .before .before .before .before .before .before .before .before .before .before .shared-slice-known .given i)) in
     let b = rw (c .before .before .before .before .before .before .plain .given .1) at (c .before .before .before .before .before .before .before .before .start .ensures .0 rd readers x h l s (c .before .before .before .before .before .before .before .before .before .before .before .before .pre .0 .place)) in
     let e = c .before .before .before .read-plain .ensures in
-    rw (b .0, c .walked-step .ensures, e .0, e .1) (value-told (a .file .now) (a .codes .now) readers (a .shared) (a .room) (a .depth) _ (a .at) (a .used) (a .parent) _ (plain-walked (a .file .now) (a .room) (a .shared) _ (a .at) (a .used) (a .words .now) small (c .before .before .before .before .before .before .before .before .before .before .before .before .pre .0) (b .1) readers (a .depth) (a .parent)))
+    rw (b .0, c .walked-step .ensures, e .0, e .1) (value-told (a .grid) (a .file .now) (a .codes .now) readers (a .shared) (a .depth) _ (a .at) (a .used) (a .parent) _ (plain-walked (a .file .now) (a .grid) (a .shared) _ (a .at) (a .used) (a .words .now) small (c .before .before .before .before .before .before .before .before .before .before .before .before .pre .0) (b .1) readers (a .depth) (a .parent)))
 
 same-length-2 : tie.Need-same-length-2
 same-length-2 c = search needs
@@ -75,8 +75,8 @@ returns-3 c = λ rd readers x h l s.
     let p = c .before .before .before .before .before .before .before .before .before .before .before .before .pre .0 in
     let b = rw (c .before .before .before .before .before .before .next .given .1) at (c .before .before .before .before .before .before .before .before .start .ensures .0 rd readers x h l s (p .place)) in
     let e = c .before .before .before .leaf .ensures in
-    let free : Free (a .words .now) (a .used) = record { there = omega (arith, b .free, p .long); few = omega (arith, b .free, p .few) } in
-    rw (c .walked-step2 .ensures, e .0, e .1, b .is (a .shared) (a .parent)) (leaf-walked {A = ℕ} (a .words .now) (headOf (a .used) (a .at) (a .parent) 0) 0 nothing (read 0 _) free (b .ahead, omega (arith, b .inside, p .short)))
+    let free : Free (a .grid) (a .words .now) (a .used) = record { long = p .long; there = b .free; few = omega (arith, b .free, p .few) } in
+    rw (c .walked-step2 .ensures, e .0, e .1, b .is (a .shared) (a .parent)) (leaf-walked {A = ℕ} (a .grid) (a .words .now) (headOf (a .used) (a .at) (a .parent) 0) 0 nothing (read 0 _) free (b .ahead, omega (arith, b .inside, p .short)))
 
 same-length-3 : tie.Need-same-length-3
 same-length-3 c = search needs
@@ -85,7 +85,7 @@ returns-4 : tie.Need-returns-4
 returns-4 c = λ rd readers x h l s.
     let a = c .before .before .before .before .before .before .before .before .before .before .before .args in
     let b = rw (c .before .before .before .before .before .place .given .1) at (c .before .before .before .before .before .before .before .start .ensures .0 rd readers x h l s (c .before .before .before .before .before .before .before .before .before .before .before .pre .0 .place)) in
-    raw-steps (a .file .now) (a .codes .now) readers (a .shared) (a .room) (a .depth) (a .depth - 1) x (a .at) (a .used) (a .parent) _ _ _ (a .words .now) (c .before .before .raw-step .last .1 .1 .0) (c .before .before .raw-step .result) (omega (arith, b .deep)) b (c .before .before .raw-step .ensures readers (b .type) (b .stands))
+    raw-steps (a .grid) (a .file .now) (a .codes .now) readers (a .shared) (a .depth) (a .depth - 1) x (a .at) (a .used) (a .parent) _ _ _ (a .words .now) (c .before .before .raw-step .last .1 .1 .0) (c .before .before .raw-step .result) (omega (arith, b .deep)) b (c .before .before .raw-step .ensures readers (b .type) (b .stands))
 
 pub value-spec : {M : Type 1} → statement M
 value-spec =

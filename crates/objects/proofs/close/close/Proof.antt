@@ -12,14 +12,8 @@ enum-known-walked-2 c = search needs
 keeps-rule-requires : tie.Need-keeps-rule-requires
 keeps-rule-requires c κs = search needs
 
-word-requires : tie.Need-word-requires
-word-requires c κs = search needs
-
-span-requires : tie.Need-span-requires
-span-requires c κs = search needs
-
-word-requires-2 : tie.Need-word-requires-2
-word-requires-2 c κs = search needs
+row-words-requires : tie.Need-row-words-requires
+row-words-requires c κs = search needs
 
 put-row-requires : tie.Need-put-row-requires
 put-row-requires c κs = search needs
@@ -29,8 +23,8 @@ same-length c = search needs
 
 returns : tie.Need-returns
 returns c =
-    let k = sym (c .before .before .before .before .before .before .before .before .keeps-rule .ensures) ∙ c .before .before .before .before .before .before .before .if1 .taken in
-    rw (c .before .before .before .before .before .before .before .before .before .before .before .walked2 .given .1, k, ← c .before .before .before .before .before .before .word .ensures, ← c .before .before .before .before .before .span .ensures, ← c .before .before .before .word2 .ensures) (refl, c .before .before .put-row .ensures)
+    let k = sym (c .before .before .before .before .before .before .keeps-rule .ensures) ∙ c .before .before .before .before .before .if1 .taken in
+    rw (c .before .before .before .before .before .before .before .before .before .before .walked2 .given .1, k, ← c .before .before .before .before .row-words .ensures) (refl, c .before .before .put-row .ensures)
 
 returns-2 : tie.Need-returns-2
 returns-2 c = rw (c .before .walked .given .1) (refl, refl)
@@ -41,7 +35,7 @@ same-length-2 c = search needs
 returns-3 : tie.Need-returns-3
 returns-3 c =
     let k = sym (c .before .keeps-rule .ensures) ∙ c .if1 .left in
-    rw (c .before .before .before .before .walked2 .given .1, k) (refl, refl)
+    rw (c .before .before .before .before .before .walked2 .given .1, k) (refl, refl)
 
 pub close-spec : {M : Type 1} → statement M
 close-spec =
@@ -50,9 +44,7 @@ close-spec =
     enum-known-walked
     enum-known-walked-2
     keeps-rule-requires
-    word-requires
-    span-requires
-    word-requires-2
+    row-words-requires
     put-row-requires
     same-length
     returns
