@@ -40,8 +40,8 @@ pub enum Walk {
     Refused { number: u32, place: usize },
 }
 
-// Puts a row into the words, if they have it.
-pub fn put_row(words: &mut [u32], grid: Grid, row: RowNumber, r: RowWords)
+// Puts a row into its cells, if the words have them.
+fn put_cells(words: &mut [u32], grid: Grid, row: RowNumber, r: RowWords)
     ensures { λ _. ⌜ now (words .exit) ≡ putRow grid (now (words .entry)) (row .0) (rowOf r) ⌝ }
 {
     let sixth = row.cell(grid, 5);
@@ -59,6 +59,21 @@ pub fn put_row(words: &mut [u32], grid: Grid, row: RowNumber, r: RowWords)
     words[fourth] = r.children;
     words[fifth] = r.parent;
     words[sixth] = r.detail;
+}
+
+// Puts a row into the words, if they have it. In a table by rows the cells are neighbours, which the compiler sees where the shape is known.
+pub fn put_row(words: &mut [u32], grid: Grid, row: RowNumber, r: RowWords)
+    ensures { λ _. ⌜ now (words .exit) ≡ putRow grid (now (words .entry)) (row .0) (rowOf r) ⌝ }
+{
+    if grid.columns {
+        put_cells(words, grid, row, r);
+        return;
+    }
+    let by_rows = Grid {
+        room: grid.room,
+        columns: false,
+    };
+    put_cells(words, by_rows, row, r);
 }
 
 // Zeros behind the rows before row `used`, in a table by rows.
