@@ -10,7 +10,7 @@ ghost use lib.ListN.{getD, drop, set};
 ghost use Rattle.reading.specs.Drafts.{resource};
 ghost use Rattle.reading.specs.Resource.{suit, suits};
 ghost use Rattle.resources.specs.Settled.{SettlesDrafts};
-ghost use Rattle.resources.specs.Roots.{padded, Notes};
+ghost use Rattle.resources.specs.Roots.{padded, NotesRow};
 ghost use Rattle.resources.specs.Total.{rootsOf, rowSettled, rowsSettled, settleOf};
 
 // Every reference names a resource that suits it, or the first byte of the first that does not.
@@ -28,17 +28,17 @@ fn put_word(words: &mut [u32], at: usize, value: u32)
     }
 }
 
-// Puts the kind of a row that has no parent behind the `n` kinds before it, where there is room; how many there are then.
-fn note(kinds: &mut [u32; 257], n: usize, parent: u32, kind: u32) -> usize
-    ensures { λ r. ⌜ Notes (now (kinds .entry)) (now (kinds .exit)) n parent kind r ⌝ }
+// Puts the kind of a row, if it has no parent, behind the `n` kinds before it, where there is room; how many there are then.
+fn note(kinds: &mut [u32; 257], n: usize, words: &[u32], grid: Grid, row: RowNumber) -> usize
+    ensures { λ r. ⌜ NotesRow grid (now (words .entry)) (row .0) (now (kinds .entry)) (now (kinds .exit)) n r ⌝ }
 {
-    if parent != 0 {
+    if word_of(words, grid, row, 4) != 0 {
         return n;
     }
     if 257 <= n {
         return n;
     }
-    kinds[n] = kind;
+    kinds[n] = word_of(words, grid, row, 0);
     n + 1
 }
 
@@ -50,9 +50,7 @@ fn root_kinds(words: &[u32], grid: Grid, used: u32) -> [u32; 257]
     let mut n = 0;
     let mut i = 0;
     while i < used {
-        let kind = word_of(words, grid, RowNumber(i), 0);
-        let parent = word_of(words, grid, RowNumber(i), 4);
-        n = note(&mut kinds, n, parent, kind);
+        n = note(&mut kinds, n, words, grid, RowNumber(i));
         i += 1;
     }
     kinds

@@ -4,11 +4,17 @@ use borrow.Author.Needs.{needs}
 use Rattle.resources.proofs.note.Statement.{statement}
 use Rattle.resources.proofs.note.Tie as tie
 
+word-of-requires : tie.Need-word-of-requires
+word-of-requires c κs = search needs
+
 returns : tie.Need-returns
-returns c = λ found h few. no-root _ _ (c .if1 .taken) h few
+returns c = λ found h few. rw (← c .before .word-of .ensures) (no-root _ _ (c .if1 .taken) h few)
 
 returns-2 : tie.Need-returns-2
 returns-2 c = λ found h few. no-room _ (c .if2 .taken) h few
+
+word-of-requires-2 : tie.Need-word-of-requires-2
+word-of-requires-2 c κs = search needs
 
 mul-kinds : tie.Need-mul-kinds
 mul-kinds c = search needs
@@ -20,8 +26,8 @@ add-result : tie.Need-add-result
 add-result c = search needs
 
 returns-3 : tie.Need-returns-3
-returns-3 c = λ found h few. one-root _ _ (c .before .if1 .left) (c .if2 .left) h
+returns-3 c = λ found h few. rw (← c .before .before .before .word-of .ensures, ← c .word-of2 .ensures) (one-root _ _ (c .before .before .if1 .left) (c .before .if2 .left) h)
 
 pub note-spec : {M : Type 1} → statement M
 note-spec =
-    tie.close (tie.spec returns returns-2 mul-kinds element-write-kinds add-result returns-3)
+    tie.close (tie.spec word-of-requires returns returns-2 word-of-requires-2 mul-kinds element-write-kinds add-result returns-3)

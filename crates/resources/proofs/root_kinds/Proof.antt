@@ -1,4 +1,5 @@
 -- `resources::root_kinds` meets its contract: before each turn the array holds the kinds of the roots among the first `i` rows, as far as there is room. Assumes nothing.
+use mathlib.Core.Path.{refl}
 use Prim.Native.Nat.{_-_}
 use Rattle.resources.proofs.Padded.{Found, found-none, found-more, found-all}
 use borrow.Author.Needs.{needs}
@@ -14,12 +15,6 @@ abbrev μ-loop : tie.MeasureT-loop
 loop-holds : tie.Need-loop-holds Inv-loop μ-loop
 loop-holds c = found-none _ _ _
 
-word-of-requires : tie.Need-word-of-requires Inv-loop μ-loop
-word-of-requires c κs = search needs
-
-word-of-requires-2 : tie.Need-word-of-requires-2 Inv-loop μ-loop
-word-of-requires-2 c κs = search needs
-
 note-requires : tie.Need-note-requires Inv-loop μ-loop
 note-requires c κs = search needs
 
@@ -31,8 +26,8 @@ loop-less c = search needs
 
 loop-again : tie.Need-loop-again Inv-loop μ-loop
 loop-again c =
-    let at = c .before .before .before .before .before in
-    found-more _ _ _ (at .loop .i) (c .before .before .before .before .loop-test .taken) (c .before .before .before .word-of .ensures) (c .before .before .word-of2 .ensures) (at .loop .inv) (c .note .ensures)
+    let at = c .before .before .before in
+    found-more _ _ _ (at .loop .i) (c .before .before .loop-test .taken) refl refl (at .loop .inv) (c .note .ensures)
 
 returns : tie.Need-returns Inv-loop μ-loop
 returns c = found-all _ _ _ _ (c .loop-test .left) (c .before .loop .inv)
@@ -44,8 +39,6 @@ root-kinds-spec =
     Inv-loop
     μ-loop
     loop-holds
-    word-of-requires
-    word-of-requires-2
     note-requires
     add-i
     loop-less
