@@ -268,6 +268,7 @@ pub(crate) fn nested(
                 };
             }
             Upcoming::Value(slot) => {
+                let left = heads::nest::after(state);
                 let position = objects::start::reader_position(file, slot, next);
                 let target = rd.targets[position];
                 match value(
@@ -328,7 +329,7 @@ pub(crate) fn nested(
                         }
                     }
                 }
-                state = heads::nest::after(state);
+                state = left;
                 i += 1;
             }
         }

@@ -63,14 +63,14 @@ nested-μ-loop file codes words₀ grid shared at used depth rd state₀ next₀
 nested-loop-holds : (t : ℕ) → nested-lts.Need-loop-holds (
   next-slot-reads.Asked,
   next-slot-reads.Learnt,
+  after-reads.Asked,
+  after-reads.Learnt,
   reader-position-reads.Asked,
   reader-position-reads.Learnt,
   value-reads.Asked,
   value-reads.Learnt,
   raw-below t,
   raw.Post,
-  after-reads.Asked,
-  after-reads.Learnt,
 ) (nested-at t) nested.Post nested-Inv-loop nested-μ-loop
 nested-loop-holds t c =
     λ readers plan l w. standing _ _ _ _ _ _ _ _ _ _ _ w
@@ -78,42 +78,42 @@ nested-loop-holds t c =
 nested-next-slot-requires : (t : ℕ) → nested-lts.Need-next-slot-requires (
   next-slot-reads.Asked,
   next-slot-reads.Learnt,
+  after-reads.Asked,
+  after-reads.Learnt,
   reader-position-reads.Asked,
   reader-position-reads.Learnt,
   value-reads.Asked,
   value-reads.Learnt,
   raw-below t,
   raw.Post,
-  after-reads.Asked,
-  after-reads.Learnt,
 ) (nested-at t) nested.Post nested-Inv-loop nested-μ-loop
 nested-next-slot-requires t c κs = search needs
 
 nested-enum-told : (t : ℕ) → nested-lts.Need-enum-told (
   next-slot-reads.Asked,
   next-slot-reads.Learnt,
+  after-reads.Asked,
+  after-reads.Learnt,
   reader-position-reads.Asked,
   reader-position-reads.Learnt,
   value-reads.Asked,
   value-reads.Learnt,
   raw-below t,
   raw.Post,
-  after-reads.Asked,
-  after-reads.Learnt,
 ) (nested-at t) nested.Post nested-Inv-loop nested-μ-loop
 nested-enum-told t c = search needs
 
 nested-same-length : (t : ℕ) → nested-lts.Need-same-length (
   next-slot-reads.Asked,
   next-slot-reads.Learnt,
+  after-reads.Asked,
+  after-reads.Learnt,
   reader-position-reads.Asked,
   reader-position-reads.Learnt,
   value-reads.Asked,
   value-reads.Learnt,
   raw-below t,
   raw.Post,
-  after-reads.Asked,
-  after-reads.Learnt,
 ) (nested-at t) nested.Post nested-Inv-loop nested-μ-loop
 nested-same-length t c =
     let inv = (c .before .before .before .loop) .inv ((c .before .before .before .before .before .before .before .pre) .1 .1 .readers) ((c .before .before .before .before .before .before .before .pre) .1 .2 .plan) ((c .before .before .before .before .before .before .before .pre) .1 .1 .listed) ((c .before .before .before .before .before .before .before .pre) .1 .2 .is) in
@@ -123,14 +123,14 @@ nested-same-length t c =
 nested-returns : (t : ℕ) → nested-lts.Need-returns (
   next-slot-reads.Asked,
   next-slot-reads.Learnt,
+  after-reads.Asked,
+  after-reads.Learnt,
   reader-position-reads.Asked,
   reader-position-reads.Learnt,
   value-reads.Asked,
   value-reads.Learnt,
   raw-below t,
   raw.Post,
-  after-reads.Asked,
-  after-reads.Learnt,
 ) (nested-at t) nested.Post nested-Inv-loop nested-μ-loop
 nested-returns t c =
     λ readers plan l w. nothing-next _ _ _ _ _ _ _ _ _ _ ((c .before .before .before .before .before .before .before .pre) .1 .1 .prelude) ((c .before .before .before .loop) .inv readers plan l w) (sym ((c .before .before .next-slot) .ensures) ∙ (c .enum-told) .given .1)
@@ -138,288 +138,288 @@ nested-returns t c =
 nested-enum-known-slot : (t : ℕ) → nested-lts.Need-enum-known-slot (
   next-slot-reads.Asked,
   next-slot-reads.Learnt,
+  after-reads.Asked,
+  after-reads.Learnt,
   reader-position-reads.Asked,
   reader-position-reads.Learnt,
   value-reads.Asked,
   value-reads.Learnt,
   raw-below t,
   raw.Post,
-  after-reads.Asked,
-  after-reads.Learnt,
 ) (nested-at t) nested.Post nested-Inv-loop nested-μ-loop
 nested-enum-known-slot t c = search needs
 
 nested-reader-position-requires : (t : ℕ) → nested-lts.Need-reader-position-requires (
   next-slot-reads.Asked,
   next-slot-reads.Learnt,
+  after-reads.Asked,
+  after-reads.Learnt,
   reader-position-reads.Asked,
   reader-position-reads.Learnt,
   value-reads.Asked,
   value-reads.Learnt,
   raw-below t,
   raw.Post,
-  after-reads.Asked,
-  after-reads.Learnt,
 ) (nested-at t) nested.Post nested-Inv-loop nested-μ-loop
 nested-reader-position-requires t c κs = search needs
 
 nested-mul-target : (t : ℕ) → nested-lts.Need-mul-target (
   next-slot-reads.Asked,
   next-slot-reads.Learnt,
+  after-reads.Asked,
+  after-reads.Learnt,
   reader-position-reads.Asked,
   reader-position-reads.Learnt,
   value-reads.Asked,
   value-reads.Learnt,
   raw-below t,
   raw.Post,
-  after-reads.Asked,
-  after-reads.Learnt,
 ) (nested-at t) nested.Post nested-Inv-loop nested-μ-loop
 nested-mul-target t c =
-    let h = subst (λ p. p < 64) (sym ((c .reader-position) .ensures)) (position-in-list ((c .before .before .before .before .before .before .before .before .before .args) .file .now) ((c .before .before .slot) .given .0 .0) ((c .before .before .before .before .before .loop) .next)) in
+    let h = subst (λ p. p < 64) (sym ((c .reader-position) .ensures)) (position-in-list ((c .before .before .before .before .before .before .before .before .before .before .args) .file .now) ((c .before .before .before .slot) .given .0 .0) ((c .before .before .before .before .before .before .loop) .next)) in
     search needs
 
 nested-element-copy-out-target : (t : ℕ) → nested-lts.Need-element-copy-out-target (
   next-slot-reads.Asked,
   next-slot-reads.Learnt,
+  after-reads.Asked,
+  after-reads.Learnt,
   reader-position-reads.Asked,
   reader-position-reads.Learnt,
   value-reads.Asked,
   value-reads.Learnt,
   raw-below t,
   raw.Post,
-  after-reads.Asked,
-  after-reads.Learnt,
 ) (nested-at t) nested.Post nested-Inv-loop nested-μ-loop
 nested-element-copy-out-target t c =
-    let h = subst (λ p. p < 64) (sym ((c .reader-position) .ensures)) (position-in-list ((c .before .before .before .before .before .before .before .before .before .args) .file .now) ((c .before .before .slot) .given .0 .0) ((c .before .before .before .before .before .loop) .next)) in
+    let h = subst (λ p. p < 64) (sym ((c .reader-position) .ensures)) (position-in-list ((c .before .before .before .before .before .before .before .before .before .before .args) .file .now) ((c .before .before .before .slot) .given .0 .0) ((c .before .before .before .before .before .before .loop) .next)) in
     search needs
 
 nested-value-requires : (t : ℕ) → nested-lts.Need-value-requires (
   next-slot-reads.Asked,
   next-slot-reads.Learnt,
+  after-reads.Asked,
+  after-reads.Learnt,
   reader-position-reads.Asked,
   reader-position-reads.Learnt,
   value-reads.Asked,
   value-reads.Learnt,
   raw-below t,
   raw.Post,
-  after-reads.Asked,
-  after-reads.Learnt,
 ) (nested-at t) nested.Post nested-Inv-loop nested-μ-loop
 nested-value-requires t c κs =
-    let k = (c .before .before .before .before .before .before .before .before .before .before .before .pre) .1 .1 in
-    let inv = (c .before .before .before .before .before .before .before .loop) .inv (k .readers) ((c .before .before .before .before .before .before .before .before .before .before .before .pre) .1 .2 .plan) (k .listed) ((c .before .before .before .before .before .before .before .before .before .before .before .pre) .1 .2 .is) in
-    let v = value-next _ _ _ _ _ _ _ _ _ _ (k .prelude) inv (sym ((c .before .before .before .before .before .before .next-slot) .ensures) ∙ (c .before .before .before .before .slot) .given .1) in
-    (standing-begin _ _ _ _ _ _ _ _ _ _ ((c .before .before .before .before .before .before .before .before .before .before .before .pre) .1 .0) inv, record { rd = (c .before .before .before .before .before .before .before .before .before .before .before .args) .t3; readers = k .readers; has = (record { counts = refl; at = ap (λ p. getD ((c .before .before .before .before .before .before .before .before .before .before .before .args) .t3 .targets) p 0) (sym ((c .before .before .reader-position) .ensures)) }); listed = k .listed }, record { x = v .x; is = v .is })
+    let k = (c .before .before .before .before .before .before .before .before .before .before .before .before .pre) .1 .1 in
+    let inv = (c .before .before .before .before .before .before .before .before .loop) .inv (k .readers) ((c .before .before .before .before .before .before .before .before .before .before .before .before .pre) .1 .2 .plan) (k .listed) ((c .before .before .before .before .before .before .before .before .before .before .before .before .pre) .1 .2 .is) in
+    let v = value-next _ _ _ _ _ _ _ _ _ _ (k .prelude) inv (sym ((c .before .before .before .before .before .before .before .next-slot) .ensures) ∙ (c .before .before .before .before .before .slot) .given .1) in
+    (standing-begin _ _ _ _ _ _ _ _ _ _ ((c .before .before .before .before .before .before .before .before .before .before .before .before .pre) .1 .0) inv, record { rd = (c .before .before .before .before .before .before .before .before .before .before .before .before .args) .t3; readers = k .readers; has = (record { counts = refl; at = ap (λ p. getD ((c .before .before .before .before .before .before .before .before .before .before .before .before .args) .t3 .targets) p 0) (sym ((c .before .before .reader-position) .ensures)) }); listed = k .listed }, record { x = v .x; is = v .is })
 
 nested-enum-known-reached : (t : ℕ) → nested-lts.Need-enum-known-reached (
   next-slot-reads.Asked,
   next-slot-reads.Learnt,
+  after-reads.Asked,
+  after-reads.Learnt,
   reader-position-reads.Asked,
   reader-position-reads.Learnt,
   value-reads.Asked,
   value-reads.Learnt,
   raw-below t,
   raw.Post,
-  after-reads.Asked,
-  after-reads.Learnt,
 ) (nested-at t) nested.Post nested-Inv-loop nested-μ-loop
 nested-enum-known-reached t c = search needs
 
 nested-enum-known-number : (t : ℕ) → nested-lts.Need-enum-known-number (
   next-slot-reads.Asked,
   next-slot-reads.Learnt,
+  after-reads.Asked,
+  after-reads.Learnt,
   reader-position-reads.Asked,
   reader-position-reads.Learnt,
   value-reads.Asked,
   value-reads.Learnt,
   raw-below t,
   raw.Post,
-  after-reads.Asked,
-  after-reads.Learnt,
 ) (nested-at t) nested.Post nested-Inv-loop nested-μ-loop
 nested-enum-known-number t c = search needs
 
 nested-same-length-2 : (t : ℕ) → nested-lts.Need-same-length-2 (
   next-slot-reads.Asked,
   next-slot-reads.Learnt,
+  after-reads.Asked,
+  after-reads.Learnt,
   reader-position-reads.Asked,
   reader-position-reads.Learnt,
   value-reads.Asked,
   value-reads.Learnt,
   raw-below t,
   raw.Post,
-  after-reads.Asked,
-  after-reads.Learnt,
 ) (nested-at t) nested.Post nested-Inv-loop nested-μ-loop
 nested-same-length-2 t c =
-    let inv = (c .before .before .before .before .before .before .before .before .before .before .before .before .before .loop) .inv ((c .before .before .before .before .before .before .before .before .before .before .before .before .before .before .before .before .before .pre) .1 .1 .readers) ((c .before .before .before .before .before .before .before .before .before .before .before .before .before .before .before .before .before .pre) .1 .2 .plan) ((c .before .before .before .before .before .before .before .before .before .before .before .before .before .before .before .before .before .pre) .1 .1 .listed) ((c .before .before .before .before .before .before .before .before .before .before .before .before .before .before .before .before .before .pre) .1 .2 .is) in
+    let inv = (c .before .before .before .before .before .before .before .before .before .before .before .before .before .before .loop) .inv ((c .before .before .before .before .before .before .before .before .before .before .before .before .before .before .before .before .before .before .pre) .1 .1 .readers) ((c .before .before .before .before .before .before .before .before .before .before .before .before .before .before .before .before .before .before .pre) .1 .2 .plan) ((c .before .before .before .before .before .before .before .before .before .before .before .before .before .before .before .before .before .before .pre) .1 .1 .listed) ((c .before .before .before .before .before .before .before .before .before .before .before .before .before .before .before .before .before .before .pre) .1 .2 .is) in
     let l = same _ _ _ _ _ _ _ (inv .read-so) in
     search needs
 
 nested-returns-2 : (t : ℕ) → nested-lts.Need-returns-2 (
   next-slot-reads.Asked,
   next-slot-reads.Learnt,
+  after-reads.Asked,
+  after-reads.Learnt,
   reader-position-reads.Asked,
   reader-position-reads.Learnt,
   value-reads.Asked,
   value-reads.Learnt,
   raw-below t,
   raw.Post,
-  after-reads.Asked,
-  after-reads.Learnt,
 ) (nested-at t) nested.Post nested-Inv-loop nested-μ-loop
 nested-returns-2 t c =
     λ readers plan l w.
-    let inv = (c .before .before .before .before .before .before .before .before .before .before .before .before .before .loop) .inv readers plan l w in
-    let v = value-next _ _ _ _ _ _ _ _ _ _ ((c .before .before .before .before .before .before .before .before .before .before .before .before .before .before .before .before .before .pre) .1 .1 .prelude) inv (sym ((c .before .before .before .before .before .before .before .before .before .before .before .before .next-slot) .ensures) ∙ (c .before .before .before .before .before .before .before .before .before .before .slot) .given .1) in
-    let s = rw ((c .before .number) .given .1) at ((c .before .before .before .before .before .value) .ensures ((c .before .before .before .before .before .before .before .before .before .before .before .before .before .before .before .before .before .args) .t3) readers (v .x) (record { counts = refl; at = ap (λ p. getD ((c .before .before .before .before .before .before .before .before .before .before .before .before .before .before .before .before .before .args) .t3 .targets) p 0) (sym ((c .before .before .before .before .before .before .before .before .reader-position) .ensures)) }) l (v .is)) in
+    let inv = (c .before .before .before .before .before .before .before .before .before .before .before .before .before .before .loop) .inv readers plan l w in
+    let v = value-next _ _ _ _ _ _ _ _ _ _ ((c .before .before .before .before .before .before .before .before .before .before .before .before .before .before .before .before .before .before .pre) .1 .1 .prelude) inv (sym ((c .before .before .before .before .before .before .before .before .before .before .before .before .before .next-slot) .ensures) ∙ (c .before .before .before .before .before .before .before .before .before .before .before .slot) .given .1) in
+    let s = rw ((c .before .number) .given .1) at ((c .before .before .before .before .before .value) .ensures ((c .before .before .before .before .before .before .before .before .before .before .before .before .before .before .before .before .before .before .args) .t3) readers (v .x) (record { counts = refl; at = ap (λ p. getD ((c .before .before .before .before .before .before .before .before .before .before .before .before .before .before .before .before .before .before .args) .t3 .targets) p 0) (sym ((c .before .before .before .before .before .before .before .before .reader-position) .ensures)) }) l (v .is)) in
     next-lost _ _ _ _ _ _ _ _ _ _ v (lost s refl)
 
 nested-enum-known-id : (t : ℕ) → nested-lts.Need-enum-known-id (
   next-slot-reads.Asked,
   next-slot-reads.Learnt,
+  after-reads.Asked,
+  after-reads.Learnt,
   reader-position-reads.Asked,
   reader-position-reads.Learnt,
   value-reads.Asked,
   value-reads.Learnt,
   raw-below t,
   raw.Post,
-  after-reads.Asked,
-  after-reads.Learnt,
 ) (nested-at t) nested.Post nested-Inv-loop nested-μ-loop
 nested-enum-known-id t c = search needs
 
 nested-sub-raw : (t : ℕ) → nested-lts.Need-sub-raw (
   next-slot-reads.Asked,
   next-slot-reads.Learnt,
+  after-reads.Asked,
+  after-reads.Learnt,
   reader-position-reads.Asked,
   reader-position-reads.Learnt,
   value-reads.Asked,
   value-reads.Learnt,
   raw-below t,
   raw.Post,
-  after-reads.Asked,
-  after-reads.Learnt,
 ) (nested-at t) nested.Post nested-Inv-loop nested-μ-loop
 nested-sub-raw t c =
-    let k = (c .before .before .before .before .before .before .before .before .before .before .before .before .before .before .before .before .before .before .pre) .1 .1 in
-    let inv = (c .before .before .before .before .before .before .before .before .before .before .before .before .before .before .loop) .inv (k .readers) ((c .before .before .before .before .before .before .before .before .before .before .before .before .before .before .before .before .before .before .pre) .1 .2 .plan) (k .listed) ((c .before .before .before .before .before .before .before .before .before .before .before .before .before .before .before .before .before .before .pre) .1 .2 .is) in
-    let v = value-next _ _ _ _ _ _ _ _ _ _ (k .prelude) inv (sym ((c .before .before .before .before .before .before .before .before .before .before .before .before .before .next-slot) .ensures) ∙ (c .before .before .before .before .before .before .before .before .before .before .before .slot) .given .1) in
-    let s = rw ((c .before .before .id) .given .1) at ((c .before .before .before .before .before .before .value) .ensures ((c .before .before .before .before .before .before .before .before .before .before .before .before .before .before .before .before .before .before .args) .t3) (k .readers) (v .x) (record { counts = refl; at = ap (λ p. getD ((c .before .before .before .before .before .before .before .before .before .before .before .before .before .before .before .before .before .before .args) .t3 .targets) p 0) (sym ((c .before .before .before .before .before .before .before .before .before .reader-position) .ensures)) }) (k .listed) (v .is)) in
+    let k = (c .before .before .before .before .before .before .before .before .before .before .before .before .before .before .before .before .before .before .before .pre) .1 .1 in
+    let inv = (c .before .before .before .before .before .before .before .before .before .before .before .before .before .before .before .loop) .inv (k .readers) ((c .before .before .before .before .before .before .before .before .before .before .before .before .before .before .before .before .before .before .before .pre) .1 .2 .plan) (k .listed) ((c .before .before .before .before .before .before .before .before .before .before .before .before .before .before .before .before .before .before .before .pre) .1 .2 .is) in
+    let v = value-next _ _ _ _ _ _ _ _ _ _ (k .prelude) inv (sym ((c .before .before .before .before .before .before .before .before .before .before .before .before .before .before .next-slot) .ensures) ∙ (c .before .before .before .before .before .before .before .before .before .before .before .before .slot) .given .1) in
+    let s = rw ((c .before .before .id) .given .1) at ((c .before .before .before .before .before .before .value) .ensures ((c .before .before .before .before .before .before .before .before .before .before .before .before .before .before .before .before .before .before .before .args) .t3) (k .readers) (v .x) (record { counts = refl; at = ap (λ p. getD ((c .before .before .before .before .before .before .before .before .before .before .before .before .before .before .before .before .before .before .before .args) .t3 .targets) p 0) (sym ((c .before .before .before .before .before .before .before .before .before .reader-position) .ensures)) }) (k .listed) (v .is)) in
     omega (arith, s .begins .deep)
 
 nested-raw-requires : (t : ℕ) → nested-lts.Need-raw-requires (
   next-slot-reads.Asked,
   next-slot-reads.Learnt,
+  after-reads.Asked,
+  after-reads.Learnt,
   reader-position-reads.Asked,
   reader-position-reads.Learnt,
   value-reads.Asked,
   value-reads.Learnt,
   raw-below t,
   raw.Post,
-  after-reads.Asked,
-  after-reads.Learnt,
 ) (nested-at t) nested.Post nested-Inv-loop nested-μ-loop
 nested-raw-requires t c κs =
-    let k = (c .before .before .before .before .before .before .before .before .before .before .before .before .before .before .before .before .before .before .pre) .1 .1 in
-    let inv = (c .before .before .before .before .before .before .before .before .before .before .before .before .before .before .loop) .inv (k .readers) ((c .before .before .before .before .before .before .before .before .before .before .before .before .before .before .before .before .before .before .pre) .1 .2 .plan) (k .listed) ((c .before .before .before .before .before .before .before .before .before .before .before .before .before .before .before .before .before .before .pre) .1 .2 .is) in
-    let v = value-next _ _ _ _ _ _ _ _ _ _ (k .prelude) inv (sym ((c .before .before .before .before .before .before .before .before .before .before .before .before .before .next-slot) .ensures) ∙ (c .before .before .before .before .before .before .before .before .before .before .before .slot) .given .1) in
-    let s = rw ((c .before .before .id) .given .1) at ((c .before .before .before .before .before .before .value) .ensures ((c .before .before .before .before .before .before .before .before .before .before .before .before .before .before .before .before .before .before .args) .t3) (k .readers) (v .x) (record { counts = refl; at = ap (λ p. getD ((c .before .before .before .before .before .before .before .before .before .before .before .before .before .before .before .before .before .before .args) .t3 .targets) p 0) (sym ((c .before .before .before .before .before .before .before .before .before .reader-position) .ensures)) }) (k .listed) (v .is)) in
-    let b = standing-begin _ _ _ _ _ _ _ _ _ _ ((c .before .before .before .before .before .before .before .before .before .before .before .before .before .before .before .before .before .before .pre) .1 .0) inv in
-    (omega (arith, (c .before .before .before .before .before .before .before .before .before .before .before .before .before .before .before .before .before .before .pre) .0, s .begins .deep), (record { long = omega (arith, b .long, ap length (s .same)); few = b .few; free = s .begins .free; begun = s .begins .ahead; place = s .begins .inside; short = b .short }, k, record { type = s .begins .type; is = s .begins .stands; opened = s .opened }))
+    let k = (c .before .before .before .before .before .before .before .before .before .before .before .before .before .before .before .before .before .before .before .pre) .1 .1 in
+    let inv = (c .before .before .before .before .before .before .before .before .before .before .before .before .before .before .before .loop) .inv (k .readers) ((c .before .before .before .before .before .before .before .before .before .before .before .before .before .before .before .before .before .before .before .pre) .1 .2 .plan) (k .listed) ((c .before .before .before .before .before .before .before .before .before .before .before .before .before .before .before .before .before .before .before .pre) .1 .2 .is) in
+    let v = value-next _ _ _ _ _ _ _ _ _ _ (k .prelude) inv (sym ((c .before .before .before .before .before .before .before .before .before .before .before .before .before .before .next-slot) .ensures) ∙ (c .before .before .before .before .before .before .before .before .before .before .before .before .slot) .given .1) in
+    let s = rw ((c .before .before .id) .given .1) at ((c .before .before .before .before .before .before .value) .ensures ((c .before .before .before .before .before .before .before .before .before .before .before .before .before .before .before .before .before .before .before .args) .t3) (k .readers) (v .x) (record { counts = refl; at = ap (λ p. getD ((c .before .before .before .before .before .before .before .before .before .before .before .before .before .before .before .before .before .before .before .args) .t3 .targets) p 0) (sym ((c .before .before .before .before .before .before .before .before .before .reader-position) .ensures)) }) (k .listed) (v .is)) in
+    let b = standing-begin _ _ _ _ _ _ _ _ _ _ ((c .before .before .before .before .before .before .before .before .before .before .before .before .before .before .before .before .before .before .before .pre) .1 .0) inv in
+    (omega (arith, (c .before .before .before .before .before .before .before .before .before .before .before .before .before .before .before .before .before .before .before .pre) .0, s .begins .deep), (record { long = omega (arith, b .long, ap length (s .same)); few = b .few; free = s .begins .free; begun = s .begins .ahead; place = s .begins .inside; short = b .short }, k, record { type = s .begins .type; is = s .begins .stands; opened = s .opened }))
 
 nested-enum-known-reached-2 : (t : ℕ) → nested-lts.Need-enum-known-reached-2 (
   next-slot-reads.Asked,
   next-slot-reads.Learnt,
+  after-reads.Asked,
+  after-reads.Learnt,
   reader-position-reads.Asked,
   reader-position-reads.Learnt,
   value-reads.Asked,
   value-reads.Learnt,
   raw-below t,
   raw.Post,
-  after-reads.Asked,
-  after-reads.Learnt,
 ) (nested-at t) nested.Post nested-Inv-loop nested-μ-loop
 nested-enum-known-reached-2 t c = search needs
 
 nested-enum-known-number-2 : (t : ℕ) → nested-lts.Need-enum-known-number-2 (
   next-slot-reads.Asked,
   next-slot-reads.Learnt,
+  after-reads.Asked,
+  after-reads.Learnt,
   reader-position-reads.Asked,
   reader-position-reads.Learnt,
   value-reads.Asked,
   value-reads.Learnt,
   raw-below t,
   raw.Post,
-  after-reads.Asked,
-  after-reads.Learnt,
 ) (nested-at t) nested.Post nested-Inv-loop nested-μ-loop
 nested-enum-known-number-2 t c = search needs
 
 nested-same-length-3 : (t : ℕ) → nested-lts.Need-same-length-3 (
   next-slot-reads.Asked,
   next-slot-reads.Learnt,
+  after-reads.Asked,
+  after-reads.Learnt,
   reader-position-reads.Asked,
   reader-position-reads.Learnt,
   value-reads.Asked,
   value-reads.Learnt,
   raw-below t,
   raw.Post,
-  after-reads.Asked,
-  after-reads.Learnt,
 ) (nested-at t) nested.Post nested-Inv-loop nested-μ-loop
 nested-same-length-3 t c =
-    let inv = (c .before .before .before .before .before .before .before .before .before .before .before .before .before .before .before .before .before .before .before .before .loop) .inv ((c .before .before .before .before .before .before .before .before .before .before .before .before .before .before .before .before .before .before .before .before .before .before .before .before .pre) .1 .1 .readers) ((c .before .before .before .before .before .before .before .before .before .before .before .before .before .before .before .before .before .before .before .before .before .before .before .before .pre) .1 .2 .plan) ((c .before .before .before .before .before .before .before .before .before .before .before .before .before .before .before .before .before .before .before .before .before .before .before .before .pre) .1 .1 .listed) ((c .before .before .before .before .before .before .before .before .before .before .before .before .before .before .before .before .before .before .before .before .before .before .before .before .pre) .1 .2 .is) in
+    let inv = (c .before .before .before .before .before .before .before .before .before .before .before .before .before .before .before .before .before .before .before .before .before .loop) .inv ((c .before .before .before .before .before .before .before .before .before .before .before .before .before .before .before .before .before .before .before .before .before .before .before .before .before .pre) .1 .1 .readers) ((c .before .before .before .before .before .before .before .before .before .before .before .before .before .before .before .before .before .before .before .before .before .before .before .before .before .pre) .1 .2 .plan) ((c .before .before .before .before .before .before .before .before .before .before .before .before .before .before .before .before .before .before .before .before .before .before .before .before .before .pre) .1 .1 .listed) ((c .before .before .before .before .before .before .before .before .before .before .before .before .before .before .before .before .before .before .before .before .before .before .before .before .before .pre) .1 .2 .is) in
     let l = same _ _ _ _ _ _ _ (inv .read-so) in
     search needs
 
 nested-returns-3 : (t : ℕ) → nested-lts.Need-returns-3 (
   next-slot-reads.Asked,
   next-slot-reads.Learnt,
+  after-reads.Asked,
+  after-reads.Learnt,
   reader-position-reads.Asked,
   reader-position-reads.Learnt,
   value-reads.Asked,
   value-reads.Learnt,
   raw-below t,
   raw.Post,
-  after-reads.Asked,
-  after-reads.Learnt,
 ) (nested-at t) nested.Post nested-Inv-loop nested-μ-loop
 nested-returns-3 t c =
     λ readers plan l w.
-    let a = (c .before .before .before .before .before .before .before .before .before .before .before .before .before .before .before .before .before .before .before .before .before .before .before .before .args) in
-    let inv = (c .before .before .before .before .before .before .before .before .before .before .before .before .before .before .before .before .before .before .before .before .loop) .inv readers plan l w in
-    let v = value-next _ _ _ _ _ _ _ _ _ _ ((c .before .before .before .before .before .before .before .before .before .before .before .before .before .before .before .before .before .before .before .before .before .before .before .before .pre) .1 .1 .prelude) inv (sym ((c .before .before .before .before .before .before .before .before .before .before .before .before .before .before .before .before .before .before .before .next-slot) .ensures) ∙ (c .before .before .before .before .before .before .before .before .before .before .before .before .before .before .before .before .before .slot) .given .1) in
-    let s = rw ((c .before .before .before .before .before .before .before .before .id) .given .1) at ((c .before .before .before .before .before .before .before .before .before .before .before .before .value) .ensures ((c .before .before .before .before .before .before .before .before .before .before .before .before .before .before .before .before .before .before .before .before .before .before .before .before .args) .t3) readers (v .x) (record { counts = refl; at = ap (λ p. getD ((c .before .before .before .before .before .before .before .before .before .before .before .before .before .before .before .before .before .before .before .before .before .before .before .before .args) .t3 .targets) p 0) (sym ((c .before .before .before .before .before .before .before .before .before .before .before .before .before .before .before .reader-position) .ensures)) }) l (v .is)) in
+    let a = (c .before .before .before .before .before .before .before .before .before .before .before .before .before .before .before .before .before .before .before .before .before .before .before .before .before .args) in
+    let inv = (c .before .before .before .before .before .before .before .before .before .before .before .before .before .before .before .before .before .before .before .before .before .loop) .inv readers plan l w in
+    let v = value-next _ _ _ _ _ _ _ _ _ _ ((c .before .before .before .before .before .before .before .before .before .before .before .before .before .before .before .before .before .before .before .before .before .before .before .before .before .pre) .1 .1 .prelude) inv (sym ((c .before .before .before .before .before .before .before .before .before .before .before .before .before .before .before .before .before .before .before .before .next-slot) .ensures) ∙ (c .before .before .before .before .before .before .before .before .before .before .before .before .before .before .before .before .before .before .slot) .given .1) in
+    let s = rw ((c .before .before .before .before .before .before .before .before .id) .given .1) at ((c .before .before .before .before .before .before .before .before .before .before .before .before .value) .ensures ((c .before .before .before .before .before .before .before .before .before .before .before .before .before .before .before .before .before .before .before .before .before .before .before .before .before .args) .t3) readers (v .x) (record { counts = refl; at = ap (λ p. getD ((c .before .before .before .before .before .before .before .before .before .before .before .before .before .before .before .before .before .before .before .before .before .before .before .before .before .args) .t3 .targets) p 0) (sym ((c .before .before .before .before .before .before .before .before .before .before .before .before .before .before .before .reader-position) .ensures)) }) l (v .is)) in
     next-lost _ _ _ _ _ _ _ _ _ _ v (lost (left-walked (a .grid) (a .shared) (a .depth - 1) (a .used) (omega (arith, s .begins .deep)) s ((c .before .before .before .before .before .raw) .ensures readers (s .begins .type) l (s .begins .stands) (s .opened))) ((c .before .number2) .given .1))
 
 nested-after-requires : (t : ℕ) → nested-lts.Need-after-requires (
   next-slot-reads.Asked,
   next-slot-reads.Learnt,
+  after-reads.Asked,
+  after-reads.Learnt,
   reader-position-reads.Asked,
   reader-position-reads.Learnt,
   value-reads.Asked,
   value-reads.Learnt,
   raw-below t,
   raw.Post,
-  after-reads.Asked,
-  after-reads.Learnt,
 ) (nested-at t) nested.Post nested-Inv-loop nested-μ-loop
 nested-after-requires t c κs = search needs
 
 nested-add-i : (t : ℕ) → nested-lts.Need-add-i (
   next-slot-reads.Asked,
   next-slot-reads.Learnt,
+  after-reads.Asked,
+  after-reads.Learnt,
   reader-position-reads.Asked,
   reader-position-reads.Learnt,
   value-reads.Asked,
   value-reads.Learnt,
   raw-below t,
   raw.Post,
-  after-reads.Asked,
-  after-reads.Learnt,
 ) (nested-at t) nested.Post nested-Inv-loop nested-μ-loop
 nested-add-i t c =
     let a = (c .before .before .before .before .before .before .before .before .before .before .before .before .before .before .before .before .args) in
@@ -427,26 +427,26 @@ nested-add-i t c =
     let small = small-by-index file (λ i h. omega (arith, (c .before .before .before .before .before .before .before .before .before .before .before .before .before .before .before .shared-slice-known) .given i)) in
     let inv = (c .before .before .before .before .before .before .before .before .before .before .before .before .loop) .inv ((c .before .before .before .before .before .before .before .before .before .before .before .before .before .before .before .before .pre) .1 .1 .readers) ((c .before .before .before .before .before .before .before .before .before .before .before .before .before .before .before .before .pre) .1 .2 .plan) ((c .before .before .before .before .before .before .before .before .before .before .before .before .before .before .before .before .pre) .1 .1 .listed) ((c .before .before .before .before .before .before .before .before .before .before .before .before .before .before .before .before .pre) .1 .2 .is) in
     let v = value-next _ _ _ _ _ _ _ _ _ _ ((c .before .before .before .before .before .before .before .before .before .before .before .before .before .before .before .before .pre) .1 .1 .prelude) inv (sym ((c .before .before .before .before .before .before .before .before .before .before .before .next-slot) .ensures) ∙ (c .before .before .before .before .before .before .before .before .before .slot) .given .1) in
-    let s = (c .before .before .before .before .value) .ensures ((c .before .before .before .before .before .before .before .before .before .before .before .before .before .before .before .before .args) .t3) ((c .before .before .before .before .before .before .before .before .before .before .before .before .before .before .before .before .pre) .1 .1 .readers) (v .x) (record { counts = refl; at = ap (λ p. getD ((c .before .before .before .before .before .before .before .before .before .before .before .before .before .before .before .before .args) .t3 .targets) p 0) (sym ((c .before .before .before .before .before .before .before .reader-position) .ensures)) }) ((c .before .before .before .before .before .before .before .before .before .before .before .before .before .before .before .before .pre) .1 .1 .listed) (v .is) in
-    let y : Got (a .grid) ((c .before .before .before .before .before .before .before .before .before .before .before .before .loop) .words) ((c .before .match2) .words) ((c .before .before .before .before .before .before .before .before .before .before .before .before .loop) .row) (walk file ((c .before .before .before .before .before .before .before .before .before .before .before .before .before .before .before .before .pre) .1 .1 .readers) (a .shared) (a .grid .room) (a .depth) (v .x) ((c .before .before .before .before .before .before .before .before .before .before .before .before .loop) .next) ((c .before .before .before .before .before .before .before .before .before .before .before .before .loop) .row) (a .used)) ((c .before .match2) .next) ((c .before .match2) .row) =
+    let s = (c .before .before .before .value) .ensures ((c .before .before .before .before .before .before .before .before .before .before .before .before .before .before .before .before .args) .t3) ((c .before .before .before .before .before .before .before .before .before .before .before .before .before .before .before .before .pre) .1 .1 .readers) (v .x) (record { counts = refl; at = ap (λ p. getD ((c .before .before .before .before .before .before .before .before .before .before .before .before .before .before .before .before .args) .t3 .targets) p 0) (sym ((c .before .before .before .before .before .before .reader-position) .ensures)) }) ((c .before .before .before .before .before .before .before .before .before .before .before .before .before .before .before .before .pre) .1 .1 .listed) (v .is) in
+    let y : Got (a .grid) ((c .before .before .before .before .before .before .before .before .before .before .before .before .loop) .words) ((c .match2) .words) ((c .before .before .before .before .before .before .before .before .before .before .before .before .loop) .row) (walk file ((c .before .before .before .before .before .before .before .before .before .before .before .before .before .before .before .before .pre) .1 .1 .readers) (a .shared) (a .grid .room) (a .depth) (v .x) ((c .before .before .before .before .before .before .before .before .before .before .before .before .loop) .next) ((c .before .before .before .before .before .before .before .before .before .before .before .before .loop) .row) (a .used)) ((c .match2) .next) ((c .match2) .row) =
     ⊎-elim
     (λ w. got-as (got (rw (w .1 .given .1) at s) refl) (w .3) (w .4) (w .5))
     (λ w. let q = rw (w .1 .given .1) at s in got-as (got (left-walked (a .grid) (a .shared) (a .depth - 1) (a .used) (omega (arith, q .begins .deep)) q (w .4 .ensures ((c .before .before .before .before .before .before .before .before .before .before .before .before .before .before .before .before .pre) .1 .1 .readers) (q .begins .type) ((c .before .before .before .before .before .before .before .before .before .before .before .before .before .before .before .before .pre) .1 .1 .listed) (q .begins .stands) (q .opened))) (w .8 .given .1)) (w .10) (w .11) (w .12))
-    ((c .before .match2) .came) in
+    ((c .match2) .came) in
     let z = next-walked _ _ _ _ _ _ _ _ _ _ small v y in
     record { fits = omega (arith, z .0 .ahead, z .0 .read-so .fits ((c .before .before .before .before .before .before .before .before .before .before .before .before .before .before .before .before .pre) .1 .0 .rows), (c .before .before .before .before .before .before .before .before .before .before .before .before .before .before .before .before .pre) .1 .0 .few) }
 
 nested-loop-less : (t : ℕ) → nested-lts.Need-loop-less (
   next-slot-reads.Asked,
   next-slot-reads.Learnt,
+  after-reads.Asked,
+  after-reads.Learnt,
   reader-position-reads.Asked,
   reader-position-reads.Learnt,
   value-reads.Asked,
   value-reads.Learnt,
   raw-below t,
   raw.Post,
-  after-reads.Asked,
-  after-reads.Learnt,
 ) (nested-at t) nested.Post nested-Inv-loop nested-μ-loop
 nested-loop-less t c =
     let a = (c .before .before .before .before .before .before .before .before .before .before .before .before .before .before .before .before .args) in
@@ -454,26 +454,26 @@ nested-loop-less t c =
     let small = small-by-index file (λ i h. omega (arith, (c .before .before .before .before .before .before .before .before .before .before .before .before .before .before .before .shared-slice-known) .given i)) in
     let inv = (c .before .before .before .before .before .before .before .before .before .before .before .before .loop) .inv ((c .before .before .before .before .before .before .before .before .before .before .before .before .before .before .before .before .pre) .1 .1 .readers) ((c .before .before .before .before .before .before .before .before .before .before .before .before .before .before .before .before .pre) .1 .2 .plan) ((c .before .before .before .before .before .before .before .before .before .before .before .before .before .before .before .before .pre) .1 .1 .listed) ((c .before .before .before .before .before .before .before .before .before .before .before .before .before .before .before .before .pre) .1 .2 .is) in
     let v = value-next _ _ _ _ _ _ _ _ _ _ ((c .before .before .before .before .before .before .before .before .before .before .before .before .before .before .before .before .pre) .1 .1 .prelude) inv (sym ((c .before .before .before .before .before .before .before .before .before .before .before .next-slot) .ensures) ∙ (c .before .before .before .before .before .before .before .before .before .slot) .given .1) in
-    let s = (c .before .before .before .before .value) .ensures ((c .before .before .before .before .before .before .before .before .before .before .before .before .before .before .before .before .args) .t3) ((c .before .before .before .before .before .before .before .before .before .before .before .before .before .before .before .before .pre) .1 .1 .readers) (v .x) (record { counts = refl; at = ap (λ p. getD ((c .before .before .before .before .before .before .before .before .before .before .before .before .before .before .before .before .args) .t3 .targets) p 0) (sym ((c .before .before .before .before .before .before .before .reader-position) .ensures)) }) ((c .before .before .before .before .before .before .before .before .before .before .before .before .before .before .before .before .pre) .1 .1 .listed) (v .is) in
-    let y : Got (a .grid) ((c .before .before .before .before .before .before .before .before .before .before .before .before .loop) .words) ((c .before .match2) .words) ((c .before .before .before .before .before .before .before .before .before .before .before .before .loop) .row) (walk file ((c .before .before .before .before .before .before .before .before .before .before .before .before .before .before .before .before .pre) .1 .1 .readers) (a .shared) (a .grid .room) (a .depth) (v .x) ((c .before .before .before .before .before .before .before .before .before .before .before .before .loop) .next) ((c .before .before .before .before .before .before .before .before .before .before .before .before .loop) .row) (a .used)) ((c .before .match2) .next) ((c .before .match2) .row) =
+    let s = (c .before .before .before .value) .ensures ((c .before .before .before .before .before .before .before .before .before .before .before .before .before .before .before .before .args) .t3) ((c .before .before .before .before .before .before .before .before .before .before .before .before .before .before .before .before .pre) .1 .1 .readers) (v .x) (record { counts = refl; at = ap (λ p. getD ((c .before .before .before .before .before .before .before .before .before .before .before .before .before .before .before .before .args) .t3 .targets) p 0) (sym ((c .before .before .before .before .before .before .reader-position) .ensures)) }) ((c .before .before .before .before .before .before .before .before .before .before .before .before .before .before .before .before .pre) .1 .1 .listed) (v .is) in
+    let y : Got (a .grid) ((c .before .before .before .before .before .before .before .before .before .before .before .before .loop) .words) ((c .match2) .words) ((c .before .before .before .before .before .before .before .before .before .before .before .before .loop) .row) (walk file ((c .before .before .before .before .before .before .before .before .before .before .before .before .before .before .before .before .pre) .1 .1 .readers) (a .shared) (a .grid .room) (a .depth) (v .x) ((c .before .before .before .before .before .before .before .before .before .before .before .before .loop) .next) ((c .before .before .before .before .before .before .before .before .before .before .before .before .loop) .row) (a .used)) ((c .match2) .next) ((c .match2) .row) =
     ⊎-elim
     (λ w. got-as (got (rw (w .1 .given .1) at s) refl) (w .3) (w .4) (w .5))
     (λ w. let q = rw (w .1 .given .1) at s in got-as (got (left-walked (a .grid) (a .shared) (a .depth - 1) (a .used) (omega (arith, q .begins .deep)) q (w .4 .ensures ((c .before .before .before .before .before .before .before .before .before .before .before .before .before .before .before .before .pre) .1 .1 .readers) (q .begins .type) ((c .before .before .before .before .before .before .before .before .before .before .before .before .before .before .before .before .pre) .1 .1 .listed) (q .begins .stands) (q .opened))) (w .8 .given .1)) (w .10) (w .11) (w .12))
-    ((c .before .match2) .came) in
+    ((c .match2) .came) in
     let z = next-walked _ _ _ _ _ _ _ _ _ _ small v y in
     omega (arith, z .1, z .0 .read-so .fits ((c .before .before .before .before .before .before .before .before .before .before .before .before .before .before .before .before .pre) .1 .0 .rows))
 
 nested-loop-again : (t : ℕ) → nested-lts.Need-loop-again (
   next-slot-reads.Asked,
   next-slot-reads.Learnt,
+  after-reads.Asked,
+  after-reads.Learnt,
   reader-position-reads.Asked,
   reader-position-reads.Learnt,
   value-reads.Asked,
   value-reads.Learnt,
   raw-below t,
   raw.Post,
-  after-reads.Asked,
-  after-reads.Learnt,
 ) (nested-at t) nested.Post nested-Inv-loop nested-μ-loop
 nested-loop-again t c =
     λ readers plan l n.
@@ -482,14 +482,14 @@ nested-loop-again t c =
     let small = small-by-index file (λ i h. omega (arith, (c .before .before .before .before .before .before .before .before .before .before .before .before .before .before .before .shared-slice-known) .given i)) in
     let inv = (c .before .before .before .before .before .before .before .before .before .before .before .before .loop) .inv readers plan l n in
     let v = value-next _ _ _ _ _ _ _ _ _ _ ((c .before .before .before .before .before .before .before .before .before .before .before .before .before .before .before .before .pre) .1 .1 .prelude) inv (sym ((c .before .before .before .before .before .before .before .before .before .before .before .next-slot) .ensures) ∙ (c .before .before .before .before .before .before .before .before .before .slot) .given .1) in
-    let s = (c .before .before .before .before .value) .ensures ((c .before .before .before .before .before .before .before .before .before .before .before .before .before .before .before .before .args) .t3) readers (v .x) (record { counts = refl; at = ap (λ p. getD ((c .before .before .before .before .before .before .before .before .before .before .before .before .before .before .before .before .args) .t3 .targets) p 0) (sym ((c .before .before .before .before .before .before .before .reader-position) .ensures)) }) l (v .is) in
-    let y : Got (a .grid) ((c .before .before .before .before .before .before .before .before .before .before .before .before .loop) .words) ((c .before .match2) .words) ((c .before .before .before .before .before .before .before .before .before .before .before .before .loop) .row) (walk file readers (a .shared) (a .grid .room) (a .depth) (v .x) ((c .before .before .before .before .before .before .before .before .before .before .before .before .loop) .next) ((c .before .before .before .before .before .before .before .before .before .before .before .before .loop) .row) (a .used)) ((c .before .match2) .next) ((c .before .match2) .row) =
+    let s = (c .before .before .before .value) .ensures ((c .before .before .before .before .before .before .before .before .before .before .before .before .before .before .before .before .args) .t3) readers (v .x) (record { counts = refl; at = ap (λ p. getD ((c .before .before .before .before .before .before .before .before .before .before .before .before .before .before .before .before .args) .t3 .targets) p 0) (sym ((c .before .before .before .before .before .before .reader-position) .ensures)) }) l (v .is) in
+    let y : Got (a .grid) ((c .before .before .before .before .before .before .before .before .before .before .before .before .loop) .words) ((c .match2) .words) ((c .before .before .before .before .before .before .before .before .before .before .before .before .loop) .row) (walk file readers (a .shared) (a .grid .room) (a .depth) (v .x) ((c .before .before .before .before .before .before .before .before .before .before .before .before .loop) .next) ((c .before .before .before .before .before .before .before .before .before .before .before .before .loop) .row) (a .used)) ((c .match2) .next) ((c .match2) .row) =
     ⊎-elim
     (λ w. got-as (got (rw (w .1 .given .1) at s) refl) (w .3) (w .4) (w .5))
     (λ w. let q = rw (w .1 .given .1) at s in got-as (got (left-walked (a .grid) (a .shared) (a .depth - 1) (a .used) (omega (arith, q .begins .deep)) q (w .4 .ensures readers (q .begins .type) l (q .begins .stands) (q .opened))) (w .8 .given .1)) (w .10) (w .11) (w .12))
-    ((c .before .match2) .came) in
+    ((c .match2) .came) in
     let z = next-walked _ _ _ _ _ _ _ _ _ _ small v y in
-    rw ((c .after) .ensures) (z .0)
+    rw ((c .before .before .before .before .before .before .before .after) .ensures) (z .0)
 
 raw-add-first : (t : ℕ) → raw-lts.Need-add-first (
   nested-below t,
@@ -618,14 +618,14 @@ pub +nested+raw-spec : {M : Type 1} → statement M
 +nested+raw-spec = close μ-nested μ-raw (λ t. nested-lts.spec (
   next-slot-reads.Asked,
   next-slot-reads.Learnt,
+  after-reads.Asked,
+  after-reads.Learnt,
   reader-position-reads.Asked,
   reader-position-reads.Learnt,
   value-reads.Asked,
   value-reads.Learnt,
   raw-below t,
   raw.Post,
-  after-reads.Asked,
-  after-reads.Learnt,
 )
     (nested-at t)
     nested.Post
@@ -637,6 +637,7 @@ pub +nested+raw-spec : {M : Type 1} → statement M
     (nested-same-length t)
     (nested-returns t)
     (nested-enum-known-slot t)
+    (nested-after-requires t)
     (nested-reader-position-requires t)
     (nested-mul-target t)
     (nested-element-copy-out-target t)
@@ -652,7 +653,6 @@ pub +nested+raw-spec : {M : Type 1} → statement M
     (nested-enum-known-number-2 t)
     (nested-same-length-3 t)
     (nested-returns-3 t)
-    (nested-after-requires t)
     (nested-add-i t)
     (nested-loop-less t)
     (nested-loop-again t))
