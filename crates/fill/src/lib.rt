@@ -15,6 +15,17 @@ pub fn clear(out: &mut [u32], from: usize)
     }
 }
 
+// The same for 64-bit words.
+pub fn clear64(out: &mut [u64], from: usize)
+    ensures { λ _. ⌜ now (out .exit) ≡ cleared (now (out .entry)) from ⌝ }
+{
+    let mut i = from;
+    while i < out.len() {
+        out[i] = 0;
+        i += 1;
+    }
+}
+
 // `n` bytes of `src` from `from` on, into `out` from `to` on.
 fn paste(out: &mut [u8], to: usize, src: &[u8], from: usize, n: usize)
     requires { ⌜ (to + n ≤ length (now out)) × (from + n ≤ length (now src)) ⌝ }
