@@ -13,8 +13,9 @@ use Rattle.layout.specs.Named.{named}
 use Rattle.reading.specs.Reads.{Small}
 use Rattle.reading.specs.File.{Load, refusal, accepted, loadOf}
 use Rattle.reading.specs.Refusals.{refusal-place}
-use Rattle.shortest.specs.Rewrite as rewritten
-use Rattle.shortest.specs.Rewrite.{Rewritten, rewriteOf}
+use Rattle.reading.specs.Output as rewritten
+use Rattle.reading.specs.Output.{Rewritten}
+use Rattle.shortest.specs.Rewrite.{rewriteOf}
 use Rattle.shortest.specs.Theorems.{rewrite-refusal}
 use Rattle.rewrite.specs.declared.Rewriting.the-variants as rewriting
 use Rattle.rewrite.specs.Contract as rewrite

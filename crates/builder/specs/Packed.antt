@@ -2,8 +2,8 @@
 use Prim.Native.Nat.{ℕ, _+_, _*_}
 use lib.ListN.{length}
 use Rattle.reading.specs.File.{Load, refusal, accepted}
-use Rattle.shortest.specs.Rewrite.{Rewritten, written}
-use Rattle.shortest.specs.Rewrite as rewrite
+use Rattle.reading.specs.Output.{Rewritten, written}
+use Rattle.reading.specs.Output as rewrite
 
 -- a refusal; its place is at most 16,777,216, so it fits the 32 bits below the number
 unfoldable pub code : (number place : ℕ) → ℕ

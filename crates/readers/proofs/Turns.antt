@@ -12,7 +12,7 @@ use borrow.Author.Tests.{ltb-true, ltb-false}
 use Rattle.layout.specs.Target.{Target, object}
 use Rattle.types.specs.Code.{code}
 use Rattle.types.specs.Laws.{kept-stands}
-use Rattle.reading.specs.Answer.{Answer, refused, read, bind}
+use Rattle.reading.specs.Answer.{Answer, refused, read, bind, several}
 use Rattle.reading.specs.File.{readerAt, readersAt}
 use Rattle.readers.specs.Judged.{judgedName}
 use Rattle.readers.specs.Parts.{Taken}
@@ -52,7 +52,7 @@ module _ (file codes targets starts : List ℕ) (n at : ℕ) where
 
 module _ {file codes codes′ targets starts : List ℕ} {n at i used next : ℕ} (r : Reached file codes codes′ targets starts n at i used next) where
   pub refuse : i < n → {k p : ℕ} → readerAt judgedName file next ≡ refused k p → readersAt judgedName file n at ≡ refused k p
-  unfolding readersAt bind
+  unfolding readersAt several bind
   refuse h q =
       let z : n - i ≡ suc (n - (i + 1)) = omega arith in
       r .answer ∙ rw (z, q)
@@ -62,7 +62,7 @@ module _ {file codes codes′ targets starts : List ℕ} {n at i used next : ℕ
 
   module _ {codes″ : List ℕ} {first end behind : ℕ} (w : Taken (readerAt judgedName file next) file codes′ codes″ used first end behind) where
     answers : i < n → readersAt judgedName file n at ≡ after (r .names ++ w .name ∷ []) (r .readers ++ w .t ∷ []) (readersAt judgedName file (n - (i + 1)) behind)
-    unfolding readersAt bind
+    unfolding readersAt several bind
     answers h =
         let z : n - i ≡ suc (n - (i + 1)) = omega arith in
         r .answer ∙ rw (z, w .answer) (after-one (r .names) (r .readers) (w .name) (w .t) (readersAt judgedName file (n - (i + 1)) behind))

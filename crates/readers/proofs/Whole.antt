@@ -8,7 +8,7 @@ use lib.Dec.{leb}
 use lib.ListN.{length}
 use borrow.Author.Tests.{lt-leb}
 use Rattle.layout.specs.Target.{Target}
-use Rattle.reading.specs.Answer.{Answer, refused, read, bind, check}
+use Rattle.reading.specs.Answer.{Answer, refused, read, bind, check, several}
 use Rattle.reading.specs.Seven.{sevenAt}
 use Rattle.reading.specs.File.{readersAt, listsAt}
 use Rattle.readers.specs.Judged.{judgedName}
@@ -25,7 +25,7 @@ module _ (file : List ℕ) (n at : ℕ) where
 
   module _ {codes codes′ targets starts : List ℕ} {next : ℕ} (e : Ended-at file codes codes′ targets starts n at next) where
     all-read : readersAt judgedName file n at ≡ read (e .reached .names, e .reached .readers) next
-    unfolding readersAt bind
+    unfolding readersAt several bind
     all-read =
         let z : n - e .i ≡ 0 = omega (arith, e .all) in
         e .reached .answer ∙ rw (z, append-nil (e .reached .names), append-nil (e .reached .readers))

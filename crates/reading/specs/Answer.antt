@@ -20,6 +20,11 @@ unfoldable pub check : {A : Type 0} → Bool → ℕ → ℕ → Answer A → An
 check true n p x = x
 check false n p x = refused n p
 
+-- so many values one after the other, put together from the last on
+unfoldable pub several : {A B : Type 0} → (none : B) (add : A → B → B) → (ℕ → Answer A) → (n at : ℕ) → Answer B
+several none add r zero at = read none at
+several none add r (suc n) at = bind (r at) (λ a e. bind (several none add r n e) (λ l next. read (add a l) next))
+
 pub data Ok {A : Type 0} (P : A → ℕ → Type 0) : Answer A → Type 0 where
   not-read : {n p : ℕ} → Ok P (refused n p)
   is-read : {a : A} {e : ℕ} → P a e → Ok P (read a e)

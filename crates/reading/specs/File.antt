@@ -9,7 +9,7 @@ use Rattle.layout.specs.Target.{Target}
 use Rattle.layout.specs.File.{FileTree, objectsPlan}
 use Rattle.layout.specs.Rows.{flat, Row, width}
 use Rattle.layout.specs.Number.{valueOf}
-use Rattle.reading.specs.Answer.{Answer, refused, read, bind, check, within}
+use Rattle.reading.specs.Answer.{Answer, refused, read, bind, check, several, within}
 use Rattle.reading.specs.Reads.{some}
 use Rattle.reading.specs.Seven.{sevenAt}
 use Rattle.reading.specs.Little.{littleAt}
@@ -99,8 +99,7 @@ module _ (nameOf : List ℕ → Named) (file : List ℕ) where
 
   -- so many readers: their names, and their targets
   unfoldable pub readersAt : (n at : ℕ) → Answer (List (List ℕ) × List Target)
-  readersAt zero at = read ([], []) at
-  readersAt (suc n) at = bind (readerAt at) (λ a e. bind (readersAt n e) (λ l next. read (a .0 ∷ l .0, a .1 ∷ l .1) next))
+  readersAt n at = several ([], []) (λ a l. (a .0 ∷ l .0, a .1 ∷ l .1)) readerAt n at
 
   -- 01: "reader count (0 to 64), the readers, shared count (0 to 256)": the names, the targets and the shared count
   unfoldable pub listsAt : ℕ → Answer (List (List ℕ) × List Target × ℕ)

@@ -14,7 +14,7 @@ use Rattle.layout.specs.Number.{little, valueOf}
 use Rattle.layout.specs.Text.{ascii}
 use Rattle.layout.specs.Target.{Target}
 use Rattle.layout.specs.File.{Platform, header, Entry, Entries, Lists}
-use Rattle.reading.specs.Answer.{read, check, Ok, not-read, is-read, ok-check, within, within-true, true-within}
+use Rattle.reading.specs.Answer.{read, check, Ok, not-read, is-read, ok-check, within, within-true, true-within, several}
 use Rattle.reading.specs.Reads.{Small, small-drop, small-left, Reads, pure-reads, bind-reads, check-reads, here-reads, convert, some-reads}
 use Rattle.reading.specs.Seven.{seven-reads}
 use Rattle.reading.specs.Little.{little-reads, little-value, value-little}
@@ -204,7 +204,7 @@ module _ (named : List ℕ → Target → Type 0) (nameOf : List ℕ → Named) 
       ((name, t), w .0, w .1, w .2, w .3, ((names, readers), w .1, [], sym (append-nil (w .1)), (m, w .4), (refl, refl)))
 
   pub readers-reads : (n : ℕ) → Reads file (λ l bs. (length (l .0) ≡ n) × Entries named (l .0) (l .1) bs) (readersAt nameOf file n)
-  unfolding readersAt Entries
+  unfolding readersAt several Entries
   readers-reads zero =
       convert file (pure-reads file ([], []))
       (λ l bs s w. rw (w .0) (refl, w .1))

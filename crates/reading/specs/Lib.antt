@@ -1,6 +1,8 @@
 -- What reading answers: the first fault in file order with its number and place, or the value and the next byte; and the laws that tie each reader to the layout.
 pub mod Answer
 pub mod Reads
+pub mod Same
+pub mod Output
 pub mod Seven
 pub mod Little
 pub mod Utf8

@@ -15,7 +15,7 @@ use Rattle.layout.specs.Slot.{Leaf, level, Slot, raw, reference, leaf, object a
 use Rattle.layout.specs.File.{objectsPlan}
 use Rattle.layout.specs.Rows.{row}
 use Rattle.layout.specs.Tree.{toldOf}
-use Rattle.reading.specs.Answer.{Answer, refused, read, bind, check}
+use Rattle.reading.specs.Answer.{Answer, refused, read, bind, check, several}
 use Rattle.reading.specs.Reads.{some, field}
 use Rattle.reading.specs.Seven.{group, groups, sevenAt}
 use Rattle.reading.specs.Little.{littleAt}
@@ -269,7 +269,7 @@ module _ (nameOf : List ℕ → Named) (numbers : TenOrEleven nameOf) (file : Li
         tells-bind (little-inside file most fits 4 version version v v) (λ number next e. tells-check _ 12 version _ (fault file most fits 12 refl refl v) (λ t. of-read e))))))
 
     readers-inside : (n at : ℕ) → at ≤ length file → Inside file most fits (readersAt nameOf file n at)
-    unfolding readersAt
+    unfolding readersAt several
     readers-inside zero at h = of-read h
     readers-inside (suc n) at h = tells-bind (entry-inside at h) (λ a e k. tells-bind (readers-inside n e k) (λ l next g. of-read g))
 

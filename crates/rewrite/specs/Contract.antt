@@ -14,7 +14,8 @@ use Rattle.shortest.specs.Places.{past}
 use Rattle.shortest.specs.Lists.{entriesPlaces, entriesEnd}
 use Rattle.shortest.specs.Rewrites.{Rewrites, rewrites-padding}
 use Rattle.fill.specs.Fill.{cleared}
-use Rattle.shortest.specs.Rewrite.{Rewritten, refusal, written, fitted, outputOf, wordsOf}
+use Rattle.reading.specs.Output.{Rewritten, refusal, written, fitted, outputOf}
+use Rattle.shortest.specs.Rewrite.{wordsOf}
 use Rattle.rewrite.specs.declared.Rewriting.{Rewriting}
 use Rattle.rewrite.specs.declared.Rewriting.the-variants.{Refused, Rewritten as Length}
 use Rattle.padding.specs.Table.{tablePlaces, placesOf, paddingIn, not-too-long}

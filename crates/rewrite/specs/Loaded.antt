@@ -14,7 +14,8 @@ use Rattle.load.specs.declared.Loading.the-variants.{Refused, Loaded}
 use Rattle.load.specs.Loads as load
 use Rattle.shortest.specs.File.{shortFile, header-is}
 use Rattle.shortest.specs.Lists.{filePlaces, file-rewrites}
-use Rattle.shortest.specs.Rewrite.{fitted, byLoad, rewriteOf, outputOf, wordsOf}
+use Rattle.reading.specs.Output.{fitted, outputOf}
+use Rattle.shortest.specs.Rewrite.{byLoad, rewriteOf, wordsOf}
 use Rattle.shortest.specs.Theorems.{rewrite-is}
 use Rattle.rewrite.specs.declared.Rewriting.{Rewriting}
 use Rattle.rewrite.specs.declared.Rewriting.the-variants as rewriting

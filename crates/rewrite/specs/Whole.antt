@@ -4,7 +4,8 @@ use lib.ListN.{length}
 use Prim.Native.Nat.{ℕ}
 use Rattle.reading.specs.File.{loadOf, tableOf}
 use Rattle.readers.specs.Judged.{judgedName}
-use Rattle.shortest.specs.Rewrite.{Rewritten, rewriteOf, outputOf, wordsOf}
+use Rattle.reading.specs.Output.{Rewritten, outputOf}
+use Rattle.shortest.specs.Rewrite.{rewriteOf, wordsOf}
 
 -- what rewriting answers
 abbrev pub rewritten : (file words out : List ℕ) → Rewritten

@@ -1,21 +1,11 @@
 -- What rewriting a file answers, and what it leaves in the output and in the words (01, "Seven-bit numbers"; refusal 21). Assumes nothing.
-use mathlib.Core.Bool.{cond}
-use mathlib.Core.List.{List, _++_}
-use Prim.Native.Nat.{ℕ, _+_}
-use lib.Dec.{leb}
-use lib.ListN.{length, drop, replicate}
+use mathlib.Core.List.{List}
+use Prim.Native.Nat.{ℕ}
+use lib.ListN.{length, replicate}
 use Rattle.reading.specs.Answer.{Answer, refused, read}
+use Rattle.reading.specs.Output.{Rewritten, refusal, written, fitted}
 use Rattle.reading.specs.File.{Named, Loaded, fileAt, roomOf}
 use Rattle.shortest.specs.File.{shortFile}
-
--- refused with a number and a place, or the bytes that are written
-pub data Rewritten : Type 0 where
-  refusal : (number place : ℕ) → Rewritten
-  written : List ℕ → Rewritten
-
--- 01: "21 output too small for a rewrite", placed at the "bytes needed"
-unfoldable pub fitted : (bytes : List ℕ) (out : ℕ) → Rewritten
-fitted bytes out = cond (leb (length bytes) out) (written bytes) (refusal 21 (length bytes))
 
 -- 01: "21 comes after every load fault"; what is written is the shortest bytes of the file tree that was read
 unfoldable pub byLoad : Answer Loaded → (out : ℕ) → Rewritten
@@ -25,11 +15,6 @@ byLoad (read a next) out = fitted (shortFile (a .tree)) out
 -- for a file, the number of words lent for rows and the number of bytes lent for the output
 unfoldable pub rewriteOf : (List ℕ → Named) → (file : List ℕ) (words out : ℕ) → Rewritten
 rewriteOf nameOf file words out = byLoad (fileAt nameOf file (roomOf words)) out
-
--- 01: "output bytes past the new file stay"; after a refusal all stay
-unfoldable pub outputOf : Rewritten → (out : List ℕ) → List ℕ
-outputOf (refusal number place) out = out
-outputOf (written bytes) out = bytes ++ drop (length bytes) out
 
 -- 01: a row table "left as a load of its input leaves it, but zero after 21 as well"
 unfoldable pub wordsOf : Rewritten → (table : List ℕ) → List ℕ

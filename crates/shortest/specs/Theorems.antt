@@ -22,7 +22,8 @@ use Rattle.numbers.specs.Shortest.{Shortens}
 use Rattle.shortest.specs.File.{shortBody, shortFile, length-file, length-header, header-is, file-short}
 use Rattle.shortest.specs.Rewrites.{padding, rewrites-padding}
 use Rattle.shortest.specs.Lists.{filePlaces, file-rewrites}
-use Rattle.shortest.specs.Rewrite.{refusal, written, fitted, byLoad, rewriteOf}
+use Rattle.reading.specs.Output.{refusal, written, fitted}
+use Rattle.shortest.specs.Rewrite.{byLoad, rewriteOf}
 
 module _ (named : List ℕ → Target → Type 0) (nameOf : List ℕ → Named) (judges : Judges named nameOf) where
   -- the bytes written are the shortest of the file tree that fits

@@ -20,8 +20,9 @@ use Rattle.reading.specs.Refusals.{refusal-number, refusal-place}
 use Rattle.reading.specs.Theorems as T
 use Rattle.reading.specs.Theorems.{Fitting, rowsIn}
 use Rattle.shortest.specs.File.{shortFile}
-use Rattle.shortest.specs.Rewrite as shortest
-use Rattle.shortest.specs.Rewrite.{fitted, byLoad, rewriteOf, outputOf, wordsOf}
+use Rattle.reading.specs.Output as output
+use Rattle.reading.specs.Output.{fitted, outputOf}
+use Rattle.shortest.specs.Rewrite.{byLoad, rewriteOf, wordsOf}
 use Rattle.shortest.specs.Theorems as S
 use Rattle.load.specs.declared.Loading.{Loading}
 use Rattle.load.specs.declared.Loading.the-variants.{Refused, Loaded}
@@ -84,10 +85,10 @@ module _ (file : List ℕ) (words : ℕ) {left : List ℕ} {r : Loading} (small 
 -- ---- Rewriting
 
 -- a load that refuses is handed on
-handed-on : (file : List ℕ) (words out n p : ℕ) → loadOf judgedName file words ≡ refusal n p → rewriteOf judgedName file words out ≡ shortest.refusal n p
+handed-on : (file : List ℕ) (words out n p : ℕ) → loadOf judgedName file words ≡ refusal n p → rewriteOf judgedName file words out ≡ output.refusal n p
 unfolding loadOf toLoad rewriteOf byLoad
 handed-on file words out n p e = go (fileAt judgedName file (roomOf words)) e where
-  go : (x : Answer reading.Loaded) → toLoad x ≡ refusal n p → byLoad x out ≡ shortest.refusal n p
+  go : (x : Answer reading.Loaded) → toLoad x ≡ refusal n p → byLoad x out ≡ output.refusal n p
   go (refused m q) e =
       let a : m ≡ n = cc in
       let b : q ≡ p = cc in
