@@ -50,6 +50,22 @@ uint32_t xnb_signed(const uint8_t *file, size_t file_length, const uint32_t *wor
 uint32_t xnb_time(const uint8_t *file, size_t file_length, const uint32_t *words, size_t words_length,
                   uint32_t row, int64_t *seconds, uint32_t *ticks);
 
+/* The entries below take a pack of any length: a count of files in four bytes, and for each file a path behind its length
+   as a seven-bit number, its size in four bytes, and its data. A table has four words for each file: where its path starts,
+   the path's length, where its data starts, the data's length. */
+
+/* Reads a pack of at most 4,096 files into the table, and writes the number of files to `at`. Every word that is not in an
+   entry is zero. On a refusal, of which the answer is the number, `at` is its place and every word is zero: 1 the pack is cut
+   short, 8 a path's length is no seven-bit number of 32 bits, 9 over 4,096 files or a path that is not of 1 to 260 bytes,
+   15 a path is not UTF-8, 20 bytes are left over, 31 the table has no room for a file. */
+uint32_t xnb_pack_read(const uint8_t *pack, size_t pack_length, uint64_t *table, size_t table_length, uint64_t *at);
+
+/* Finds the first entry of the table whose path is the one given, ASCII letters of both being lowered. The table may hold any
+   words: an entry whose path has length 0, or whose path or data runs past the pack, is passed over. Writes where the data
+   starts in the pack and its length, and answers 1; or writes 0 twice and answers 0. */
+uint32_t xnb_pack_find(const uint8_t *pack, size_t pack_length, const uint64_t *table, size_t table_length,
+                       const uint8_t *path, size_t path_length, uint64_t *first, uint64_t *length);
+
 #ifdef __cplusplus
 }
 #endif

@@ -1,2 +1,3 @@
 pub mod Packed
 pub mod Told
+pub mod Packs

@@ -1,4 +1,6 @@
 // The entries for an asset builder in another language: each takes slices and numbers, and answers one number.
+mod pack;
+
 use ids::RowNumber;
 use ids::WIDTH;
 use load::Loading;

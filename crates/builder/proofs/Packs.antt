@@ -1,0 +1,38 @@
+-- The answers of the entries over packs, by their cases. Assumes nothing.
+use mathlib.Core.Path.{_≡_, refl}
+use Prim.Native.Nat.{ℕ}
+use lib.ListN.{length}
+use Rattle.laws.specs.Small.{differ}
+use Rattle.pack_reading.specs.Pack.{Pack, refusal, accepted}
+use Rattle.pack_reading.specs.Lookup.{Found, absent, found}
+use Rattle.packs.specs.declared.Reading.the-variants.{Refused, Read}
+use Rattle.packs.specs.Files.{answerOf}
+use Rattle.pack_lookup.specs.declared.Found.the-variants.{Absent, At}
+use Rattle.pack_lookup.specs.Lookup.{foundAs}
+use Rattle.builder.specs.Packs.{packTold, foundTold}
+
+pub pack-refused : (x : Pack) {number place : ℕ} → Refused number place ≡ answerOf x → _≡_ {A = ℕ × ℕ} (number, place) (packTold x)
+unfolding packTold
+pack-refused (refusal n p) {number} {place} q =
+    let a : number ≡ n = cc in
+    let b : place ≡ p = cc in
+    rw (a, b)
+pack-refused (accepted fs) q = differ cc
+
+pub pack-read : (x : Pack) {files : ℕ} → Read files ≡ answerOf x → _≡_ {A = ℕ × ℕ} (0, files) (packTold x)
+unfolding packTold
+pack-read (refusal n p) q = differ cc
+pack-read (accepted fs) {files} q = let a : files ≡ length fs = cc in rw a
+
+pub none-found : (x : Found) → Absent ≡ foundAs x → _≡_ {A = ℕ × ℕ × ℕ} (0, 0, 0) (foundTold x)
+unfolding foundTold
+none-found absent q = refl
+none-found (found a b) q = differ cc
+
+pub one-found : (x : Found) {first count : ℕ} → At first count ≡ foundAs x → _≡_ {A = ℕ × ℕ × ℕ} (1, first, count) (foundTold x)
+unfolding foundTold
+one-found absent q = differ cc
+one-found (found a b) {first} {count} q =
+    let p : first ≡ a = cc in
+    let r : count ≡ b = cc in
+    rw (p, r)

@@ -1,0 +1,15 @@
+-- What the C entries over packs tell: the number that they answer, and the numbers that they write. Assumes nothing.
+use Prim.Native.Nat.{ℕ}
+use lib.ListN.{length}
+use Rattle.pack_reading.specs.Pack.{Pack, refusal, accepted}
+use Rattle.pack_reading.specs.Lookup.{Found, absent, found}
+
+-- a refusal's number and place, or 0 and the number of files
+unfoldable pub packTold : Pack → ℕ × ℕ
+packTold (refusal number place) = (number, place)
+packTold (accepted fs) = (0, length fs)
+
+-- 1, where the data starts and how many bytes it has; or three times 0
+unfoldable pub foundTold : Found → ℕ × ℕ × ℕ
+foundTold absent = (0, 0, 0)
+foundTold (found first count) = (1, first, count)
