@@ -1,4 +1,6 @@
-// What is demanded of loading and rewriting, as contracts: each function calls the code, and is here for what it ensures (specs/Exact.antt and specs/Rewriting.antt, from top to bottom).
+// What is demanded of loading and rewriting, as contracts: each function calls the code, and is here for what it ensures (specs/Exact.antt and specs/Rewriting.antt, from top to bottom; of packs, packed.rt and specs/Packs.antt).
+mod packed;
+
 use load::Loading;
 use rewrite::Rewriting;
 ghost use lib.ListN.{length};
