@@ -8,6 +8,7 @@ pub mod folder;
 pub mod lawful;
 pub mod literal;
 pub mod names;
+pub mod packs;
 pub mod readers;
 pub mod sample;
 pub mod values;

@@ -1,4 +1,4 @@
-//! Writes the kept samples into the folder that is named, as NAME.xnb and NAME.rows.
+//! Writes the kept samples into the folder that is named, as NAME.xnb and NAME.rows, and the packs.
 //!
 //! With `all` behind the folder it writes every sample.
 
@@ -31,5 +31,5 @@ fn write_samples(folder: &Path, all: bool) -> std::io::Result<usize> {
         std::fs::write(folder.join(format!("{}.xnb", sample.name)), &sample.bytes)?;
         std::fs::write(folder.join(format!("{}.rows", sample.name)), &sample.rows)?;
     }
-    Ok(samples.len())
+    Ok(samples.len() + corpus::packs::folder::write_packs(folder)?)
 }

@@ -1,6 +1,6 @@
 //! A second loader for uncompressed XNB 5 files.
 //!
-//! It is written from documents 000 and 01 alone and shares no code and no table with the proved loader.
+//! It is written from documents 000, 01 and 02 alone and shares no code and no table with the proved loader.
 
 mod cursor;
 mod header;
@@ -9,6 +9,7 @@ mod kinds;
 mod load;
 mod lookup;
 mod name;
+pub mod pack;
 mod printed;
 mod refusal;
 mod rewrite;

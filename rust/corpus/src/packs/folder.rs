@@ -1,0 +1,55 @@
+//! The samples of packs as they are kept in the repository.
+
+use super::{Form, PackSample, PLAIN};
+use crate::folder::folder;
+use std::path::Path;
+
+/// Every pack of the corpus folder, with its answers.
+pub fn kept_packs() -> Vec<PackSample> {
+    let packs = kept(PLAIN);
+    assert!(packs.len() >= 40, "only {} packs", packs.len());
+    packs
+}
+
+/// Every pack of a form.
+fn kept(form: Form) -> Vec<PackSample> {
+    let mut packs = Vec::new();
+    for entry in std::fs::read_dir(folder()).expect("the corpus is there") {
+        let path = entry.expect("a file").path();
+        if path.extension().is_some_and(|it| it == form.extension) {
+            let stem = path.file_stem().expect("a name");
+            packs.push(PackSample {
+                name: stem.to_string_lossy().into_owned(),
+                bytes: std::fs::read(&path).expect("a sample"),
+                answers: std::fs::read_to_string(path.with_extension("files"))
+                    .expect("its answers"),
+            });
+        }
+    }
+    packs.sort_by(|one, other| one.name.cmp(&other.name));
+    packs
+}
+
+/// Every file of the samples: its name and its bytes.
+pub fn files() -> Vec<(String, Vec<u8>)> {
+    files_of(PLAIN, super::samples())
+}
+
+/// A pack and its answers for each sample.
+fn files_of(form: Form, samples: Vec<PackSample>) -> Vec<(String, Vec<u8>)> {
+    let mut files = Vec::new();
+    for sample in samples {
+        files.push((format!("{}.{}", sample.name, form.extension), sample.bytes));
+        files.push((format!("{}.files", sample.name), sample.answers.into()));
+    }
+    files
+}
+
+/// Writes every file of the samples into a folder, and answers how many samples there are.
+pub fn write_packs(folder: &Path) -> std::io::Result<usize> {
+    let files = files();
+    for (name, bytes) in &files {
+        std::fs::write(folder.join(name), bytes)?;
+    }
+    Ok(files.len() / 2)
+}
