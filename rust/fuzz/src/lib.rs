@@ -7,6 +7,7 @@ mod aimed;
 mod blind;
 pub mod limits;
 mod maker;
+pub mod packs;
 pub mod random;
 mod shape;
 
