@@ -2,7 +2,7 @@
 
 use corpus::folder::folder;
 use corpus::packs::folder::files;
-use corpus::packs::samples;
+use corpus::packs::{marked, samples, PackSample};
 use std::collections::BTreeSet;
 
 #[test]
@@ -32,15 +32,23 @@ fn extension(name: &str) -> String {
 
 #[test]
 fn every_refusal_of_a_pack_stands_in_a_sample() {
+    let common = [1, 8, 9, 15, 20, 31];
+    assert_eq!(refusals(samples()), BTreeSet::from(common));
+    let of_marks = [1, 9, 20, 31, 51];
+    assert_eq!(refusals(marked::samples()), BTreeSet::from(of_marks));
+}
+
+/// The numbers that samples are refused with.
+fn refusals(samples: Vec<PackSample>) -> BTreeSet<u32> {
     let mut numbers = BTreeSet::new();
-    for sample in samples() {
+    for sample in samples {
         let line = sample.answers.lines().nth(1).expect("an answer");
         if let Some(rest) = line.strip_prefix("refused ") {
             let number = rest.split(' ').next().expect("a number");
             numbers.insert(number.parse::<u32>().expect("a number"));
         }
     }
-    assert_eq!(numbers, BTreeSet::from([1, 8, 9, 15, 20, 31]));
+    numbers
 }
 
 #[test]

@@ -8,6 +8,7 @@ mod image;
 mod kinds;
 mod load;
 mod lookup;
+pub mod marks;
 mod name;
 pub mod pack;
 mod printed;

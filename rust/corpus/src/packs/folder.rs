@@ -1,5 +1,6 @@
 //! The samples of packs as they are kept in the repository.
 
+use super::marked::{self, MARKED};
 use super::{Form, PackSample, PLAIN};
 use crate::folder::folder;
 use std::path::Path;
@@ -8,6 +9,13 @@ use std::path::Path;
 pub fn kept_packs() -> Vec<PackSample> {
     let packs = kept(PLAIN);
     assert!(packs.len() >= 40, "only {} packs", packs.len());
+    packs
+}
+
+/// Every marked pack of the corpus folder, with its answers.
+pub fn kept_marked_packs() -> Vec<PackSample> {
+    let packs = kept(MARKED);
+    assert!(packs.len() >= 20, "only {} marked packs", packs.len());
     packs
 }
 
@@ -32,7 +40,9 @@ fn kept(form: Form) -> Vec<PackSample> {
 
 /// Every file of the samples: its name and its bytes.
 pub fn files() -> Vec<(String, Vec<u8>)> {
-    files_of(PLAIN, super::samples())
+    let mut files = files_of(PLAIN, super::samples());
+    files.extend(files_of(MARKED, marked::samples()));
+    files
 }
 
 /// A pack and its answers for each sample.

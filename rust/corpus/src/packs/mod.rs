@@ -1,6 +1,7 @@
 //! Packs of files, written from descriptions in code, with the table that a reader must give.
 
 pub mod folder;
+pub mod marked;
 pub mod sample;
 mod samples;
 
