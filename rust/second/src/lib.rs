@@ -15,6 +15,7 @@ mod printed;
 mod refusal;
 mod rewrite;
 mod row;
+pub mod salvage;
 mod seven;
 mod ticks;
 mod types;

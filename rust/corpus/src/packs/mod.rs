@@ -2,6 +2,7 @@
 
 pub mod folder;
 pub mod marked;
+pub mod salvage;
 pub mod sample;
 mod samples;
 
