@@ -1,4 +1,4 @@
-//! Refusals of document 01.
+//! Refusals of documents 01 and 02.
 
 use std::fmt::{self, Display, Formatter};
 
@@ -29,12 +29,13 @@ pub enum Refusal {
     FontRule = 22,
     NoSuchRow = 23,
     OtherKind = 24,
+    NoTableRoom = 31,
 }
 
 use Refusal::*;
 
 /// Each refusal with its rule in words, in order of number.
-const RULES: [(Refusal, &str); 24] = [
+const RULES: [(Refusal, &str); 25] = [
     (PastEnd, "a field runs past the end of the file"),
     (NotXnb, "the file does not begin with XNB"),
     (Platform, "the platform is not w, m or x"),
@@ -74,22 +75,28 @@ const RULES: [(Refusal, &str); 24] = [
     ),
     (NoSuchRow, "there is no such row"),
     (OtherKind, "the row is not of the kind asked for"),
+    (NoTableRoom, "the table has no room for a file"),
 ];
 
 impl Refusal {
-    /// The number in 01's table.
+    /// The number in the documents.
     pub fn number(self) -> u32 {
         self as u32
     }
 
     pub fn of_number(number: u32) -> Option<Refusal> {
-        let position = (number as usize).checked_sub(1)?;
-        RULES.get(position).map(|(refusal, _)| *refusal)
+        let numbered = |(refusal, _): &&(Refusal, _)| refusal.number() == number;
+        RULES.iter().find(numbered).map(|(refusal, _)| *refusal)
     }
 
     /// The rule in words.
     pub fn rule(self) -> &'static str {
-        RULES[self as usize - 1].1
+        let of_self = |(refusal, _): &&(Refusal, _)| *refusal == self;
+        RULES
+            .iter()
+            .find(of_self)
+            .expect("every refusal has a rule")
+            .1
     }
 }
 
@@ -131,13 +138,14 @@ mod tests {
 
     #[test]
     fn numbers_and_refusals_match() {
-        for number in 1..=24 {
+        for number in (1..=24).chain([31]) {
             let refusal = Refusal::of_number(number).expect("a refusal");
             assert_eq!(refusal.number(), number);
             assert!(!refusal.rule().is_empty());
         }
         assert_eq!(Refusal::of_number(0), None);
         assert_eq!(Refusal::of_number(25), None);
+        assert_eq!(Refusal::of_number(32), None);
     }
 
     #[test]
