@@ -12,6 +12,7 @@
 mod calls;
 mod explain;
 mod kind;
+pub mod pack;
 pub mod raw;
 mod refusal;
 mod row;
@@ -20,6 +21,7 @@ mod table;
 pub use calls::{count_rows, load, part, rewrite, shorten, signed, text, time, Loaded, Time};
 pub use explain::{explain, Explanation, ReaderName};
 pub use kind::Kind;
+pub use pack::Pack;
 pub use refusal::{Refusal, Refused};
 pub use row::{Detail, Row, MOST_ROWS, WORDS_PER_ROW};
 pub use table::Table;

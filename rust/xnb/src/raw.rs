@@ -4,6 +4,8 @@
 //! through its other pointers follows. Those numbers start as all ones, so that one which the
 //! entry did not write shows.
 
+pub mod pack;
+
 mod entries {
     extern "C" {
         pub fn xnb_load(file: *const u8, file_length: usize) -> u64;
