@@ -5,16 +5,19 @@
 
 mod inputs;
 mod measure;
+mod packs;
 
 use inputs::Input;
 use measure::beside;
 use std::hint::black_box;
 
-const PARTS: [(&str, fn()); 4] = [
+const PARTS: [(&str, fn()); 6] = [
     ("builder", builder),
     ("load", load),
     ("utf8", utf8),
     ("rewrite", rewrite),
+    ("pack-read", packs::read),
+    ("pack-find", packs::find),
 ];
 
 /// Measures the parts that are named, or all.
@@ -27,7 +30,8 @@ fn main() {
     }
     let is_unknown = |it: &&String| PARTS.iter().all(|(name, _)| name != it);
     if let Some(word) = asked.iter().find(is_unknown) {
-        eprintln!("no part {word}; usage: bench [builder] [load] [utf8] [rewrite]");
+        let names = PARTS.map(|(name, _)| format!("[{name}]")).join(" ");
+        eprintln!("no part {word}; usage: bench {names}");
         std::process::exit(2);
     }
 }
