@@ -1,23 +1,34 @@
 //! The files that a command works on.
 
 use crate::names::shown;
+use crate::progress::Progress;
 use crate::run::Run;
 use std::ffi::OsStr;
 use std::fs::File;
-use std::io::{self, Read};
+use std::io::{self, ErrorKind, Read};
 use std::path::{Path, PathBuf};
 use walkdir::{DirEntry, WalkDir};
 
 /// The longest file that the loader takes.
 pub const LONGEST_FILE: u64 = 16_777_216;
 const STANDARD_INPUT: &str = "-";
-const EXTENSION: &str = "xnb";
+const OF_FILES: &str = "xnb";
+const OF_PACKS: &str = "pak";
+/// The bytes that are read between two steps of the progress.
+const PIECE: u64 = 1 << 22;
 
 #[derive(clap::Args)]
 pub struct Inputs {
     /// Files, folders (the .xnb files below them), or - for standard input
     #[arg(value_name = "FILE", required = true)]
     files: Vec<PathBuf>,
+}
+
+#[derive(clap::Args)]
+pub struct Packs {
+    /// Packs, folders (the .pak files below them), or - for standard input
+    #[arg(value_name = "PACK", required = true)]
+    packs: Vec<PathBuf>,
 }
 
 /// One file to work on.
@@ -31,39 +42,56 @@ pub struct Input {
 impl Inputs {
     /// Whether one file was named, and not a folder.
     pub fn is_one_file(&self) -> bool {
-        matches!(&self.files[..], [path] if is_stdin(path) || !path.is_dir())
+        is_one_file(&self.files)
     }
 
-    /// Every file, those of a folder in order of their names; what cannot be listed is told.
+    /// Every file; what cannot be listed is told.
     pub fn list(&self, run: &mut Run) -> Vec<Input> {
-        let mut inputs: Vec<Input> = Vec::new();
-        for path in &self.files {
-            if is_stdin(path) {
-                if inputs.iter().any(Input::is_stdin) {
-                    run.fail(shown(path), "standard input is read once only");
-                    continue;
-                }
-            } else if path.is_dir() {
-                inputs.extend(below(path, run));
-                continue;
-            }
-            inputs.push(Input {
-                path: path.clone(),
-                folder: None,
-            });
-        }
-        run.progress().expect(inputs.len());
-        inputs
+        list(&self.files, OF_FILES, run)
     }
 }
 
+impl Packs {
+    /// Whether one pack was named, and not a folder.
+    pub fn is_one_file(&self) -> bool {
+        is_one_file(&self.packs)
+    }
+
+    /// Every pack; what cannot be listed is told.
+    pub fn list(&self, run: &mut Run) -> Vec<Input> {
+        list(&self.packs, OF_PACKS, run)
+    }
+}
+
+fn is_one_file(paths: &[PathBuf]) -> bool {
+    matches!(paths, [path] if is_stdin(path) || !path.is_dir())
+}
+
+/// Every file that is named, and those of a folder in order of their names.
+fn list(paths: &[PathBuf], extension: &str, run: &mut Run) -> Vec<Input> {
+    let mut inputs: Vec<Input> = Vec::new();
+    for path in paths {
+        if is_stdin(path) {
+            if inputs.iter().any(Input::is_stdin) {
+                run.fail(shown(path), "standard input is read once only");
+                continue;
+            }
+        } else if path.is_dir() {
+            inputs.extend(below(path, extension, run));
+            continue;
+        }
+        inputs.push(Input::of(path));
+    }
+    inputs
+}
+
 /// The files with the extension below a folder, links followed.
-fn below(folder: &Path, run: &mut Run) -> Vec<Input> {
+fn below(folder: &Path, extension: &str, run: &mut Run) -> Vec<Input> {
     let mut found = Vec::new();
     let mut failed = false;
     for entry in WalkDir::new(folder).follow_links(true).sort_by_file_name() {
         match entry {
-            Ok(entry) if has_extension(&entry) => found.push(Input {
+            Ok(entry) if has_extension(&entry, extension) => found.push(Input {
                 path: entry.into_path(),
                 folder: Some(folder.to_path_buf()),
             }),
@@ -80,14 +108,14 @@ fn below(folder: &Path, run: &mut Run) -> Vec<Input> {
         }
     }
     if found.is_empty() && !failed {
-        run.fail(shown(folder), format!("no .{EXTENSION} file is in it"));
+        run.fail(shown(folder), format!("no .{extension} file is in it"));
     }
     found
 }
 
-fn has_extension(entry: &DirEntry) -> bool {
-    let extension = entry.path().extension();
-    entry.file_type().is_file() && extension.is_some_and(|it| it.eq_ignore_ascii_case(EXTENSION))
+fn has_extension(entry: &DirEntry, extension: &str) -> bool {
+    let found = entry.path().extension();
+    entry.file_type().is_file() && found.is_some_and(|it| it.eq_ignore_ascii_case(extension))
 }
 
 fn is_stdin(path: &Path) -> bool {
@@ -95,6 +123,14 @@ fn is_stdin(path: &Path) -> bool {
 }
 
 impl Input {
+    /// The file of this path, or standard input for `-`.
+    pub fn of(path: &Path) -> Input {
+        Input {
+            path: path.to_path_buf(),
+            folder: None,
+        }
+    }
+
     /// Its name, to be printed.
     pub fn shown(&self) -> String {
         shown(&self.path)
@@ -132,5 +168,31 @@ impl Input {
             file.take(most).read_to_end(&mut bytes)?;
         }
         Ok(bytes)
+    }
+
+    /// All its bytes, with progress over them where their number is known.
+    pub fn read_whole(&self, progress: &mut Progress) -> io::Result<Vec<u8>> {
+        if self.is_stdin() {
+            return read_whole(io::stdin().lock(), 0, progress);
+        }
+        let file = File::open(&self.path)?;
+        let length = file.metadata()?.len();
+        read_whole(file, length, progress)
+    }
+}
+
+/// Everything that can be read; memory that the system refuses is an error.
+fn read_whole(mut input: impl Read, length: u64, progress: &mut Progress) -> io::Result<Vec<u8>> {
+    let refused = |_| io::Error::from(ErrorKind::OutOfMemory);
+    let mut bytes = Vec::new();
+    let room = usize::try_from(length).unwrap_or(usize::MAX);
+    bytes.try_reserve_exact(room).map_err(refused)?;
+    progress.expect_bytes(length);
+    loop {
+        let read = input.by_ref().take(PIECE).read_to_end(&mut bytes)?;
+        if read == 0 {
+            return Ok(bytes);
+        }
+        progress.advance(read as u64);
     }
 }

@@ -20,7 +20,11 @@ impl Beside {
     /// Starts a file that shall stand at the path; what stands there stays until the end.
     pub fn create(path: &Path) -> io::Result<Beside> {
         // A link stays, and the file that it names is written.
-        let place = fs::canonicalize(path).unwrap_or_else(|_| path.to_path_buf());
+        Beside::at(fs::canonicalize(path).unwrap_or_else(|_| path.to_path_buf()))
+    }
+
+    /// Starts a file that shall stand just at this place.
+    pub fn at(place: PathBuf) -> io::Result<Beside> {
         let (file, beside) = new_file_beside(&place)?;
         let output = Beside {
             file,

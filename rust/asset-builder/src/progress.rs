@@ -5,12 +5,16 @@ use std::time::{Duration, Instant};
 
 /// Work that takes less shows no progress.
 const LONG: Duration = Duration::from_millis(500);
+const OF_FILES: &str = "{bar:40} {pos} of {len}, {eta} left";
+const OF_BYTES: &str = "{bar:40} {bytes} of {total_bytes}, {eta} left";
 
 /// How far the work is; it is shown on standard error once the work has taken long.
 pub struct Progress {
     shown: bool,
     started: Instant,
     bar: Option<ProgressBar>,
+    /// How a bar looks.
+    template: &'static str,
     done: u64,
     total: u64,
 }
@@ -22,25 +26,43 @@ impl Progress {
             shown,
             started: Instant::now(),
             bar: None,
+            template: OF_FILES,
             done: 0,
             total: 0,
         }
     }
 
-    /// There will be so many steps.
-    pub fn expect(&mut self, total: usize) {
-        self.total = total as u64;
+    /// There will be so many files.
+    pub fn expect(&mut self, files: usize) {
+        self.begin(files as u64, OF_FILES);
     }
 
-    /// One step is done.
+    /// There will be so many bytes.
+    pub fn expect_bytes(&mut self, bytes: u64) {
+        self.begin(bytes, OF_BYTES);
+    }
+
+    fn begin(&mut self, total: u64, template: &'static str) {
+        self.clear();
+        self.template = template;
+        self.done = 0;
+        self.total = total;
+    }
+
+    /// One file is done.
     pub fn step(&mut self) {
-        self.done += 1;
+        self.advance(1);
+    }
+
+    /// So much is done.
+    pub fn advance(&mut self, done: u64) {
+        self.done += done;
         // One step has no progress.
         if !self.shown || self.total < 2 || self.started.elapsed() < LONG {
             return;
         }
-        let total = self.total;
-        let bar = self.bar.get_or_insert_with(|| new_bar(total));
+        let (total, template) = (self.total, self.template);
+        let bar = self.bar.get_or_insert_with(|| new_bar(total, template));
         bar.set_position(self.done);
     }
 
@@ -60,7 +82,7 @@ impl Progress {
     }
 }
 
-fn new_bar(total: u64) -> ProgressBar {
-    let style = ProgressStyle::with_template("{bar:40} {pos} of {len}, {eta} left");
+fn new_bar(total: u64, template: &str) -> ProgressBar {
+    let style = ProgressStyle::with_template(template);
     ProgressBar::new(total).with_style(style.expect("a template of ours"))
 }

@@ -3,6 +3,7 @@
 mod check;
 mod completions;
 mod man;
+mod pack;
 mod rows;
 mod shorten;
 mod tree;
@@ -22,7 +23,7 @@ const MOST_ROWS: u32 = xnb::MOST_ROWS as u32;
 const STATUSES: &str = "0 if every file was taken, 1 if one was refused, \
     2 for a wrong command or a file that could not be read or written.";
 
-/// Checks, shows and shortens XNB files through the proved loader
+/// Checks, shows and shortens XNB files, and reads packs of files, through the proved library
 #[derive(Parser)]
 #[command(name = "asset-builder", version, propagate_version = true)]
 #[command(after_help = format!("Exit status: {STATUSES}"))]
@@ -37,6 +38,7 @@ pub enum Command {
     Rows(rows::Rows),
     Tree(tree::Tree),
     Shorten(shorten::Shorten),
+    Pack(pack::Pack),
     Completions(completions::Completions),
     Man(man::Man),
 }
@@ -48,6 +50,7 @@ impl Command {
             Command::Rows(command) => command.run(run),
             Command::Tree(command) => command.run(run),
             Command::Shorten(command) => command.run(run),
+            Command::Pack(command) => command.run(run),
             Command::Completions(command) => command.run(run),
             Command::Man(command) => command.run(run),
         }
@@ -65,7 +68,9 @@ fn for_each(
     run: &mut Run,
     mut action: impl FnMut(&mut Run, &Input, Result<&[u8], String>) -> End,
 ) -> End {
-    for input in inputs.list(run) {
+    let inputs = inputs.list(run);
+    run.progress().expect(inputs.len());
+    for input in inputs {
         // The loader refuses a longer file whatever follows.
         match input.read_at_most(LONGEST_FILE + 1) {
             Ok(file) => action(run, &input, Ok(&file))?,
