@@ -5,7 +5,17 @@ mod common;
 use common::{run, shell};
 use corpus::folder::folder;
 
-const COMMANDS: [&str; 6] = ["check", "rows", "tree", "shorten", "completions", "man"];
+const COMMANDS: [&str; 7] = [
+    "check",
+    "rows",
+    "tree",
+    "shorten",
+    "pack",
+    "completions",
+    "man",
+];
+/// The commands below `pack`.
+const OF_PACKS: [&str; 3] = ["list", "find", "extract"];
 
 #[test]
 fn every_command_has_help_and_a_version() {
@@ -33,12 +43,23 @@ fn every_command_has_help_and_a_version() {
     }
     let rows = run(&["rows", "--help"]).out;
     assert!(rows.contains("The program `rows` differs"), "{rows}");
+    let pack = run(&["pack", "--help"]).out;
+    for command in OF_PACKS {
+        assert!(pack.contains(&format!("\n  {command} ")), "{pack}");
+        for words in [["pack", command, "--help"], ["help", "pack", command]] {
+            let ran = run(&words);
+            assert_eq!((ran.status, ran.err.as_str()), (Some(0), ""), "{words:?}");
+            let usage = format!("Usage: asset-builder pack {command}");
+            assert!(ran.out.contains(&usage), "{words:?}: {}", ran.out);
+        }
+    }
 }
 
 #[test]
 fn wrong_commands_are_told() {
     let sample = "ok-kind-13-string.xnb";
-    let wrong: [(&[&str], &str); 11] = [
+    let pack = "ok-pack-of-one-file.pak";
+    let wrong: [(&[&str], &str); 17] = [
         (&[], "Usage: asset-builder <COMMAND>"),
         (&["build", sample], "'build'"),
         (&["check"], "<FILE>"),
@@ -53,6 +74,15 @@ fn wrong_commands_are_told() {
             "cannot be used with",
         ),
         (&["completions", "dos"], "'dos'"),
+        (&["pack"], "Usage: asset-builder pack <COMMAND>"),
+        (&["pack", "show", pack], "'show'"),
+        (&["pack", "list"], "<PACK>"),
+        (&["pack", "find", pack], "<PATH>"),
+        (&["pack", "extract", pack], "--output <FOLDER>"),
+        (
+            &["pack", "extract", pack, pack, "-o", "out"],
+            "'ok-pack-of-one-file.pak'",
+        ),
     ];
     for (words, named) in wrong {
         let ran = run(words);
@@ -66,15 +96,17 @@ fn shells_complete_commands_and_flags() {
     for name in ["bash", "elvish", "fish", "powershell", "zsh"] {
         let ran = run(&["completions", name]);
         assert_eq!((ran.status, ran.err.as_str()), (Some(0), ""), "{name}");
-        for word in ["shorten", "in-place", "json"] {
+        for word in ["shorten", "in-place", "json", "extract"] {
             assert!(ran.out.contains(word), "{name}: {word}");
         }
     }
-    // What bash offers behind `asset-builder sh` and behind `asset-builder check --`.
+    // What bash offers behind `asset-builder sh`, `asset-builder check --` and `asset-builder pack ex`.
     let line = "source <(asset-builder completions bash)
         COMP_WORDS=(asset-builder sh) COMP_CWORD=1; _asset-builder asset-builder sh asset-builder
         echo ${COMPREPLY[@]}
         COMP_WORDS=(asset-builder check --) COMP_CWORD=2; _asset-builder asset-builder -- check
+        echo ${COMPREPLY[@]}
+        COMP_WORDS=(asset-builder pack ex) COMP_CWORD=2; _asset-builder asset-builder ex pack
         echo ${COMPREPLY[@]}";
     let ran = shell(&folder(), line);
     assert_eq!(ran.err, "");
@@ -83,6 +115,7 @@ fn shells_complete_commands_and_flags() {
     for flag in ["--rows", "--json", "--help"] {
         assert!(lines[1].contains(flag), "{}", lines[1]);
     }
+    assert_eq!(lines[2], "extract");
 }
 
 /// The page tells what the help tells: every command, every flag, every sentence.
@@ -100,9 +133,12 @@ fn the_manual_page_says_what_the_help_says() {
     for heading in ["NAME", "SYNOPSIS", "OPTIONS", "COMMANDS", "\"EXIT STATUS\""] {
         assert!(page.contains(&format!("\n.SH {heading}\n")), "{heading}");
     }
-    for command in COMMANDS {
+    let of_packs = OF_PACKS.map(|command| format!("pack {command}"));
+    let commands = COMMANDS.iter().map(|command| command.to_string());
+    for command in commands.chain(of_packs) {
         assert!(page.contains(&format!("\n.SS {command}\n")), "{command}");
-        let help = run(&[command, "--help"]).out;
+        let words: Vec<&str> = command.split(' ').chain(["--help"]).collect();
+        let help = run(&words).out;
         let (about, options) = help.split_once("\nUsage: ").expect("a usage");
         for line in about.lines().filter(|line| !line.is_empty()) {
             assert!(page.contains(line), "{command}: {line}");

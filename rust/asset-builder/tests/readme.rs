@@ -48,7 +48,17 @@ fn the_tour_prints_what_readme_says() {
         let ran = shell(&folder, &format!("exec 2>&1; {}", shown.command));
         assert_eq!(ran.out, shown.printed, "{}", shown.command);
     }
-    for command in ["check", "rows", "tree", "shorten", "completions", "man"] {
+    for command in [
+        "check",
+        "rows",
+        "tree",
+        "shorten",
+        "pack list",
+        "pack find",
+        "pack extract",
+        "completions",
+        "man",
+    ] {
         let start = format!("asset-builder {command} ");
         assert!(
             tour.iter().any(|it| it.command.starts_with(&start)),

@@ -56,6 +56,8 @@ fn a_closed_pipe_ends_quietly() {
         ("rows ok-1024-rows.xnb", "0\n"),
         ("tree ok-1024-rows.xnb", "0\n"),
         ("shorten ok-1024-rows.xnb -o -", "0\n"),
+        ("pack list .", "1\n"),
+        ("pack find ok-pack-mixed-case.pak fonts\\\\door", "0\n"),
         ("man", "0\n"),
         ("--help", "0\n"),
     ];

@@ -1,6 +1,6 @@
 //! A pack of over 4 GiB; apart from the other tests for the memory it asks for.
 //!
-//!     cargo test --release --offline --manifest-path rust/Cargo.toml --package xnb --test huge_pack -- --ignored
+//!     cargo test --release --offline --package xnb --test huge_pack -- --ignored
 
 use corpus::lawful::file_b;
 use corpus::packs::{Places, NO_MARK};

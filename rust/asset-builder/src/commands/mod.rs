@@ -20,7 +20,7 @@ const BUILDER_ROWS: u32 = 1024;
 /// The rows that a table has at most.
 const MOST_ROWS: u32 = xnb::MOST_ROWS as u32;
 
-const STATUSES: &str = "0 if every file was taken, 1 if one was refused, \
+const STATUSES: &str = "0 if every file was taken, 1 if one was refused or not found, \
     2 for a wrong command or a file that could not be read or written.";
 
 /// Checks, shows and shortens XNB files, and reads packs of files, through the proved library
