@@ -61,7 +61,8 @@ impl Run {
         // What cannot be written here is left to the status and to the end of the run.
         let _ = self.progress.aside(|| {
             let _ = out.flush();
-            err.write(text.as_bytes())
+            err.write(text.as_bytes())?;
+            err.flush()
         });
     }
 

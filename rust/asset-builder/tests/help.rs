@@ -128,7 +128,8 @@ fn the_manual_page_says_what_the_help_says() {
         .replace("\\-", "-")
         .replace("\\fB", "")
         .replace("\\fI", "")
-        .replace("\\fR", "");
+        .replace("\\fR", "")
+        .replace("\\e", "\\");
     assert!(page.starts_with(".TH ASSET-BUILDER 1 "), "{page}");
     for heading in ["NAME", "SYNOPSIS", "OPTIONS", "COMMANDS", "\"EXIT STATUS\""] {
         assert!(page.contains(&format!("\n.SH {heading}\n")), "{heading}");
