@@ -13,7 +13,7 @@ struct Lent {
     path: Vec<u8>,
 }
 
-/// 4,096 files with paths of 24 bytes and data of one size.
+/// 4,096 files with paths of 23 bytes and data of one size.
 fn pack(size: usize) -> Vec<u8> {
     let file = |number: usize| {
         let path = format!("Levels\\Coach\\Door{number:06}");
