@@ -4,7 +4,7 @@
    else that it is given.
 
    A packed answer is the refusal's number (0 if there is none) times 2 to the 32, plus the refusal's place, or the number
-   of rows. Any other answer is the refusal's number, or 0. */
+   of rows. Any other answer is the refusal's number, or 0; that of xnb_pack_find is told there. */
 #ifndef XNB_H
 #define XNB_H
 
@@ -55,9 +55,11 @@ uint32_t xnb_time(const uint8_t *file, size_t file_length, const uint32_t *words
    the path's length, where its data starts, the data's length. */
 
 /* Reads a pack of at most 4,096 files into the table, and writes the number of files to `at`. Every word that is not in an
-   entry is zero. On a refusal, of which the answer is the number, `at` is its place and every word is zero: 1 the pack is cut
-   short, 8 a path's length is no seven-bit number of 32 bits, 9 over 4,096 files or a path that is not of 1 to 260 bytes,
-   15 a path is not UTF-8, 20 bytes are left over, 31 the table has no room for a file. */
+   entry is zero. On a refusal, of which the answer is the number, `at` is its place and every word is zero: 1 the file count
+   is cut short (at 0), a path or its length (at the path's length), a size or its data (at the size); 8 a path's length is a
+   broken seven-bit number; 9 there are over 4,096 files (at 0), or a path is not of 1 to 260 bytes; 15 a path is not UTF-8
+   (these three at the path's length); 20 bytes are left over (at the first); 31 the table has no room for a file (at the
+   file's start, before its path is looked at). The data is skipped. */
 uint32_t xnb_pack_read(const uint8_t *pack, size_t pack_length, uint64_t *table, size_t table_length, uint64_t *at);
 
 /* Finds the first entry of the table whose path is the one given, ASCII letters of both being lowered. The table may hold any

@@ -1,4 +1,4 @@
-//! The proved XNB loader from Rust: loading, rewriting and looking up, without unsafe code.
+//! The proved XNB loader from Rust: loading, rewriting and looking up, and packs of files, without unsafe code.
 //!
 //! ```
 //! let file = b"XNBw\x05\x00\x0D\x00\x00\x00\x00\x00\x00";

@@ -45,14 +45,13 @@ impl PackRefused {
 
     /// The rule in words, as it is told of packs.
     pub fn rule(self) -> &'static str {
-        match self.refusal {
-            Refusal::PastEnd => "a field runs past the end of the pack",
-            Refusal::TooLarge => {
-                "the pack claims more than 4,096 files, or a path is empty or over 260 bytes"
-            }
-            Refusal::BadValue => "a path is not UTF-8",
-            Refusal::LeftOver => "bytes are left over behind the last file",
-            other => other.rule(),
+        match (self.refusal, self.place) {
+            (Refusal::PastEnd, _) => "a field runs past the end of the pack",
+            (Refusal::TooLarge, 0) => "the pack claims more than 4,096 files",
+            (Refusal::TooLarge, _) => "a path is empty or longer than 260 bytes",
+            (Refusal::BadValue, _) => "a path is not UTF-8",
+            (Refusal::LeftOver, _) => "bytes are left over behind the last file",
+            (other, _) => other.rule(),
         }
     }
 }

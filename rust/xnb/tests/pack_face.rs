@@ -106,6 +106,8 @@ fn refusals_are_told() {
     );
     let broken = "a seven-bit number has a wrong fifth byte, at byte 4";
     assert_eq!(told(b"\x01\0\0\0\xFF\xFF\xFF\xFF\xFF"), broken);
-    let empty = "the pack claims more than 4,096 files, or a path is empty or over 260 bytes";
-    assert_eq!(told(b"\x01\0\0\0\0"), format!("{empty}, at byte 4"));
+    let empty = "a path is empty or longer than 260 bytes, at byte 4";
+    assert_eq!(told(b"\x01\0\0\0\0"), empty);
+    let many = "the pack claims more than 4,096 files, at byte 0";
+    assert_eq!(told(b"\x01\x10\0\0"), many);
 }
