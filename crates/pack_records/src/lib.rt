@@ -60,7 +60,7 @@ fn path_at(pack: &[u8], at: usize) -> Path
                 };
             }
             let end = start + size;
-            if !text::is_utf8(&pack[start..end]) {
+            if !text::is_short_utf8(&pack[start..end]) {
                 return Path::Refused {
                     number: 15,
                     place: at,

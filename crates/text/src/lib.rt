@@ -80,6 +80,25 @@ pub fn is_utf8(s: &[u8]) -> bool
     true
 }
 
+// Whether `s` is UTF-8, for short texts: ASCII in blocks of 16 bytes, then one character after the other.
+pub fn is_short_utf8(s: &[u8]) -> bool
+    ensures { λ r. ⌜ r ≡ utf8s (now (s .entry)) ⌝ }
+{
+    let mut i = ascii_blocks(s, 0, 16);
+    while i < s.len() {
+        if s[i] < 0x80 {
+            i += 1;
+        } else {
+            let k = multi(s, i);
+            if k == 0 {
+                return false;
+            }
+            i += k;
+        }
+    }
+    true
+}
+
 // Past the blocks of at least 64 bytes: ASCII, then other characters, as long as there are some.
 fn past_blocks(s: &[u8]) -> usize
     ensures { λ r. ⌜ Passed (now (s .entry)) 0 r ⌝ }

@@ -36,25 +36,25 @@ add-end c =
     let small = small-by-index (a .pack .now) (λ i h. omega (arith, c .before .before .before .before .before .before .before .before .shared-slice-known .given i)) in
     omega (arith, path-ends (a .pack .now) (a .at) (sym (c .before .before .before .before .before .before .before .seven-at .ensures) ∙ ap told (c .before .before .before .before .before .n .given .1)) small (sym (c .before .has-bytes .ensures) ∙ not-false _ (c .if3 .left)))
 
-sub-is-utf8 : tie.Need-sub-is-utf8
-sub-is-utf8 c = search needs
+sub-is-short-utf8 : tie.Need-sub-is-short-utf8
+sub-is-short-utf8 c = search needs
 
-part-is-utf8-start : tie.Need-part-is-utf8-start
-part-is-utf8-start c = search needs
+part-is-short-utf8-start : tie.Need-part-is-short-utf8-start
+part-is-short-utf8-start c = search needs
 
-part-is-utf8-end : tie.Need-part-is-utf8-end
-part-is-utf8-end c =
+part-is-short-utf8-end : tie.Need-part-is-short-utf8-end
+part-is-short-utf8-end c =
     let a = c .before .before .before .before .before .before .before .before .before .args in
     let small = small-by-index (a .pack .now) (λ i h. omega (arith, c .before .before .before .before .before .before .before .before .shared-slice-known .given i)) in
     path-ends (a .pack .now) (a .at) (sym (c .before .before .before .before .before .before .before .seven-at .ensures) ∙ ap told (c .before .before .before .before .before .n .given .1)) small (sym (c .before .has-bytes .ensures) ∙ not-false _ (c .if3 .left))
 
-is-utf8-requires : tie.Need-is-utf8-requires
-is-utf8-requires c κs = search needs
+is-short-utf8-requires : tie.Need-is-short-utf8-requires
+is-short-utf8-requires c κs = search needs
 
 returns-4 : tie.Need-returns-4
 returns-4 c =
     path-other _ _ (sym (c .before .before .before .before .before .before .before .before .before .before .seven-at .ensures) ∙ ap told (c .before .before .before .before .before .before .before .before .n .given .1)) (c .before .before .before .before .before .before .if1 .left) (c .before .before .before .before .before .if2 .left) (sym (c .before .before .before .before .has-bytes .ensures) ∙ not-false _ (c .before .before .before .if3 .left))
-    (sym (c .before .is-utf8 .ensures) ∙ not-true _ (c .if4 .taken))
+    (sym (c .before .is-short-utf8 .ensures) ∙ not-true _ (c .if4 .taken))
 
 returns-5 : tie.Need-returns-5
 returns-5 c = path-refused _ _ (sym (c .before .before .before .seven-at .ensures) ∙ ap told (c .before .number .given .1))
@@ -63,7 +63,7 @@ returns-6 : tie.Need-returns-6
 returns-6 c =
     let small = small-by-index (c .before .before .before .before .before .before .before .before .before .before .before .before .args .pack .now) (λ i h. omega (arith, c .before .before .before .before .before .before .before .before .before .before .before .shared-slice-known .given i)) in
     path-there _ _ (sym (c .before .before .before .before .before .before .before .before .before .before .seven-at .ensures) ∙ ap told (c .before .before .before .before .before .before .before .before .n .given .1)) (c .before .before .before .before .before .before .if1 .left) (c .before .before .before .before .before .if2 .left) (sym (c .before .before .before .before .has-bytes .ensures) ∙ not-false _ (c .before .before .before .if3 .left)) small
-    (sym (c .before .is-utf8 .ensures) ∙ not-false _ (c .if4 .left))
+    (sym (c .before .is-short-utf8 .ensures) ∙ not-false _ (c .if4 .left))
 
 pub path-at-spec : {M : Type 1} → statement M
 path-at-spec =
@@ -77,10 +77,10 @@ path-at-spec =
     has-bytes-requires
     returns-3
     add-end
-    sub-is-utf8
-    part-is-utf8-start
-    part-is-utf8-end
-    is-utf8-requires
+    sub-is-short-utf8
+    part-is-short-utf8-start
+    part-is-short-utf8-end
+    is-short-utf8-requires
     returns-4
     returns-5
     returns-6)

@@ -1,0 +1,87 @@
+-- `text::is_short_utf8` meets its contract: before each turn what is left from `i` on decides. Assumes nothing.
+use borrow.Author.Needs.{needs}
+use mathlib.Core.Path.{sym, _∙_}
+use Prim.Native.Nat.{_-_}
+use native.Mathlib.Omega.{arith}
+use lib.ListN.{length}
+use Rattle.text.specs.Passed.{Passed}
+use Rattle.text.proofs.Laws.{pass-ascii, pass-char, ran-out, passed-all}
+use Rattle.text.proofs.is_short_utf8.Statement.{statement}
+use Rattle.text.proofs.is_short_utf8.Tie as tie
+
+abbrev Inv-loop : tie.InvT-loop
+Inv-loop s i₀ i = Passed s 0 i
+
+abbrev μ-loop : tie.MeasureT-loop
+μ-loop s i₀ i = length s - i
+
+ascii-blocks-requires : tie.Need-ascii-blocks-requires Inv-loop μ-loop
+ascii-blocks-requires c κs = search needs
+
+loop-holds : tie.Need-loop-holds Inv-loop μ-loop
+loop-holds c = c .ascii-blocks .ensures
+
+shared-slice-read-if1 : tie.Need-shared-slice-read-if1 Inv-loop μ-loop
+shared-slice-read-if1 c = search needs
+
+add-i : tie.Need-add-i Inv-loop μ-loop
+add-i c = search needs
+
+loop-less : tie.Need-loop-less Inv-loop μ-loop
+loop-less c = search needs
+
+loop-again : tie.Need-loop-again Inv-loop μ-loop
+loop-again c =
+    let a = c .before .before .before .before .before .before .args in
+    let l = c .before .before .before .loop in
+    pass-ascii (a .s .now) (l .i) (l .inv) (omega arith) (c .if1 .taken)
+
+multi-requires : tie.Need-multi-requires Inv-loop μ-loop
+multi-requires c κs = search needs
+
+returns : tie.Need-returns Inv-loop μ-loop
+returns c =
+    let a = c .before .before .before .before .before .before .before .before .args in
+    let l = c .before .before .before .before .before .loop in
+    let r = ran-out (a .s .now) (l .i) (l .inv) (c .before .multi .result) (omega arith) (c .before .multi .ensures) (c .if2 .taken) in
+    sym (r .stops (omega arith)) ∙ l .inv .same
+
+add-i-2 : tie.Need-add-i-2 Inv-loop μ-loop
+add-i-2 c =
+    let a = c .before .before .before .before .before .before .before .before .args in
+    let l = c .before .before .before .before .before .loop in
+    omega (arith, pass-char (a .s .now) (l .i) (l .inv) (c .before .multi .result) (c .before .multi .ensures) (c .if2 .left) .inside)
+
+loop-less-2 : tie.Need-loop-less-2 Inv-loop μ-loop
+loop-less-2 c = search needs
+
+loop-again-2 : tie.Need-loop-again-2 Inv-loop μ-loop
+loop-again-2 c =
+    let a = c .before .before .before .before .before .before .before .before .args in
+    let l = c .before .before .before .before .before .loop in
+    pass-char (a .s .now) (l .i) (l .inv) (c .before .multi .result) (c .before .multi .ensures) (c .if2 .left)
+
+returns-2 : tie.Need-returns-2 Inv-loop μ-loop
+returns-2 c =
+    let a = c .before .before .before .before .args in
+    let l = c .before .loop in
+    sym (passed-all (a .s .now) (l .i) (l .inv) (c .loop-test .left))
+
+pub is-short-utf8-spec : {M : Type 1} → statement M
+is-short-utf8-spec =
+    tie.close
+    (tie.spec
+    Inv-loop
+    μ-loop
+    ascii-blocks-requires
+    loop-holds
+    shared-slice-read-if1
+    add-i
+    loop-less
+    loop-again
+    multi-requires
+    returns
+    add-i-2
+    loop-less-2
+    loop-again-2
+    returns-2)
