@@ -13,7 +13,7 @@ use Rattle.pack_layout.specs.Table.{Entry, entry, wholes}
 use Rattle.reading.specs.Same.{same}
 use Rattle.pack_reading.specs.Lookup.{lower, lowered, matches, found, findIn, findOf}
 use Rattle.pack_lookup.specs.Compared.{SameAt, Compared}
-use Rattle.pack_lookup.specs.Lookup.{foundAs}
+use Rattle.pack_lookup.specs.Lookup.{entryAt, foundAs}
 use Rattle.pack_lookup.specs.declared.Found.the-variants.{Absent, At}
 
 -- ---- A byte
@@ -134,6 +134,13 @@ module _ (file path : List ℕ) (start size first count : ℕ) where
   unfolding matches
   data-past h = rw (lt-leb (first + count) (length file) h, last-false (leb (start + size) (length file)), last-false (leb 1 size))
 
+  pub path-other : same (lowered (take (start + size - start) (drop start file))) (lowered path) ≡ false → false ≡ matches file path (entry start size first count)
+  unfolding matches
+  path-other u =
+      let e : start + size - start ≡ size = omega arith in
+      let v : same (lowered (take size (drop start file))) (lowered path) ≡ false = rw e at u in
+      rw (v, last-false (leb (first + count) (length file)), last-false (leb (start + size) (length file)), last-false (leb 1 size))
+
   pub path-inside : 1 ≤ size → start + size ≤ length file → first + count ≤ length file
       → same (lowered (take (start + size - start) (drop start file))) (lowered path) ≡ matches file path (entry start size first count)
   unfolding matches
@@ -161,7 +168,7 @@ short (a ∷ b ∷ []) h = refl
 short (a ∷ b ∷ c ∷ []) h = refl
 short (a ∷ b ∷ c ∷ d ∷ l) h = absurd (omega arith)
 
-whole : (t : List ℕ) (i : ℕ) → i + 4 ≤ length t → wholes (drop i t) ≡ entry (getD t i 0) (getD t (i + 1) 0) (getD t (i + 2) 0) (getD t (i + 3) 0) ∷ wholes (drop (i + 4) t)
+whole : (t : List ℕ) (i : ℕ) → i + 4 ≤ length t → wholes (drop i t) ≡ entryAt t i ∷ wholes (drop (i + 4) t)
 unfolding wholes
 whole t i h =
     let h₁ : i + 1 ≡ suc i = omega arith in
@@ -188,15 +195,12 @@ module _ (file table path : List ℕ) where
         rw (← l .rest, e)
 
     module _ (h : 4 ≤ length table - i) where
-      abbrev one : Entry
-      one = entry (getD table i 0) (getD table (i + 1) 0) (getD table (i + 2) 0) (getD table (i + 3) 0)
-
-      step-look : findOf file table path ≡ cond (matches file path one) (found (getD table (i + 2) 0) (getD table (i + 3) 0)) (findIn file path (wholes (drop (i + 4) table)))
+      step-look : findOf file table path ≡ cond (matches file path (entryAt table i)) (found (getD table (i + 2) 0) (getD table (i + 3) 0)) (findIn file path (wholes (drop (i + 4) table)))
       unfolding findIn
       step-look = sym (l .rest) ∙ rw (whole table i (omega arith))
 
-      pub look-found : true ≡ matches file path one → At (getD table (i + 2) 0) (getD table (i + 3) 0) ≡ foundAs (findOf file table path)
+      pub look-found : true ≡ matches file path (entryAt table i) → At (getD table (i + 2) 0) (getD table (i + 3) 0) ≡ foundAs (findOf file table path)
       look-found t = rw (step-look, ← t)
 
-      pub look-next : false ≡ matches file path one → Looking (i + 4)
+      pub look-next : false ≡ matches file path (entryAt table i) → Looking (i + 4)
       look-next t = record { few = omega arith; rest = sym (step-look ∙ rw (← t)) }

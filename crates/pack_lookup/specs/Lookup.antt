@@ -4,12 +4,16 @@ use mathlib.Core.List.{List, [], _∷_}
 use mathlib.Core.Logic.{inl, inr}
 use Prim.Native.Nat.{ℕ, _+_, _-_, _≤_}
 use native.Mathlib.Omega.{arith}
-use lib.ListN.{length, take, drop}
+use lib.ListN.{length, take, drop, getD}
 use Rattle.laws.specs.Small.{differ}
-use Rattle.pack_layout.specs.Table.{Entry, wholes}
+use Rattle.pack_layout.specs.Table.{Entry, entry, wholes}
 use Rattle.pack_reading.specs.Lookup.{Found, absent, found, findIn, findOf, FirstMatch, Says, find-says}
 use Rattle.pack_lookup.specs.declared.Found as code
 use Rattle.pack_lookup.specs.declared.Found.the-variants.{Absent, At}
+
+-- the entry at word i of a table
+abbrev pub entryAt : (table : List ℕ) (i : ℕ) → Entry
+entryAt table i = entry (getD table i 0) (getD table (i + 1) 0) (getD table (i + 2) 0) (getD table (i + 3) 0)
 
 -- nothing, or where the data starts and how many bytes it has
 abbrev pub foundAs : Found → code.Found

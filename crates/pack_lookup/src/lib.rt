@@ -4,9 +4,8 @@ ghost use Prim.Native.Nat.{_+_, _≤_};
 ghost use lib.ListN.{length};
 ghost use Rattle.reading.specs.Same.{same};
 ghost use Rattle.pack_reading.specs.Lookup.{lower, lowered, matches, findOf};
-ghost use Rattle.pack_layout.specs.Table.{entry};
 ghost use Rattle.pack_lookup.specs.Compared.{Compared};
-ghost use Rattle.pack_lookup.specs.Lookup.{foundAs, dataOf};
+ghost use Rattle.pack_lookup.specs.Lookup.{entryAt, foundAs, dataOf};
 
 // A byte with an ASCII letter lowered.
 fn lower_byte(b: u8) -> u8
@@ -54,11 +53,17 @@ fn same_blocks(a: &[u8], b: &[u8], n: usize) -> bool
     true
 }
 
-// Whether two paths are the same after lowering ASCII letters.
+// Whether two paths are the same after lowering ASCII letters: the first byte alone, then block by block.
 fn same_path(a: &[u8], b: &[u8]) -> bool
     ensures { λ r. ⌜ r ≡ same (lowered (now (a .entry))) (lowered (now (b .entry))) ⌝ }
 {
     if a.len() != b.len() {
+        return false;
+    }
+    if a.len() == 0 {
+        return true;
+    }
+    if differ(a, b, 0, 1) {
         return false;
     }
     if 16 <= a.len() {
@@ -67,26 +72,19 @@ fn same_path(a: &[u8], b: &[u8]) -> bool
     if 8 <= a.len() {
         return same_blocks(a, b, 8);
     }
-    if a.len() == 0 {
-        return true;
-    }
     same_blocks(a, b, 1)
 }
 
-// Whether an entry of a table matches a path.
-fn entry_matches(
-    pack: &[u8],
-    path: &[u8],
-    start: usize,
-    size: usize,
-    first: usize,
-    count: usize,
-) -> bool
-    ensures { λ r. ⌜ r ≡ matches (now (pack .entry)) (now (path .entry)) (entry start size first count) ⌝ }
+// Whether the entry at word `i` of a table matches a path: the path's length first, the data's place last.
+fn entry_matches(pack: &[u8], table: &[u64], path: &[u8], i: usize) -> bool
+    requires { ⌜ i + 4 ≤ length (now table) ⌝ }
+    ensures { λ r. ⌜ r ≡ matches (now (pack .entry)) (now (path .entry)) (entryAt (now (table .entry)) i) ⌝ }
 {
+    let size = table[i + 1] as usize;
     if size != path.len() {
         return false;
     }
+    let start = table[i] as usize;
     if size == 0 {
         return false;
     }
@@ -96,14 +94,19 @@ fn entry_matches(
     if pack.len() - size < start {
         return false;
     }
+    let end = start + size;
+    if !same_path(&pack[start..end], path) {
+        return false;
+    }
+    let first = table[i + 2] as usize;
+    let count = table[i + 3] as usize;
     if pack.len() < count {
         return false;
     }
     if pack.len() - count < first {
         return false;
     }
-    let end = start + size;
-    same_path(&pack[start..end], path)
+    true
 }
 
 // Nothing, or where a file's data starts and how many bytes it has.
@@ -118,11 +121,9 @@ pub fn find(pack: &[u8], table: &[u64], path: &[u8]) -> Found
 {
     let mut i = 0;
     while 4 <= table.len() - i {
-        let start = table[i] as usize;
-        let size = table[i + 1] as usize;
-        let first = table[i + 2] as usize;
-        let count = table[i + 3] as usize;
-        if entry_matches(pack, path, start, size, first, count) {
+        if entry_matches(pack, table, path, i) {
+            let first = table[i + 2] as usize;
+            let count = table[i + 3] as usize;
             return Found::At { first, count };
         }
         i += 4;

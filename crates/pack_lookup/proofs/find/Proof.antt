@@ -19,20 +19,8 @@ loop-holds c = look _ _ _
 sub-loop : tie.Need-sub-loop Inv-loop μ-loop
 sub-loop c = search needs
 
-mul-start : tie.Need-mul-start Inv-loop μ-loop
-mul-start c = search needs
-
-shared-slice-read-start : tie.Need-shared-slice-read-start Inv-loop μ-loop
-shared-slice-read-start c = search needs
-
-add-size : tie.Need-add-size Inv-loop μ-loop
-add-size c = search needs
-
-mul-size : tie.Need-mul-size Inv-loop μ-loop
-mul-size c = search needs
-
-shared-slice-read-size : tie.Need-shared-slice-read-size Inv-loop μ-loop
-shared-slice-read-size c = search needs
+entry-matches-requires : tie.Need-entry-matches-requires Inv-loop μ-loop
+entry-matches-requires c κs = search needs
 
 add-first : tie.Need-add-first Inv-loop μ-loop
 add-first c = search needs
@@ -52,11 +40,8 @@ mul-count c = search needs
 shared-slice-read-count : tie.Need-shared-slice-read-count Inv-loop μ-loop
 shared-slice-read-count c = search needs
 
-entry-matches-requires : tie.Need-entry-matches-requires Inv-loop μ-loop
-entry-matches-requires c κs = search needs
-
 returns : tie.Need-returns Inv-loop μ-loop
-returns c = look-found _ _ _ (c .before .before .before .before .before .before .before .loop .inv) (c .before .before .before .before .before .before .loop-test .taken) (sym (c .if1 .taken) ∙ c .before .entry-matches .ensures)
+returns c = look-found _ _ _ (c .before .before .before .before .before .loop .inv) (c .before .before .before .before .loop-test .taken) (sym (c .before .before .if1 .taken) ∙ c .before .before .before .entry-matches .ensures)
 
 add-i : tie.Need-add-i Inv-loop μ-loop
 add-i c = search needs
@@ -65,7 +50,7 @@ loop-less : tie.Need-loop-less Inv-loop μ-loop
 loop-less c = search needs
 
 loop-again : tie.Need-loop-again Inv-loop μ-loop
-loop-again c = look-next _ _ _ (c .before .before .before .before .before .before .before .loop .inv) (c .before .before .before .before .before .before .loop-test .taken) (sym (c .if1 .left) ∙ c .before .entry-matches .ensures)
+loop-again c = look-next _ _ _ (c .before .before .before .loop .inv) (c .before .before .loop-test .taken) (sym (c .if1 .left) ∙ c .before .entry-matches .ensures)
 
 returns-2 : tie.Need-returns-2 Inv-loop μ-loop
 returns-2 c = look-end _ _ _ (c .before .loop .inv) (c .loop-test .left)
@@ -78,18 +63,13 @@ find-spec =
     μ-loop
     loop-holds
     sub-loop
-    mul-start
-    shared-slice-read-start
-    add-size
-    mul-size
-    shared-slice-read-size
+    entry-matches-requires
     add-first
     mul-first
     shared-slice-read-first
     add-count
     mul-count
     shared-slice-read-count
-    entry-matches-requires
     returns
     add-i
     loop-less
