@@ -1,10 +1,12 @@
 -- The five steps, one after the other, read a seven-bit number. Assumes nothing.
-use mathlib.Core.Path.{_≡_, refl, _∙_}
+use mathlib.Core.Path.{_≡_, refl, sym, _∙_}
 use mathlib.Core.Bool.{Bool, true, false, cond}
 use mathlib.Core.List.{List}
-use Prim.Native.Nat.{ℕ, suc, _+_, _*_, _-_, _<_, _≤_, _^_}
+use Prim.Native.Nat.{ℕ, zero, suc, _+_, _*_, _-_, _%_, _<_, _≤_, _^_}
 use native.Mathlib.Omega.{arith}
-use native.Mathlib.Nat.{mul-add, mul-suc, mul-assoc, mul-le-mul-left, pow-suc}
+use native.Mathlib.Nat.{add-comm, mul-add, mul-suc, mul-assoc, mul-comm, mul-le-mul-left, pow-suc}
+use lib.Bits.{or-shifted-r}
+use lib.Pow.{pow-add}
 use lib.Dec.{ltb, leb}
 use lib.ListN.{length, getD, drop, drop-of-length-le}
 use lib.Seq.{drop-cons}
@@ -13,11 +15,24 @@ use Rattle.reading.specs.Answer.{Answer, refused, read, bind, check}
 use Rattle.reading.specs.Seven.{group as groupRead, groups, sevenAt}
 use Rattle.numbers.specs.declared.seven.Step.{Step}
 use Rattle.numbers.specs.declared.seven.Step.the-variants.{Ends, HandsOn, Refuses}
-use Rattle.numbers.specs.Steps.{group, step, lastGroup, lastStep, Below}
+use Rattle.numbers.specs.Steps.{joined, group, step, lastGroup, lastStep}
 
 -- the groups read so far have the value `low`; those still to come count by the weight
 abbrev whole : (start low weight : ℕ) → Answer ℕ → Answer ℕ
 whole start low weight r = bind r (λ n e. check (ltb (low + weight * n) (2 ^ 32)) 8 start (read (low + weight * n) e))
+
+-- seven bits for each of k groups
+weight : (k : ℕ) → 2 ^ (7 * k) ≡ 128 ^ k
+weight zero = refl
+weight (suc k) =
+    let e : 7 * suc k ≡ 7 * k + 7 = omega arith in
+    rw (e, pow-add 2 (7 * k) 7, weight k) (sym (pow-suc 128 k))
+
+-- bits that stand above the bits read are added to them
+joins : (k low b : ℕ) → low < 128 ^ k → joined low (7 * k) b ≡ low + 128 ^ k * (b % 128)
+unfolding joined
+joins k low b h =
+    or-shifted-r (b % 128) (7 * k) low (rw (weight k) h) ∙ rw (weight k, mul-comm (b % 128) (128 ^ k)) (add-comm (128 ^ k * (b % 128)) low)
 
 -- k groups and one more make a number below 128 to the k + 1
 below : (k low b : ℕ) → low < 128 ^ k → b < 128 → low + 128 ^ k * b < 128 ^ suc k
@@ -40,12 +55,13 @@ module _ (s : List ℕ) (start : ℕ) (bytes : (i : ℕ) → i < length s → ge
 
   -- the fifth byte, where it is there
   last-there : (low : ℕ) → low < 128 ^ 4 → (b : ℕ) → b < 256 → (t u : Bool) → leb b 0x0F ≡ t → ltb b 128 ≡ u
-      → cond t (read (low + 128 ^ 4 * b) (start + 5)) (refused 8 start) ≡ whole start low (128 ^ 4) (groupRead u b (start + 4) (from 0 5))
+      → cond t (read (joined low 28 b) (start + 5)) (refused 8 start) ≡ whole start low (128 ^ 4) (groupRead u b (start + 4) (from 0 5))
   unfolding bind check groupRead groups
   last-there low h b hb true true p q =
       let l = leb-true b 15 p in
+      let r : b % 128 ≡ b = omega arith in
       let e : suc (start + 4) ≡ start + 5 = omega arith in
-      rw (lt-ltb (low + 268435456 * b) (2 ^ 32) (omega arith), e)
+      rw (joins 4 low b h, r, lt-ltb (low + 268435456 * b) (2 ^ 32) (omega arith), e)
   last-there low h b hb true false p q = absurd (omega (arith, leb-true b 15 p, ltb-false b 128 q))
   last-there low h b hb false true p q =
       let l = leb-false b 15 p in
@@ -84,30 +100,16 @@ module _ (s : List ℕ) (start : ℕ) (bytes : (i : ℕ) → i < length s → ge
     go true u p q = rw (p, missing m k (leb-true (length s) (start + k) p), refuses 1 start)
     go false true p q =
         let b = getD s (start + k) 0 in
+        let r : b % 128 ≡ b = omega (arith, ltb-true b 128 q) in
         let l : low + 128 ^ k * b < 2 ^ 32 = omega (arith, below k low b h (ltb-true b 128 q)) in
         let e : suc (start + k) ≡ start + k + 1 = omega arith in
-        rw (p, q, there m k (leb-false (length s) (start + k) p), q, ends, lt-ltb (low + 128 ^ k * b) (2 ^ 32) l, e)
+        rw (p, q, joins k low b h, r, there m k (leb-false (length s) (start + k) p), q, ends, lt-ltb (low + 128 ^ k * b) (2 ^ 32) l, e)
     go false false p q =
         let b = getD s (start + k) 0 in
         let hk = leb-false (length s) (start + k) p in
         let l : b - 128 < 128 = omega (arith, bytes (start + k) hk) in
-        rw (p, q, there m k hk, q, hands (low + 128 ^ k * (b - 128)) (below k low (b - 128) h l)) (handed k low (b - 128) (from m (suc k)))
-
-  group-below : (k low : ℕ) → low < 128 ^ k → Below (suc k) (group k s start low)
-  unfolding group
-  group-below k low h = go (leb (length s) (start + k)) (ltb (getD s (start + k) 0) 128) refl refl where
-    go : (t u : Bool) → leb (length s) (start + k) ≡ t → ltb (getD s (start + k) 0) 128 ≡ u → Below (suc k) (group k s start low)
-    go true u p q = rw p tt
-    go false true p q = rw (p, q) tt
-    go false false p q =
-        let b = getD s (start + k) 0 in
-        let l : b - 128 < 128 = omega (arith, bytes (start + k) (leb-false (length s) (start + k) p)) in
-        rw (p, q) (below k low (b - 128) h l)
-
-  pub step-below : (k : ℕ) (so-far : Step) → Below k so-far → Below (suc k) (step k s start so-far)
-  step-below k (HandsOn low) h = group-below k low h
-  step-below k (Ends value next) h = tt
-  step-below k (Refuses number place) h = tt
+        let r : b % 128 ≡ b - 128 = omega (arith, bytes (start + k) hk, ltb-false b 128 q) in
+        rw (p, q, joins k low b h, r, there m k hk, q, hands (low + 128 ^ k * (b - 128)) (below k low (b - 128) h l)) (handed k low (b - 128) (from m (suc k)))
 
   -- the steps after those with index 0, 1 and 2
   abbrev after₂ : Step → Answer ℕ

@@ -1,43 +1,42 @@
--- The five steps of reading a seven-bit number (000, "7BitEncodedInt", and 01's rule of five bytes). Assumes nothing.
+-- The five steps of reading a seven-bit number (000, "7BitEncodedInt", and 01's rule of five bytes); 02, Req 03: each says "exactly when it ends the number, hands on or refuses with 1 or 8, and with which value". Assumes nothing.
 use mathlib.Core.Bool.{Bool, true, false, cond}
 use mathlib.Core.List.{List}
-use Prim.Native.Nat.{ℕ, _+_, _*_, _-_, _^_, _<_}
+use Prim.Native.Nat.{ℕ, _+_, _*_, _%_, _^_}
+use lib.Bits.{bitOr}
 use lib.Dec.{ltb, leb}
 use lib.ListN.{length, getD}
 use Rattle.reading.specs.Answer.{Answer, read, refused}
 use Rattle.numbers.specs.declared.seven.Step.{Step}
 use Rattle.numbers.specs.declared.seven.Step.the-variants.{Ends, HandsOn, Refuses}
 
--- the byte with index k of the number at `start`, after groups of the value `low`: missing it is refused 1; below 80 hex it ends the number; else its low seven bits are handed on
+-- 000: "result |= (value & 0x7f) << bitsRead"
+unfoldable pub joined : (low bitsRead byte : ℕ) → ℕ
+joined low bitsRead byte = bitOr low (byte % 128 * 2 ^ bitsRead)
+
+-- the byte with index k of the number at `start`, after bytes of the value `low`: missing it refuses with 1; below 80 hex it ends the number; else the value so far is handed on
 unfoldable pub group : (k : ℕ) → List ℕ → (start low : ℕ) → Step
 group k s start low =
     cond (leb (length s) (start + k)) (Refuses 1 start)
-    (cond (ltb (getD s (start + k) 0) 128)
-    (Ends (low + 128 ^ k * getD s (start + k) 0) (start + k + 1))
-    (HandsOn (low + 128 ^ k * (getD s (start + k) 0 - 128))))
+    (cond (ltb (getD s (start + k) 0) 0x80)
+    (Ends (joined low (7 * k) (getD s (start + k) 0)) (start + k + 1))
+    (HandsOn (joined low (7 * k) (getD s (start + k) 0))))
 
--- steps 1 to 4, with index 0 to 3: what was handed on is taken further, and what has ended or was refused stays
+-- steps 1 to 4, with index 0 to 3: what was handed on goes on with the step's byte, and what has ended or was refused stays
 abbrev pub step : (k : ℕ) → List ℕ → (start : ℕ) → Step → Step
 step k s start (HandsOn low) = group k s start low
 step k s start (Ends value next) = Ends value next
 step k s start (Refuses number place) = Refuses number place
 
--- the fifth byte: missing it is refused 1, above 0F hex refused 8, else it ends the number
+-- the fifth byte (01: "At most five bytes, the fifth at most 0F hex"): missing it refuses with 1; up to 0F hex it ends the number; else it refuses with 8
 unfoldable pub lastGroup : List ℕ → (start low : ℕ) → Answer ℕ
 lastGroup s start low =
     cond (leb (length s) (start + 4)) (refused 1 start)
     (cond (leb (getD s (start + 4) 0) 0x0F)
-    (read (low + 128 ^ 4 * getD s (start + 4) 0) (start + 5))
+    (read (joined low 28 (getD s (start + 4) 0)) (start + 5))
     (refused 8 start))
 
--- step 5: it hands nothing on
+-- step 5 (02: "the fifth hands nothing on"): the same with the fifth byte, and its answer has no case for handing on
 abbrev pub lastStep : List ℕ → (start : ℕ) → Step → Answer ℕ
 lastStep s start (HandsOn low) = lastGroup s start low
 lastStep s start (Ends value next) = read value next
 lastStep s start (Refuses number place) = refused number place
-
--- k groups make a number below 128 to the k
-abbrev pub Below : (k : ℕ) → Step → Type 0
-Below k (HandsOn low) = low < 128 ^ k
-Below k (Ends value next) = Unit {0}
-Below k (Refuses number place) = Unit {0}

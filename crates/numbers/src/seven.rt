@@ -1,100 +1,50 @@
-// Reading a seven-bit number in five steps, one for each byte that it may have.
+// Reading a seven-bit number in five steps, one for each byte that it may have: each is a turn of 000's loop under "7BitEncodedInt" (docs/SEVEN-BIT.md).
 ghost use mathlib.Core.Path.{_≡_};
-ghost use Prim.Native.Nat.{_+_, _*_, _^_, _≤_, _<_};
+ghost use Prim.Native.Nat.{_+_, _*_, _≤_, _<_};
+ghost use lib.Dec.{leb};
+ghost use lib.ListN.{length};
 ghost use Rattle.answers.specs.Told.{told};
 ghost use Rattle.reading.specs.Seven.{sevenAt};
-ghost use Rattle.numbers.specs.Steps.{group, step, lastStep, Below};
+ghost use Rattle.numbers.specs.Steps.{joined, group, step, lastGroup, lastStep};
 use answers::Number;
 
-// What a step says: the number ends, with its value and the next place; the bits so far are handed on; or a refusal and its place.
+// What a step says: the number ends, with its value and the next place; the value so far is handed on; or a refusal and its place.
 pub enum Step {
     Ends(u64, usize),
     HandsOn(u64),
     Refuses(u32, usize),
 }
 
-// The group with index k of the number at `start`; the groups before it have the value `low`, and this one weighs `weight`.
-fn group_at(s: &[u8], start: usize, k: usize, weight: u64, low: u64) -> Step
-    requires { ⌜ (k ≤ 3) × (weight ≡ 128 ^ k) × (low < weight) × (weight ≤ 2097152) ⌝ }
-    ensures { λ r. ⌜ r ≡ group k (now (s .entry)) start low ⌝ }
-{
-    if s.len() <= start {
-        return Step::Refuses(1, start);
-    }
-    if s.len() - start <= k {
-        return Step::Refuses(1, start);
-    }
-    let b = wide(s[start + k]);
-    if b < 128 {
-        return Step::Ends(low + weight * b, start + k + 1);
-    }
-    Step::HandsOn(low + weight * (b - 128))
-}
-
-// Step 1: a byte below 80 hex is the number; else its low seven bits are handed on.
-fn first(s: &[u8], start: usize) -> Step
+// Step 1: the first byte ends the number if it is below 80 hex, else hands on its low seven bits, and refuses with 1 if the file ends before it.
+pub fn first(s: &[u8], start: usize) -> Step
     ensures { λ r. ⌜ r ≡ step 0 (now (s .entry)) start (Step.HandsOn 0) ⌝ }
 {
-    group_at(s, start, 0, 1, 0)
+    step_at(s, start, 0, 0, Step::HandsOn(0))
 }
 
-// Step 2: the second byte's seven bits weigh 2 to the 7.
-fn second(s: &[u8], start: usize, so_far: Step) -> Step
-    requires { ⌜ Below 1 «so_far» ⌝ }
+// Step 2: the second byte joins its low seven bits above the 7 read, ends the number if it is below 80 hex, else hands on, and refuses with 1 if the file ends before it.
+pub fn second(s: &[u8], start: usize, so_far: Step) -> Step
     ensures { λ r. ⌜ r ≡ step 1 (now (s .entry)) start «so_far» ⌝ }
 {
-    match so_far {
-        Step::HandsOn(low) => group_at(s, start, 1, 128, low),
-        Step::Ends(value, next) => Step::Ends(value, next),
-        Step::Refuses(number, place) => Step::Refuses(number, place),
-    }
+    step_at(s, start, 1, 7, so_far)
 }
 
-// Step 3: the third byte's seven bits weigh 2 to the 14.
-fn third(s: &[u8], start: usize, so_far: Step) -> Step
-    requires { ⌜ Below 2 «so_far» ⌝ }
+// Step 3: the third byte joins its low seven bits above the 14 read, ends the number if it is below 80 hex, else hands on, and refuses with 1 if the file ends before it.
+pub fn third(s: &[u8], start: usize, so_far: Step) -> Step
     ensures { λ r. ⌜ r ≡ step 2 (now (s .entry)) start «so_far» ⌝ }
 {
-    match so_far {
-        Step::HandsOn(low) => group_at(s, start, 2, 16384, low),
-        Step::Ends(value, next) => Step::Ends(value, next),
-        Step::Refuses(number, place) => Step::Refuses(number, place),
-    }
+    step_at(s, start, 2, 14, so_far)
 }
 
-// Step 4: the fourth byte's seven bits weigh 2 to the 21.
-fn fourth(s: &[u8], start: usize, so_far: Step) -> Step
-    requires { ⌜ Below 3 «so_far» ⌝ }
+// Step 4: the fourth byte joins its low seven bits above the 21 read, ends the number if it is below 80 hex, else hands on, and refuses with 1 if the file ends before it.
+pub fn fourth(s: &[u8], start: usize, so_far: Step) -> Step
     ensures { λ r. ⌜ r ≡ step 3 (now (s .entry)) start «so_far» ⌝ }
 {
-    match so_far {
-        Step::HandsOn(low) => group_at(s, start, 3, 2097152, low),
-        Step::Ends(value, next) => Step::Ends(value, next),
-        Step::Refuses(number, place) => Step::Refuses(number, place),
-    }
+    step_at(s, start, 3, 21, so_far)
 }
 
-// The fifth byte of the number at `start`, at most 0F hex.
-fn last_group(s: &[u8], start: usize, low: u64) -> Number
-    requires { ⌜ low < 128 ^ 4 ⌝ }
-    ensures { λ r. ⌜ told r ≡ lastStep (now (s .entry)) start (Step.HandsOn low) ⌝ }
-{
-    if s.len() <= start {
-        return Number::Refused(1, start);
-    }
-    if s.len() - start <= 4 {
-        return Number::Refused(1, start);
-    }
-    let b = wide(s[start + 4]);
-    if b <= 0x0F {
-        return Number::Read(low + 268435456 * b, start + 5);
-    }
-    Number::Refused(8, start)
-}
-
-// Step 5: the fifth byte's bits weigh 2 to the 28; it hands nothing on.
-fn fifth(s: &[u8], start: usize, so_far: Step) -> Number
-    requires { ⌜ Below 4 «so_far» ⌝ }
+// Step 5: the fifth byte joins its bits above the 28 read and ends the number, as no sixth may follow; it refuses with 8 if it is above 0F hex, and with 1 if the file ends before it.
+pub fn fifth(s: &[u8], start: usize, so_far: Step) -> Number
     ensures { λ r. ⌜ told r ≡ lastStep (now (s .entry)) start «so_far» ⌝ }
 {
     match so_far {
@@ -115,8 +65,61 @@ pub fn seven_at(s: &[u8], start: usize) -> Number
     fifth(s, start, four)
 }
 
-fn wide(x: u8) -> u64
-    ensures { λ r. ⌜ (r ≡ x) × (r ≤ 255) ⌝ }
+// One of the first four steps: what was handed on goes on with the byte with index k; what has ended or was refused stays.
+fn step_at(s: &[u8], start: usize, k: usize, bits_read: u32, so_far: Step) -> Step
+    requires { ⌜ (k ≤ 3) × («bits_read» ≡ 7 * k) ⌝ }
+    ensures { λ r. ⌜ r ≡ step k (now (s .entry)) start «so_far» ⌝ }
 {
-    x as u64
+    match so_far {
+        Step::HandsOn(low) => group_at(s, start, k, bits_read, low),
+        Step::Ends(value, next) => Step::Ends(value, next),
+        Step::Refuses(number, place) => Step::Refuses(number, place),
+    }
+}
+
+// The byte with index k of the number at `start`, where the bytes before it have the value `low`.
+fn group_at(s: &[u8], start: usize, k: usize, bits_read: u32, low: u64) -> Step
+    requires { ⌜ (k ≤ 3) × («bits_read» ≡ 7 * k) ⌝ }
+    ensures { λ r. ⌜ r ≡ group k (now (s .entry)) start low ⌝ }
+{
+    if missing(s, start, k) {
+        return Step::Refuses(1, start);
+    }
+    let byte = s[start + k];
+    if byte < 0x80 {
+        return Step::Ends(join(low, bits_read, byte), start + k + 1);
+    }
+    Step::HandsOn(join(low, bits_read, byte & 0x7F))
+}
+
+// The fifth byte of the number at `start`, where the four before it have the value `low`.
+fn last_group(s: &[u8], start: usize, low: u64) -> Number
+    ensures { λ r. ⌜ told r ≡ lastGroup (now (s .entry)) start low ⌝ }
+{
+    if missing(s, start, 4) {
+        return Number::Refused(1, start);
+    }
+    let byte = s[start + 4];
+    if byte <= 0x0F {
+        return Number::Read(join(low, 28, byte), start + 5);
+    }
+    Number::Refused(8, start)
+}
+
+// Whether the file ends before the byte with index k of the number at `start`.
+fn missing(s: &[u8], start: usize, k: usize) -> bool
+    ensures { λ r. ⌜ r ≡ leb (length (now (s .entry))) (start + k) ⌝ }
+{
+    if s.len() <= start {
+        return true;
+    }
+    s.len() - start <= k
+}
+
+// 000: "result |= (value & 0x7f) << bitsRead", where `bits` are the byte's low seven.
+fn join(low: u64, bits_read: u32, bits: u8) -> u64
+    requires { ⌜ (bits < 128) × («bits_read» ≤ 28) ⌝ }
+    ensures { λ r. ⌜ r ≡ joined low «bits_read» bits ⌝ }
+{
+    low | ((bits as u64) << bits_read)
 }

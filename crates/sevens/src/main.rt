@@ -1,30 +1,98 @@
-// Lists the seven-bit numbers that standard input holds: place, value, bytes, and bytes of the shortest form.
+// Shows the steps of each seven-bit number that standard input holds: each step with its byte, the value so far and how it ended.
 use answers::Number;
+use numbers::seven::Step;
 
-fn print_number(place: usize, value: u64, size: usize, shortest: usize) {
-    io::print_decimal(1, place as u64);
-    io::write_all(1, b" ");
-    io::print_decimal(1, value);
-    io::write_all(1, b" ");
-    io::print_decimal(1, size as u64);
-    io::write_all(1, b" ");
-    io::print_decimal(1, shortest as u64);
-    io::write_all(1, b"\n");
+fn print_byte(byte: u8) {
+    io::write_all(1, b"byte ");
+    io::print_hex(1, byte as u64, 2);
 }
 
-// One number after the other, to the end or to the first refusal.
+// The byte with index k of the number at `start`, where the input has it.
+fn print_byte_at(s: &[u8], start: usize, k: usize) {
+    if s.len() <= start {
+        io::write_all(1, b"no byte");
+        return;
+    }
+    if s.len() - start <= k {
+        io::write_all(1, b"no byte");
+        return;
+    }
+    print_byte(s[start + k]);
+}
+
+// A step, its byte and the value so far.
+fn print_taken(s: &[u8], start: usize, k: u8, value: u64) {
+    io::write_all(1, b"step ");
+    io::print_decimal(1, k as u64 + 1);
+    io::write_all(1, b": ");
+    print_byte_at(s, start, k as usize);
+    io::write_all(1, b", value ");
+    io::print_decimal(1, value);
+    io::write_all(1, b", ");
+}
+
+// A step and what it said; a step that refuses leaves the value as it was handed on.
+fn show_said(s: &[u8], start: usize, k: u8, low: u64, said: Step) {
+    match said {
+        Step::Ends(value, _) => {
+            print_taken(s, start, k, value);
+            io::write_all(1, b"ends\n");
+        }
+        Step::HandsOn(value) => {
+            print_taken(s, start, k, value);
+            io::write_all(1, b"hands on\n");
+        }
+        Step::Refuses(number, place) => {
+            print_taken(s, start, k, low);
+            printing::print_refusal(number, place);
+        }
+    }
+}
+
+// The step with index k, if the one before it handed on.
+fn show_step(s: &[u8], start: usize, k: u8, before: Step, said: Step) {
+    match before {
+        Step::HandsOn(low) => show_said(s, start, k, low, said),
+        Step::Ends(_, _) => {}
+        Step::Refuses(_, _) => {}
+    }
+}
+
+fn as_step(said: Number) -> Step {
+    match said {
+        Number::Read(value, next) => Step::Ends(value, next),
+        Number::Refused(number, place) => Step::Refuses(number, place),
+    }
+}
+
+// The number at a place, step by step.
+fn show(s: &[u8], start: usize) {
+    let one = numbers::seven::first(s, start);
+    let two = numbers::seven::second(s, start, one);
+    let three = numbers::seven::third(s, start, two);
+    let four = numbers::seven::fourth(s, start, three);
+    let five = as_step(numbers::seven::fifth(s, start, four));
+    io::write_all(1, b"number at ");
+    io::print_decimal(1, start as u64);
+    io::write_all(1, b"\n");
+    show_step(s, start, 0, Step::HandsOn(0), one);
+    show_step(s, start, 1, one, two);
+    show_step(s, start, 2, two, three);
+    show_step(s, start, 3, three, four);
+    show_step(s, start, 4, four, five);
+}
+
+// One number after the other, the missing one at the input's end too; where one is refused, the next place is tried.
 fn list(s: &[u8]) {
     let mut at = 0;
-    while at < s.len() {
+    while at <= s.len() {
+        show(s, at);
         match numbers::seven::seven_at(s, at) {
-            Number::Read(value, next) => {
-                let shortest = numbers::shortest::shortest_len(value as u32);
-                print_number(at, value, next - at, shortest);
+            Number::Read(_, next) => {
                 at = next;
             }
-            Number::Refused(number, place) => {
-                printing::print_refusal(number, place);
-                return;
+            Number::Refused(_, _) => {
+                at = at + 1;
             }
         }
     }

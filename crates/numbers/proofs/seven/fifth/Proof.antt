@@ -6,8 +6,7 @@ enum-known-so-far : tie.Need-enum-known-so-far
 enum-known-so-far c = search needs
 
 last-group-requires : tie.Need-last-group-requires
-last-group-requires c κs =
-    rw (c .before .so-far .given .1) at (c .before .before .before .before .pre)
+last-group-requires c κs = search needs
 
 enum-known-so-far-2 : tie.Need-enum-known-so-far-2
 enum-known-so-far-2 c = search needs

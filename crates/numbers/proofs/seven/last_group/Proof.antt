@@ -1,72 +1,68 @@
-use mathlib.Core.Path.{_≡_}
-use Prim.Native.Nat.{_+_}
+use mathlib.Core.Path.{_≡_, sym, _∙_}
+use mathlib.Core.Bool.{false}
+use Prim.Native.Nat.{_+_, _<_}
 use native.Mathlib.Omega.{arith}
-use borrow.Author.Needs.{needs}
-use borrow.Author.Tests.{le-leb, lt-leb}
+use lib.Dec.{leb}
 use lib.ListN.{length, getD}
+use borrow.Author.Needs.{needs}
+use borrow.Author.Tests.{le-leb, lt-leb, leb-false}
 use Rattle.numbers.specs.Steps.{lastGroup}
 use Rattle.numbers.proofs.seven.last_group.Statement.{statement}
 use Rattle.numbers.proofs.seven.last_group.Tie as tie
 
+-- the file has the byte
+found : (c : tie.Else1) → leb (length (c .before .before .before .args .s .now)) (c .before .before .before .args .start + 4) ≡ false
+found c = sym (c .before .missing .ensures) ∙ c .if1 .left
+
+there : (c : tie.Else1) → c .before .before .before .args .start + 4 < length (c .before .before .before .args .s .now)
+there c = leb-false _ _ (found c)
+
+missing-requires : tie.Need-missing-requires
+missing-requires c κs = search needs
+
 returns : tie.Need-returns
 unfolding lastGroup
 returns c =
-    let a = c .before .before .args in
-    simp (le-leb (length (a .s .now)) (a .start + 4) (omega arith))
+    simp (sym (c .before .missing .ensures) ∙ c .if1 .taken)
 
-sub-if2 : tie.Need-sub-if2
-sub-if2 c = search needs
+add-byte : tie.Need-add-byte
+add-byte c =
+    omega (arith, there c)
+
+shared-slice-read-byte : tie.Need-shared-slice-read-byte
+shared-slice-read-byte c =
+    omega (arith, there (c .before))
+
+join-requires : tie.Need-join-requires
+join-requires c κs = search needs
+
+add-t11 : tie.Need-add-t11
+add-t11 c =
+    omega (arith, there (c .before .before .before))
 
 returns-2 : tie.Need-returns-2
 unfolding lastGroup
 returns-2 c =
-    let a = c .before .before .before .args in
-    simp (le-leb (length (a .s .now)) (a .start + 4) (omega arith))
-
-add-wide : tie.Need-add-wide
-add-wide c = search needs
-
-shared-slice-read-wide : tie.Need-shared-slice-read-wide
-shared-slice-read-wide c = search needs
-
-wide-requires : tie.Need-wide-requires
-wide-requires c κs = search needs
-
-mul-t10 : tie.Need-mul-t10
-mul-t10 c = search needs
-
-add-t11 : tie.Need-add-t11
-add-t11 c = search needs
-
-add-t12 : tie.Need-add-t12
-add-t12 c = search needs
+    let a = c .before .before .before .before .before .before .args in
+    let t = le-leb (getD (a .s .now) (a .start + 4) 0) 15 (omega (arith, c .before .if2 .taken)) in
+    simp (found (c .before .before .before), t, c .join .ensures)
 
 returns-3 : tie.Need-returns-3
 unfolding lastGroup
 returns-3 c =
-    let a = c .before .before .before .before .before .before .args in
-    let b : c .before .wide .result ≡ getD (a .s .now) (a .start + 4) 0 = c .before .wide .ensures .0 in
-    simp (lt-leb (length (a .s .now)) (a .start + 4) (omega arith), ← b, le-leb _ _ (c .if3 .taken))
-
-returns-4 : tie.Need-returns-4
-unfolding lastGroup
-returns-4 c =
-    let a = c .before .before .before .before .before .before .args in
-    let b : c .before .wide .result ≡ getD (a .s .now) (a .start + 4) 0 = c .before .wide .ensures .0 in
-    simp (lt-leb (length (a .s .now)) (a .start + 4) (omega arith), ← b, lt-leb _ _ (c .if3 .left))
+    let a = c .before .before .before .before .before .args in
+    let t = lt-leb (getD (a .s .now) (a .start + 4) 0) 15 (omega (arith, c .if2 .left)) in
+    simp (found (c .before .before), t)
 
 pub last-group-spec : {M : Type 1} → statement M
 last-group-spec =
     tie.close
     (tie.spec
+    missing-requires
     returns
-    sub-if2
-    returns-2
-    add-wide
-    shared-slice-read-wide
-    wide-requires
-    mul-t10
+    add-byte
+    shared-slice-read-byte
+    join-requires
     add-t11
-    add-t12
-    returns-3
-    returns-4)
+    returns-2
+    returns-3)

@@ -1,9 +1,8 @@
 use mathlib.Core.Path.{_∙_, ap}
 use native.Mathlib.Omega.{arith}
 use borrow.Author.Needs.{needs}
-use Rattle.numbers.specs.declared.seven.Step.the-variants.{HandsOn}
 use Rattle.numbers.specs.Steps.{step, lastStep}
-use Rattle.numbers.specs.FiveSteps.{five-steps, step-below}
+use Rattle.numbers.specs.FiveSteps.{five-steps}
 use Rattle.numbers.proofs.seven.seven_at.Statement.{statement}
 use Rattle.numbers.proofs.seven.seven_at.Tie as tie
 
@@ -11,24 +10,16 @@ first-requires : tie.Need-first-requires
 first-requires c κs = search needs
 
 second-requires : tie.Need-second-requires
-second-requires c κs =
-    let a = c .before .before .args in
-    rw (c .first .ensures) (step-below (a .s .now) (a .start) (λ i l. omega (arith, c .before .shared-slice-known .given i)) 0 (HandsOn 0) (omega arith))
+second-requires c κs = search needs
 
 third-requires : tie.Need-third-requires
-third-requires c κs =
-    let a = c .before .before .before .args in
-    rw (c .second .ensures) (step-below (a .s .now) (a .start) (λ i l. omega (arith, c .before .before .shared-slice-known .given i)) 1 (c .before .first .result) (second-requires (c .before) κs))
+third-requires c κs = search needs
 
 fourth-requires : tie.Need-fourth-requires
-fourth-requires c κs =
-    let a = c .before .before .before .before .args in
-    rw (c .third .ensures) (step-below (a .s .now) (a .start) (λ i l. omega (arith, c .before .before .before .shared-slice-known .given i)) 2 (c .before .second .result) (third-requires (c .before) κs))
+fourth-requires c κs = search needs
 
 fifth-requires : tie.Need-fifth-requires
-fifth-requires c κs =
-    let a = c .before .before .before .before .before .args in
-    rw (c .fourth .ensures) (step-below (a .s .now) (a .start) (λ i l. omega (arith, c .before .before .before .before .shared-slice-known .given i)) 3 (c .before .third .result) (fourth-requires (c .before) κs))
+fifth-requires c κs = search needs
 
 returns : tie.Need-returns
 returns c =
