@@ -1,4 +1,5 @@
 // 01, "Texture2D": how many levels an image may have, and the size of each.
+use widen::wide;
 ghost use mathlib.Core.Path.{_≡_};
 ghost use Prim.Native.Nat.{_+_, _/_, _^_, _<_, _≤_, max};
 ghost use lib.ListN.{getD};
@@ -7,12 +8,6 @@ ghost use Rattle.images.specs.Level.{levelSizeOf};
 
 // 01: bytes per pixel by surface format, and 0 for the formats in blocks.
 const PIXEL_BYTES: [u8; 19] = [4, 2, 2, 2, 0, 0, 0, 2, 4, 4, 4, 8, 1, 4, 8, 16, 2, 4, 8];
-
-fn wide(x: u8) -> u64
-    ensures { λ r. ⌜ r ≡ x ⌝ }
-{
-    x as u64
-}
 
 pub fn pixel_bytes(format: u32) -> u64
     ensures { λ r. ⌜ r ≡ getD pixelBytes format 0 ⌝ }

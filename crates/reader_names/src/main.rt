@@ -5,6 +5,7 @@ ghost use lib.ListN.{length};
 ghost use Rattle.io.specs.Counts.{Counts};
 ghost use Rattle.reader_names.specs.Lines.{refusal, lineSize, Judges};
 use types::Resolved;
+use widen::wide;
 
 // A name's refusal, or 0.
 fn judge(name: &[u8]) -> u8
@@ -53,10 +54,6 @@ fn judge_lines(s: &[u8], numbers: &mut [u8]) -> usize
         at = end + 1;
     }
     count
-}
-
-fn wide(x: u8) -> u64 {
-    x as u64
 }
 
 fn print_numbers(numbers: &[u8]) {

@@ -1,5 +1,6 @@
 // UTF-8 by RFC 3629: one character at a place, and whether a whole text is lawful.
 use answers::Number;
+use widen::wide;
 ghost use mathlib.Core.Path.{_≡_};
 ghost use mathlib.Core.Bool.{true, false};
 ghost use Prim.Native.Nat.{ℕ, _+_, _-_, _*_, _^_, _≤_, _<_};
@@ -357,10 +358,4 @@ fn with_six(v: u64, x: u8) -> u64
     ensures { λ r. ⌜ r ≡ v * 64 + (x - 0x80) ⌝ }
 {
     v * 64 + (wide(x) - 0x80)
-}
-
-fn wide(x: u8) -> u64
-    ensures { λ r. ⌜ r ≡ x ⌝ }
-{
-    x as u64
 }

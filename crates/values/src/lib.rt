@@ -1,5 +1,6 @@
 // 01, "Values and kinds": values of fixed size.
 use answers::Number;
+use widen::wide;
 ghost use mathlib.Core.Path.{_≡_};
 ghost use Prim.Native.Nat.{_+_, _≤_};
 ghost use lib.ListN.{length, getD, take, drop};
@@ -43,13 +44,6 @@ const SIZES: [u8; 31] = [
     8,
     16,
 ];
-
-fn wide(x: u8) -> u64
-    ensures { λ r. ⌜ r ≡ x ⌝ }
-    ensures { λ r. ⌜ r ≤ 255 ⌝ }
-{
-    x as u64
-}
 
 pub fn size_of_kind(kind: u32) -> usize
     ensures { λ r. ⌜ r ≡ getD sizes kind 0 ⌝ }

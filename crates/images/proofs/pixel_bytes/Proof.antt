@@ -18,7 +18,7 @@ wide-requires c κs = search needs
 
 returns-2 : tie.Need-returns-2
 unfolding pixelBytes
-returns-2 c = c .wide .ensures
+returns-2 c = c .wide .ensures .0
 
 pub pixel-bytes-spec : {M : Type 1} → statement M
 pixel-bytes-spec = tie.close (tie.spec returns array-read-wide wide-requires returns-2)
