@@ -1,39 +1,19 @@
 -- The file count, and the whole pack. Assumes nothing.
 use mathlib.Core.Path.{_≡_, ap, _∙_}
 use mathlib.Core.List.{List}
-use Prim.Native.Nat.{ℕ, _*_, _-_, _<_, _≤_}
+use Prim.Native.Nat.{ℕ, _*_, _-_, _≤_}
 use native.Mathlib.Omega.{arith}
 use lib.ListN.{length, take, length-take}
-use borrow.Author.Tests.{le-leb, lt-leb}
 use Rattle.laws.specs.Small.{differ}
 use Rattle.fill.specs.Fill.{cleared}
-use Rattle.reading.specs.Answer.{Answer, refused, read, bind, check}
-use Rattle.reading.specs.Reads.{Small}
-use Rattle.reading.specs.Little.{littleAt, little-next}
+use Rattle.reading.specs.Answer.{Answer, refused, read}
 use Rattle.pack_layout.specs.Pack.{Stored}
 use Rattle.pack_layout.specs.Table.{entries}
-use Rattle.pack_reading.specs.Pack.{filesAt, packAt, toPack, tableOf}
+use Rattle.pack_reading.specs.Pack.{toPack, tableOf}
 use Rattle.pack_reading.specs.Theorems.{length-flat, count-entries}
 use Rattle.packs.specs.declared.Reading.{Reading}
 use Rattle.packs.specs.declared.Reading.the-variants.{Refused, Read}
-use Rattle.packs.specs.Files.{filesFrom, Fills, answerOf}
-
--- ---- The file count
-
-module _ (mark file : List ℕ) (room : ℕ) where
-  pub count-refused : {number place : ℕ} → littleAt file 4 0 0 ≡ refused number place → packAt mark file room ≡ refused number place
-  unfolding packAt filesAt bind
-  count-refused q = rw q
-
-  pub count-many : {n e : ℕ} → littleAt file 4 0 0 ≡ read n e → 4096 < n → packAt mark file room ≡ refused 9 0
-  unfolding packAt filesAt bind check
-  count-many {n} q h = rw (q, lt-leb n 4096 h)
-
-  pub count-few : {n e : ℕ} → Small file → littleAt file 4 0 0 ≡ read n e → n ≤ 4096 → packAt mark file room ≡ filesFrom mark file n room
-  unfolding packAt filesAt bind check
-  count-few {n} {e} small q h =
-      let l : e ≡ 4 = little-next file small 4 0 0 (omega arith) q .0 in
-      rw (q, le-leb n 4096 h, l)
+use Rattle.packs.specs.Files.{Fills, answerOf}
 
 -- ---- The answer and the table
 

@@ -5,7 +5,7 @@ use Rattle.answers.specs.Told.{told}
 use Rattle.reading.specs.Reads.{small-by-index}
 use Rattle.pack_reading.specs.Pack.{roomOf}
 use Rattle.pack_records.specs.Records.{markOf}
-use Rattle.packs.proofs.Whole.{count-refused, count-many, count-few}
+use Rattle.packs.specs.Walk.{count-refused, count-many, count-few}
 use borrow.Author.Needs.{needs}
 use Rattle.packs.proofs.read_counted.Statement.{statement}
 use Rattle.packs.proofs.read_counted.Tie as tie

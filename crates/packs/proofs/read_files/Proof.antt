@@ -6,7 +6,8 @@ use lib.ListN.{length}
 use Rattle.reading.specs.Reads.{small-by-index}
 use Rattle.pack_reading.specs.Pack.{roomOf}
 use Rattle.pack_records.specs.Records.{markOf}
-use Rattle.packs.proofs.Turns.{Reached, start, got, none, fills-refused, no-room, refuse, turn, left-over, ended}
+use Rattle.packs.specs.Walk.{got, none, no-room, refuse, left-over}
+use Rattle.packs.proofs.Turns.{Reached, begin, fills-refused, next, filled}
 use borrow.Author.Needs.{needs}
 use Rattle.packs.proofs.read_files.Statement.{statement}
 use Rattle.packs.proofs.read_files.Tie as tie
@@ -19,7 +20,7 @@ abbrev μ-loop : tie.MeasureT-loop
 
 loop-holds : tie.Need-loop-holds Inv-loop μ-loop
 unfolding roomOf
-loop-holds c = (refl, refl, start _ _ _ _ _)
+loop-holds c = (refl, refl, begin _ _ _ _ _)
 
 same-length : tie.Need-same-length Inv-loop μ-loop
 same-length c = search needs
@@ -28,7 +29,7 @@ returns : tie.Need-returns Inv-loop μ-loop
 returns c =
     let a = c .before .before .before .before .before .args in
     let v = c .before .before .loop .inv in
-    rw (← v .1) (fills-refused (markOf (a .marked)) (a .pack .now) (a .n) _ _ (no-room _ _ _ _ (v .2) (c .before .loop-test .taken) (c .if1 .taken)))
+    rw (← v .1) (fills-refused (markOf (a .marked)) (a .pack .now) (a .n) _ _ (no-room _ _ _ _ (v .2 .walked) (c .before .loop-test .taken) (c .if1 .taken)))
 
 record-at-requires : tie.Need-record-at-requires Inv-loop μ-loop
 record-at-requires c κs = search needs
@@ -44,7 +45,7 @@ returns-2 c =
     let a = c .before .before .before .before .before .before .before .before .before .args in
     let v = c .before .before .before .before .before .before .loop .inv in
     let m = markOf (a .marked) in
-    rw (← v .1) (fills-refused m (a .pack .now) (a .n) _ _ (refuse _ _ _ _ (v .2) (c .before .before .before .before .before .loop-test .taken) (c .before .before .before .before .if1 .left) (none m _ _ (sym (c .before .number .given .1) ∙ c .before .before .before .record-at .ensures))))
+    rw (← v .1) (fills-refused m (a .pack .now) (a .n) _ _ (refuse _ _ _ _ (v .2 .walked) (c .before .before .before .before .before .loop-test .taken) (c .before .before .before .before .if1 .left) (none m _ _ (sym (c .before .number .given .1) ∙ c .before .before .before .record-at .ensures))))
 
 enum-known-start : tie.Need-enum-known-start Inv-loop μ-loop
 enum-known-start c = search needs
@@ -75,7 +76,7 @@ loop-again c =
     let v = c .before .before .before .before .before .before .before .before .before .before .loop .inv in
     let small = small-by-index (a .pack .now) (λ i h. omega (arith, c .before .before .before .before .before .before .before .before .before .before .before .before .shared-slice-known .given i)) in
     let g = got (markOf (a .marked)) _ _ small (sym (c .before .before .before .before .before .start .given .1) ∙ c .before .before .before .before .before .before .before .record-at .ensures) in
-    (search needs, v .1, turn _ _ _ _ (v .2) (c .before .before .before .before .before .before .before .before .before .loop-test .taken) (c .before .before .before .before .before .before .before .before .if1 .left) g (c .before .before .put-entry .ensures))
+    (search needs, v .1, next _ _ _ _ (v .2) (c .before .before .before .before .before .before .before .before .before .loop-test .taken) (c .before .before .before .before .before .before .before .before .if1 .left) g (c .before .before .put-entry .ensures))
 
 same-length-3 : tie.Need-same-length-3 Inv-loop μ-loop
 same-length-3 c = search needs
@@ -84,7 +85,7 @@ returns-3 : tie.Need-returns-3 Inv-loop μ-loop
 returns-3 c =
     let a = c .before .before .before .before .before .args in
     let v = c .before .before .loop .inv in
-    rw (← v .1) (fills-refused (markOf (a .marked)) (a .pack .now) (a .n) _ _ (left-over _ _ _ _ (v .2) (c .before .loop-test .left) (c .if2 .taken)))
+    rw (← v .1) (fills-refused (markOf (a .marked)) (a .pack .now) (a .n) _ _ (left-over _ _ _ _ (v .2 .walked) (c .before .loop-test .left) (c .if2 .taken)))
 
 same-length-4 : tie.Need-same-length-4 Inv-loop μ-loop
 same-length-4 c = search needs
@@ -93,7 +94,7 @@ returns-4 : tie.Need-returns-4 Inv-loop μ-loop
 returns-4 c =
     let a = c .before .before .before .before .before .args in
     let v = c .before .before .loop .inv in
-    rw (← v .1) (ended (markOf (a .marked)) (a .pack .now) (a .n) _ (v .2) (c .before .loop-test .left) (c .if2 .left))
+    rw (← v .1) (filled (markOf (a .marked)) (a .pack .now) (a .n) _ (v .2) (c .before .loop-test .left) (c .if2 .left))
 
 pub read-files-spec : {M : Type 1} → statement M
 read-files-spec =
