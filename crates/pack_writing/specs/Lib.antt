@@ -1,0 +1,2 @@
+-- What converting a pack between its forms answers, and its laws.
+pub mod Convert

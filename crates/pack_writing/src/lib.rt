@@ -1,0 +1,1 @@
+// What converting packs answers is specifications only: see specs/.
