@@ -62,6 +62,19 @@ uint32_t xnb_time(const uint8_t *file, size_t file_length, const uint32_t *words
    file's start, before its path is looked at). The data is skipped. */
 uint32_t xnb_pack_read(const uint8_t *pack, size_t pack_length, uint64_t *table, size_t table_length, uint64_t *at);
 
+/* The same for a marked pack, which has the two bytes FD FE hex before each file's path length. Its table holds places in
+   the marked pack. 51 says that a file's record does not start with its mark. */
+uint32_t xnb_marked_read(const uint8_t *pack, size_t pack_length, uint64_t *table, size_t table_length, uint64_t *at);
+
+/* Writes a pack with its marks to the start of `out`, every other byte as it was found, and writes the new pack's length to
+   `at`; bytes of `out` past it stay. On a refusal, of which the answer is the number, `at` is its place and `out` is
+   unchanged: those of xnb_pack_read but 31, then 21 says that `out` is too short, and its place is the number of bytes
+   needed. */
+uint32_t xnb_pack_mark(const uint8_t *pack, size_t pack_length, uint8_t *out, size_t out_length, uint64_t *at);
+
+/* The same from a marked pack to one without marks, with the refusals of xnb_marked_read in place of xnb_pack_read's. */
+uint32_t xnb_pack_unmark(const uint8_t *pack, size_t pack_length, uint8_t *out, size_t out_length, uint64_t *at);
+
 /* Finds the first entry of the table whose path is the one given, ASCII letters of both being lowered. The table may hold any
    words: an entry whose path has length 0, or whose path or data runs past the pack, is passed over. Writes where the data
    starts in the pack and its length, and answers 1; or writes 0 twice and answers 0. */

@@ -9,7 +9,11 @@ use Rattle.packs.specs.declared.Reading.the-variants.{Refused, Read}
 use Rattle.packs.specs.Files.{answerOf}
 use Rattle.pack_lookup.specs.declared.Found.the-variants.{Absent, At}
 use Rattle.pack_lookup.specs.Lookup.{foundAs}
-use Rattle.builder.specs.Packs.{packTold, foundTold}
+use Rattle.reading.specs.Output.{Rewritten, written}
+use Rattle.reading.specs.Output as output
+use Rattle.marks.specs.declared.Converting.the-variants as converting
+use Rattle.marks.specs.Converting as marks
+use Rattle.builder.specs.Packs.{packTold, writtenTold, foundTold}
 
 pub pack-refused : (x : Pack) {number place : ℕ} → Refused number place ≡ answerOf x → _≡_ {A = ℕ × ℕ} (number, place) (packTold x)
 unfolding packTold
@@ -23,6 +27,19 @@ pub pack-read : (x : Pack) {files : ℕ} → Read files ≡ answerOf x → _≡_
 unfolding packTold
 pack-read (refusal n p) q = differ cc
 pack-read (accepted fs) {files} q = let a : files ≡ length fs = cc in rw a
+
+pub not-written : (x : Rewritten) {number place : ℕ} → converting.Refused number place ≡ marks.answerOf x → _≡_ {A = ℕ × ℕ} (number, place) (writtenTold x)
+unfolding writtenTold
+not-written (output.refusal n p) {number} {place} q =
+    let a : number ≡ n = cc in
+    let b : place ≡ p = cc in
+    rw (a, b)
+not-written (written bytes) q = differ cc
+
+pub all-written : (x : Rewritten) {size : ℕ} → converting.Converted size ≡ marks.answerOf x → _≡_ {A = ℕ × ℕ} (0, size) (writtenTold x)
+unfolding writtenTold
+all-written (output.refusal n p) q = differ cc
+all-written (written bytes) {size} q = let a : size ≡ length bytes = cc in rw a
 
 pub none-found : (x : Found) → Absent ≡ foundAs x → _≡_ {A = ℕ × ℕ × ℕ} (0, 0, 0) (foundTold x)
 unfolding foundTold

@@ -1,6 +1,8 @@
 -- What the C entries over packs tell: the number that they answer, and the numbers that they write. Assumes nothing.
 use Prim.Native.Nat.{ℕ}
 use lib.ListN.{length}
+use Rattle.reading.specs.Output.{Rewritten, written}
+use Rattle.reading.specs.Output as output
 use Rattle.pack_reading.specs.Pack.{Pack, refusal, accepted}
 use Rattle.pack_reading.specs.Lookup.{Found, absent, found}
 
@@ -8,6 +10,11 @@ use Rattle.pack_reading.specs.Lookup.{Found, absent, found}
 unfoldable pub packTold : Pack → ℕ × ℕ
 packTold (refusal number place) = (number, place)
 packTold (accepted fs) = (0, length fs)
+
+-- a refusal's number and place, or 0 and the length of what is written
+unfoldable pub writtenTold : Rewritten → ℕ × ℕ
+writtenTold (output.refusal number place) = (number, place)
+writtenTold (written bytes) = (0, length bytes)
 
 -- 1, where the data starts and how many bytes it has; or three times 0
 unfoldable pub foundTold : Found → ℕ × ℕ × ℕ

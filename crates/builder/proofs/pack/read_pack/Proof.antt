@@ -1,11 +1,11 @@
 use mathlib.Core.Path.{sym, _∙_}
 use lib.ListN.{length}
-use Rattle.pack_layout.specs.Pack.{plain}
+use Rattle.pack_records.specs.Records.{markOf}
 use Rattle.pack_reading.specs.Pack.{packOf}
 use Rattle.builder.proofs.Packs.{pack-refused, pack-read}
 use borrow.Author.Needs.{needs}
-use Rattle.builder.proofs.pack.xnb_pack_read.Statement.{statement}
-use Rattle.builder.proofs.pack.xnb_pack_read.Tie as tie
+use Rattle.builder.proofs.pack.read_pack.Statement.{statement}
+use Rattle.builder.proofs.pack.read_pack.Tie as tie
 
 read-requires : tie.Need-read-requires
 read-requires c κs = search needs
@@ -22,7 +22,7 @@ same-length c = search needs
 returns : tie.Need-returns
 returns c =
     let a = c .before .before .before .before .before .before .before .before .before .args in
-    (pack-refused (packOf plain (a .pack .now) (length (a .table .now))) (sym (c .before .number .given .1) ∙ c .before .before .before .before .before .read .ensures .0), c .before .before .before .before .before .read .ensures .1)
+    (pack-refused (packOf (markOf (a .marked)) (a .pack .now) (length (a .table .now))) (sym (c .before .number .given .1) ∙ c .before .before .before .before .before .read .ensures .0), c .before .before .before .before .before .read .ensures .1)
 
 same-length-2 : tie.Need-same-length-2
 same-length-2 c = search needs
@@ -30,10 +30,10 @@ same-length-2 c = search needs
 returns-2 : tie.Need-returns-2
 returns-2 c =
     let a = c .before .before .before .before .before .before .before .before .before .args in
-    (pack-read (packOf plain (a .pack .now) (length (a .table .now))) (sym (c .before .files .given .1) ∙ c .before .before .before .before .before .read .ensures .0), c .before .before .before .before .before .read .ensures .1)
+    (pack-read (packOf (markOf (a .marked)) (a .pack .now) (length (a .table .now))) (sym (c .before .files .given .1) ∙ c .before .before .before .before .before .read .ensures .0), c .before .before .before .before .before .read .ensures .1)
 
-pub xnb-pack-read-spec : {M : Type 1} → statement M
-xnb-pack-read-spec =
+pub read-pack-spec : {M : Type 1} → statement M
+read-pack-spec =
     tie.close
     (tie.spec
     read-requires
