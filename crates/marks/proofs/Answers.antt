@@ -2,14 +2,14 @@
 use mathlib.Core.Path.{_≡_, refl, sym, ap, _∙_}
 use mathlib.Core.Bool.{Bool, true, false, not}
 use mathlib.Core.List.{List}
-use Prim.Native.Nat.{ℕ, _+_, _*_, _-_, _≤_, _<_}
+use Prim.Native.Nat.{ℕ, _*_, _≤_, _<_}
 use native.Mathlib.Omega.{arith}
 use lib.ListN.{length}
 use borrow.Author.Tests.{le-leb, lt-leb}
 use Rattle.laws.specs.Small.{differ}
 use Rattle.reading.specs.Answer.{Answer, refused, read, Ok, is-read}
 use Rattle.reading.specs.Reads.{Small}
-use Rattle.reading.specs.Output.{Rewritten, refusal, written, fitted, outputOf}
+use Rattle.reading.specs.Output.{Rewritten, refusal, fitted, outputOf}
 use Rattle.pack_layout.specs.Pack.{Stored, PackLays, packBytes}
 use Rattle.pack_reading.specs.Pack.{packAt, toPack}
 use Rattle.pack_reading.specs.Theorems.{pack-sound}

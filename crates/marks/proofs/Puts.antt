@@ -2,11 +2,11 @@
 use mathlib.Core.Path.{_≡_, refl, sym, ap, _∙_}
 use mathlib.Core.Bool.{Bool, true, false, not}
 use mathlib.Core.List.{List, [], _∷_, _++_, append-nil, append-assoc}
-use Prim.Native.Nat.{ℕ, suc, _+_, _-_, _≤_, _<_}
+use Prim.Native.Nat.{ℕ, _+_, _-_, _≤_, _<_}
 use native.Mathlib.Omega.{arith}
 use lib.Dec.{leb}
 use lib.ListN.{length, take, drop, length-append, length-drop}
-use lib.Seq.{drop-drop, take-append-seam, drop-append-seam, length-take-le}
+use lib.Seq.{drop-drop, take-append-seam, drop-append-seam}
 use borrow.Author.Tests.{le-leb}
 use Rattle.laws.specs.Small.{differ}
 use Rattle.fill.specs.Fill.{inside, pasted, copied}
@@ -16,7 +16,7 @@ use Rattle.reading.specs.Reads.{seam}
 use Rattle.reading.specs.Little.{length-little}
 use Rattle.reading.specs.Output.{fitted, outputOf}
 use Rattle.pack_layout.specs.Pack as layout
-use Rattle.pack_layout.specs.Pack.{Stored, Lawful, plain, recordBytes, recordsBytes, packBytes, Each, PackLays}
+use Rattle.pack_layout.specs.Pack.{Stored, Lawful, plain, recordBytes, recordsBytes, packBytes, Each}
 use Rattle.pack_layout.specs.Table.{entryOf}
 use Rattle.pack_reading.specs.Pack.{recordAt}
 use Rattle.pack_reading.specs.Laws.{record-reads}

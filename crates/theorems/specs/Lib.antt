@@ -1,3 +1,4 @@
 pub mod Exact
 pub mod Rewriting
 pub mod Packs
+pub mod Marks

@@ -1,4 +1,5 @@
-// What is demanded of loading and rewriting, as contracts: each function calls the code, and is here for what it ensures (specs/Exact.antt and specs/Rewriting.antt, from top to bottom; of packs, packed.rt and specs/Packs.antt).
+// What is demanded of loading and rewriting, as contracts: each function calls the code, and is here for what it ensures (specs/Exact.antt and specs/Rewriting.antt, from top to bottom; of packs, packed.rt and specs/Packs.antt, converted.rt and specs/Marks.antt).
+mod converted;
 mod packed;
 
 use load::Loading;
