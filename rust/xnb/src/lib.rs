@@ -12,6 +12,7 @@
 mod calls;
 mod explain;
 mod kind;
+pub mod marks;
 pub mod pack;
 pub mod raw;
 mod refusal;

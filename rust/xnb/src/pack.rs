@@ -15,6 +15,7 @@
 //! # Ok::<(), xnb::pack::PackRefused>(())
 //! ```
 
+use crate::marks;
 use crate::raw;
 use crate::refusal::{Refusal, Refused};
 use crate::table::Table;
@@ -25,7 +26,7 @@ pub const WORDS_PER_FILE: usize = 4;
 /// A pack has never more files.
 pub const MOST_FILES: usize = 4096;
 
-/// A refusal and its place in the pack.
+/// A refusal and its place: a byte of the pack, or the bytes that a conversion needs.
 #[derive(Clone, Copy, Debug, PartialEq, Eq)]
 pub struct PackRefused {
     pub refusal: Refusal,
@@ -51,6 +52,7 @@ impl PackRefused {
             (Refusal::TooLarge, _) => "a path is empty or longer than 260 bytes",
             (Refusal::BadValue, _) => "a path is not UTF-8",
             (Refusal::LeftOver, _) => "bytes are left over behind the last file",
+            (Refusal::OutputTooSmall, _) => "the output is too small for the new pack",
             (other, _) => other.rule(),
         }
     }
@@ -58,7 +60,11 @@ impl PackRefused {
 
 impl Display for PackRefused {
     fn fmt(&self, out: &mut Formatter) -> fmt::Result {
-        write!(out, "{}, at byte {}", self.rule(), self.place)
+        let (rule, place) = (self.rule(), self.place);
+        match self.refusal {
+            Refusal::OutputTooSmall => write!(out, "{rule}, which takes {place} bytes"),
+            _ => write!(out, "{rule}, at byte {place}"),
+        }
     }
 }
 
@@ -122,6 +128,12 @@ impl<'p> Pack<'p> {
     pub fn read(bytes: &'p [u8]) -> Result<Pack<'p>, PackRefused> {
         Pack::read_into(bytes, vec![0; WORDS_PER_FILE * claimed_files(bytes)])
     }
+
+    /// Reads a marked pack with room for all its files.
+    pub fn read_marked(bytes: &'p [u8]) -> Result<Pack<'p>, PackRefused> {
+        let words = vec![0; WORDS_PER_FILE * claimed_files(bytes)];
+        Pack::read_by(marks::read, bytes, words)
+    }
 }
 
 /// The number of files that a pack claims to have, or the most there can be.
@@ -132,7 +144,16 @@ pub(crate) fn claimed_files(pack: &[u8]) -> usize {
 
 impl<'p, W: AsRef<[u64]> + AsMut<[u64]>> Pack<'p, W> {
     /// Reads a pack into these words; a file takes four.
-    pub fn read_into(bytes: &'p [u8], mut words: W) -> Result<Pack<'p, W>, PackRefused> {
+    pub fn read_into(bytes: &'p [u8], words: W) -> Result<Pack<'p, W>, PackRefused> {
+        Pack::read_by(read, bytes, words)
+    }
+
+    /// Reads a pack by the reader of its form.
+    fn read_by(
+        read: fn(&[u8], &mut [u64]) -> Result<usize, PackRefused>,
+        bytes: &'p [u8],
+        mut words: W,
+    ) -> Result<Pack<'p, W>, PackRefused> {
         let files = read(bytes, words.as_mut())?;
         Ok(Pack {
             bytes,

@@ -4,6 +4,7 @@
 //! through its other pointers follows. Those numbers start as all ones, so that one which the
 //! entry did not write shows.
 
+pub mod marks;
 pub mod pack;
 
 mod entries {

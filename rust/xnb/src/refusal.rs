@@ -30,12 +30,13 @@ pub enum Refusal {
     NoSuchRow = 23,
     OtherKind = 24,
     NoTableRoom = 31,
+    MissingMark = 51,
 }
 
 use Refusal::*;
 
 /// Each refusal with its rule in words, in order of number.
-const RULES: [(Refusal, &str); 25] = [
+const RULES: [(Refusal, &str); 26] = [
     (PastEnd, "a field runs past the end of the file"),
     (NotXnb, "the file does not begin with XNB"),
     (Platform, "the platform is not w, m or x"),
@@ -76,6 +77,7 @@ const RULES: [(Refusal, &str); 25] = [
     (NoSuchRow, "there is no such row"),
     (OtherKind, "the row is not of the kind asked for"),
     (NoTableRoom, "the table has no room for a file"),
+    (MissingMark, "a file's record does not begin with a mark"),
 ];
 
 impl Refusal {
@@ -138,7 +140,7 @@ mod tests {
 
     #[test]
     fn numbers_and_refusals_match() {
-        for number in (1..=24).chain([31]) {
+        for number in (1..=24).chain([31, 51]) {
             let refusal = Refusal::of_number(number).expect("a refusal");
             assert_eq!(refusal.number(), number);
             assert!(!refusal.rule().is_empty());

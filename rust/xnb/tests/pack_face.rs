@@ -1,6 +1,7 @@
 //! The safe face of packs over packs whose files are known.
 
 use corpus::lawful::{file_a, file_b};
+use corpus::packs::marked::MARKED;
 use corpus::packs::{stored, write_pack, Stored, NO_MARK};
 use corpus::writer::write;
 use xnb::pack::{PackFile, PackRefused};
@@ -110,4 +111,35 @@ fn refusals_are_told() {
     assert_eq!(told(b"\x01\0\0\0\0"), empty);
     let many = "the pack claims more than 4,096 files, at byte 0";
     assert_eq!(told(b"\x01\x10\0\0"), many);
+}
+
+#[test]
+fn marked_packs_have_the_same_files() {
+    let plain = write_pack(NO_MARK, &files()).bytes;
+    let marked = xnb::marks::mark(&plain).expect("a lawful pack");
+    assert_eq!(marked, write_pack(MARKED.mark, &files()).bytes);
+    assert_eq!(xnb::marks::unmark(&marked), Ok(plain.clone()));
+    let pack = Pack::read(&plain).expect("a lawful pack");
+    let twin = Pack::read_marked(&marked).expect("a lawful pack");
+    assert!(twin.files().eq(pack.files()));
+    assert_eq!(twin.find("EMPTY"), pack.find("empty"));
+    let no_mark = Pack::read_marked(&plain).map(|pack| pack.len());
+    assert_eq!(no_mark, refused(Refusal::MissingMark, 4));
+    let refusal = xnb::marks::unmark(&plain).expect_err("no marks");
+    let words = "a file's record does not begin with a mark, at byte 4";
+    assert_eq!(refusal.to_string(), words);
+}
+
+#[test]
+fn outputs_may_be_lent() {
+    let plain = write_pack(NO_MARK, &[stored("a", "hi")]).bytes;
+    let mut out = [0xEE; 15];
+    assert_eq!(xnb::marks::mark_into(&plain, &mut out), Ok(14));
+    assert_eq!(out[14], 0xEE);
+    let refusal = xnb::marks::mark_into(&plain, &mut out[..13]).expect_err("too small");
+    let words = "the output is too small for the new pack, which takes 14 bytes";
+    assert_eq!(refusal.to_string(), words);
+    let marked = out[..14].to_vec();
+    assert_eq!(xnb::marks::unmark_into(&marked, &mut out), Ok(12));
+    assert_eq!(out[..12], plain);
 }
