@@ -4,6 +4,7 @@
 //! All tasks use the same file, words and output; these are not cleared between turns.
 
 mod inputs;
+mod marks;
 mod measure;
 mod packs;
 
@@ -11,13 +12,14 @@ use inputs::Input;
 use measure::beside;
 use std::hint::black_box;
 
-const PARTS: [(&str, fn()); 6] = [
+const PARTS: [(&str, fn()); 7] = [
     ("builder", builder),
     ("load", load),
     ("utf8", utf8),
     ("rewrite", rewrite),
     ("pack-read", packs::read),
     ("pack-find", packs::find),
+    ("marks", marks::convert),
 ];
 
 /// Measures the parts that are named, or all.

@@ -16,6 +16,16 @@ pub struct Measured {
 ///
 /// Where BENCH_ONCE is set both run once, for a tool that counts instructions.
 pub fn beside<B>(buffers: &mut B, task: fn(&mut B), other: fn(&mut B)) -> Measured {
+    beside_in(ROUNDS, buffers, task, other)
+}
+
+/// The same over so many rounds, for tasks that take long.
+pub fn beside_in<B>(
+    rounds: usize,
+    buffers: &mut B,
+    task: fn(&mut B),
+    other: fn(&mut B),
+) -> Measured {
     if std::env::var_os("BENCH_ONCE").is_some() {
         let seconds = time_of_a_turn(buffers, task, 1);
         let ratio = time_of_a_turn(buffers, other, 1) / seconds;
@@ -25,7 +35,7 @@ pub fn beside<B>(buffers: &mut B, task: fn(&mut B), other: fn(&mut B)) -> Measur
     let other_turns = turns_in_a_round(buffers, other);
     let mut times = Vec::new();
     let mut other_times = Vec::new();
-    for _ in 0..ROUNDS {
+    for _ in 0..rounds {
         times.push(time_of_a_turn(buffers, task, turns));
         other_times.push(time_of_a_turn(buffers, other, other_turns));
     }
