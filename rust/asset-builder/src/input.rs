@@ -170,8 +170,15 @@ impl Input {
         Ok(bytes)
     }
 
+    /// All its bytes; what cannot be read is told.
+    pub fn read_or_tell(&self, run: &mut Run) -> Option<Vec<u8>> {
+        let read = self.read_whole(run.progress());
+        run.progress().clear();
+        read.map_err(|error| run.fail(self.shown(), error)).ok()
+    }
+
     /// All its bytes, with progress over them where their number is known.
-    pub fn read_whole(&self, progress: &mut Progress) -> io::Result<Vec<u8>> {
+    fn read_whole(&self, progress: &mut Progress) -> io::Result<Vec<u8>> {
         if self.is_stdin() {
             return read_whole(io::stdin().lock(), 0, progress);
         }

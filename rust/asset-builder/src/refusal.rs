@@ -3,6 +3,7 @@
 use crate::names::{escaped, is_printable, plain_lines};
 use crate::terminal::Paint;
 use serde::Serialize;
+use xnb::pack::PackRefused;
 use xnb::Refusal::{NoSuchRow, OtherKind, OutputTooSmall};
 use xnb::{explain, ReaderName, Refused};
 
@@ -60,6 +61,17 @@ impl<'f> Told<'f> {
         }
         if matches!(refusal, OutputTooSmall | NoSuchRow | OtherKind) {
             // The place is no byte of the file.
+            told.bytes = None;
+        }
+        told
+    }
+
+    /// The refusal of a pack.
+    pub fn of_pack(pack: &'f [u8], refused: PackRefused) -> Told<'f> {
+        let PackRefused { refusal, place } = refused;
+        let mut told = Told::at_byte(pack, refusal.number(), place, refused.rule());
+        if refusal == OutputTooSmall {
+            // The place is the number of bytes needed.
             told.bytes = None;
         }
         told

@@ -5,12 +5,14 @@ mod common;
 use common::{run, shell};
 use corpus::folder::folder;
 
-const COMMANDS: [&str; 7] = [
+const COMMANDS: [&str; 9] = [
     "check",
     "rows",
     "tree",
     "shorten",
     "pack",
+    "mark",
+    "unmark",
     "completions",
     "man",
 ];
@@ -59,7 +61,7 @@ fn every_command_has_help_and_a_version() {
 fn wrong_commands_are_told() {
     let sample = "ok-kind-13-string.xnb";
     let pack = "ok-pack-of-one-file.pak";
-    let wrong: [(&[&str], &str); 17] = [
+    let wrong: [(&[&str], &str); 20] = [
         (&[], "Usage: asset-builder <COMMAND>"),
         (&["build", sample], "'build'"),
         (&["check"], "<FILE>"),
@@ -81,6 +83,12 @@ fn wrong_commands_are_told() {
         (&["pack", "extract", pack], "--output <FOLDER>"),
         (
             &["pack", "extract", pack, pack, "-o", "out"],
+            "'ok-pack-of-one-file.pak'",
+        ),
+        (&["mark", pack], "--output <OUT>"),
+        (&["unmark", "-o", "out"], "<IN>"),
+        (
+            &["mark", pack, pack, "-o", "out"],
             "'ok-pack-of-one-file.pak'",
         ),
     ];

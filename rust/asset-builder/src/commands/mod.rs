@@ -2,6 +2,7 @@
 
 mod check;
 mod completions;
+mod convert;
 mod man;
 mod pack;
 mod rows;
@@ -23,7 +24,7 @@ const MOST_ROWS: u32 = xnb::MOST_ROWS as u32;
 const STATUSES: &str = "0 if every file was taken, 1 if one was refused or not found, \
     2 for a wrong command or a file that could not be read or written.";
 
-/// Checks, shows and shortens XNB files, and reads packs of files, through the proved library
+/// Checks, shows and shortens XNB files, and reads and converts packs of files, through the proved library
 #[derive(Parser)]
 #[command(name = "asset-builder", version, propagate_version = true)]
 #[command(after_help = format!("Exit status: {STATUSES}"))]
@@ -39,6 +40,8 @@ pub enum Command {
     Tree(tree::Tree),
     Shorten(shorten::Shorten),
     Pack(pack::Pack),
+    Mark(convert::Mark),
+    Unmark(convert::Unmark),
     Completions(completions::Completions),
     Man(man::Man),
 }
@@ -51,6 +54,8 @@ impl Command {
             Command::Tree(command) => command.run(run),
             Command::Shorten(command) => command.run(run),
             Command::Pack(command) => command.run(run),
+            Command::Mark(command) => command.run(run),
+            Command::Unmark(command) => command.run(run),
             Command::Completions(command) => command.run(run),
             Command::Man(command) => command.run(run),
         }

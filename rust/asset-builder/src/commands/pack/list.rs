@@ -1,6 +1,6 @@
 //! `pack list`: the files of packs.
 
-use super::{read, tell_refusal, told};
+use super::tell_refusal;
 use crate::input::Packs;
 use crate::json;
 use crate::names::shown;
@@ -52,13 +52,13 @@ impl List {
     pub fn run(&self, run: &mut Run) -> End {
         let one = self.packs.is_one_file();
         for input in self.packs.list(run) {
-            let Some(bytes) = read(run, &input) else {
+            let Some(bytes) = input.read_or_tell(run) else {
                 continue;
             };
             let pack = match Pack::read(&bytes) {
                 Ok(pack) => pack,
                 Err(refused) => {
-                    let refused = told(&bytes, refused);
+                    let refused = Told::of_pack(&bytes, refused);
                     if !self.json {
                         tell_refusal(run, &input, &refused);
                         continue;

@@ -9,7 +9,6 @@ use super::tell_refusal;
 use crate::input::Input;
 use crate::refusal::Told;
 use crate::run::{End, Run};
-use xnb::pack::PackRefused;
 
 /// List the files of packs, find one, or write all
 #[derive(clap::Args)]
@@ -35,36 +34,19 @@ impl Pack {
     }
 }
 
-/// The bytes of a pack, of any length; what cannot be read is told.
-fn read(run: &mut Run, input: &Input) -> Option<Vec<u8>> {
-    let read = input.read_whole(run.progress());
-    run.progress().clear();
-    read.map_err(|error| run.fail(input.shown(), error)).ok()
-}
-
-/// The refusal of a pack.
-fn told(pack: &[u8], refused: PackRefused) -> Told<'_> {
-    Told::at_byte(
-        pack,
-        refused.refusal.number(),
-        refused.place,
-        refused.rule(),
-    )
-}
-
 /// Reads one pack and does something with its files; a refusal is told.
 fn with_pack(
     run: &mut Run,
     input: &Input,
     action: impl FnOnce(&mut Run, &xnb::Pack) -> End,
 ) -> End {
-    let Some(bytes) = read(run, input) else {
+    let Some(bytes) = input.read_or_tell(run) else {
         return Ok(());
     };
     match xnb::Pack::read(&bytes) {
         Ok(pack) => action(run, &pack),
         Err(refused) => {
-            tell_refusal(run, input, &told(&bytes, refused));
+            tell_refusal(run, input, &Told::of_pack(&bytes, refused));
             Ok(())
         }
     }
