@@ -56,6 +56,8 @@ fn the_tour_prints_what_readme_says() {
         "pack list",
         "pack find",
         "pack extract",
+        "mark",
+        "unmark",
         "completions",
         "man",
     ] {
