@@ -12,7 +12,7 @@ pub fn convert_exact(pack: &[u8], out: &mut [u8], marked: bool) -> Converting
 }
 
 // A pack that is converted to the form `marked` and then back, into a second output.
-pub fn there_and_back(pack: &[u8], out: &mut [u8], second: &mut [u8], marked: bool) -> Converting
+fn there_and_back(pack: &[u8], out: &mut [u8], second: &mut [u8], marked: bool) -> Converting
     ensures { λ r. ⌜ Back marked (now (pack .entry)) (length (now (out .entry))) (now (second .entry)) (now (second .exit)) r ⌝ }
 {
     match convert_exact(pack, out, marked) {
@@ -28,7 +28,7 @@ pub struct Both {
 }
 
 // A file that is looked up in a pack, and in the same pack converted to the form `marked`.
-pub fn find_both(pack: &[u8], out: &mut [u8], table: &mut [u64], path: &[u8], marked: bool) -> Both
+fn find_both(pack: &[u8], out: &mut [u8], table: &mut [u64], path: &[u8], marked: bool) -> Both
     ensures { λ r. ⌜ Same marked (now (pack .entry)) (length (now (out .entry))) (length (now (table .entry))) (now (path .entry)) (now (out .exit)) r ⌝ }
 {
     packs::read(pack, table, !marked);

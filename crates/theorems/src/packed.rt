@@ -27,7 +27,7 @@ pub fn open_exact(pack: &[u8], table: &[u64], path: &[u8], words: &mut [u32]) ->
 }
 
 // The data of a file, looked up in the table that reading the pack left.
-pub fn read_and_find<'a>(pack: &'a [u8], table: &mut [u64], path: &[u8], marked: bool) -> &'a [u8]
+fn read_and_find<'a>(pack: &'a [u8], table: &mut [u64], path: &[u8], marked: bool) -> &'a [u8]
     ensures { λ r. ⌜ Gives marked (now (pack .entry)) (length (now (table .entry))) (now (path .entry)) (now r) ⌝ }
 {
     packs::read(pack, table, marked);
