@@ -2,58 +2,54 @@
 use mathlib.Core.Path.{_≡_, refl, sym, ap, _∙_}
 use mathlib.Core.Bool.{Bool, true, false, cond}
 use mathlib.Core.List.{List, [], _∷_, _++_}
-use Prim.Native.Nat.{ℕ, zero, suc, _+_, _-_, _%_, _^_, _<_, _≤_}
+use Prim.Native.Nat.{ℕ, zero, suc, _+_, _*_, _%_, _^_, _<_, _≤_}
 use native.Mathlib.Omega.{arith}
-use lib.Dec.{eqb, ltb}
-use lib.ListN.{length, getD, replicate, drop, drop-of-length-le}
+use lib.Dec.{eqb}
+use lib.ListN.{length, getD, replicate, drop, drop-of-length-le, length-replicate, getD-replicate}
 use lib.Seq.{drop-cons}
-use borrow.Author.Tests.{ltb-true, ltb-false, ne-eqb}
+use borrow.Author.Tests.{eqb-true, eqb-false}
 use Rattle.layout.specs.Target.{Target, fixed, char, string, object as anything, texture2D, page, nullable, list, kindOf}
 use Rattle.layout.specs.Fixed.{sizes}
 use Rattle.layout.specs.Slot as L
 use Rattle.layout.specs.Slot.{Plan, stop, put, each, raw, object, reference, pairs, fontSlots, pageSlots}
 use Rattle.layout.specs.Named.{fixedKind}
-use Rattle.layout.specs.Number.{between}
 use Rattle.types.specs.Code.{code, Stands, NoEnum, Throughout}
 use Rattle.leaves.specs.declared.plain.Plain.the-variants.{Fixed, Reference}
 use Rattle.leaves.specs.Plain.{referenced}
-use Rattle.leaves.specs.Run.{runSlots, LawfulRun}
+use Rattle.leaves.specs.Run.{runSlots, LawfulRun, length-pairs, pair-even, pair-odd}
 use Rattle.heads.specs.declared.slot.Slot.{Slot}
 use Rattle.heads.specs.declared.slot.Slot.the-variants.{Simple, Raw, Object}
 use Rattle.heads.specs.declared.nest.Nest.{Nest}
-use Rattle.heads.specs.declared.nest.Nest.the-variants.{Each, Pairs, Value, Font, Page}
-use Rattle.heads.specs.declared.nest.Upcoming.{Upcoming}
-use Rattle.heads.specs.declared.nest.Upcoming.the-variants.{Nothing as None, Value as Some}
+use Rattle.heads.specs.declared.nest.Nest.the-variants.{Each, Pairs, Font, Page}
+use Rattle.heads.specs.declared.nest.Stage.{Stage}
 use Rattle.heads.specs.declared.nest.Below.{Below}
 use Rattle.heads.specs.declared.nest.Below.the-variants.{Nothing, Nested}
 use Rattle.heads.specs.declared.nest.Below.the-variants.{Simple as SimpleRun}
 use Rattle.heads.specs.Slots.{ObjectIs, SlotIs}
 
-pub record EachIs (codes : List ℕ) (s : Slot) (n : ℕ) (plan : Plan) : Type 0 where
+pub record EachIs (codes : List ℕ) (s : Slot) (n : ℕ) (slots : List L.Slot) : Type 0 where
   pub slot : L.Slot
-  pub are : plan ≡ each (replicate n slot)
+  pub are : slots ≡ replicate n slot
   pub is : SlotIs codes s slot
 
--- keys and values in turn, by the slots that are left
-pub record PairsAre (codes : List ℕ) (s t : Slot) (left : (key value : L.Slot) → List L.Slot) (plan : Plan) : Type 0 where
+pub record PairsAre (codes : List ℕ) (s t : Slot) (n : ℕ) (slots : List L.Slot) : Type 0 where
   pub key : L.Slot
   pub value : L.Slot
-  pub are : plan ≡ each (left key value)
+  pub are : slots ≡ pairs n key value
   pub key-is : SlotIs codes s key
   pub value-is : SlotIs codes t value
 
--- the plan that is left
-abbrev pub NestIs : List ℕ → Nest → Plan → Type 0
-NestIs codes (Each s n) plan = EachIs codes s n plan
-NestIs codes (Pairs s t n) plan = PairsAre codes s t (λ key value. pairs n key value) plan
-NestIs codes (Value s t n) plan = PairsAre codes s t (λ key value. value ∷ pairs n key value) plan
-NestIs codes (Font i) plan = plan ≡ each (drop i fontSlots)
-NestIs codes (Page i) plan = plan ≡ each (drop i pageSlots)
+-- the slots that stand below
+abbrev pub SlotsAre : List ℕ → Nest → List L.Slot → Type 0
+SlotsAre codes (Each s n) slots = EachIs codes s n slots
+SlotsAre codes (Pairs s t n) slots = PairsAre codes s t n slots
+SlotsAre codes Font slots = slots ≡ fontSlots
+SlotsAre codes Page slots = slots ≡ pageSlots
 
 abbrev pub BelowIs : List ℕ → Below → List L.Slot → Type 0
 BelowIs codes Nothing slots = slots ≡ []
 BelowIs codes (SimpleRun run) slots = (slots ≡ runSlots run) × LawfulRun run
-BelowIs codes (Nested nest) slots = NestIs codes nest (each slots)
+BelowIs codes (Nested nest) slots = SlotsAre codes nest slots
 
 -- how value i stands
 pub record ChildIs (codes : List ℕ) (slots : List L.Slot) (i : ℕ) (s : Slot) : Type 0 where
@@ -110,85 +106,86 @@ module _ (codes : List ℕ) (p : Prelude codes) where
   unfolding prelude code Throughout
   object-at = declared 10 anything _ tt tt refl
 
--- nothing if there are none left, else a value
-unfoldable pub nextOf : (left : ℕ) → Slot → Upcoming
-nextOf left slot = cond (eqb left 0) None (Some slot)
+-- how many values stand below
+abbrev pub countOf : Nest → ℕ
+countOf (Each s n) = n
+countOf (Pairs s t n) = 2 * n
+countOf Font = 8
+countOf Page = 4
 
--- what stands next, and what is left behind it
-abbrev pub upcomingOf : Nest → Upcoming
-upcomingOf (Each s n) = nextOf n s
-upcomingOf (Pairs s t n) = nextOf n s
-upcomingOf (Value s t n) = Some t
-upcomingOf (Font i) = nextOf (8 - i) (fontChild i)
-upcomingOf (Page i) = nextOf (4 - i) (pageChild i)
+-- where a walk over a nest begins, and how far it is behind the value that stood next
+abbrev pub beginOf : Nest → Stage
+beginOf nest = record { next = 0; count = countOf nest }
 
-abbrev pub afterOf : Nest → Nest
-afterOf (Each s n) = Each s (n - 1)
-afterOf (Pairs s t n) = Value s t (n - 1)
-afterOf (Value s t n) = Pairs s t n
-afterOf (Font i) = Font ((i + 1) % 2 ^ 32)
-afterOf (Page i) = Page ((i + 1) % 2 ^ 32)
+abbrev pub afterOf : Stage → Stage
+afterOf stage = record { next = (stage .next + 1) % 2 ^ 32; count = stage .count }
 
--- what stands next is what the plan puts next, and what is left behind it goes by the plan, whatever the value tells
-pub record Puts (codes : List ℕ) (nest : Nest) (x : L.Slot) (go : ℕ → Plan) : Type 0 where
-  pub slot : Slot
-  pub next : upcomingOf nest ≡ Some slot
-  pub is : SlotIs codes slot x
-  pub left : (n : ℕ) → NestIs codes (afterOf nest) (go n)
+-- how value i of a nest stands
+abbrev pub slotAt : Nest → (i : ℕ) → Slot
+slotAt (Each s n) i = s
+slotAt (Pairs s t n) i = cond (eqb (i % 2) 0) s t
+slotAt Font i = fontChild i
+slotAt Page i = pageChild i
 
-abbrev pub Goes : List ℕ → Nest → Plan → Type 0
-Goes codes nest stop = upcomingOf nest ≡ None
-Goes codes nest (put x go) = Puts codes nest x go
+-- the plan that is left at a stage
+pub record StageIs (codes : List ℕ) (nest : Nest) (stage : Stage) (plan : Plan) : Type 0 where
+  pub slots : List L.Slot
+  pub are : SlotsAre codes nest slots
+  pub counts : stage .count ≡ length slots
+  pub left : plan ≡ each (drop (stage .next) slots)
+
+-- the plan of a nest
+abbrev pub NestIs : List ℕ → Nest → Plan → Type 0
+NestIs codes nest plan = StageIs codes nest (beginOf nest) plan
+
+-- what stands next is what the plan puts next, and the stage behind it goes by the plan, whatever the value tells
+pub record Puts (codes : List ℕ) (nest : Nest) (stage : Stage) (plan : Plan) : Type 0 where
+  pub x : L.Slot
+  pub go : ℕ → Plan
+  pub puts : plan ≡ put x go
+  pub is : SlotIs codes (slotAt nest (stage .next)) x
+  pub left : stage .next + 1 < 2 ^ 32 → (n : ℕ) → StageIs codes nest (afterOf stage) (go n)
 
 module _ (codes : List ℕ) where
-  each-goes : (s : Slot) (n : ℕ) (slot : L.Slot) → SlotIs codes s slot → Goes codes (Each s n) (each (replicate n slot))
-  unfolding each nextOf
-  each-goes s zero slot w = refl
-  each-goes s (suc n) slot w =
-      let z : suc n - 1 ≡ n = omega arith in
-      let q : eqb (suc n) 0 ≡ false = ne-eqb (suc n) 0 (λ e. omega arith) in
-      record { slot = s; next = rw q; is = w; left = λ k. rw z (record { slot = slot; are = refl; is = w }) }
-
-  pairs-go : (s t : Slot) (n : ℕ) (key value : L.Slot) → SlotIs codes s key → SlotIs codes t value → Goes codes (Pairs s t n) (each (pairs n key value))
-  unfolding each pairs nextOf
-  pairs-go s t zero key value v w = refl
-  pairs-go s t (suc n) key value v w =
-      let z : suc n - 1 ≡ n = omega arith in
-      let q : eqb (suc n) 0 ≡ false = ne-eqb (suc n) 0 (λ e. omega arith) in
-      record { slot = s; next = rw q; is = v; left = λ k. rw z (record { key = key; value = value; are = refl; key-is = v; value-is = w }) }
-
-  value-goes : (s t : Slot) (n : ℕ) (key value : L.Slot) → SlotIs codes s key → SlotIs codes t value → Goes codes (Value s t n) (each (value ∷ pairs n key value))
-  unfolding each
-  value-goes s t n key value v w = record { slot = t; next = refl; is = w; left = λ k. record { key = key; value = value; are = refl; key-is = v; value-is = w } }
-
-  -- fields from field i on
-  fields-go : (slots : List L.Slot) (child : ℕ → Slot) (nest : ℕ → Nest) → length slots < 2 ^ 32
-      → ((i : ℕ) → upcomingOf (nest i) ≡ nextOf (length slots - i) (child i)) → ((i : ℕ) → afterOf (nest i) ≡ nest ((i + 1) % 2 ^ 32))
-      → ((i : ℕ) (plan : Plan) → plan ≡ each (drop i slots) → NestIs codes (nest i) plan)
-      → ((i : ℕ) → i < length slots → ChildIs codes slots i (child i)) → (i : ℕ) → Goes codes (nest i) (each (drop i slots))
-  unfolding each nextOf
-  fields-go slots child nest f up on is children i = go (ltb i (length slots)) refl where
-    go : (b : Bool) → ltb i (length slots) ≡ b → Goes codes (nest i) (each (drop i slots))
-    go false e =
-        let h : length slots ≤ i = ltb-false i (length slots) e in
-        let z : length slots - i ≡ 0 = omega arith in
-        rw (drop-of-length-le slots {i = i} h) (up i ∙ rw z)
-    go true e =
-        let h : i < length slots = ltb-true i (length slots) e in
-        let c = children i h in
-        let z : eqb (length slots - i) 0 ≡ false = ne-eqb (length slots - i) 0 (λ q. omega arith) in
-        let n : (i + 1) % 2 ^ 32 ≡ suc i = omega arith in
-        rw (drop-cons slots i (c .slot) h, c .at) (record {
-          slot = child i;
-          next = up i ∙ rw z;
-          is = c .is;
-          left = λ k. rw (on i, n) (is (suc i) (each (drop (suc i) slots)) refl);
-        })
-
-  pub goes : Prelude codes → (nest : Nest) (plan : Plan) → NestIs codes nest plan → Goes codes nest plan
+  pub begins : (nest : Nest) (slots : List L.Slot) → SlotsAre codes nest slots → NestIs codes nest (each slots)
   unfolding fontSlots pageSlots
-  goes p (Each s n) plan w = rw (w .are) (each-goes s n (w .slot) (w .is))
-  goes p (Pairs s t n) plan w = rw (w .are) (pairs-go s t n (w .key) (w .value) (w .key-is) (w .value-is))
-  goes p (Value s t n) plan w = rw (w .are) (value-goes s t n (w .key) (w .value) (w .key-is) (w .value-is))
-  goes p (Font i) plan w = rw w (fields-go fontSlots fontChild Font (omega arith) (λ j. refl) (λ j. refl) (λ j q e. e) (λ j h. font-child codes p j h) i)
-  goes p (Page i) plan w = rw w (fields-go pageSlots pageChild Page (omega arith) (λ j. refl) (λ j. refl) (λ j q e. e) (λ j h. page-child codes p j h) i)
+  begins (Each s n) slots w = record { slots = slots; are = w; counts = sym (ap length (w .are) ∙ length-replicate n (w .slot)); left = refl }
+  begins (Pairs s t n) slots w = record { slots = slots; are = w; counts = sym (ap length (w .are) ∙ length-pairs n (w .key) (w .value)); left = refl }
+  begins Font slots w = record { slots = slots; are = w; counts = sym (ap length w); left = refl }
+  begins Page slots w = record { slots = slots; are = w; counts = sym (ap length w); left = refl }
+
+  turn-child : (s t : Slot) (n i : ℕ) (slots : List L.Slot) → PairsAre codes s t n slots → i < length slots → (b : Bool) → eqb (i % 2) 0 ≡ b → ChildIs codes slots i (cond b s t)
+  turn-child s t n i slots w h true e =
+      let l : length slots ≡ 2 * n = ap length (w .are) ∙ length-pairs n (w .key) (w .value) in
+      record { slot = w .key; at = rw (w .are) (pair-even n i (w .key) (w .value) (w .key) (omega arith) (eqb-true (i % 2) 0 e)); is = w .key-is }
+  turn-child s t n i slots w h false e =
+      let l : length slots ≡ 2 * n = ap length (w .are) ∙ length-pairs n (w .key) (w .value) in
+      record { slot = w .value; at = rw (w .are) (pair-odd n i (w .key) (w .value) (w .value) (omega arith) (eqb-false (i % 2) 0 e)); is = w .value-is }
+
+  child-is : Prelude codes → (nest : Nest) (slots : List L.Slot) (i : ℕ) → SlotsAre codes nest slots → i < length slots → ChildIs codes slots i (slotAt nest i)
+  child-is p (Each s n) slots i w h =
+      let l : length slots ≡ n = ap length (w .are) ∙ length-replicate n (w .slot) in
+      record { slot = w .slot; at = rw (w .are) (getD-replicate n i (w .slot) (w .slot) (omega arith)); is = w .is }
+  child-is p (Pairs s t n) slots i w h = turn-child s t n i slots w h (eqb (i % 2) 0) refl
+  child-is p Font slots i w h = rw w (font-child codes p i (rw w at h))
+  child-is p Page slots i w h = rw w (page-child codes p i (rw w at h))
+
+  module _ (nest : Nest) (stage : Stage) (plan : Plan) (w : StageIs codes nest stage plan) where
+    -- nothing stands next
+    pub ends : stage .count ≤ stage .next → plan ≡ stop
+    unfolding each
+    ends h = w .left ∙ ap each (drop-of-length-le (w .slots) {i = stage .next} (omega (arith, h, w .counts)))
+
+    -- a value stands next
+    pub goes : Prelude codes → stage .next < stage .count → Puts codes nest stage plan
+    unfolding each
+    goes p h =
+        let i : stage .next < length (w .slots) = omega (arith, h, w .counts) in
+        let c = child-is p nest (w .slots) (stage .next) (w .are) i in
+        record {
+          x = c .slot;
+          go = λ n. each (drop (suc (stage .next)) (w .slots));
+          puts = w .left ∙ rw (drop-cons (w .slots) (stage .next) (c .slot) i, c .at) refl;
+          is = c .is;
+          left = λ f n. record { slots = w .slots; are = w .are; counts = w .counts; left = let z : (stage .next + 1) % 2 ^ 32 ≡ suc (stage .next) = omega (arith, f) in rw z refl };
+        }

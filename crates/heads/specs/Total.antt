@@ -1,7 +1,7 @@
 -- What the functions of this crate answer, for every input. Assumes nothing.
 use mathlib.Core.Bool.{cond}
 use mathlib.Core.List.{List}
-use Prim.Native.Nat.{ℕ, _+_, _*_, _%_, max}
+use Prim.Native.Nat.{ℕ, _+_, max}
 use lib.Dec.{leb, eqb}
 use lib.ListN.{length, getD}
 use Rattle.layout.specs.Fixed.{sizes}
@@ -17,7 +17,6 @@ use Rattle.leaves.specs.declared.run.Run.the-variants.{Same, Turns, Levels}
 use Rattle.leaves.specs.Text.{ownSize}
 use Rattle.heads.specs.declared.slot.Slot.{Slot}
 use Rattle.heads.specs.declared.slot.Slot.the-variants.{Simple, Raw, Object}
-use Rattle.heads.specs.declared.nest.Nest.{Nest}
 use Rattle.heads.specs.declared.nest.Nest.the-variants.{Each, Pairs, Font, Page}
 use Rattle.heads.specs.declared.nest.Below.{Below}
 use Rattle.heads.specs.declared.nest.Below.the-variants.{Nothing, Nested}
@@ -99,8 +98,8 @@ kindAs file codes kind a at =
     (cond (eqb kind 19) (dictionaryAs codes a (placeAfter codes a) (littleAt file 4 at at))
     (cond (eqb kind 31) (Refused 13 at)
     (cond (eqb kind 32) (imageAs file (rangedAt file 0 18 at))
-    (cond (eqb kind 33) (Head at (Nested (Font 0)))
-    (cond (eqb kind 34) (Head at (Nested (Page 0))) (aloneAs (leafAs file kind at))))))))))
+    (cond (eqb kind 33) (Head at (Nested Font))
+    (cond (eqb kind 34) (Head at (Nested Page)) (aloneAs (leafAs file kind at))))))))))
 
 unfoldable pub openAs : (file codes : List ℕ) (t at : ℕ) → Opened
 openAs file codes t at = cond (leb (length codes) t) (Refused 13 at) (kindAs file codes (kindAt codes t) (t + 1) at)

@@ -3,22 +3,20 @@ use crate::slot::Slot;
 use leaves::plain::Plain;
 use leaves::run::Run;
 ghost use mathlib.Core.Path.{_≡_};
-ghost use Prim.Native.Nat.{_-_};
-ghost use Rattle.heads.specs.Nests.{fontChild, pageChild, nextOf, upcomingOf, afterOf};
+ghost use Rattle.heads.specs.Nests.{fontChild, pageChild, countOf, beginOf, slotAt, afterOf};
 
-// What is left of a plan: n elements that stand alike; n pairs of key and value; a pair's value and n pairs behind it; the fields of a font and of a page from field i on.
+// n elements that stand alike; n pairs of key and value; the fields of a font; the fields of a page.
 pub enum Nest {
     Each(Slot, u32),
     Pairs(Slot, Slot, u32),
-    Value(Slot, Slot, u32),
-    Font(u32),
-    Page(u32),
+    Font,
+    Page,
 }
 
-// What stands next: nothing more, or a value in a slot.
-pub enum Upcoming {
-    Nothing,
-    Value(Slot),
+// How far a walk over a nest is: the number of the value that stands next, and how many values there are.
+pub struct Stage {
+    pub next: u32,
+    pub count: u64,
 }
 
 // Nothing; values that need no reader list; or values that do.
@@ -28,7 +26,8 @@ pub enum Below {
     Nested(Nest),
 }
 
-// Field i of a font. The types that fonts and pages declare stand at the start of the codes: Texture2D at 0, list of Rectangle at 1, list of Char at 3, list of Vector3 at 5, String at 7, nullable Char at 8.
+// Field i of a font. The types that fonts and pages declare stand at the start of the codes: Texture2D at 0,
+// list of Rectangle at 1, list of Char at 3, list of Vector3 at 5, String at 7, nullable Char at 8.
 fn font_child(i: u32) -> Slot
     ensures { λ r. ⌜ r ≡ fontChild i ⌝ }
 {
@@ -56,58 +55,51 @@ fn page_child(i: u32) -> Slot
     }
 }
 
-// Nothing if there are none left, else a value.
-fn next_of(left: u32, slot: Slot) -> Upcoming
-    ensures { λ r. ⌜ r ≡ nextOf left slot ⌝ }
-{
-    if left == 0 {
-        return Upcoming::Nothing;
-    }
-    Upcoming::Value(slot)
-}
-
-// One less, or 0.
-fn less(n: u32) -> u32
-    ensures { λ r. ⌜ r ≡ n - 1 ⌝ }
-{
-    if n == 0 {
-        return 0;
-    }
-    n - 1
-}
-
-// What stands next.
-pub fn next_slot(nest: Nest) -> Upcoming
-    ensures { λ r. ⌜ r ≡ upcomingOf nest ⌝ }
+// How many values stand below.
+fn count(nest: Nest) -> u64
+    ensures { λ r. ⌜ r ≡ countOf nest ⌝ }
 {
     match nest {
-        Nest::Each(one, n) => next_of(n, one),
-        Nest::Pairs(key, _, n) => next_of(n, key),
-        Nest::Value(_, value, _) => Upcoming::Value(value),
-        Nest::Font(i) => next_of(left_of(8, i), font_child(i)),
-        Nest::Page(i) => next_of(left_of(4, i), page_child(i)),
+        Nest::Each(_, n) => n as u64,
+        Nest::Pairs(_, _, n) => 2 * n as u64,
+        Nest::Font => 8,
+        Nest::Page => 4,
     }
 }
 
-// How many of n fields stand from field i on.
-fn left_of(n: u32, i: u32) -> u32
-    ensures { λ r. ⌜ r ≡ n - i ⌝ }
+// Where a walk over a nest begins.
+pub fn begin(nest: Nest) -> Stage
+    ensures { λ r. ⌜ r ≡ beginOf nest ⌝ }
 {
-    if n < i {
-        return 0;
+    Stage {
+        next: 0,
+        count: count(nest),
     }
-    n - i
 }
 
-// What is left behind the value that stood next.
-pub fn after(nest: Nest) -> Nest
-    ensures { λ r. ⌜ r ≡ afterOf nest ⌝ }
+// How value i of a nest stands.
+pub fn slot_at(nest: Nest, i: u32) -> Slot
+    ensures { λ r. ⌜ r ≡ slotAt nest i ⌝ }
 {
     match nest {
-        Nest::Each(one, n) => Nest::Each(one, less(n)),
-        Nest::Pairs(key, value, n) => Nest::Value(key, value, less(n)),
-        Nest::Value(key, value, n) => Nest::Pairs(key, value, n),
-        Nest::Font(i) => Nest::Font(std::num::wrapping_add_u32(i, 1)),
-        Nest::Page(i) => Nest::Page(std::num::wrapping_add_u32(i, 1)),
+        Nest::Each(one, _) => one,
+        Nest::Pairs(key, value, _) => {
+            if i % 2 == 0 {
+                return key;
+            }
+            value
+        }
+        Nest::Font => font_child(i),
+        Nest::Page => page_child(i),
+    }
+}
+
+// How far the walk is behind the value that stood next.
+pub fn after(stage: Stage) -> Stage
+    ensures { λ r. ⌜ r ≡ afterOf stage ⌝ }
+{
+    Stage {
+        next: std::num::wrapping_add_u32(stage.next, 1),
+        count: stage.count,
     }
 }

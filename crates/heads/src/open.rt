@@ -220,8 +220,8 @@ pub fn open(file: &[u8], codes: &[u8], t: usize, at: usize) -> Opened
         19 => dictionary_head(file, codes, first, types::after(codes, first), at),
         31 => Opened::Refused(13, at),
         32 => image_head(file, at),
-        33 => Opened::Head(at, Below::Nested(Nest::Font(0))),
-        34 => Opened::Head(at, Below::Nested(Nest::Page(0))),
+        33 => Opened::Head(at, Below::Nested(Nest::Font)),
+        34 => Opened::Head(at, Below::Nested(Nest::Page)),
         _ => alone(leaf_at(file, kind, at)),
     }
 }

@@ -34,7 +34,7 @@ use Rattle.answers.specs.declared.Number.the-variants.{Read as Header-read, Ref
 use Rattle.header.specs.Header.{toHeader, headerOf}
 use Rattle.heads.specs.declared.nest.Nest.the-variants.{Each}
 use Rattle.heads.specs.declared.slot.Slot.the-variants.{Object}
-use Rattle.heads.specs.Nests.{Prelude, prelude, NestIs, object-at}
+use Rattle.heads.specs.Nests.{Prelude, prelude, NestIs, begins, object-at}
 use Rattle.resources.specs.declared.Settled.{Settled}
 use Rattle.resources.specs.declared.Settled.the-variants.{Fine, Wrong}
 use Rattle.resources.specs.Settled.{settledOf, settled as rows-settled, answered, judged-is, Drafted}
@@ -106,7 +106,7 @@ module _ (g : Grid) (file : List ℕ) (small : Small file) (codes : List ℕ) (s
   roots = replicate (shared + 1) (object anything)
 
   pub roots-are : Prelude codes → NestIs codes (Each (Object 10) (shared + 1)) (each roots)
-  roots-are p = record { slot = object anything; are = refl; is = object-at codes p }
+  roots-are p = begins codes (Each (Object 10) (shared + 1)) roots (record { slot = object anything; are = refl; is = object-at codes p })
 
   objects-are : (readers : List Target) → sequence (λ y b v. walk file readers shared (g .room) 32 y b v 0) (each roots) at 0 ≡ objectsAt file (g .room) readers shared at
   unfolding objectsAt objectsPlan

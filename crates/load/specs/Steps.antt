@@ -1,10 +1,14 @@
 -- What a value comes to by what needs no reader list, and how a value ends. Assumes nothing.
-use mathlib.Core.Path.{_≡_, refl, sym, subst, _∙_}
+use mathlib.Core.Path.{_≡_, refl, sym, ap, subst, _∙_}
+use mathlib.Core.Bool.{Bool, true, false, cond}
 use mathlib.Core.List.{List, []}
 use Prim.Native.Nat.{ℕ, suc, _+_, _≤_, _<_, _^_}
 use native.Mathlib.Omega.{arith}
 use native.Mathlib.Numerals.{add-one}
+use lib.Dec.{leb}
 use lib.ListN.{length}
+use borrow.Author.Tests.{ne-eqb}
+use Rattle.laws.specs.Small.{differ}
 use Rattle.layout.specs.Target.{Target, kindOf}
 use Rattle.layout.specs.Slot as L
 use Rattle.layout.specs.Slot.{each}
@@ -18,16 +22,20 @@ use Rattle.table.specs.declared.Head.{Head}
 use Rattle.table.specs.declared.Walk.{Walk}
 use Rattle.table.specs.declared.Walk.the-variants.{Done as Walk-done, Refused as Walk-refused}
 use Rattle.table.specs.Contract.{seen, reaching, Walked}
-use Rattle.table.specs.Leaf.{inWord, in-word}
-use Rattle.table.specs.Written.{written-none}
+use Rattle.table.specs.Leaf.{inWord, in-word, valueRow}
+use Rattle.table.specs.Written.{written-none, putRow}
 use Rattle.table.specs.Loop.{Got, refusing}
 use Rattle.leaves.specs.Plain.{headOf}
 use Rattle.types.specs.Code.{Lawful}
+use Rattle.types.specs.Place.{kindAt}
 use Rattle.heads.specs.declared.nest.Nest.{Nest}
 use Rattle.heads.specs.declared.nest.Below.{Below}
-use Rattle.heads.specs.declared.nest.Below.the-variants.{Nested as Nested-below}
+use Rattle.heads.specs.declared.nest.Nest.the-variants.{Font}
+use Rattle.heads.specs.declared.nest.Below.the-variants.{Nothing, Simple, Nested as Nested-below}
+use Rattle.heads.specs.declared.open.Opened.the-variants.{Head as Opened-head, Refused as Opened-refused}
+use Rattle.heads.specs.Total.{openAs, kindAs}
 use Rattle.objects.specs.Start.{Invoked, Begins, under}
-use Rattle.objects.specs.Close.{closeAnswer, closeWords, raw-closed, slots-counted}
+use Rattle.objects.specs.Close.{closeAnswer, closeWords, keeps, raw-closed, slots-counted}
 use Rattle.load.specs.declared.walk.Stepped.{Stepped}
 use Rattle.load.specs.declared.walk.Stepped.the-variants.{Done, Refused, Nested}
 use Rattle.load.specs.Known.{Ready}
@@ -38,6 +46,29 @@ use Rattle.ids.specs.declared.Grid.{Grid}
 abbrev pub stepOf : Walk → Stepped
 stepOf (Walk-done r) = Done r
 stepOf (Walk-refused n p) = Refused n p
+
+-- the row of a value of a kind without a rule, once its children are walked
+abbrev pub plainWords : Grid → (w : List ℕ) → Head → (kind children : ℕ) → Walk → List ℕ
+plainWords g w h kind n (Walk-done r) = putRow g w (h .row .0) (valueRow h kind n (r .next))
+plainWords g w h kind n (Walk-refused m p) = w
+
+-- only a font has a rule, and its children need the reader list
+abbrev pub NoRule : (kind : ℕ) → Below → Type 0
+NoRule kind Nothing = kind ≡ 33 → ⊥
+NoRule kind (Simple run) = kind ≡ 33 → ⊥
+NoRule kind (Nested-below nest) = Unit {0}
+
+font-below : (file codes : List ℕ) (place at : ℕ) {next : ℕ} {below : Below} → kindAt codes place ≡ 33 → openAs file codes place at ≡ Opened-head next below → below ≡ Nested-below Font
+unfolding openAs kindAs
+font-below file codes place at {next} {below} k e = go (leb (length codes) place) (sym (ap (λ n. cond (leb (length codes) place) (Opened-refused 13 at) (kindAs file codes n (place + 1) at)) k) ∙ e) where
+  go : (b : Bool) → cond b (Opened-refused 13 at) (Opened-head at (Nested-below Font)) ≡ Opened-head next below → below ≡ Nested-below Font
+  go true q = differ cc
+  go false q = cc
+
+pub no-rule : (file codes : List ℕ) (place at kind : ℕ) {next : ℕ} (below : Below) → kind ≡ kindAt codes place → openAs file codes place at ≡ Opened-head next below → NoRule kind below
+no-rule file codes place at kind Nothing k e = λ q. absurd (let z = font-below file codes place at (sym k ∙ q) e in differ cc)
+no-rule file codes place at kind (Simple run) k e = λ q. absurd (let z = font-below file codes place at (sym k ∙ q) e in differ cc)
+no-rule file codes place at kind (Nested-below nest) k e = tt
 
 -- a raw value's head was read, and its children need the reader list
 pub record KnownRaw (file codes : List ℕ) (place at next : ℕ) (nest : Nest) : Type 0 where
@@ -119,6 +150,17 @@ raw-ends g file {codes} {words} {w₁} h at {next} t readers shared depth n kind
     let p : Children-are g file readers shared depth (each (o .slots)) next (suc (h .row .0)) n × Walked g words w₁ (suc (h .row .0)) (seen (sequence (λ y b v. walk file readers shared (g .room) depth y b v (suc (h .row .0))) (each (o .slots)) next (suc (h .row .0)))) walked
     = subst (λ m. Children-are g file readers shared depth (each (o .slots)) next m n × Walked g words w₁ m (seen (sequence (λ y b v. walk file readers shared (g .room) depth y b v m) (each (o .slots)) next m)) walked) (add-one (h .row .0)) (e, c) in
     rw k (raw-closed g file s readers shared depth t l h at words (r .long) (r .few) (r .free) (o .is) (each (o .slots)) (o .plan) w₁ n walked fits (p .0) (p .1))
+
+-- the same for a kind without a rule
+pub plain-ends : (g : Grid) (file : List ℕ) {codes words w₁ : List ℕ} (h : Head) (at : ℕ) {next : ℕ} {below : Below} (t : Target) (readers : List Target) (shared depth n kind : ℕ) (walked : Walk)
+    → (kind ≡ 33 → ⊥) → Small file → Ready file words g h at → Lawful t → (o : OpenedAs codes (headAt file t at) next below) → Children-are g file readers shared depth (each (o .slots)) next (h .row .0 + 1) n → kind ≡ kindOf t
+    → Walked g words w₁ (h .row .0 + 1) (seen (sequence (λ y b v. walk file readers shared (g .room) depth y b v (h .row .0 + 1)) (each (o .slots)) next (h .row .0 + 1))) walked
+    → Walked g words (plainWords g w₁ h kind n walked) (h .row .0) (seen (rawOf file readers shared (g .room) depth t h at)) walked
+unfolding keeps
+plain-ends g file h at t readers shared depth n kind (Walk-done r) x s y l o e k c =
+    let z = raw-ends g file h at t readers shared depth n kind (Walk-done r) s y l o e k c in
+    rw (ne-eqb kind 33 x) at z
+plain-ends g file h at t readers shared depth n kind (Walk-refused m p) x s y l o e k c = raw-ends g file h at t readers shared depth n kind (Walk-refused m p) s y l o e k c
 
 -- children in slots that no child has a say in: none, or as many as a word holds
 pub slots-are : (g : Grid) (file : List ℕ) (small : Small file) (readers : List Target) (shared depth : ℕ) (slots : List L.Slot) (next row n : ℕ) → row ≤ g .room → g .room < 2 ^ 32 → n ≡ inWord (length slots)

@@ -1,7 +1,7 @@
 -- The values of a nest one after the other, as a loop walks them: what is known after some of them. Assumes nothing.
-use mathlib.Core.Path.{_≡_, refl, sym, ap, _∙_}
+use mathlib.Core.Path.{_≡_, refl, ap, subst, _∙_}
 use mathlib.Core.List.{List}
-use Prim.Native.Nat.{ℕ, _+_, _≤_, _<_}
+use Prim.Native.Nat.{ℕ, _+_, _%_, _^_, _≤_, _<_}
 use native.Mathlib.Omega.{arith}
 use Rattle.laws.specs.Small.{differ}
 use Rattle.layout.specs.Target.{Target}
@@ -14,19 +14,15 @@ use Rattle.reading.specs.Walk.{Taken, Outcome, sequence, walk}
 use Rattle.reading.specs.Bounds.{walk-bounds, walk-single}
 use Rattle.ids.specs.declared.Grid.{Grid}
 use Rattle.table.specs.declared.Reached.{Reached}
-use Rattle.table.specs.declared.Walk.{Walk}
-use Rattle.table.specs.declared.Walk.the-variants.{Refused as Walk-refused}
 use Rattle.table.specs.Written.{written}
 use Rattle.table.specs.Contract.{seen, reaching, Walked}
 use Rattle.table.specs.Loop.{Counted, counted, Got, Reading, start, turn, ended, give-up}
 use Rattle.leaves.specs.Plain.{Begin}
 use Rattle.leaves.specs.Run.{begin-on}
-use Rattle.heads.specs.declared.slot.Slot.{Slot}
 use Rattle.heads.specs.declared.nest.Nest.{Nest}
-use Rattle.heads.specs.declared.nest.Upcoming.{Upcoming}
-use Rattle.heads.specs.declared.nest.Upcoming.the-variants.{Nothing as None, Value as Some}
+use Rattle.heads.specs.declared.nest.Stage.{Stage}
 use Rattle.heads.specs.Slots.{SlotIs}
-use Rattle.heads.specs.Nests.{Prelude, NestIs, upcomingOf, afterOf, Goes, Puts, goes}
+use Rattle.heads.specs.Nests.{Prelude, NestIs, StageIs, beginOf, afterOf, slotAt, ends, goes}
 use Rattle.load.specs.declared.walk.Children.{Children}
 use Rattle.load.specs.declared.walk.Children.the-variants.{Done, Refused}
 use Rattle.load.specs.Walks.{walk-takes}
@@ -72,64 +68,63 @@ module _ (g : Grid) (file codes : List ℕ) (readers : List Target) (shared dept
   abbrev pub whole : Answer Counted
   whole = counted (sequence step plan₀ at used)
 
-  -- i values are walked, and the state is what is left of the plan
-  pub record Standing (w : List ℕ) (state : Nest) (next row i : ℕ) : Type 0 where
-    pub plan : Plan
-    pub is : NestIs codes state plan
-    pub read-so : Reading g file step plan₀ w₀ at used w plan next row i
-    pub ahead : used + i ≤ row
+  module _ (nest : Nest) where
+    -- the values before the stage's next are walked
+    pub record Standing (w : List ℕ) (stage : Stage) (next row : ℕ) : Type 0 where
+      pub plan : Plan
+      pub is : StageIs codes nest stage plan
+      pub read-so : Reading g file step plan₀ w₀ at used w plan next row (stage .next)
+      pub ahead : used + stage .next ≤ row
 
-  pub standing : (nest : Nest) → NestIs codes nest plan₀ → Standing w₀ nest at used 0
-  standing nest w = record { plan = plan₀; is = w; read-so = start g file step plan₀ w₀ at used; ahead = omega arith }
+    pub standing : NestIs codes nest plan₀ → Standing w₀ (beginOf nest) at used
+    standing w = record { plan = plan₀; is = w; read-so = start g file step plan₀ w₀ at used; ahead = omega arith }
 
-  pub standing-begin : {w : List ℕ} {state : Nest} {next row i : ℕ} → Begin file w₀ g at used → Standing w state next row i → Begin file w g next row
-  standing-begin b s = begin-on b (s .read-so)
+    pub standing-begin : {w : List ℕ} {stage : Stage} {next row : ℕ} → Begin file w₀ g at used → Standing w stage next row → Begin file w g next row
+    standing-begin b s = begin-on b (s .read-so)
 
-  -- a value stands next
-  pub record Next (w : List ℕ) (state : Nest) (next row i : ℕ) (slot : Slot) : Type 0 where
-    pub x : L.Slot
-    pub go : ℕ → Plan
-    pub is : SlotIs codes slot x
-    pub left : (n : ℕ) → NestIs codes (afterOf state) (go n)
-    pub read-so : Reading g file step plan₀ w₀ at used w (put x go) next row i
-    pub ahead : used + i ≤ row
+    -- a value stands next
+    pub record Next (w : List ℕ) (stage : Stage) (next row : ℕ) : Type 0 where
+      pub x : L.Slot
+      pub go : ℕ → Plan
+      pub is : SlotIs codes (slotAt nest (stage .next)) x
+      pub left : stage .next + 1 < 2 ^ 32 → (n : ℕ) → StageIs codes nest (afterOf stage) (go n)
+      pub read-so : Reading g file step plan₀ w₀ at used w (put x go) next row (stage .next)
+      pub ahead : used + stage .next ≤ row
 
-  next-of : {w : List ℕ} {state : Nest} {next row i : ℕ} {slot : Slot} (plan : Plan) → Goes codes state plan → Reading g file step plan₀ w₀ at used w plan next row i → used + i ≤ row
-      → upcomingOf state ≡ Some slot → Next w state next row i slot
-  next-of {slot = slot} stop p r a e = absurd (let q : None ≡ Some slot = sym p ∙ e in differ cc)
-  next-of {slot = slot} (put x go) p r a e =
-      let q : Some (p .slot) ≡ Some slot = sym (p .next) ∙ e in
-      let z : p .slot ≡ slot = cc in
-      record { x = x; go = go; is = rw z at (p .is); left = p .left; read-so = r; ahead = a }
+    pub value-next : {w : List ℕ} {stage : Stage} {next row : ℕ} → Prelude codes → Standing w stage next row → stage .next < stage .count → Next w stage next row
+    value-next {w} {stage} {next} {row} p s h =
+        let q = goes codes nest stage (s .plan) (s .is) p h in
+        record { x = q .x; go = q .go; is = q .is; left = q .left; read-so = subst (λ y. Reading g file step plan₀ w₀ at used w y next row (stage .next)) (q .puts) (s .read-so); ahead = s .ahead }
 
-  pub value-next : {w : List ℕ} {state : Nest} {next row i : ℕ} {slot : Slot} → Prelude codes → Standing w state next row i → upcomingOf state ≡ Some slot → Next w state next row i slot
-  value-next {state = state} p s e = next-of (s .plan) (goes codes p state (s .plan) (s .is)) (s .read-so) (s .ahead) e
+    -- nothing stands next: all values are walked
+    pub nothing-next : {w : List ℕ} {stage : Stage} {next row : ℕ} → Standing w stage next row → stage .count ≤ stage .next → Counts g w₀ w used whole (Done (stage .next) (record { used = row; next = next }))
+    nothing-next {w} {stage} {next} {row} s h =
+        let r : Reading g file step plan₀ w₀ at used w stop next row (stage .next) = subst (λ y. Reading g file step plan₀ w₀ at used w y next row (stage .next)) (ends codes nest stage (s .plan) (s .is) h) (s .read-so) in
+        let c = ended g file step plan₀ w₀ at used r in
+        rw (c .0) (record { answers = refl; writes = c .1 })
 
-  nothing-of : {w : List ℕ} (state : Nest) {next row i : ℕ} (plan : Plan) → Goes codes state plan → Reading g file step plan₀ w₀ at used w plan next row i → upcomingOf state ≡ None
-      → Counts g w₀ w used whole (Done i (record { used = row; next = next }))
-  nothing-of state stop p r e =
-      let c = ended g file step plan₀ w₀ at used r in
-      rw (c .0) (record { answers = refl; writes = c .1 })
-  nothing-of state (put x go) p r e = absurd (let q : Some (p .slot) ≡ None = sym (p .next) ∙ e in differ cc)
+    -- the value is refused
+    pub next-lost : {w w′ : List ℕ} {stage : Stage} {next row n p : ℕ} (v : Next w stage next row) → step (v .x) next row ≡ refused n p → Counts g w₀ w′ used whole (Refused n p)
+    next-lost v e = rw (give-up g file step plan₀ w₀ at used (v .x) (v .go) (v .read-so) e) (record { answers = refl; writes = refl })
 
-  -- nothing stands next: all values are walked
-  pub nothing-next : {w : List ℕ} {state : Nest} {next row i : ℕ} → Prelude codes → Standing w state next row i → upcomingOf state ≡ None → Counts g w₀ w used whole (Done i (record { used = row; next = next }))
-  nothing-next {state = state} p s e = nothing-of state (s .plan) (goes codes p state (s .plan) (s .is)) (s .read-so) e
-
-  -- the value is refused
-  pub next-lost : {w w′ : List ℕ} {state : Nest} {next row i n p : ℕ} {slot : Slot} (v : Next w state next row i slot) → step (v .x) next row ≡ refused n p → Counts g w₀ w′ used whole (Refused n p)
-  next-lost v e = rw (give-up g file step plan₀ w₀ at used (v .x) (v .go) (v .read-so) e) (record { answers = refl; writes = refl })
-
-  -- the value is walked
-  pub next-walked : {w w′ : List ℕ} {state : Nest} {next row i a u : ℕ} {slot : Slot} → Small file → (v : Next w state next row i slot) → Got g w w′ row (step (v .x) next row) a u → Standing w′ (afterOf state) a u (i + 1) × (row < u)
-  next-walked {next = next} {row} {i} {a} {u} small v y =
-      let t = walk-takes file readers shared (g .room) small depth (v .x) next row used (y .taken) a (y .is) in
-      let s : row < u = omega (arith, t, y .rows-used) in (
-        record {
-          plan = v .go (toldOf (y .taken .2));
-          is = v .left (toldOf (y .taken .2));
-          read-so = turn g file step plan₀ w₀ at used (v .x) (v .go) (v .read-so) y (walk-single file readers shared (g .room) small depth (v .x) next row used (y .taken) a (y .is)) (walk-bounds file readers shared (g .room) small depth (v .x) next row used (y .taken) a (y .is));
-          ahead = omega (arith, v .ahead);
-        },
-        s,
-      )
+    -- the value is walked
+    pub next-walked : {w w′ : List ℕ} {stage : Stage} {next row a u : ℕ} → Small file → Begin file w₀ g at used → (v : Next w stage next row) → Got g w w′ row (step (v .x) next row) a u
+        → Standing w′ (afterOf stage) a u × (row < u) × (u ≤ g .room)
+    next-walked {w′ = w′} {stage} {next} {row} {a} {u} small b v y =
+        let t = walk-takes file readers shared (g .room) small depth (v .x) next row used (y .taken) a (y .is) in
+        let s : row < u = omega (arith, t, y .rows-used) in
+        let plan = v .go (toldOf (y .taken .2)) in
+        let r : Reading g file step plan₀ w₀ at used w′ plan a u (stage .next + 1) =
+        turn g file step plan₀ w₀ at used (v .x) (v .go) (v .read-so) y (walk-single file readers shared (g .room) small depth (v .x) next row used (y .taken) a (y .is)) (walk-bounds file readers shared (g .room) small depth (v .x) next row used (y .taken) a (y .is)) in
+        let f : u ≤ g .room = r .fits (b .rows) in
+        let k : stage .next + 1 < 2 ^ 32 = omega (arith, s, f, v .ahead, b .few) in
+        let z : stage .next + 1 ≡ (stage .next + 1) % 2 ^ 32 = omega (arith, k) in (
+          record {
+            plan = plan;
+            is = v .left k (toldOf (y .taken .2));
+            read-so = subst (λ i. Reading g file step plan₀ w₀ at used w′ plan a u i) z r;
+            ahead = omega (arith, v .ahead, s, z);
+          },
+          s,
+          f,
+        )

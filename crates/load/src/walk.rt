@@ -2,7 +2,6 @@
 use answers::Number;
 use heads::nest::Below;
 use heads::nest::Nest;
-use heads::nest::Upcoming;
 use heads::open::Opened;
 use heads::slot::Slot;
 use ids::Grid;
@@ -16,7 +15,7 @@ use table::Walk;
 ghost use mathlib.Core.Path.{_≡_};
 ghost use Rattle.leaves.specs.Plain.{Begin};
 ghost use Rattle.load.specs.Known.{Known, KnownSlot, KnownNest, KnownTarget, Ready};
-ghost use Rattle.load.specs.Steps.{KnownRaw, stepOf};
+ghost use Rattle.load.specs.Steps.{KnownRaw, NoRule, stepOf, plainWords};
 ghost use Rattle.load.specs.Contracts.{FlatSteps, PlacedSteps, ValueSteps, RawWalks, NestWalks};
 
 // A value that needs no reader list, walked; or a raw value whose children need it:
@@ -52,7 +51,31 @@ fn walked_step(walked: Walk) -> Stepped
     }
 }
 
+// A value of a kind without a rule, once its children are walked: its row.
+fn close_plain(
+    words: &mut [u32],
+    grid: Grid,
+    kind: u32,
+    h: Head,
+    children: u32,
+    walked: Walk,
+) -> Stepped
+    ensures { λ r. ⌜ r ≡ stepOf walked ⌝ }
+    ensures { λ _. ⌜ now (words .exit) ≡ plainWords grid (now (words .entry)) h kind children walked ⌝ }
+{
+    match walked {
+        Walk::Refused { number, place } => Stepped::Refused { number, place },
+        Walk::Done(reached) => {
+            let row = h.row;
+            let r = table::row_words(h, kind, children, reached.next);
+            table::put_row(words, grid, row, r);
+            Stepped::Done(reached)
+        }
+    }
+}
+
 // A raw value of a kind, once its head is read: walked, unless its children need the reader list.
+// Only a font has a rule, and its children need the reader list.
 fn close_flat(
     file: &[u8],
     words: &mut [u32],
@@ -66,21 +89,19 @@ fn close_flat(
     next: usize,
     below: Below,
 ) -> Stepped
-    requires { ⌜ Ready (now file) (now words) grid h at ⌝ }
+    requires { ⌜ Ready (now file) (now words) grid h at × NoRule kind below ⌝ }
     ensures { λ r. ⌜ FlatSteps grid (now (file .entry)) shared kind place h at depth next below (now (words .entry)) (now (words .exit)) r ⌝ }
 {
     let first = h.row.0 + 1;
     match below {
-        Below::Nothing => walked_step(objects::close::close(
-            file,
+        Below::Nothing => close_plain(
             words,
             grid,
-            h,
             kind,
+            h,
             0,
-            at,
             Walk::Done(Reached { used: first, next }),
-        )),
+        ),
         Below::Simple(run) => {
             let n = table::word(leaves::run::turns(run));
             let walked = leaves::run::read_run(
@@ -94,7 +115,7 @@ fn close_flat(
                 depth,
                 first,
             );
-            walked_step(objects::close::close(file, words, grid, h, kind, n, at, walked))
+            close_plain(words, grid, kind, h, n, walked)
         }
         Below::Nested(nest) => Stepped::Nested {
             id: TypeId(h.detail),
@@ -216,7 +237,8 @@ fn raw(
     depth: u32,
 ) -> Walk
     requires { ⌜ Ready (now file) (now words) grid h at × Known (now codes) rd × KnownRaw (now file) (now codes) place at next nest ⌝ }
-    ensures { λ r. ⌜ RawWalks grid (now (file .entry)) (now (codes .entry)) rd shared place h at next nest depth (now (words .entry)) (now (words .exit)) r ⌝ }
+    ensures { λ r. ⌜ RawWalks grid (now (file .entry)) (now (codes .entry)) rd shared place h at next nest depth
+        (now (words .entry)) (now (words .exit)) r ⌝ }
 {
     let first = h.row.0 + 1;
     match nested(
@@ -253,85 +275,78 @@ pub(crate) fn nested(
     depth: u32,
 ) -> Children
     requires { ⌜ Begin (now file) (now words) grid at used × Known (now codes) rd × KnownNest (now codes) nest ⌝ }
-    ensures { λ r. ⌜ NestWalks grid (now (file .entry)) (now (codes .entry)) rd shared nest at used depth (now (words .entry)) (now (words .exit)) r ⌝ }
+    ensures { λ r. ⌜ NestWalks grid (now (file .entry)) (now (codes .entry)) rd shared nest at used depth
+        (now (words .entry)) (now (words .exit)) r ⌝ }
 {
-    let mut state = nest;
+    let mut stage = heads::nest::begin(nest);
     let mut next = at;
     let mut row = used;
-    let mut i = 0;
-    loop {
-        match heads::nest::next_slot(state) {
-            Upcoming::Nothing => {
-                return Children::Done {
-                    count: i,
-                    reached: Reached { used: row, next },
-                };
+    while (stage.next as u64) < stage.count {
+        let slot = heads::nest::slot_at(nest, stage.next);
+        let position = objects::start::reader_position(file, slot, next);
+        let target = rd.targets[position];
+        match value(
+            file,
+            codes,
+            words,
+            rd.count,
+            target,
+            grid,
+            shared,
+            slot,
+            next,
+            row,
+            depth,
+            used,
+        ) {
+            Stepped::Done(reached) => {
+                next = reached.next;
+                row = reached.used;
             }
-            Upcoming::Value(slot) => {
-                let left = heads::nest::after(state);
-                let position = objects::start::reader_position(file, slot, next);
-                let target = rd.targets[position];
-                match value(
+            Stepped::Refused { number, place } => {
+                return Children::Refused { number, place };
+            }
+            Stepped::Nested {
+                id,
+                from,
+                place,
+                next: below,
+                nest: inner,
+            } => {
+                let h = Head {
+                    row: RowNumber(row),
+                    first: next,
+                    parent: used,
+                    detail: id.0,
+                };
+                match raw(
                     file,
                     codes,
+                    rd,
                     words,
-                    rd.count,
-                    target,
                     grid,
                     shared,
-                    slot,
-                    next,
-                    row,
-                    depth,
-                    used,
+                    place,
+                    h,
+                    from,
+                    below,
+                    inner,
+                    depth - 1,
                 ) {
-                    Stepped::Done(reached) => {
+                    Walk::Done(reached) => {
                         next = reached.next;
                         row = reached.used;
                     }
-                    Stepped::Refused { number, place } => {
-                        return Children::Refused { number, place };
-                    }
-                    Stepped::Nested {
-                        id,
-                        from,
-                        place,
-                        next: below,
-                        nest: inner,
-                    } => {
-                        let h = Head {
-                            row: RowNumber(row),
-                            first: next,
-                            parent: used,
-                            detail: id.0,
-                        };
-                        match raw(
-                            file,
-                            codes,
-                            rd,
-                            words,
-                            grid,
-                            shared,
-                            place,
-                            h,
-                            from,
-                            below,
-                            inner,
-                            depth - 1,
-                        ) {
-                            Walk::Done(reached) => {
-                                next = reached.next;
-                                row = reached.used;
-                            }
-                            Walk::Refused { number, place: q } => {
-                                return Children::Refused { number, place: q };
-                            }
-                        }
+                    Walk::Refused { number, place: q } => {
+                        return Children::Refused { number, place: q };
                     }
                 }
-                state = left;
-                i += 1;
             }
         }
+        stage = heads::nest::after(stage);
+    }
+    Children::Done {
+        count: stage.next,
+        reached: Reached { used: row, next },
     }
 }

@@ -1,4 +1,4 @@
-use mathlib.Core.Path.{_≡_, refl, sym, ap, subst, _∙_}
+use mathlib.Core.Path.{refl, sym, ap, subst, _∙_}
 use mathlib.Core.List.{List}
 use mathlib.Core.Logic.{⊎-elim}
 use native.Mathlib.Omega.{arith}
@@ -10,9 +10,9 @@ use Rattle.layout.specs.Slot as L
 use Rattle.reading.specs.Reads.{small-by-index}
 use Rattle.reading.specs.Walk.{walk}
 use Rattle.types.specs.Laws.{kind-is}
-use Rattle.table.specs.Loop.{same, Got, got, lost, refusing}
+use Rattle.table.specs.Loop.{same, Got, got, lost}
 use Rattle.readers.specs.Listed.{Listed}
-use Rattle.heads.specs.Nests.{NestIs}
+use Rattle.heads.specs.Nests.{NestIs, begins, afterOf}
 use Rattle.objects.specs.Start.{position-in-list}
 use Rattle.load.specs.Walks.{begin-below}
 use Rattle.load.specs.Turns.{Standing, standing, standing-begin, value-next, nothing-next, next-lost, next-walked, counts-walked, counts-refused}
@@ -27,7 +27,8 @@ use Rattle.load.proofs.walk.raw.Reads as raw
 use Rattle.load.proofs.walk.raw.Kinds as raw-kinds
 use Rattle.load.proofs.walk.+nested+raw.Lts-raw as raw-lts
 use Rattle.heads.proofs.nest.after.Reads as after-reads
-use Rattle.heads.proofs.nest.next_slot.Reads as next-slot-reads
+use Rattle.heads.proofs.nest.begin.Reads as begin-reads
+use Rattle.heads.proofs.nest.slot_at.Reads as slot-at-reads
 use Rattle.load.proofs.walk.value.Reads as value-reads
 use Rattle.objects.proofs.close.close.Reads as close-reads
 use Rattle.objects.proofs.start.reader_position.Reads as reader-position-reads
@@ -54,442 +55,468 @@ abbrev raw-below : ℕ → In 3 raw-kinds.ps
 raw-below t = and 3 raw-kinds.ps (falls 3 raw-kinds.ps _<_ μ-raw t) raw.Pre
 
 abbrev nested-Inv-loop : nested-lts.InvT-loop
-nested-Inv-loop file codes words₀ grid shared at used depth rd state₀ next₀ row₀ i₀ words state next row i =
-    (readers : List Target) (plan₀ : L.Plan) → Listed codes rd readers → NestIs codes state₀ plan₀ → Standing grid file codes readers shared depth plan₀ words₀ at used words state next row i
+nested-Inv-loop file codes words₀ grid shared nest at used depth rd stage₀ next₀ row₀ words stage next row =
+    (readers : List Target) (plan₀ : L.Plan) → Listed codes rd readers → NestIs codes nest plan₀ → Standing grid file codes readers shared depth plan₀ words₀ at used nest words stage next row
 
 abbrev nested-μ-loop : nested-lts.MeasureT-loop
-nested-μ-loop file codes words₀ grid shared at used depth rd state₀ next₀ row₀ i₀ words state next row i = grid .room - row
+nested-μ-loop file codes words₀ grid shared nest at used depth rd stage₀ next₀ row₀ words stage next row = grid .room - row
+
+nested-begin-requires : (t : ℕ) → nested-lts.Need-begin-requires (
+  begin-reads.Asked,
+  begin-reads.Learnt,
+  slot-at-reads.Asked,
+  slot-at-reads.Learnt,
+  reader-position-reads.Asked,
+  reader-position-reads.Learnt,
+  value-reads.Asked,
+  value-reads.Learnt,
+  raw-below t,
+  raw.Post,
+  after-reads.Asked,
+  after-reads.Learnt,
+) (nested-at t) nested.Post nested-Inv-loop nested-μ-loop
+nested-begin-requires t c κs = search needs
 
 nested-loop-holds : (t : ℕ) → nested-lts.Need-loop-holds (
-  next-slot-reads.Asked,
-  next-slot-reads.Learnt,
-  after-reads.Asked,
-  after-reads.Learnt,
+  begin-reads.Asked,
+  begin-reads.Learnt,
+  slot-at-reads.Asked,
+  slot-at-reads.Learnt,
   reader-position-reads.Asked,
   reader-position-reads.Learnt,
   value-reads.Asked,
   value-reads.Learnt,
   raw-below t,
   raw.Post,
+  after-reads.Asked,
+  after-reads.Learnt,
 ) (nested-at t) nested.Post nested-Inv-loop nested-μ-loop
-nested-loop-holds t c =
-    λ readers plan l w. standing _ _ _ _ _ _ _ _ _ _ _ w
+nested-loop-holds t c = λ readers plan l w. rw ((c .begin) .ensures) (standing _ _ _ _ _ _ _ _ _ _ _ w)
 
-nested-next-slot-requires : (t : ℕ) → nested-lts.Need-next-slot-requires (
-  next-slot-reads.Asked,
-  next-slot-reads.Learnt,
-  after-reads.Asked,
-  after-reads.Learnt,
+nested-cast-if1 : (t : ℕ) → nested-lts.Need-cast-if1 (
+  begin-reads.Asked,
+  begin-reads.Learnt,
+  slot-at-reads.Asked,
+  slot-at-reads.Learnt,
   reader-position-reads.Asked,
   reader-position-reads.Learnt,
   value-reads.Asked,
   value-reads.Learnt,
   raw-below t,
   raw.Post,
+  after-reads.Asked,
+  after-reads.Learnt,
 ) (nested-at t) nested.Post nested-Inv-loop nested-μ-loop
-nested-next-slot-requires t c κs = search needs
+nested-cast-if1 t c = search needs
 
-nested-enum-told : (t : ℕ) → nested-lts.Need-enum-told (
-  next-slot-reads.Asked,
-  next-slot-reads.Learnt,
-  after-reads.Asked,
-  after-reads.Learnt,
+nested-slot-at-requires : (t : ℕ) → nested-lts.Need-slot-at-requires (
+  begin-reads.Asked,
+  begin-reads.Learnt,
+  slot-at-reads.Asked,
+  slot-at-reads.Learnt,
   reader-position-reads.Asked,
   reader-position-reads.Learnt,
   value-reads.Asked,
   value-reads.Learnt,
   raw-below t,
   raw.Post,
-) (nested-at t) nested.Post nested-Inv-loop nested-μ-loop
-nested-enum-told t c = search needs
-
-nested-same-length : (t : ℕ) → nested-lts.Need-same-length (
-  next-slot-reads.Asked,
-  next-slot-reads.Learnt,
   after-reads.Asked,
   after-reads.Learnt,
-  reader-position-reads.Asked,
-  reader-position-reads.Learnt,
-  value-reads.Asked,
-  value-reads.Learnt,
-  raw-below t,
-  raw.Post,
 ) (nested-at t) nested.Post nested-Inv-loop nested-μ-loop
-nested-same-length t c =
-    let inv = (c .before .before .before .loop) .inv ((c .before .before .before .before .before .before .before .pre) .1 .1 .readers) ((c .before .before .before .before .before .before .before .pre) .1 .2 .plan) ((c .before .before .before .before .before .before .before .pre) .1 .1 .listed) ((c .before .before .before .before .before .before .before .pre) .1 .2 .is) in
-    let l = same _ _ _ _ _ _ _ (inv .read-so) in
-    search needs
-
-nested-returns : (t : ℕ) → nested-lts.Need-returns (
-  next-slot-reads.Asked,
-  next-slot-reads.Learnt,
-  after-reads.Asked,
-  after-reads.Learnt,
-  reader-position-reads.Asked,
-  reader-position-reads.Learnt,
-  value-reads.Asked,
-  value-reads.Learnt,
-  raw-below t,
-  raw.Post,
-) (nested-at t) nested.Post nested-Inv-loop nested-μ-loop
-nested-returns t c =
-    λ readers plan l w. nothing-next _ _ _ _ _ _ _ _ _ _ ((c .before .before .before .before .before .before .before .pre) .1 .1 .prelude) ((c .before .before .before .loop) .inv readers plan l w) (sym ((c .before .before .next-slot) .ensures) ∙ (c .enum-told) .given .1)
-
-nested-enum-known-slot : (t : ℕ) → nested-lts.Need-enum-known-slot (
-  next-slot-reads.Asked,
-  next-slot-reads.Learnt,
-  after-reads.Asked,
-  after-reads.Learnt,
-  reader-position-reads.Asked,
-  reader-position-reads.Learnt,
-  value-reads.Asked,
-  value-reads.Learnt,
-  raw-below t,
-  raw.Post,
-) (nested-at t) nested.Post nested-Inv-loop nested-μ-loop
-nested-enum-known-slot t c = search needs
+nested-slot-at-requires t c κs = search needs
 
 nested-reader-position-requires : (t : ℕ) → nested-lts.Need-reader-position-requires (
-  next-slot-reads.Asked,
-  next-slot-reads.Learnt,
-  after-reads.Asked,
-  after-reads.Learnt,
+  begin-reads.Asked,
+  begin-reads.Learnt,
+  slot-at-reads.Asked,
+  slot-at-reads.Learnt,
   reader-position-reads.Asked,
   reader-position-reads.Learnt,
   value-reads.Asked,
   value-reads.Learnt,
   raw-below t,
   raw.Post,
+  after-reads.Asked,
+  after-reads.Learnt,
 ) (nested-at t) nested.Post nested-Inv-loop nested-μ-loop
 nested-reader-position-requires t c κs = search needs
 
 nested-mul-target : (t : ℕ) → nested-lts.Need-mul-target (
-  next-slot-reads.Asked,
-  next-slot-reads.Learnt,
-  after-reads.Asked,
-  after-reads.Learnt,
+  begin-reads.Asked,
+  begin-reads.Learnt,
+  slot-at-reads.Asked,
+  slot-at-reads.Learnt,
   reader-position-reads.Asked,
   reader-position-reads.Learnt,
   value-reads.Asked,
   value-reads.Learnt,
   raw-below t,
   raw.Post,
+  after-reads.Asked,
+  after-reads.Learnt,
 ) (nested-at t) nested.Post nested-Inv-loop nested-μ-loop
 nested-mul-target t c =
-    let h = subst (λ p. p < 64) (sym ((c .reader-position) .ensures)) (position-in-list ((c .before .before .before .before .before .before .before .before .before .before .args) .file .now) ((c .before .before .before .slot) .given .0 .0) ((c .before .before .before .before .before .before .loop) .next)) in
+    let h = subst (λ p. p < 64) (sym ((c .reader-position) .ensures)) (position-in-list ((c .before .before .before .before .before .before .before .before .before .before .args) .file .now) ((c .before .slot-at) .result) ((c .before .before .before .before .before .loop) .next)) in
     search needs
 
 nested-element-copy-out-target : (t : ℕ) → nested-lts.Need-element-copy-out-target (
-  next-slot-reads.Asked,
-  next-slot-reads.Learnt,
-  after-reads.Asked,
-  after-reads.Learnt,
+  begin-reads.Asked,
+  begin-reads.Learnt,
+  slot-at-reads.Asked,
+  slot-at-reads.Learnt,
   reader-position-reads.Asked,
   reader-position-reads.Learnt,
   value-reads.Asked,
   value-reads.Learnt,
   raw-below t,
   raw.Post,
+  after-reads.Asked,
+  after-reads.Learnt,
 ) (nested-at t) nested.Post nested-Inv-loop nested-μ-loop
 nested-element-copy-out-target t c =
-    let h = subst (λ p. p < 64) (sym ((c .reader-position) .ensures)) (position-in-list ((c .before .before .before .before .before .before .before .before .before .before .args) .file .now) ((c .before .before .before .slot) .given .0 .0) ((c .before .before .before .before .before .before .loop) .next)) in
+    let h = subst (λ p. p < 64) (sym ((c .reader-position) .ensures)) (position-in-list ((c .before .before .before .before .before .before .before .before .before .before .args) .file .now) ((c .before .slot-at) .result) ((c .before .before .before .before .before .loop) .next)) in
     search needs
 
 nested-value-requires : (t : ℕ) → nested-lts.Need-value-requires (
-  next-slot-reads.Asked,
-  next-slot-reads.Learnt,
-  after-reads.Asked,
-  after-reads.Learnt,
+  begin-reads.Asked,
+  begin-reads.Learnt,
+  slot-at-reads.Asked,
+  slot-at-reads.Learnt,
   reader-position-reads.Asked,
   reader-position-reads.Learnt,
   value-reads.Asked,
   value-reads.Learnt,
   raw-below t,
   raw.Post,
+  after-reads.Asked,
+  after-reads.Learnt,
 ) (nested-at t) nested.Post nested-Inv-loop nested-μ-loop
 nested-value-requires t c κs =
     let k = (c .before .before .before .before .before .before .before .before .before .before .before .before .pre) .1 .1 in
-    let inv = (c .before .before .before .before .before .before .before .before .loop) .inv (k .readers) ((c .before .before .before .before .before .before .before .before .before .before .before .before .pre) .1 .2 .plan) (k .listed) ((c .before .before .before .before .before .before .before .before .before .before .before .before .pre) .1 .2 .is) in
-    let v = value-next _ _ _ _ _ _ _ _ _ _ (k .prelude) inv (sym ((c .before .before .before .before .before .before .before .next-slot) .ensures) ∙ (c .before .before .before .before .before .slot) .given .1) in
-    (standing-begin _ _ _ _ _ _ _ _ _ _ ((c .before .before .before .before .before .before .before .before .before .before .before .before .pre) .1 .0) inv, record { rd = (c .before .before .before .before .before .before .before .before .before .before .before .before .args) .t3; readers = k .readers; has = (record { counts = refl; at = ap (λ p. getD ((c .before .before .before .before .before .before .before .before .before .before .before .before .args) .t3 .targets) p 0) (sym ((c .before .before .reader-position) .ensures)) }); listed = k .listed }, record { x = v .x; is = v .is })
+    let inv = (c .before .before .before .before .before .before .before .loop) .inv (k .readers) ((c .before .before .before .before .before .before .before .before .before .before .before .before .pre) .1 .2 .plan) (k .listed) ((c .before .before .before .before .before .before .before .before .before .before .before .before .pre) .1 .2 .is) in
+    let v = value-next _ _ _ _ _ _ _ _ _ _ _ (k .prelude) inv ((c .before .before .before .before .if1) .taken) in
+    (standing-begin _ _ _ _ _ _ _ _ _ _ _ ((c .before .before .before .before .before .before .before .before .before .before .before .before .pre) .1 .0) inv, record { rd = (c .before .before .before .before .before .before .before .before .before .before .before .before .args) .t3; readers = k .readers; has = record { counts = refl; at = ap (λ p. getD ((c .before .before .before .before .before .before .before .before .before .before .before .before .args) .t3 .targets) p 0) (sym ((c .before .before .reader-position) .ensures)) }; listed = k .listed }, record { x = v .x; is = rw ((c .before .before .before .slot-at) .ensures) (v .is) })
 
 nested-enum-known-reached : (t : ℕ) → nested-lts.Need-enum-known-reached (
-  next-slot-reads.Asked,
-  next-slot-reads.Learnt,
-  after-reads.Asked,
-  after-reads.Learnt,
+  begin-reads.Asked,
+  begin-reads.Learnt,
+  slot-at-reads.Asked,
+  slot-at-reads.Learnt,
   reader-position-reads.Asked,
   reader-position-reads.Learnt,
   value-reads.Asked,
   value-reads.Learnt,
   raw-below t,
   raw.Post,
+  after-reads.Asked,
+  after-reads.Learnt,
 ) (nested-at t) nested.Post nested-Inv-loop nested-μ-loop
 nested-enum-known-reached t c = search needs
 
 nested-enum-known-number : (t : ℕ) → nested-lts.Need-enum-known-number (
-  next-slot-reads.Asked,
-  next-slot-reads.Learnt,
-  after-reads.Asked,
-  after-reads.Learnt,
+  begin-reads.Asked,
+  begin-reads.Learnt,
+  slot-at-reads.Asked,
+  slot-at-reads.Learnt,
   reader-position-reads.Asked,
   reader-position-reads.Learnt,
   value-reads.Asked,
   value-reads.Learnt,
   raw-below t,
   raw.Post,
+  after-reads.Asked,
+  after-reads.Learnt,
 ) (nested-at t) nested.Post nested-Inv-loop nested-μ-loop
 nested-enum-known-number t c = search needs
 
-nested-same-length-2 : (t : ℕ) → nested-lts.Need-same-length-2 (
-  next-slot-reads.Asked,
-  next-slot-reads.Learnt,
-  after-reads.Asked,
-  after-reads.Learnt,
+nested-same-length : (t : ℕ) → nested-lts.Need-same-length (
+  begin-reads.Asked,
+  begin-reads.Learnt,
+  slot-at-reads.Asked,
+  slot-at-reads.Learnt,
   reader-position-reads.Asked,
   reader-position-reads.Learnt,
   value-reads.Asked,
   value-reads.Learnt,
   raw-below t,
   raw.Post,
+  after-reads.Asked,
+  after-reads.Learnt,
 ) (nested-at t) nested.Post nested-Inv-loop nested-μ-loop
-nested-same-length-2 t c =
-    let inv = (c .before .before .before .before .before .before .before .before .before .before .before .before .before .before .loop) .inv ((c .before .before .before .before .before .before .before .before .before .before .before .before .before .before .before .before .before .before .pre) .1 .1 .readers) ((c .before .before .before .before .before .before .before .before .before .before .before .before .before .before .before .before .before .before .pre) .1 .2 .plan) ((c .before .before .before .before .before .before .before .before .before .before .before .before .before .before .before .before .before .before .pre) .1 .1 .listed) ((c .before .before .before .before .before .before .before .before .before .before .before .before .before .before .before .before .before .before .pre) .1 .2 .is) in
+nested-same-length t c =
+    let inv = (c .before .before .before .before .before .before .before .before .before .before .before .before .before .loop) .inv ((c .before .before .before .before .before .before .before .before .before .before .before .before .before .before .before .before .before .before .pre) .1 .1 .readers) ((c .before .before .before .before .before .before .before .before .before .before .before .before .before .before .before .before .before .before .pre) .1 .2 .plan) ((c .before .before .before .before .before .before .before .before .before .before .before .before .before .before .before .before .before .before .pre) .1 .1 .listed) ((c .before .before .before .before .before .before .before .before .before .before .before .before .before .before .before .before .before .before .pre) .1 .2 .is) in
     let l = same _ _ _ _ _ _ _ (inv .read-so) in
     search needs
 
-nested-returns-2 : (t : ℕ) → nested-lts.Need-returns-2 (
-  next-slot-reads.Asked,
-  next-slot-reads.Learnt,
-  after-reads.Asked,
-  after-reads.Learnt,
+nested-returns : (t : ℕ) → nested-lts.Need-returns (
+  begin-reads.Asked,
+  begin-reads.Learnt,
+  slot-at-reads.Asked,
+  slot-at-reads.Learnt,
   reader-position-reads.Asked,
   reader-position-reads.Learnt,
   value-reads.Asked,
   value-reads.Learnt,
   raw-below t,
   raw.Post,
+  after-reads.Asked,
+  after-reads.Learnt,
 ) (nested-at t) nested.Post nested-Inv-loop nested-μ-loop
-nested-returns-2 t c =
+nested-returns t c =
     λ readers plan l w.
-    let inv = (c .before .before .before .before .before .before .before .before .before .before .before .before .before .before .loop) .inv readers plan l w in
-    let v = value-next _ _ _ _ _ _ _ _ _ _ ((c .before .before .before .before .before .before .before .before .before .before .before .before .before .before .before .before .before .before .pre) .1 .1 .prelude) inv (sym ((c .before .before .before .before .before .before .before .before .before .before .before .before .before .next-slot) .ensures) ∙ (c .before .before .before .before .before .before .before .before .before .before .before .slot) .given .1) in
-    let s = rw ((c .before .number) .given .1) at ((c .before .before .before .before .before .value) .ensures ((c .before .before .before .before .before .before .before .before .before .before .before .before .before .before .before .before .before .before .args) .t3) readers (v .x) (record { counts = refl; at = ap (λ p. getD ((c .before .before .before .before .before .before .before .before .before .before .before .before .before .before .before .before .before .before .args) .t3 .targets) p 0) (sym ((c .before .before .before .before .before .before .before .before .reader-position) .ensures)) }) l (v .is)) in
-    next-lost _ _ _ _ _ _ _ _ _ _ v (lost s refl)
+    let inv = (c .before .before .before .before .before .before .before .before .before .before .before .before .before .loop) .inv readers plan l w in
+    let v = value-next _ _ _ _ _ _ _ _ _ _ _ ((c .before .before .before .before .before .before .before .before .before .before .before .before .before .before .before .before .before .before .pre) .1 .1 .prelude) inv ((c .before .before .before .before .before .before .before .before .before .before .if1) .taken) in
+    let s = rw ((c .before .number) .given .1) at ((c .before .before .before .before .before .value) .ensures ((c .before .before .before .before .before .before .before .before .before .before .before .before .before .before .before .before .before .before .args) .t3) readers (v .x) (record { counts = refl; at = ap (λ p. getD ((c .before .before .before .before .before .before .before .before .before .before .before .before .before .before .before .before .before .before .args) .t3 .targets) p 0) (sym ((c .before .before .before .before .before .before .before .before .reader-position) .ensures)) }) l (rw ((c .before .before .before .before .before .before .before .before .before .slot-at) .ensures) (v .is))) in
+    next-lost _ _ _ _ _ _ _ _ _ _ _ v (lost s refl)
 
 nested-enum-known-id : (t : ℕ) → nested-lts.Need-enum-known-id (
-  next-slot-reads.Asked,
-  next-slot-reads.Learnt,
-  after-reads.Asked,
-  after-reads.Learnt,
+  begin-reads.Asked,
+  begin-reads.Learnt,
+  slot-at-reads.Asked,
+  slot-at-reads.Learnt,
   reader-position-reads.Asked,
   reader-position-reads.Learnt,
   value-reads.Asked,
   value-reads.Learnt,
   raw-below t,
   raw.Post,
+  after-reads.Asked,
+  after-reads.Learnt,
 ) (nested-at t) nested.Post nested-Inv-loop nested-μ-loop
 nested-enum-known-id t c = search needs
 
 nested-sub-raw : (t : ℕ) → nested-lts.Need-sub-raw (
-  next-slot-reads.Asked,
-  next-slot-reads.Learnt,
-  after-reads.Asked,
-  after-reads.Learnt,
+  begin-reads.Asked,
+  begin-reads.Learnt,
+  slot-at-reads.Asked,
+  slot-at-reads.Learnt,
   reader-position-reads.Asked,
   reader-position-reads.Learnt,
   value-reads.Asked,
   value-reads.Learnt,
   raw-below t,
   raw.Post,
+  after-reads.Asked,
+  after-reads.Learnt,
 ) (nested-at t) nested.Post nested-Inv-loop nested-μ-loop
 nested-sub-raw t c =
     let k = (c .before .before .before .before .before .before .before .before .before .before .before .before .before .before .before .before .before .before .before .pre) .1 .1 in
-    let inv = (c .before .before .before .before .before .before .before .before .before .before .before .before .before .before .before .loop) .inv (k .readers) ((c .before .before .before .before .before .before .before .before .before .before .before .before .before .before .before .before .before .before .before .pre) .1 .2 .plan) (k .listed) ((c .before .before .before .before .before .before .before .before .before .before .before .before .before .before .before .before .before .before .before .pre) .1 .2 .is) in
-    let v = value-next _ _ _ _ _ _ _ _ _ _ (k .prelude) inv (sym ((c .before .before .before .before .before .before .before .before .before .before .before .before .before .before .next-slot) .ensures) ∙ (c .before .before .before .before .before .before .before .before .before .before .before .before .slot) .given .1) in
-    let s = rw ((c .before .before .id) .given .1) at ((c .before .before .before .before .before .before .value) .ensures ((c .before .before .before .before .before .before .before .before .before .before .before .before .before .before .before .before .before .before .before .args) .t3) (k .readers) (v .x) (record { counts = refl; at = ap (λ p. getD ((c .before .before .before .before .before .before .before .before .before .before .before .before .before .before .before .before .before .before .before .args) .t3 .targets) p 0) (sym ((c .before .before .before .before .before .before .before .before .before .reader-position) .ensures)) }) (k .listed) (v .is)) in
+    let inv = (c .before .before .before .before .before .before .before .before .before .before .before .before .before .before .loop) .inv (k .readers) ((c .before .before .before .before .before .before .before .before .before .before .before .before .before .before .before .before .before .before .before .pre) .1 .2 .plan) (k .listed) ((c .before .before .before .before .before .before .before .before .before .before .before .before .before .before .before .before .before .before .before .pre) .1 .2 .is) in
+    let v = value-next _ _ _ _ _ _ _ _ _ _ _ (k .prelude) inv ((c .before .before .before .before .before .before .before .before .before .before .before .if1) .taken) in
+    let s = rw ((c .before .before .id) .given .1) at ((c .before .before .before .before .before .before .value) .ensures ((c .before .before .before .before .before .before .before .before .before .before .before .before .before .before .before .before .before .before .before .args) .t3) (k .readers) (v .x) (record { counts = refl; at = ap (λ p. getD ((c .before .before .before .before .before .before .before .before .before .before .before .before .before .before .before .before .before .before .before .args) .t3 .targets) p 0) (sym ((c .before .before .before .before .before .before .before .before .before .reader-position) .ensures)) }) (k .listed) (rw ((c .before .before .before .before .before .before .before .before .before .before .slot-at) .ensures) (v .is))) in
     omega (arith, s .begins .deep)
 
 nested-raw-requires : (t : ℕ) → nested-lts.Need-raw-requires (
-  next-slot-reads.Asked,
-  next-slot-reads.Learnt,
-  after-reads.Asked,
-  after-reads.Learnt,
+  begin-reads.Asked,
+  begin-reads.Learnt,
+  slot-at-reads.Asked,
+  slot-at-reads.Learnt,
   reader-position-reads.Asked,
   reader-position-reads.Learnt,
   value-reads.Asked,
   value-reads.Learnt,
   raw-below t,
   raw.Post,
+  after-reads.Asked,
+  after-reads.Learnt,
 ) (nested-at t) nested.Post nested-Inv-loop nested-μ-loop
 nested-raw-requires t c κs =
     let k = (c .before .before .before .before .before .before .before .before .before .before .before .before .before .before .before .before .before .before .before .pre) .1 .1 in
-    let inv = (c .before .before .before .before .before .before .before .before .before .before .before .before .before .before .before .loop) .inv (k .readers) ((c .before .before .before .before .before .before .before .before .before .before .before .before .before .before .before .before .before .before .before .pre) .1 .2 .plan) (k .listed) ((c .before .before .before .before .before .before .before .before .before .before .before .before .before .before .before .before .before .before .before .pre) .1 .2 .is) in
-    let v = value-next _ _ _ _ _ _ _ _ _ _ (k .prelude) inv (sym ((c .before .before .before .before .before .before .before .before .before .before .before .before .before .before .next-slot) .ensures) ∙ (c .before .before .before .before .before .before .before .before .before .before .before .before .slot) .given .1) in
-    let s = rw ((c .before .before .id) .given .1) at ((c .before .before .before .before .before .before .value) .ensures ((c .before .before .before .before .before .before .before .before .before .before .before .before .before .before .before .before .before .before .before .args) .t3) (k .readers) (v .x) (record { counts = refl; at = ap (λ p. getD ((c .before .before .before .before .before .before .before .before .before .before .before .before .before .before .before .before .before .before .before .args) .t3 .targets) p 0) (sym ((c .before .before .before .before .before .before .before .before .before .reader-position) .ensures)) }) (k .listed) (v .is)) in
-    let b = standing-begin _ _ _ _ _ _ _ _ _ _ ((c .before .before .before .before .before .before .before .before .before .before .before .before .before .before .before .before .before .before .before .pre) .1 .0) inv in
+    let inv = (c .before .before .before .before .before .before .before .before .before .before .before .before .before .before .loop) .inv (k .readers) ((c .before .before .before .before .before .before .before .before .before .before .before .before .before .before .before .before .before .before .before .pre) .1 .2 .plan) (k .listed) ((c .before .before .before .before .before .before .before .before .before .before .before .before .before .before .before .before .before .before .before .pre) .1 .2 .is) in
+    let v = value-next _ _ _ _ _ _ _ _ _ _ _ (k .prelude) inv ((c .before .before .before .before .before .before .before .before .before .before .before .if1) .taken) in
+    let s = rw ((c .before .before .id) .given .1) at ((c .before .before .before .before .before .before .value) .ensures ((c .before .before .before .before .before .before .before .before .before .before .before .before .before .before .before .before .before .before .before .args) .t3) (k .readers) (v .x) (record { counts = refl; at = ap (λ p. getD ((c .before .before .before .before .before .before .before .before .before .before .before .before .before .before .before .before .before .before .before .args) .t3 .targets) p 0) (sym ((c .before .before .before .before .before .before .before .before .before .reader-position) .ensures)) }) (k .listed) (rw ((c .before .before .before .before .before .before .before .before .before .before .slot-at) .ensures) (v .is))) in
+    let b = standing-begin _ _ _ _ _ _ _ _ _ _ _ ((c .before .before .before .before .before .before .before .before .before .before .before .before .before .before .before .before .before .before .before .pre) .1 .0) inv in
     (omega (arith, (c .before .before .before .before .before .before .before .before .before .before .before .before .before .before .before .before .before .before .before .pre) .0, s .begins .deep), (record { long = omega (arith, b .long, ap length (s .same)); few = b .few; free = s .begins .free; begun = s .begins .ahead; place = s .begins .inside; short = b .short }, k, record { type = s .begins .type; is = s .begins .stands; opened = s .opened }))
 
 nested-enum-known-reached-2 : (t : ℕ) → nested-lts.Need-enum-known-reached-2 (
-  next-slot-reads.Asked,
-  next-slot-reads.Learnt,
-  after-reads.Asked,
-  after-reads.Learnt,
+  begin-reads.Asked,
+  begin-reads.Learnt,
+  slot-at-reads.Asked,
+  slot-at-reads.Learnt,
   reader-position-reads.Asked,
   reader-position-reads.Learnt,
   value-reads.Asked,
   value-reads.Learnt,
   raw-below t,
   raw.Post,
+  after-reads.Asked,
+  after-reads.Learnt,
 ) (nested-at t) nested.Post nested-Inv-loop nested-μ-loop
 nested-enum-known-reached-2 t c = search needs
 
 nested-enum-known-number-2 : (t : ℕ) → nested-lts.Need-enum-known-number-2 (
-  next-slot-reads.Asked,
-  next-slot-reads.Learnt,
-  after-reads.Asked,
-  after-reads.Learnt,
+  begin-reads.Asked,
+  begin-reads.Learnt,
+  slot-at-reads.Asked,
+  slot-at-reads.Learnt,
   reader-position-reads.Asked,
   reader-position-reads.Learnt,
   value-reads.Asked,
   value-reads.Learnt,
   raw-below t,
   raw.Post,
+  after-reads.Asked,
+  after-reads.Learnt,
 ) (nested-at t) nested.Post nested-Inv-loop nested-μ-loop
 nested-enum-known-number-2 t c = search needs
 
-nested-same-length-3 : (t : ℕ) → nested-lts.Need-same-length-3 (
-  next-slot-reads.Asked,
-  next-slot-reads.Learnt,
-  after-reads.Asked,
-  after-reads.Learnt,
+nested-same-length-2 : (t : ℕ) → nested-lts.Need-same-length-2 (
+  begin-reads.Asked,
+  begin-reads.Learnt,
+  slot-at-reads.Asked,
+  slot-at-reads.Learnt,
   reader-position-reads.Asked,
   reader-position-reads.Learnt,
   value-reads.Asked,
   value-reads.Learnt,
   raw-below t,
   raw.Post,
+  after-reads.Asked,
+  after-reads.Learnt,
+) (nested-at t) nested.Post nested-Inv-loop nested-μ-loop
+nested-same-length-2 t c =
+    let inv = (c .before .before .before .before .before .before .before .before .before .before .before .before .before .before .before .before .before .before .before .before .loop) .inv ((c .before .before .before .before .before .before .before .before .before .before .before .before .before .before .before .before .before .before .before .before .before .before .before .before .before .pre) .1 .1 .readers) ((c .before .before .before .before .before .before .before .before .before .before .before .before .before .before .before .before .before .before .before .before .before .before .before .before .before .pre) .1 .2 .plan) ((c .before .before .before .before .before .before .before .before .before .before .before .before .before .before .before .before .before .before .before .before .before .before .before .before .before .pre) .1 .1 .listed) ((c .before .before .before .before .before .before .before .before .before .before .before .before .before .before .before .before .before .before .before .before .before .before .before .before .before .pre) .1 .2 .is) in
+    let l = same _ _ _ _ _ _ _ (inv .read-so) in
+    search needs
+
+nested-returns-2 : (t : ℕ) → nested-lts.Need-returns-2 (
+  begin-reads.Asked,
+  begin-reads.Learnt,
+  slot-at-reads.Asked,
+  slot-at-reads.Learnt,
+  reader-position-reads.Asked,
+  reader-position-reads.Learnt,
+  value-reads.Asked,
+  value-reads.Learnt,
+  raw-below t,
+  raw.Post,
+  after-reads.Asked,
+  after-reads.Learnt,
+) (nested-at t) nested.Post nested-Inv-loop nested-μ-loop
+nested-returns-2 t c =
+    λ readers plan l w.
+    let a = (c .before .before .before .before .before .before .before .before .before .before .before .before .before .before .before .before .before .before .before .before .before .before .before .before .before .args) in
+    let inv = (c .before .before .before .before .before .before .before .before .before .before .before .before .before .before .before .before .before .before .before .before .loop) .inv readers plan l w in
+    let v = value-next _ _ _ _ _ _ _ _ _ _ _ ((c .before .before .before .before .before .before .before .before .before .before .before .before .before .before .before .before .before .before .before .before .before .before .before .before .before .pre) .1 .1 .prelude) inv ((c .before .before .before .before .before .before .before .before .before .before .before .before .before .before .before .before .before .if1) .taken) in
+    let s = rw ((c .before .before .before .before .before .before .before .before .id) .given .1) at ((c .before .before .before .before .before .before .before .before .before .before .before .before .value) .ensures (a .t3) readers (v .x) (record { counts = refl; at = ap (λ p. getD (a .t3 .targets) p 0) (sym ((c .before .before .before .before .before .before .before .before .before .before .before .before .before .before .before .reader-position) .ensures)) }) l (rw ((c .before .before .before .before .before .before .before .before .before .before .before .before .before .before .before .before .slot-at) .ensures) (v .is))) in
+    next-lost _ _ _ _ _ _ _ _ _ _ _ v (lost (left-walked (a .grid) (a .shared) (a .depth - 1) (a .used) (omega (arith, s .begins .deep)) s ((c .before .before .before .before .before .raw) .ensures readers (s .begins .type) l (s .begins .stands) (s .opened))) ((c .before .number2) .given .1))
+
+nested-after-requires : (t : ℕ) → nested-lts.Need-after-requires (
+  begin-reads.Asked,
+  begin-reads.Learnt,
+  slot-at-reads.Asked,
+  slot-at-reads.Learnt,
+  reader-position-reads.Asked,
+  reader-position-reads.Learnt,
+  value-reads.Asked,
+  value-reads.Learnt,
+  raw-below t,
+  raw.Post,
+  after-reads.Asked,
+  after-reads.Learnt,
+) (nested-at t) nested.Post nested-Inv-loop nested-μ-loop
+nested-after-requires t c κs = search needs
+
+-- a value is walked
+nested-walked : (t : ℕ) (c : nested-lts.After-after (
+  begin-reads.Asked,
+  begin-reads.Learnt,
+  slot-at-reads.Asked,
+  slot-at-reads.Learnt,
+  reader-position-reads.Asked,
+  reader-position-reads.Learnt,
+  value-reads.Asked,
+  value-reads.Learnt,
+  raw-below t,
+  raw.Post,
+  after-reads.Asked,
+  after-reads.Learnt,
+) (nested-at t) nested.Post nested-Inv-loop nested-μ-loop) (readers : List Target) (plan : L.Plan) → Listed ((c .before .before .before .before .before .before .before .before .before .before .before .before .before .before .before .before .before .args) .codes .now) ((c .before .before .before .before .before .before .before .before .before .before .before .before .before .before .before .before .before .args) .t3) readers → NestIs ((c .before .before .before .before .before .before .before .before .before .before .before .before .before .before .before .before .before .args) .codes .now) ((c .before .before .before .before .before .before .before .before .before .before .before .before .before .before .before .before .before .args) .nest) plan
+    → Standing ((c .before .before .before .before .before .before .before .before .before .before .before .before .before .before .before .before .before .args) .grid) ((c .before .before .before .before .before .before .before .before .before .before .before .before .before .before .before .before .before .args) .file .now) ((c .before .before .before .before .before .before .before .before .before .before .before .before .before .before .before .before .before .args) .codes .now) readers ((c .before .before .before .before .before .before .before .before .before .before .before .before .before .before .before .before .before .args) .shared) ((c .before .before .before .before .before .before .before .before .before .before .before .before .before .before .before .before .before .args) .depth) plan ((c .before .before .before .before .before .before .before .before .before .before .before .before .before .before .before .before .before .args) .words .now) ((c .before .before .before .before .before .before .before .before .before .before .before .before .before .before .before .before .before .args) .at) ((c .before .before .before .before .before .before .before .before .before .before .before .before .before .before .before .before .before .args) .used) ((c .before .before .before .before .before .before .before .before .before .before .before .before .before .before .before .before .before .args) .nest) ((c .before .match) .words) (afterOf ((c .before .before .before .before .before .before .before .before .before .before .before .before .loop) .stage)) ((c .before .match) .next) ((c .before .match) .row) × ((c .before .before .before .before .before .before .before .before .before .before .before .before .loop) .row < (c .before .match) .row) × ((c .before .match) .row ≤ (c .before .before .before .before .before .before .before .before .before .before .before .before .before .before .before .before .before .args) .grid .room)
+nested-walked t c readers plan l n =
+    let a = (c .before .before .before .before .before .before .before .before .before .before .before .before .before .before .before .before .before .args) in
+    let file = a .file .now in
+    let small = small-by-index file (λ i h. omega (arith, (c .before .before .before .before .before .before .before .before .before .before .before .before .before .before .before .before .shared-slice-known) .given i)) in
+    let inv = (c .before .before .before .before .before .before .before .before .before .before .before .before .loop) .inv readers plan l n in
+    let v = value-next _ _ _ _ _ _ _ _ _ _ _ ((c .before .before .before .before .before .before .before .before .before .before .before .before .before .before .before .before .before .pre) .1 .1 .prelude) inv ((c .before .before .before .before .before .before .before .before .before .if1) .taken) in
+    let s = (c .before .before .before .before .value) .ensures (a .t3) readers (v .x) (record { counts = refl; at = ap (λ p. getD (a .t3 .targets) p 0) (sym ((c .before .before .before .before .before .before .before .reader-position) .ensures)) }) l (rw ((c .before .before .before .before .before .before .before .before .slot-at) .ensures) (v .is)) in
+    let y : Got (a .grid) ((c .before .before .before .before .before .before .before .before .before .before .before .before .loop) .words) ((c .before .match) .words) ((c .before .before .before .before .before .before .before .before .before .before .before .before .loop) .row) (walk file readers (a .shared) (a .grid .room) (a .depth) (v .x) ((c .before .before .before .before .before .before .before .before .before .before .before .before .loop) .next) ((c .before .before .before .before .before .before .before .before .before .before .before .before .loop) .row) (a .used)) ((c .before .match) .next) ((c .before .match) .row) =
+    ⊎-elim
+    (λ w. got-as (got (rw (w .1 .given .1) at s) refl) (w .3) (w .4) (w .5))
+    (λ w. let q = rw (w .1 .given .1) at s in got-as (got (left-walked (a .grid) (a .shared) (a .depth - 1) (a .used) (omega (arith, q .begins .deep)) q (w .4 .ensures readers (q .begins .type) l (q .begins .stands) (q .opened))) (w .8 .given .1)) (w .10) (w .11) (w .12))
+    ((c .before .match) .came) in
+    next-walked _ _ _ _ _ _ _ _ _ _ _ small ((c .before .before .before .before .before .before .before .before .before .before .before .before .before .before .before .before .before .pre) .1 .0) v y
+
+nested-loop-less : (t : ℕ) → nested-lts.Need-loop-less (
+  begin-reads.Asked,
+  begin-reads.Learnt,
+  slot-at-reads.Asked,
+  slot-at-reads.Learnt,
+  reader-position-reads.Asked,
+  reader-position-reads.Learnt,
+  value-reads.Asked,
+  value-reads.Learnt,
+  raw-below t,
+  raw.Post,
+  after-reads.Asked,
+  after-reads.Learnt,
+) (nested-at t) nested.Post nested-Inv-loop nested-μ-loop
+nested-loop-less t c =
+    let k = (c .before .before .before .before .before .before .before .before .before .before .before .before .before .before .before .before .before .pre) .1 .1 in
+    let z = nested-walked t c (k .readers) ((c .before .before .before .before .before .before .before .before .before .before .before .before .before .before .before .before .before .pre) .1 .2 .plan) (k .listed) ((c .before .before .before .before .before .before .before .before .before .before .before .before .before .before .before .before .before .pre) .1 .2 .is) in
+    omega (arith, z .1, z .2)
+
+nested-loop-again : (t : ℕ) → nested-lts.Need-loop-again (
+  begin-reads.Asked,
+  begin-reads.Learnt,
+  slot-at-reads.Asked,
+  slot-at-reads.Learnt,
+  reader-position-reads.Asked,
+  reader-position-reads.Learnt,
+  value-reads.Asked,
+  value-reads.Learnt,
+  raw-below t,
+  raw.Post,
+  after-reads.Asked,
+  after-reads.Learnt,
+) (nested-at t) nested.Post nested-Inv-loop nested-μ-loop
+nested-loop-again t c = λ readers plan l n. rw ((c .after) .ensures) (nested-walked t c readers plan l n .0)
+
+nested-same-length-3 : (t : ℕ) → nested-lts.Need-same-length-3 (
+  begin-reads.Asked,
+  begin-reads.Learnt,
+  slot-at-reads.Asked,
+  slot-at-reads.Learnt,
+  reader-position-reads.Asked,
+  reader-position-reads.Learnt,
+  value-reads.Asked,
+  value-reads.Learnt,
+  raw-below t,
+  raw.Post,
+  after-reads.Asked,
+  after-reads.Learnt,
 ) (nested-at t) nested.Post nested-Inv-loop nested-μ-loop
 nested-same-length-3 t c =
-    let inv = (c .before .before .before .before .before .before .before .before .before .before .before .before .before .before .before .before .before .before .before .before .before .loop) .inv ((c .before .before .before .before .before .before .before .before .before .before .before .before .before .before .before .before .before .before .before .before .before .before .before .before .before .pre) .1 .1 .readers) ((c .before .before .before .before .before .before .before .before .before .before .before .before .before .before .before .before .before .before .before .before .before .before .before .before .before .pre) .1 .2 .plan) ((c .before .before .before .before .before .before .before .before .before .before .before .before .before .before .before .before .before .before .before .before .before .before .before .before .before .pre) .1 .1 .listed) ((c .before .before .before .before .before .before .before .before .before .before .before .before .before .before .before .before .before .before .before .before .before .before .before .before .before .pre) .1 .2 .is) in
+    let inv = (c .before .before .before .loop) .inv ((c .before .before .before .before .before .before .before .before .pre) .1 .1 .readers) ((c .before .before .before .before .before .before .before .before .pre) .1 .2 .plan) ((c .before .before .before .before .before .before .before .before .pre) .1 .1 .listed) ((c .before .before .before .before .before .before .before .before .pre) .1 .2 .is) in
     let l = same _ _ _ _ _ _ _ (inv .read-so) in
     search needs
 
 nested-returns-3 : (t : ℕ) → nested-lts.Need-returns-3 (
-  next-slot-reads.Asked,
-  next-slot-reads.Learnt,
-  after-reads.Asked,
-  after-reads.Learnt,
+  begin-reads.Asked,
+  begin-reads.Learnt,
+  slot-at-reads.Asked,
+  slot-at-reads.Learnt,
   reader-position-reads.Asked,
   reader-position-reads.Learnt,
   value-reads.Asked,
   value-reads.Learnt,
   raw-below t,
   raw.Post,
+  after-reads.Asked,
+  after-reads.Learnt,
 ) (nested-at t) nested.Post nested-Inv-loop nested-μ-loop
 nested-returns-3 t c =
-    λ readers plan l w.
-    let a = (c .before .before .before .before .before .before .before .before .before .before .before .before .before .before .before .before .before .before .before .before .before .before .before .before .before .args) in
-    let inv = (c .before .before .before .before .before .before .before .before .before .before .before .before .before .before .before .before .before .before .before .before .before .loop) .inv readers plan l w in
-    let v = value-next _ _ _ _ _ _ _ _ _ _ ((c .before .before .before .before .before .before .before .before .before .before .before .before .before .before .before .before .before .before .before .before .before .before .before .before .before .pre) .1 .1 .prelude) inv (sym ((c .before .before .before .before .before .before .before .before .before .before .before .before .before .before .before .before .before .before .before .before .next-slot) .ensures) ∙ (c .before .before .before .before .before .before .before .before .before .before .before .before .before .before .before .before .before .before .slot) .given .1) in
-    let s = rw ((c .before .before .before .before .before .before .before .before .id) .given .1) at ((c .before .before .before .before .before .before .before .before .before .before .before .before .value) .ensures ((c .before .before .before .before .before .before .before .before .before .before .before .before .before .before .before .before .before .before .before .before .before .before .before .before .before .args) .t3) readers (v .x) (record { counts = refl; at = ap (λ p. getD ((c .before .before .before .before .before .before .before .before .before .before .before .before .before .before .before .before .before .before .before .before .before .before .before .before .before .args) .t3 .targets) p 0) (sym ((c .before .before .before .before .before .before .before .before .before .before .before .before .before .before .before .reader-position) .ensures)) }) l (v .is)) in
-    next-lost _ _ _ _ _ _ _ _ _ _ v (lost (left-walked (a .grid) (a .shared) (a .depth - 1) (a .used) (omega (arith, s .begins .deep)) s ((c .before .before .before .before .before .raw) .ensures readers (s .begins .type) l (s .begins .stands) (s .opened))) ((c .before .number2) .given .1))
-
-nested-after-requires : (t : ℕ) → nested-lts.Need-after-requires (
-  next-slot-reads.Asked,
-  next-slot-reads.Learnt,
-  after-reads.Asked,
-  after-reads.Learnt,
-  reader-position-reads.Asked,
-  reader-position-reads.Learnt,
-  value-reads.Asked,
-  value-reads.Learnt,
-  raw-below t,
-  raw.Post,
-) (nested-at t) nested.Post nested-Inv-loop nested-μ-loop
-nested-after-requires t c κs = search needs
-
-nested-add-i : (t : ℕ) → nested-lts.Need-add-i (
-  next-slot-reads.Asked,
-  next-slot-reads.Learnt,
-  after-reads.Asked,
-  after-reads.Learnt,
-  reader-position-reads.Asked,
-  reader-position-reads.Learnt,
-  value-reads.Asked,
-  value-reads.Learnt,
-  raw-below t,
-  raw.Post,
-) (nested-at t) nested.Post nested-Inv-loop nested-μ-loop
-nested-add-i t c =
-    let a = (c .before .before .before .before .before .before .before .before .before .before .before .before .before .before .before .before .args) in
-    let file = a .file .now in
-    let small = small-by-index file (λ i h. omega (arith, (c .before .before .before .before .before .before .before .before .before .before .before .before .before .before .before .shared-slice-known) .given i)) in
-    let inv = (c .before .before .before .before .before .before .before .before .before .before .before .before .loop) .inv ((c .before .before .before .before .before .before .before .before .before .before .before .before .before .before .before .before .pre) .1 .1 .readers) ((c .before .before .before .before .before .before .before .before .before .before .before .before .before .before .before .before .pre) .1 .2 .plan) ((c .before .before .before .before .before .before .before .before .before .before .before .before .before .before .before .before .pre) .1 .1 .listed) ((c .before .before .before .before .before .before .before .before .before .before .before .before .before .before .before .before .pre) .1 .2 .is) in
-    let v = value-next _ _ _ _ _ _ _ _ _ _ ((c .before .before .before .before .before .before .before .before .before .before .before .before .before .before .before .before .pre) .1 .1 .prelude) inv (sym ((c .before .before .before .before .before .before .before .before .before .before .before .next-slot) .ensures) ∙ (c .before .before .before .before .before .before .before .before .before .slot) .given .1) in
-    let s = (c .before .before .before .value) .ensures ((c .before .before .before .before .before .before .before .before .before .before .before .before .before .before .before .before .args) .t3) ((c .before .before .before .before .before .before .before .before .before .before .before .before .before .before .before .before .pre) .1 .1 .readers) (v .x) (record { counts = refl; at = ap (λ p. getD ((c .before .before .before .before .before .before .before .before .before .before .before .before .before .before .before .before .args) .t3 .targets) p 0) (sym ((c .before .before .before .before .before .before .reader-position) .ensures)) }) ((c .before .before .before .before .before .before .before .before .before .before .before .before .before .before .before .before .pre) .1 .1 .listed) (v .is) in
-    let y : Got (a .grid) ((c .before .before .before .before .before .before .before .before .before .before .before .before .loop) .words) ((c .match2) .words) ((c .before .before .before .before .before .before .before .before .before .before .before .before .loop) .row) (walk file ((c .before .before .before .before .before .before .before .before .before .before .before .before .before .before .before .before .pre) .1 .1 .readers) (a .shared) (a .grid .room) (a .depth) (v .x) ((c .before .before .before .before .before .before .before .before .before .before .before .before .loop) .next) ((c .before .before .before .before .before .before .before .before .before .before .before .before .loop) .row) (a .used)) ((c .match2) .next) ((c .match2) .row) =
-    ⊎-elim
-    (λ w. got-as (got (rw (w .1 .given .1) at s) refl) (w .3) (w .4) (w .5))
-    (λ w. let q = rw (w .1 .given .1) at s in got-as (got (left-walked (a .grid) (a .shared) (a .depth - 1) (a .used) (omega (arith, q .begins .deep)) q (w .4 .ensures ((c .before .before .before .before .before .before .before .before .before .before .before .before .before .before .before .before .pre) .1 .1 .readers) (q .begins .type) ((c .before .before .before .before .before .before .before .before .before .before .before .before .before .before .before .before .pre) .1 .1 .listed) (q .begins .stands) (q .opened))) (w .8 .given .1)) (w .10) (w .11) (w .12))
-    ((c .match2) .came) in
-    let z = next-walked _ _ _ _ _ _ _ _ _ _ small v y in
-    record { fits = omega (arith, z .0 .ahead, z .0 .read-so .fits ((c .before .before .before .before .before .before .before .before .before .before .before .before .before .before .before .before .pre) .1 .0 .rows), (c .before .before .before .before .before .before .before .before .before .before .before .before .before .before .before .before .pre) .1 .0 .few) }
-
-nested-loop-less : (t : ℕ) → nested-lts.Need-loop-less (
-  next-slot-reads.Asked,
-  next-slot-reads.Learnt,
-  after-reads.Asked,
-  after-reads.Learnt,
-  reader-position-reads.Asked,
-  reader-position-reads.Learnt,
-  value-reads.Asked,
-  value-reads.Learnt,
-  raw-below t,
-  raw.Post,
-) (nested-at t) nested.Post nested-Inv-loop nested-μ-loop
-nested-loop-less t c =
-    let a = (c .before .before .before .before .before .before .before .before .before .before .before .before .before .before .before .before .args) in
-    let file = a .file .now in
-    let small = small-by-index file (λ i h. omega (arith, (c .before .before .before .before .before .before .before .before .before .before .before .before .before .before .before .shared-slice-known) .given i)) in
-    let inv = (c .before .before .before .before .before .before .before .before .before .before .before .before .loop) .inv ((c .before .before .before .before .before .before .before .before .before .before .before .before .before .before .before .before .pre) .1 .1 .readers) ((c .before .before .before .before .before .before .before .before .before .before .before .before .before .before .before .before .pre) .1 .2 .plan) ((c .before .before .before .before .before .before .before .before .before .before .before .before .before .before .before .before .pre) .1 .1 .listed) ((c .before .before .before .before .before .before .before .before .before .before .before .before .before .before .before .before .pre) .1 .2 .is) in
-    let v = value-next _ _ _ _ _ _ _ _ _ _ ((c .before .before .before .before .before .before .before .before .before .before .before .before .before .before .before .before .pre) .1 .1 .prelude) inv (sym ((c .before .before .before .before .before .before .before .before .before .before .before .next-slot) .ensures) ∙ (c .before .before .before .before .before .before .before .before .before .slot) .given .1) in
-    let s = (c .before .before .before .value) .ensures ((c .before .before .before .before .before .before .before .before .before .before .before .before .before .before .before .before .args) .t3) ((c .before .before .before .before .before .before .before .before .before .before .before .before .before .before .before .before .pre) .1 .1 .readers) (v .x) (record { counts = refl; at = ap (λ p. getD ((c .before .before .before .before .before .before .before .before .before .before .before .before .before .before .before .before .args) .t3 .targets) p 0) (sym ((c .before .before .before .before .before .before .reader-position) .ensures)) }) ((c .before .before .before .before .before .before .before .before .before .before .before .before .before .before .before .before .pre) .1 .1 .listed) (v .is) in
-    let y : Got (a .grid) ((c .before .before .before .before .before .before .before .before .before .before .before .before .loop) .words) ((c .match2) .words) ((c .before .before .before .before .before .before .before .before .before .before .before .before .loop) .row) (walk file ((c .before .before .before .before .before .before .before .before .before .before .before .before .before .before .before .before .pre) .1 .1 .readers) (a .shared) (a .grid .room) (a .depth) (v .x) ((c .before .before .before .before .before .before .before .before .before .before .before .before .loop) .next) ((c .before .before .before .before .before .before .before .before .before .before .before .before .loop) .row) (a .used)) ((c .match2) .next) ((c .match2) .row) =
-    ⊎-elim
-    (λ w. got-as (got (rw (w .1 .given .1) at s) refl) (w .3) (w .4) (w .5))
-    (λ w. let q = rw (w .1 .given .1) at s in got-as (got (left-walked (a .grid) (a .shared) (a .depth - 1) (a .used) (omega (arith, q .begins .deep)) q (w .4 .ensures ((c .before .before .before .before .before .before .before .before .before .before .before .before .before .before .before .before .pre) .1 .1 .readers) (q .begins .type) ((c .before .before .before .before .before .before .before .before .before .before .before .before .before .before .before .before .pre) .1 .1 .listed) (q .begins .stands) (q .opened))) (w .8 .given .1)) (w .10) (w .11) (w .12))
-    ((c .match2) .came) in
-    let z = next-walked _ _ _ _ _ _ _ _ _ _ small v y in
-    omega (arith, z .1, z .0 .read-so .fits ((c .before .before .before .before .before .before .before .before .before .before .before .before .before .before .before .before .pre) .1 .0 .rows))
-
-nested-loop-again : (t : ℕ) → nested-lts.Need-loop-again (
-  next-slot-reads.Asked,
-  next-slot-reads.Learnt,
-  after-reads.Asked,
-  after-reads.Learnt,
-  reader-position-reads.Asked,
-  reader-position-reads.Learnt,
-  value-reads.Asked,
-  value-reads.Learnt,
-  raw-below t,
-  raw.Post,
-) (nested-at t) nested.Post nested-Inv-loop nested-μ-loop
-nested-loop-again t c =
-    λ readers plan l n.
-    let a = (c .before .before .before .before .before .before .before .before .before .before .before .before .before .before .before .before .args) in
-    let file = a .file .now in
-    let small = small-by-index file (λ i h. omega (arith, (c .before .before .before .before .before .before .before .before .before .before .before .before .before .before .before .shared-slice-known) .given i)) in
-    let inv = (c .before .before .before .before .before .before .before .before .before .before .before .before .loop) .inv readers plan l n in
-    let v = value-next _ _ _ _ _ _ _ _ _ _ ((c .before .before .before .before .before .before .before .before .before .before .before .before .before .before .before .before .pre) .1 .1 .prelude) inv (sym ((c .before .before .before .before .before .before .before .before .before .before .before .next-slot) .ensures) ∙ (c .before .before .before .before .before .before .before .before .before .slot) .given .1) in
-    let s = (c .before .before .before .value) .ensures ((c .before .before .before .before .before .before .before .before .before .before .before .before .before .before .before .before .args) .t3) readers (v .x) (record { counts = refl; at = ap (λ p. getD ((c .before .before .before .before .before .before .before .before .before .before .before .before .before .before .before .before .args) .t3 .targets) p 0) (sym ((c .before .before .before .before .before .before .reader-position) .ensures)) }) l (v .is) in
-    let y : Got (a .grid) ((c .before .before .before .before .before .before .before .before .before .before .before .before .loop) .words) ((c .match2) .words) ((c .before .before .before .before .before .before .before .before .before .before .before .before .loop) .row) (walk file readers (a .shared) (a .grid .room) (a .depth) (v .x) ((c .before .before .before .before .before .before .before .before .before .before .before .before .loop) .next) ((c .before .before .before .before .before .before .before .before .before .before .before .before .loop) .row) (a .used)) ((c .match2) .next) ((c .match2) .row) =
-    ⊎-elim
-    (λ w. got-as (got (rw (w .1 .given .1) at s) refl) (w .3) (w .4) (w .5))
-    (λ w. let q = rw (w .1 .given .1) at s in got-as (got (left-walked (a .grid) (a .shared) (a .depth - 1) (a .used) (omega (arith, q .begins .deep)) q (w .4 .ensures readers (q .begins .type) l (q .begins .stands) (q .opened))) (w .8 .given .1)) (w .10) (w .11) (w .12))
-    ((c .match2) .came) in
-    let z = next-walked _ _ _ _ _ _ _ _ _ _ small v y in
-    rw ((c .before .before .before .before .before .before .before .after) .ensures) (z .0)
+    λ readers plan l w. nothing-next _ _ _ _ _ _ _ _ _ _ _ ((c .before .before .before .loop) .inv readers plan l w) ((c .if1) .left)
 
 raw-add-first : (t : ℕ) → raw-lts.Need-add-first (
   nested-below t,
@@ -499,8 +526,7 @@ raw-add-first : (t : ℕ) → raw-lts.Need-add-first (
   close-reads.Asked,
   close-reads.Learnt,
 ) (raw-at t) raw.Post
-raw-add-first t c =
-    omega (arith, (c .before .before .before .before .pre) .1 .0 .free)
+raw-add-first t c = omega (arith, (c .before .before .before .before .pre) .1 .0 .free)
 
 raw-nested-requires : (t : ℕ) → raw-lts.Need-nested-requires (
   nested-below t,
@@ -513,7 +539,7 @@ raw-nested-requires : (t : ℕ) → raw-lts.Need-nested-requires (
 raw-nested-requires t c κs =
     let k = (c .before .before .before .before .before .pre) .1 .2 in
     let small = small-by-index ((c .before .before .before .before .before .args) .file .now) (λ i h. omega (arith, (c .before .before .before .before .shared-slice-known) .given i)) in
-    (omega (arith, (c .before .before .before .before .before .pre) .0), (begin-below (k .type) small ((c .before .before .before .before .before .pre) .1 .0) (k .opened .is), (c .before .before .before .before .before .pre) .1 .1, record { plan = _; is = k .opened .stands }))
+    (omega (arith, (c .before .before .before .before .before .pre) .0), (begin-below (k .type) small ((c .before .before .before .before .before .pre) .1 .0) (k .opened .is), (c .before .before .before .before .before .pre) .1 .1, record { plan = _; is = begins _ _ _ (k .opened .stands) }))
 
 raw-enum-known-number : (t : ℕ) → raw-lts.Need-enum-known-number (
   nested-below t,
@@ -586,7 +612,7 @@ raw-returns : (t : ℕ) → raw-lts.Need-returns (
 raw-returns t c =
     λ readers t l i o.
     let a = (c .before .before .before .before .before .before .before .before .before .before .before .args) in
-    raw-lost (a .grid) (a .file .now) (a .h) (a .at) t readers (a .shared) (a .depth) o (counts-refused _ (rw ((c .before .number) .given .1) at ((c .before .before .before .before .before .nested) .ensures readers _ l (o .stands))))
+    raw-lost (a .grid) (a .file .now) (a .h) (a .at) t readers (a .shared) (a .depth) o (counts-refused _ (rw ((c .before .number) .given .1) at ((c .before .before .before .before .before .nested) .ensures readers _ l (begins _ _ _ (o .stands)))))
 
 raw-same-length-2 : (t : ℕ) → raw-lts.Need-same-length-2 (
   nested-below t,
@@ -611,51 +637,52 @@ raw-returns-2 t c =
     let a = (c .before .before .before .before .before .before .before .before .before .before .before .before .before .before .before .before .args) in
     let small = small-by-index (a .file .now) (λ j h. omega (arith, (c .before .before .before .before .before .before .before .before .before .before .before .before .before .before .before .shared-slice-known) .given j)) in
     let e = (c .before .before .close) .ensures in
-    let x = counts-walked _ (rw ((c .before .before .before .before .before .before .count) .given .1) at ((c .before .before .before .before .before .before .before .before .before .before .nested) .ensures readers _ l (o .stands))) in
+    let x = counts-walked _ (rw ((c .before .before .before .before .before .before .count) .given .1) at ((c .before .before .before .before .before .before .before .before .before .before .nested) .ensures readers _ l (begins _ _ _ (o .stands)))) in
     rw (e .0, e .1) (raw-ends (a .grid) (a .file .now) (a .h) (a .at) t readers (a .shared) (a .depth) _ _ _ small ((c .before .before .before .before .before .before .before .before .before .before .before .before .before .before .before .before .pre) .1 .0) (i .stands .lawful) o (x .1) ((c .before .before .before .before .kind-at) .ensures ∙ kind-is (i .stands)) (x .0))
 
 pub +nested+raw-spec : {M : Type 1} → statement M
 +nested+raw-spec = close μ-nested μ-raw (λ t. nested-lts.spec (
-  next-slot-reads.Asked,
-  next-slot-reads.Learnt,
-  after-reads.Asked,
-  after-reads.Learnt,
+  begin-reads.Asked,
+  begin-reads.Learnt,
+  slot-at-reads.Asked,
+  slot-at-reads.Learnt,
   reader-position-reads.Asked,
   reader-position-reads.Learnt,
   value-reads.Asked,
   value-reads.Learnt,
   raw-below t,
   raw.Post,
+  after-reads.Asked,
+  after-reads.Learnt,
 )
     (nested-at t)
     nested.Post
     nested-Inv-loop
     nested-μ-loop
+    (nested-begin-requires t)
     (nested-loop-holds t)
-    (nested-next-slot-requires t)
-    (nested-enum-told t)
-    (nested-same-length t)
-    (nested-returns t)
-    (nested-enum-known-slot t)
-    (nested-after-requires t)
+    (nested-cast-if1 t)
+    (nested-slot-at-requires t)
     (nested-reader-position-requires t)
     (nested-mul-target t)
     (nested-element-copy-out-target t)
     (nested-value-requires t)
     (nested-enum-known-reached t)
     (nested-enum-known-number t)
-    (nested-same-length-2 t)
-    (nested-returns-2 t)
+    (nested-same-length t)
+    (nested-returns t)
     (nested-enum-known-id t)
     (nested-sub-raw t)
     (nested-raw-requires t)
     (nested-enum-known-reached-2 t)
     (nested-enum-known-number-2 t)
-    (nested-same-length-3 t)
-    (nested-returns-3 t)
-    (nested-add-i t)
+    (nested-same-length-2 t)
+    (nested-returns-2 t)
+    (nested-after-requires t)
     (nested-loop-less t)
-    (nested-loop-again t))
+    (nested-loop-again t)
+    (nested-same-length-3 t)
+    (nested-returns-3 t))
     λ t. raw-lts.spec (
       nested-below t,
       nested.Post,

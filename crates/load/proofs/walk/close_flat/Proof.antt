@@ -7,22 +7,19 @@ use Rattle.reading.specs.Heads.{headAt}
 use Rattle.table.specs.Leaf.{inWord}
 use Rattle.leaves.specs.Run.{run-walked}
 use Rattle.load.specs.Walks.{OpenedAs, begin-below}
-use Rattle.load.specs.Steps.{raw-told, raw-ends, nothing-below, slots-are}
+use Rattle.load.specs.Steps.{raw-told, plain-ends, nothing-below, slots-are}
 use borrow.Author.Needs.{needs}
 use Rattle.load.proofs.walk.close_flat.Statement.{statement}
 use Rattle.load.proofs.walk.close_flat.Tie as tie
 
 add-first : tie.Need-add-first
-add-first c = omega (arith, c .before .before .before .pre .free)
+add-first c = omega (arith, c .before .before .before .pre .0 .free)
 
 enum-told : tie.Need-enum-told
 enum-told c = search needs
 
-close-requires : tie.Need-close-requires
-close-requires c κs = search needs
-
-walked-step-requires : tie.Need-walked-step-requires
-walked-step-requires c κs = search needs
+close-plain-requires : tie.Need-close-plain-requires
+close-plain-requires c κs = search needs
 
 enum-known-below : tie.Need-enum-known-below
 enum-known-below c = search needs
@@ -36,11 +33,8 @@ word-requires c κs = search needs
 read-run-requires : tie.Need-read-run-requires
 read-run-requires c κs = search needs
 
-close-requires-2 : tie.Need-close-requires-2
-close-requires-2 c κs = search needs
-
-walked-step-requires-2 : tie.Need-walked-step-requires-2
-walked-step-requires-2 c κs = search needs
+close-plain-requires-2 : tie.Need-close-plain-requires-2
+close-plain-requires-2 c κs = search needs
 
 enum-known-below-2 : tie.Need-enum-known-below-2
 enum-known-below-2 c = search needs
@@ -51,28 +45,30 @@ same-length c = search needs
 returns : tie.Need-returns
 unfolding inWord
 returns c = λ codes readers t i k o.
-    let a = c .before .before .before .before .before .before .before .before .before .before .args in
-    let r = c .before .before .before .before .before .before .before .before .before .before .pre in
-    let small = small-by-index (a .file .now) (λ j h. omega (arith, c .before .before .before .before .before .before .before .before .before .shared-slice-known .given j)) in
-    let v = rw (c .before .before .before .before .before .enum-told .given .1) at (o .stands) in
-    let e = c .before .before .before .close .ensures in
+    let a = c .before .before .before .before .before .before .before .before .before .args in
+    let r = c .before .before .before .before .before .before .before .before .before .pre .0 in
+    let small = small-by-index (a .file .now) (λ j h. omega (arith, c .before .before .before .before .before .before .before .before .shared-slice-known .given j)) in
+    let v = rw (c .before .before .before .before .enum-told .given .1) at (o .stands) in
+    let x = rw (c .before .before .before .before .enum-told .given .1) at (c .before .before .before .before .before .before .before .before .before .pre .1) in
+    let e = c .before .before .close-plain .ensures in
     let n = slots-are (a .grid) (a .file .now) small readers (a .shared) (a .depth) (o .slots) (a .next) (a .h .row .0 + 1) 0 (omega (arith, r .free)) (r .few) (rw v refl) in
-    rw (c .walked-step .ensures, e .0, e .1) (raw-told (a .grid) (a .file .now) codes readers (a .shared) (a .depth) t (a .place) (a .h) (a .at) _ (raw-ends (a .grid) (a .file .now) (a .h) (a .at) t readers (a .shared) (a .depth) 0 (a .kind) _ small r (i .stands .lawful) o n k (nothing-below (a .grid) _ (o .slots) (a .words .now) (a .next) (a .h .row .0 + 1) v)))
+    rw (e .0, e .1) (raw-told (a .grid) (a .file .now) codes readers (a .shared) (a .depth) t (a .place) (a .h) (a .at) _ (plain-ends (a .grid) (a .file .now) (a .h) (a .at) t readers (a .shared) (a .depth) 0 (a .kind) _ x small r (i .stands .lawful) o n k (nothing-below (a .grid) _ (o .slots) (a .words .now) (a .next) (a .h .row .0 + 1) v)))
 
 same-length-2 : tie.Need-same-length-2
 same-length-2 c = search needs
 
 returns-2 : tie.Need-returns-2
 returns-2 c = λ codes readers t i k o.
-    let a = c .before .before .before .before .before .before .before .before .before .before .before .before .before .before .before .before .before .args in
-    let r = c .before .before .before .before .before .before .before .before .before .before .before .before .before .before .before .before .before .pre in
-    let small = small-by-index (a .file .now) (λ j h. omega (arith, c .before .before .before .before .before .before .before .before .before .before .before .before .before .before .before .before .shared-slice-known .given j)) in
-    let v = rw (c .before .before .before .before .before .before .before .before .before .before .before .before .below .given .1) at (o .stands) in
-    let run = c .before .before .before .before .before .before .before .read-run .ensures in
-    let e = c .before .before .before .close2 .ensures in
+    let a = c .before .before .before .before .before .before .before .before .before .before .before .before .before .before .before .before .args in
+    let r = c .before .before .before .before .before .before .before .before .before .before .before .before .before .before .before .before .pre .0 in
+    let small = small-by-index (a .file .now) (λ j h. omega (arith, c .before .before .before .before .before .before .before .before .before .before .before .before .before .before .before .shared-slice-known .given j)) in
+    let v = rw (c .before .before .before .before .before .before .before .before .before .before .before .below .given .1) at (o .stands) in
+    let x = rw (c .before .before .before .before .before .before .before .before .before .before .before .below .given .1) at (c .before .before .before .before .before .before .before .before .before .before .before .before .before .before .before .before .pre .1) in
+    let run = c .before .before .before .before .before .before .read-run .ensures in
+    let e = c .before .before .close-plain2 .ensures in
     let below = run-walked (a .grid) (a .file .now) small (a .shared) _ (v .1) readers (a .depth) (a .h .row .0 + 1) (a .words .now) (a .next) (a .h .row .0 + 1) (begin-below t small r (o .is)) in
-    let n = slots-are (a .grid) (a .file .now) small readers (a .shared) (a .depth) (o .slots) (a .next) (a .h .row .0 + 1) (c .before .before .before .before .before .before .before .before .before .word .result) (omega (arith, r .free)) (r .few) (c .before .before .before .before .before .before .before .before .before .word .ensures ∙ ap inWord (c .before .before .before .before .before .before .before .before .before .before .turns .ensures ∙ sym (ap length (v .0)))) in
-    rw (c .walked-step2 .ensures, e .0, e .1) (raw-told (a .grid) (a .file .now) codes readers (a .shared) (a .depth) t (a .place) (a .h) (a .at) _ (raw-ends (a .grid) (a .file .now) {w₁ = c .before .before .before .before .before .before .before .read-run .last .1 .0} (a .h) (a .at) t readers (a .shared) (a .depth) (c .before .before .before .before .before .before .before .before .before .word .result) (a .kind) (c .before .before .before .before .before .before .before .read-run .result) small r (i .stands .lawful) o n k (rw (v .0, run .0, run .1) below)))
+    let n = slots-are (a .grid) (a .file .now) small readers (a .shared) (a .depth) (o .slots) (a .next) (a .h .row .0 + 1) (c .before .before .before .before .before .before .before .before .word .result) (omega (arith, r .free)) (r .few) (c .before .before .before .before .before .before .before .before .word .ensures ∙ ap inWord (c .before .before .before .before .before .before .before .before .before .turns .ensures ∙ sym (ap length (v .0)))) in
+    rw (e .0, e .1) (raw-told (a .grid) (a .file .now) codes readers (a .shared) (a .depth) t (a .place) (a .h) (a .at) _ (plain-ends (a .grid) (a .file .now) {w₁ = c .before .before .before .before .before .before .read-run .last .1 .0} (a .h) (a .at) t readers (a .shared) (a .depth) (c .before .before .before .before .before .before .before .before .word .result) (a .kind) (c .before .before .before .before .before .before .read-run .result) x small r (i .stands .lawful) o n k (rw (v .0, run .0, run .1) below)))
 
 returns-3 : tie.Need-returns-3
 returns-3 c = λ codes readers t i k o.
@@ -85,14 +81,12 @@ close-flat-spec =
     (tie.spec
     add-first
     enum-told
-    close-requires
-    walked-step-requires
+    close-plain-requires
     enum-known-below
     turns-requires
     word-requires
     read-run-requires
-    close-requires-2
-    walked-step-requires-2
+    close-plain-requires-2
     enum-known-below-2
     same-length
     returns

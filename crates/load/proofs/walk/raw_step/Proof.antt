@@ -1,10 +1,11 @@
-use mathlib.Core.Path.{_∙_}
+use mathlib.Core.Path.{sym, _∙_}
 use native.Mathlib.Omega.{arith}
 use Rattle.reading.specs.Reads.{small-by-index}
 use Rattle.reading.specs.Heads.{headAt}
 use Rattle.types.specs.Laws.{kind-is}
 use Rattle.objects.specs.Close.{raw-refused}
 use Rattle.load.specs.Walks.{opened-as, refused-as}
+use Rattle.load.specs.Steps.{no-rule}
 use borrow.Author.Needs.{needs}
 use Rattle.load.proofs.walk.raw_step.Statement.{statement}
 use Rattle.load.proofs.walk.raw_step.Tie as tie
@@ -25,7 +26,9 @@ cast-kind : tie.Need-cast-kind
 cast-kind c = search needs
 
 close-flat-requires : tie.Need-close-flat-requires
-close-flat-requires c κs = search needs
+close-flat-requires c κs =
+    let a = c .before .before .before .before .before .before .before .before .before .args in
+    (c .before .before .before .before .before .before .before .before .before .pre, no-rule (a .file .now) (a .codes .now) (a .place) (a .at) _ _ (c .before .kind-at .ensures) (sym (c .before .before .before .before .before .«open» .ensures .1) ∙ c .before .before .before .next .given .1))
 
 returns : tie.Need-returns
 returns c = λ readers t i.
