@@ -122,8 +122,10 @@ fn readers_at(
     ensures { λ r. ⌜ Ends (now (file .entry)) (now (codes .entry)) (now (codes .exit)) (now (targets .exit)) (now (starts .exit)) n at r ⌝ }
     ensures { λ r. ⌜ r ≡ readersLeft (now (file .entry)) n at (now (codes .entry)) (now (targets .entry)) (now (starts .entry)) .0 ⌝ }
     ensures { λ _. ⌜ now (codes .exit) ≡ arraysLeft (now (file .entry)) n at (now (codes .entry)) (now (targets .entry)) (now (starts .entry)) .codes ⌝ }
-    ensures { λ _. ⌜ now (targets .exit) ≡ arraysLeft (now (file .entry)) n at (now (codes .entry)) (now (targets .entry)) (now (starts .entry)) .targets ⌝ }
-    ensures { λ _. ⌜ now (starts .exit) ≡ arraysLeft (now (file .entry)) n at (now (codes .entry)) (now (targets .entry)) (now (starts .entry)) .starts ⌝ }
+    ensures { λ _. ⌜ now (targets .exit)
+        ≡ arraysLeft (now (file .entry)) n at (now (codes .entry)) (now (targets .entry)) (now (starts .entry)) .targets ⌝ }
+    ensures { λ _. ⌜ now (starts .exit)
+        ≡ arraysLeft (now (file .entry)) n at (now (codes .entry)) (now (targets .entry)) (now (starts .entry)) .starts ⌝ }
 {
     let mut i = 0;
     let mut used: usize = 11;
@@ -163,8 +165,10 @@ fn counted(
     requires { ⌜ Sized (now file) n (now codes) (now targets) (now starts) ⌝ }
     ensures { λ r. ⌜ ReadsCounted (now (file .entry)) n at (now (codes .entry)) (now (codes .exit)) (now (targets .exit)) (now (starts .exit)) r ⌝ }
     ensures { λ _. ⌜ now (codes .exit) ≡ arraysLeft (now (file .entry)) n at (now (codes .entry)) (now (targets .entry)) (now (starts .entry)) .codes ⌝ }
-    ensures { λ _. ⌜ now (targets .exit) ≡ arraysLeft (now (file .entry)) n at (now (codes .entry)) (now (targets .entry)) (now (starts .entry)) .targets ⌝ }
-    ensures { λ _. ⌜ now (starts .exit) ≡ arraysLeft (now (file .entry)) n at (now (codes .entry)) (now (targets .entry)) (now (starts .entry)) .starts ⌝ }
+    ensures { λ _. ⌜ now (targets .exit)
+        ≡ arraysLeft (now (file .entry)) n at (now (codes .entry)) (now (targets .entry)) (now (starts .entry)) .targets ⌝ }
+    ensures { λ _. ⌜ now (starts .exit)
+        ≡ arraysLeft (now (file .entry)) n at (now (codes .entry)) (now (targets .entry)) (now (starts .entry)) .starts ⌝ }
 {
     match readers_at(file, codes, targets, starts, n, at) {
         Many::Refused(number, place) => Lists::Refused(number, place),
@@ -186,7 +190,8 @@ pub fn read_lists(
 ) -> Lists
     ensures { λ r. ⌜ ReadsListsAt (now (file .entry)) at (now (codes .entry)) (now (codes .exit)) (now (targets .exit)) (now (starts .exit)) r ⌝ }
     ensures { λ _. ⌜ now (codes .exit) ≡ listsLeft (now (file .entry)) at (now (codes .entry)) (now (targets .entry)) (now (starts .entry)) .codes ⌝ }
-    ensures { λ _. ⌜ now (targets .exit) ≡ listsLeft (now (file .entry)) at (now (codes .entry)) (now (targets .entry)) (now (starts .entry)) .targets ⌝ }
+    ensures { λ _. ⌜ now (targets .exit)
+        ≡ listsLeft (now (file .entry)) at (now (codes .entry)) (now (targets .entry)) (now (starts .entry)) .targets ⌝ }
     ensures { λ _. ⌜ now (starts .exit) ≡ listsLeft (now (file .entry)) at (now (codes .entry)) (now (targets .entry)) (now (starts .entry)) .starts ⌝ }
 {
     if 16777216 < file.len() {

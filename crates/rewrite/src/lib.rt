@@ -85,7 +85,8 @@ fn write_row(file: &[u8], words: &[u32], out: &mut [u8], c: Cursor, row: u32) ->
 
 // The same for the numbers of the first rows.
 fn write_rows(file: &[u8], words: &[u32], out: &mut [u8], c: Cursor, rows: u32) -> Cursor
-    ensures { λ r. ⌜ WritesLast (now (file .entry)) (now (out .entry)) (now (out .exit)) c (tablePlaces (now (file .entry)) (now (words .entry)) rows 0) r ⌝ }
+    ensures { λ r. ⌜ WritesLast (now (file .entry)) (now (out .entry)) (now (out .exit))
+        c (tablePlaces (now (file .entry)) (now (words .entry)) rows 0) r ⌝ }
 {
     let mut done = c;
     let mut i = 0;
