@@ -28,7 +28,7 @@ module _ (g : Grid) (file words : List ℕ) (readers : List Target) (refers : Ta
   unfolding Value Head valueRows rawRows codeAt valueOr
   char-code k i own cs b v at number parent n t s =
       let h = v .1 .headed in
-      let r = stands-row g words n (row k at (length b) (count cs) parent 0) _ s in
+      let r = stands-row g words n (row k at (length b) (count cs) parent 0 (suc (size cs))) _ s in
       let e : b ≡ own ++ v .1 .children = v .1 .parts ∙ ap (λ (l : List ℕ). l ++ v .1 .children) (h .0) in
       let o = there-left file at b own (v .1 .children) e t in
       let c = h .1 in
@@ -82,7 +82,7 @@ module _ (g : Grid) (file words : List ℕ) (readers : List Target) (refers : Ta
       let p = list-plan char (v .target) own (x .plan) (x .head) (only-list (v .serves)) (x .headed) in
       let t₁ = there-right file at b (v .number) (v .value) (v .parts) t in
       let t₂ = there-right file (at + length (v .number)) (v .value) (x .head) (x .children) (x .parts) t₁ in
-      let s′ = stands-right g words n (drafted (row k at (length b) (count cs) parent i) ∷ []) _ s in
+      let s′ = stands-right g words n (drafted (row k at (length b) (count cs) parent i (suc (size cs))) ∷ []) _ s in
       plan-rows (p .0) (x .plan) (p .1) cs (x .children) (x .laid) (at + length (v .number) + length (x .head)) (suc number) (suc number) (suc n) t₂ (rw (add-one n) at s′)
 
   -- a font's character map rises in the words as it does in the trees

@@ -193,10 +193,10 @@ module _ (g : Grid) (file words : List ℕ) (readers : List Target) (refers : Ta
       → Stands g words n (rowsAt readers refers (object t) k i own cs b v at number parent) → (wordAt g words n 0 ≡ k) × (wordAt g words n 3 ≡ count cs)
   unfolding Value valueRows rawRows count
   object-words t k i own cs b (inl v) at number parent n s =
-      let r = stands-row g words n (row 0 at (length b) 0 parent 0) [] s in
+      let r = stands-row g words n (row 0 at (length b) 0 parent 0 1) [] s in
       (r .0 ∙ sym (v .kind-of), r .2 ∙ sym (ap count (v .childless)))
   object-words t k i own cs b (inr v) at number parent n s =
-      let r = stands-row g words n (row k at (length b) (count cs) parent i) _ s in
+      let r = stands-row g words n (row k at (length b) (count cs) parent i (suc (size cs))) _ s in
       (r .0, r .2)
 
   pub object-row : {t : Target} {k n : ℕ} {cs : Trees} → Placed (object t) k cs n → (wordAt g words n 0 ≡ k) × (wordAt g words n 3 ≡ count cs)

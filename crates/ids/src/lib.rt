@@ -13,7 +13,7 @@ pub struct ResourceId(pub u32);
 pub struct RowNumber(pub u32);
 
 // How many words make a row.
-pub const WIDTH: u32 = 6;
+pub const WIDTH: u32 = 7;
 
 // The shape of a table: how many rows it has room for, and whether it is in columns.
 pub struct Grid {

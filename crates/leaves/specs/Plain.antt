@@ -147,7 +147,9 @@ module _ (file : List ℕ) (readers : List Target) (shared room : ℕ) (below : 
       → seen (rawAt file readers shared room below t first at used parent id) ≡ leafOf (headOf used first parent id) (kindOf t) nothing r
   unfolding rawAt whole bind check seen fontOk fontIf count
   raw-leaf t f (refused n p) first at used parent id e = rw e
-  raw-leaf t f (read own next) first at used parent id e = rw (e, stops next (suc used), f)
+  raw-leaf t f (read own next) first at used parent id e =
+      let one : suc used - used ≡ 1 = omega arith in
+      rw (e, stops next (suc used), f, one)
 
   char-own : (at : ℕ) (h : Head) (k : ℕ) → leafOf h k nothing (ownAt file (charAt file) at) ≡ leafOf h k nothing (charAt file at)
   unfolding ownAt bind
@@ -157,18 +159,18 @@ module _ (file : List ℕ) (readers : List Target) (shared room : ℕ) (below : 
     go (read c e) = refl
 
   leaf-seen : (r : Answer (List ℕ)) (at used parent : ℕ)
-      → seen (bind r (λ own next. done next (suc used) (drafted (row 35 at (next - at) 0 parent 0) ∷ []) (tree 35 0 own none none))) ≡ leafOf (headOf used at parent 0) 35 nothing r
+      → seen (bind r (λ own next. done next (suc used) (drafted (row 35 at (next - at) 0 parent 0 1) ∷ []) (tree 35 0 own none none))) ≡ leafOf (headOf used at parent 0) 35 nothing r
   unfolding bind seen
   leaf-seen (refused n p) at used parent = refl
   leaf-seen (read own e) at used parent = refl
 
   reference-seen : (r : Answer ℕ) (wanted at used parent : ℕ)
-      → seen (bind r (λ id next. check (leb id shared) 16 at (done next (suc used) (record { row = row 36 at (next - at) 0 parent id; wants = resource wanted } ∷ []) (tree 36 id [] none none))))
+      → seen (bind r (λ id next. check (leb id shared) 16 at (done next (suc used) (record { row = row 36 at (next - at) 0 parent id 1; wants = resource wanted } ∷ []) (tree 36 id [] none none))))
       ≡ plainSeen (Reference wanted) (headOf used at parent 0) (bind r (λ id next. check (leb id shared) 16 at (read id next)))
   unfolding bind seen check
   reference-seen (refused n p) wanted at used parent = refl
   reference-seen (read id e) wanted at used parent = go (leb id shared) where
-    go : (t : Bool) → seen (check t 16 at (done e (suc used) (record { row = row 36 at (e - at) 0 parent id; wants = resource wanted } ∷ []) (tree 36 id [] none none)))
+    go : (t : Bool) → seen (check t 16 at (done e (suc used) (record { row = row 36 at (e - at) 0 parent id 1; wants = resource wanted } ∷ []) (tree 36 id [] none none)))
         ≡ plainSeen (Reference wanted) (headOf used at parent 0) (check t 16 at (read id e))
     go true = refl
     go false = refl

@@ -2,7 +2,7 @@
 use mathlib.Core.Path.{_≡_, refl, sym, ap, subst, _∙_}
 use mathlib.Core.Bool.{Bool, true, false, cond}
 use mathlib.Core.List.{List, []}
-use Prim.Native.Nat.{ℕ, suc, _+_, _≤_, _<_, _^_}
+use Prim.Native.Nat.{ℕ, suc, _+_, _-_, _≤_, _<_, _^_}
 use native.Mathlib.Omega.{arith}
 use native.Mathlib.Numerals.{add-one}
 use lib.Dec.{leb}
@@ -49,7 +49,7 @@ stepOf (Walk-refused n p) = Refused n p
 
 -- the row of a value of a kind without a rule, once its children are walked
 abbrev pub plainWords : Grid → (w : List ℕ) → Head → (kind children : ℕ) → Walk → List ℕ
-plainWords g w h kind n (Walk-done r) = putRow g w (h .row .0) (valueRow h kind n (r .next))
+plainWords g w h kind n (Walk-done r) = putRow g w (h .row .0) (valueRow h kind n (r .used - h .row .0) (r .next))
 plainWords g w h kind n (Walk-refused m p) = w
 
 -- only a font has a rule, and its children need the reader list

@@ -67,7 +67,8 @@ fn close_plain(
         Walk::Refused { number, place } => Stepped::Refused { number, place },
         Walk::Done(reached) => {
             let row = h.row;
-            let r = table::row_words(h, kind, children, reached.next);
+            let branch = table::rows_from(row, reached.used);
+            let r = table::row_words(h, kind, children, branch, reached.next);
             table::put_row(words, grid, row, r);
             Stepped::Done(reached)
         }

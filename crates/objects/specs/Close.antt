@@ -51,7 +51,7 @@ closeAnswer g file w h kind at (Done r) = cond (keeps g file w kind (h .row .0))
 
 abbrev pub closeWords : Grid → (file w : List ℕ) → Head → (kind children : ℕ) → Walk → List ℕ
 closeWords g file w h kind n (Refused m p) = w
-closeWords g file w h kind n (Done r) = cond (keeps g file w kind (h .row .0)) (putRow g w (h .row .0) (valueRow h kind n (r .next))) w
+closeWords g file w h kind n (Done r) = cond (keeps g file w kind (h .row .0)) (putRow g w (h .row .0) (valueRow h kind n (r .used - h .row .0) (r .next))) w
 
 -- the value's length fits a word
 abbrev pub Closable : Head → Walk → Type 0
@@ -113,17 +113,17 @@ module _ (g : Grid) (file : List ℕ) (small : Small file) (readers : List Targe
           rw s (font-judged g file small readers shared (g .room) below next (h .row .0) a e q′ w₀ w₁ words long few (rows-fit a e q))
 
       kept : (w₁ : List ℕ) (n e u : ℕ) → Closable h (reaching u e) → (y : Got g w₀ w₁ (suc (h .row .0)) seq e u) → n ≡ count (y .taken .2) → (b : Bool) → fontOk point t (y .taken .2) ≡ b
-          → Walked g w₀ (cond b (putRow g w₁ (h .row .0) (valueRow h (kindOf t) n e)) w₁) (h .row .0) (seen rawOf) (cond b (reaching u e) (Refused 22 at))
+          → Walked g w₀ (cond b (putRow g w₁ (h .row .0) (valueRow h (kindOf t) n (u - h .row .0) e)) w₁) (h .row .0) (seen rawOf) (cond b (reaching u e) (Refused 22 at))
       unfolding rawAt bind check
       kept w₁ n e u c y z false f = refusing (rw (opened, planned, y .is, f))
       kept w₁ n e u c y z true f =
           let a = y .taken in
-          let x : Draft = drafted (row (kindOf t) (h .first) (e - h .first) n (h .parent) (h .detail)) in
+          let x : Draft = drafted (row (kindOf t) (h .first) (e - h .first) n (h .parent) (h .detail) (u - h .row .0)) in
           let l : length w₁ ≡ length w₀ = ap length (y .words) ∙ length-written g w₀ (suc (h .row .0)) (a .1) in
           let there : Free g w₁ (h .row .0) = record { long = omega arith; there = free; few = omega arith } in
-          let words = ap (putRow g w₁ (h .row .0)) (value-row h (kindOf t) n e (c .0) (c .1)) ∙ put-leaf g w₁ (h .row .0) x there ∙ ap (λ w. written g w (h .row .0) (x ∷ [])) (y .words)
+          let words = ap (putRow g w₁ (h .row .0)) (value-row h (kindOf t) n (u - h .row .0) e (c .0) (c .1)) ∙ put-leaf g w₁ (h .row .0) x there ∙ ap (λ w. written g w (h .row .0) (x ∷ [])) (y .words)
           ∙ written-under g w₀ (h .row .0) x (a .1) (rows-fit a e (y .is)) in
-          reading (a .0, x ∷ a .1, tree (kindOf t) (h .detail) (o .0) (a .2) none) (rw (opened, planned, y .is, f, z)) (sym (y .rows-used)) words
+          reading (a .0, x ∷ a .1, tree (kindOf t) (h .detail) (o .0) (a .2) none) (rw (opened, planned, y .is, f, z, y .rows-used)) (sym (y .rows-used)) words
 
       -- the children were walked and the value ended, with their number
       pub raw-closed : (w₁ : List ℕ) (n : ℕ) (walked : Walk) → Closable h walked → ((a : Taken) (e : ℕ) → seq ≡ read a e → n ≡ count (a .2)) → Walked g w₀ w₁ (suc (h .row .0)) (seen seq) walked

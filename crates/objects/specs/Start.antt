@@ -215,7 +215,7 @@ at-id {id = suc j} {i = i} e = let q : i ≡ j = cc in ap suc (sym q)
 
 -- the row and the tree of a null
 abbrev pub nulled : (at next used parent : ℕ) → Outcome
-nulled at next used parent = done next (suc used) (drafted (row 0 at (next - at) 0 parent 0) ∷ []) (tree 0 0 [] none none)
+nulled at next used parent = done next (suc used) (drafted (row 0 at (next - at) 0 parent 0 1) ∷ []) (tree 0 0 [] none none)
 
 -- what stands after an object's type id
 pub record Invokes (file codes : List ℕ) (readers : List Target) (x : L.Slot) (at place from id : ℕ) : Type 0 where

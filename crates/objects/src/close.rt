@@ -35,7 +35,8 @@ pub fn close(
         Walk::Done(reached) => {
             let row = h.row;
             if keeps_rule(file, words, grid, kind, row) {
-                let r = table::row_words(h, kind, children, reached.next);
+                let branch = table::rows_from(row, reached.used);
+                let r = table::row_words(h, kind, children, branch, reached.next);
                 table::put_row(words, grid, row, r);
                 return Walk::Done(reached);
             }

@@ -49,7 +49,8 @@ module _ (file : List ℕ) (readers : List Target) (shared room : ℕ) where
       let g = agrees (w .plan) cb rest (w .laid) (at + length hb) e₂ in
       let l : at + length hb + length cb ≡ at + length bs = omega (arith, ap length (w .parts), length-append hb cb) in
       let m : at + length bs - first ≡ z = omega arith in
-      rw (h, g, font-complete point point-is t cs (w .font), l, m, w .kind-of)
+      let b : suc used + size cs - used ≡ suc (size cs) = omega arith in
+      rw (h, g, font-complete point point-is t cs (w .font), l, m, b, w .kind-of)
 
   value-complete : (below : Plan → List ℕ → Type 0) (rows : Below below) (below′ : Plan → ℕ → ℕ → Outcome) (cs : Trees) (used : ℕ)
       → Agrees below rows below′ cs used

@@ -111,13 +111,14 @@ module _ (file : List ℕ) (readers : List Target) (shared room : ℕ) (small : 
         ok-bind (head-reads file t .sound small at)
         (λ o next hw. ok-bind (h (o .1) next)
         (λ a e v. ok-check (fontOk point t (a .2)) 22 at _
-        (λ b. is-read {a = (a .0, drafted (row (kindOf t) first (e - first) (count (a .2)) parent id) ∷ a .1, tree (kindOf t) id (o .0) (a .2) none)}
+        (λ b. is-read {a = (a .0, drafted (row (kindOf t) first (e - first) (count (a .2)) parent id (a .0 - used)) ∷ a .1, tree (kindOf t) id (o .0) (a .2) none)}
         (let hb = hw .0 in
         let cb = v .bytes in
         let g : drop at file ≡ (hb ++ cb) ++ drop e file = hw .2 ∙ ap (λ (l : List ℕ). hb ++ l) (v .there) ∙ sym (append-assoc hb cb (drop e file)) in
         let l : e ≡ at + length (hb ++ cb) = rw length-append (omega arith) in
         let z : e - first ≡ before + length (hb ++ cb) = omega arith in
         let m : a .0 ≡ used + suc (size (a .2)) = omega arith in
+        let s : a .0 - used ≡ suc (size (a .2)) = omega arith in
         let c : t ≡ spriteFont → Characters (childrenAt 3 (a .2)) = λ f. font-characters readers (Within shared) (a .2) cb (rw (font-plan t (o .0) (o .1) hb (hw .1) f) at (v .laid)) in
         record {
           own = o .0;
@@ -137,7 +138,7 @@ module _ (file : List ℕ) (readers : List Target) (shared room : ℕ) (small : 
           there = g;
           end = l;
           used-is = m;
-          rows-are = rw (z, ← hw .3, ← v .rows-are);
+          rows-are = rw (z, s, ← hw .3, ← v .rows-are);
           deep = v .deep;
           room-left = v .room-left free;
         }))))
@@ -211,7 +212,7 @@ module _ (file : List ℕ) (readers : List Target) (shared room : ℕ) (small : 
         → Ok (ReadValue (suc d) (object t) at used parent) (objectAt file readers shared room below t id at next used parent)
     unfolding objectAt Value valueRows size depth
     id-value t zero at next parent q =
-        childless (object t) 0 0 [] (q .0) at next parent (λ z. drafted (row 0 at z 0 parent 0))
+        childless (object t) 0 0 [] (q .0) at next parent (λ z. drafted (row 0 at z 0 parent 0 1))
         (inl (record { kind-of = refl; id-of = refl; empty = refl; childless = refl; number = q .1 })) (q .2) (q .3) refl
     id-value t (suc i) at next parent q = reader-value t i at next parent q (reader readers (suc i)) refl
 
@@ -240,11 +241,11 @@ module _ (file : List ℕ) (readers : List Target) (shared room : ℕ) (small : 
     value-sound (reference t) at parent =
         ok-bind (seven-reads file .sound small at)
         (λ id next q. ok-check (leb id shared) 16 at _
-        (λ b. childless (reference t) 36 id [] (q .0) at next parent (λ z. wanting t (row 36 at z 0 parent id))
+        (λ b. childless (reference t) 36 id [] (q .0) at next parent (λ z. wanting t (row 36 at z 0 parent id 1))
         (record { kind-of = refl; empty = refl; childless = refl; named = leb-true id shared b; number = q .1 }) (q .2) (q .3) refl))
     value-sound (leaf x) at parent =
         ok-bind (leaf-reads file x .sound small at)
-        (λ own next q. childless (leaf x) 35 0 own (q .0) at next parent (λ z. drafted (row 35 at z 0 parent 0)) (refl, refl, q .1) (q .2) (q .3) refl)
+        (λ own next q. childless (leaf x) 35 0 own (q .0) at next parent (λ z. drafted (row 35 at z 0 parent 0 1)) (refl, refl, q .1) (q .2) (q .3) refl)
 
   pub walk-sound : (d : ℕ) (x : Slot) (at used parent : ℕ) → Ok (ReadValue d x at used parent) (walk file readers shared room d x at used parent)
   unfolding walk

@@ -57,7 +57,7 @@ module _ (file : List ℕ) (readers : List Target) (shared room : ℕ) where
       bind (headAt file t at)
       (λ h next. bind (below (h .1) next (suc used))
       (λ a e. check (fontOk point t (a .2)) 22 at
-      (done e (a .0) (drafted (row (kindOf t) first (e - first) (count (a .2)) parent id) ∷ a .1) (tree (kindOf t) id (h .0) (a .2) none))))
+      (done e (a .0) (drafted (row (kindOf t) first (e - first) (count (a .2)) parent id (a .0 - used)) ∷ a .1) (tree (kindOf t) id (h .0) (a .2) none))))
 
   -- 13 before 14
   unfoldable pub byReader : Found → (Plan → ℕ → ℕ → Outcome) → Target → (id at next used parent : ℕ) → Outcome
@@ -65,7 +65,7 @@ module _ (file : List ℕ) (readers : List Target) (shared room : ℕ) where
   byReader (found u) below t id at next used parent = check (serves t u) 14 at (rawAt below u at next used parent id)
 
   unfoldable pub objectAt : (Plan → ℕ → ℕ → Outcome) → Target → (id at next used parent : ℕ) → Outcome
-  objectAt below t zero at next used parent = done next (suc used) (drafted (row 0 at (next - at) 0 parent 0) ∷ []) (tree 0 0 [] none none)
+  objectAt below t zero at next used parent = done next (suc used) (drafted (row 0 at (next - at) 0 parent 0 1) ∷ []) (tree 0 0 [] none none)
   objectAt below t (suc i) at next used parent = byReader (reader readers (suc i)) below t (suc i) at next used parent
 
   unfoldable pub valueAt : (Plan → ℕ → ℕ → Outcome) → Slot → (at used parent : ℕ) → Outcome
@@ -73,9 +73,9 @@ module _ (file : List ℕ) (readers : List Target) (shared room : ℕ) where
   valueAt below (object t) at used parent = bind (sevenAt file at) (λ id next. objectAt below t id at next used parent)
   valueAt below (reference t) at used parent =
       bind (sevenAt file at)
-      (λ id next. check (leb id shared) 16 at (done next (suc used) (wanting t (row 36 at (next - at) 0 parent id) ∷ []) (tree 36 id [] none none)))
+      (λ id next. check (leb id shared) 16 at (done next (suc used) (wanting t (row 36 at (next - at) 0 parent id 1) ∷ []) (tree 36 id [] none none)))
   valueAt below (leaf x) at used parent =
-      bind (leafAt file x at) (λ own next. done next (suc used) (drafted (row 35 at (next - at) 0 parent 0) ∷ []) (tree 35 0 own none none))
+      bind (leafAt file x at) (λ own next. done next (suc used) (drafted (row 35 at (next - at) 0 parent 0 1) ∷ []) (tree 35 0 own none none))
 
   -- 01: "At a value's start: 18, 19, then its bytes"; `depth` is the depth left
   unfoldable pub walk : (depth : ℕ) → Slot → (at used parent : ℕ) → Outcome

@@ -58,4 +58,4 @@ Ahead first (read a e) = (first ≤ e) × (e < 2 ^ 32)
 pub put-leaf : (g : Grid) (w : List ℕ) (u : ℕ) (d : Draft) → Free g w u → putRow g w u (marked d) ≡ written g w u (d ∷ [])
 unfolding putRow
 put-leaf g w u d f =
-    rw (lt-ltb (cellOf g u 5) (length w) (cell-inside (shapeOf (g .columns)) (g .room) u 5 (length w) (f .there) (omega arith) (f .long))) (put-written g w u d)
+    rw (lt-ltb (cellOf g u 6) (length w) (cell-inside (shapeOf (g .columns)) (g .room) u 6 (length w) (f .there) (omega arith) (f .long))) (put-written g w u d)

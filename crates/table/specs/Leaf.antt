@@ -17,7 +17,7 @@ use Rattle.table.specs.Contract.{Seen, Free, Ahead, Walked, reaching, pu
 
 -- a row by the words that the code has of it
 abbrev pub rowOf : RowWords → Row
-rowOf r = row (r .kind) (r .first) (r .bytes) (r .children) (r .parent) (r .detail)
+rowOf r = row (r .kind) (r .first) (r .bytes) (r .children) (r .parent) (r .detail) (r .branch)
 
 -- a number as a word holds it
 unfoldable pub inWord : ℕ → ℕ
@@ -28,13 +28,13 @@ unfolding inWord
 in-word n h = omega arith
 
 -- the row of a value that ends before `next`
-abbrev pub valueRow : Head → (kind children next : ℕ) → Row
-valueRow h kind children next = row kind (inWord (h .first)) (inWord (next - h .first)) children (h .parent) (h .detail)
+abbrev pub valueRow : Head → (kind children branch next : ℕ) → Row
+valueRow h kind children branch next = row kind (inWord (h .first)) (inWord (next - h .first)) children (h .parent) (h .detail) branch
 
 -- a value that ends at or behind its first byte, where the numbers fit
-pub value-row : (h : Head) (kind children next : ℕ) → h .first ≤ next → next < 2 ^ 32
-    → valueRow h kind children next ≡ row kind (h .first) (next - h .first) children (h .parent) (h .detail)
-value-row h kind children next a f = rw (in-word (h .first) (omega arith), in-word (next - h .first) (omega arith))
+pub value-row : (h : Head) (kind children branch next : ℕ) → h .first ≤ next → next < 2 ^ 32
+    → valueRow h kind children branch next ≡ row kind (h .first) (next - h .first) children (h .parent) (h .detail) branch
+value-row h kind children branch next a f = rw (in-word (h .first) (omega arith), in-word (next - h .first) (omega arith))
 
 -- what is answered once the bytes of a value without children are read, or refused
 abbrev pub leafAnswer : {A : Type 0} → (u : ℕ) → Answer A → Walk
@@ -44,11 +44,11 @@ leafAnswer u (read a next) = reaching (inWord (u + 1)) next
 -- and what the words then hold: its row, if they have it
 abbrev pub leafWords : {A : Type 0} → Grid → List ℕ → Head → (kind mark : ℕ) → Answer A → List ℕ
 leafWords g w h kind mark (refused n p) = w
-leafWords g w h kind mark (read a next) = putRow g w (h .row .0) (valueRow h kind mark next)
+leafWords g w h kind mark (read a next) = putRow g w (h .row .0) (valueRow h kind mark 1 next)
 
 -- the row of a value without children that ends at `next`
 abbrev pub leafRow : Head → (kind : ℕ) → Wants → (next : ℕ) → Draft
-leafRow h kind wants next = record { row = row kind (h .first) (next - h .first) 0 (h .parent) (h .detail); wants = wants }
+leafRow h kind wants next = record { row = row kind (h .first) (next - h .first) 0 (h .parent) (h .detail) 1; wants = wants }
 
 -- its bytes were read, or refused
 abbrev pub leafOf : {A : Type 0} → Head → (kind : ℕ) → Wants → Answer A → Answer Seen
@@ -66,4 +66,4 @@ pub leaf-walked : {A : Type 0} (g : Grid) (w : List ℕ) (h : Head) (kind : ℕ)
 leaf-walked g w h kind wants (refused n p) f a = record { answers = refl; writes = refl }
 leaf-walked g w h kind wants (read v next) f a =
     let u : inWord (h .row .0 + 1) ≡ suc (h .row .0) = in-word (h .row .0 + 1) (f .few) ∙ add-one (h .row .0) in
-    record { answers = rw u; writes = rw (value-row h kind (marks wants 0) next (a .0) (a .1)) (put-leaf g w (h .row .0) (leafRow h kind wants next) f) }
+    record { answers = rw u; writes = rw (value-row h kind (marks wants 0) 1 next (a .0) (a .1)) (put-leaf g w (h .row .0) (leafRow h kind wants next) f) }

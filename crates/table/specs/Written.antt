@@ -19,7 +19,7 @@ marks nothing children = children
 marks (resource wanted) children = wanted
 
 abbrev pub marked : Draft → Row
-marked d = row (d .row .kind) (d .row .first) (d .row .bytes) (marks (d .wants) (d .row .children)) (d .row .parent) (d .row .detail)
+marked d = row (d .row .kind) (d .row .first) (d .row .bytes) (marks (d .wants) (d .row .children)) (d .row .parent) (d .row .detail) (d .row .branch)
 
 -- the words of rows one after the other
 unfoldable pub drafts : List Draft → List (List ℕ)
@@ -32,7 +32,7 @@ written g w u ds = writtenRows (shapeOf (g .columns)) (g .room) w u (drafts ds)
 
 -- one row's words, where the words have its last one; else they stay
 unfoldable pub putRow : Grid → List ℕ → (u : ℕ) → Row → List ℕ
-putRow g w u r = cond (ltb (cellOf g u 5) (length w)) (puts (shapeOf (g .columns)) (g .room) w u 0 (words r)) w
+putRow g w u r = cond (ltb (cellOf g u 6) (length w)) (puts (shapeOf (g .columns)) (g .room) w u 0 (words r)) w
 
 -- a row that was put is a row that is written
 pub put-written : (g : Grid) (w : List ℕ) (u : ℕ) (d : Draft) → puts (shapeOf (g .columns)) (g .room) w u 0 (words (marked d)) ≡ written g w u (d ∷ [])
@@ -75,9 +75,9 @@ unfolding written drafts words
 written-under g w u d ds h =
     grid.written-under (shapeOf (g .columns)) (g .room) w u (words (marked d)) (drafts ds) refl (wide-drafts ds) (omega (arith, length-drafts ds))
 
--- six stores into the cells of a row
-pub six : (g : Grid) (w : List ℕ) (u k f b c p d : ℕ)
-    → set (set (set (set (set (set w (cellOf g u 0) k) (cellOf g u 1) f) (cellOf g u 2) b) (cellOf g u 3) c) (cellOf g u 4) p) (cellOf g u 5) d
-    ≡ puts (shapeOf (g .columns)) (g .room) w u 0 (words (row k f b c p d))
+-- seven stores into the cells of a row
+pub seven : (g : Grid) (w : List ℕ) (u k f b c p d n : ℕ)
+    → set (set (set (set (set (set (set w (cellOf g u 0) k) (cellOf g u 1) f) (cellOf g u 2) b) (cellOf g u 3) c) (cellOf g u 4) p) (cellOf g u 5) d) (cellOf g u 6) n
+    ≡ puts (shapeOf (g .columns)) (g .room) w u 0 (words (row k f b c p d n))
 unfolding puts words
-six g w u k f b c p d = refl
+seven g w u k f b c p d n = refl

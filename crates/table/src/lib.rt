@@ -26,6 +26,7 @@ pub struct RowWords {
     pub children: u32,
     pub parent: u32,
     pub detail: u32,
+    pub branch: u32,
 }
 
 // What a walk reaches: the rows used so far and the next byte.
@@ -44,8 +45,8 @@ pub enum Walk {
 fn put_cells(words: &mut [u32], grid: Grid, row: RowNumber, r: RowWords)
     ensures { λ _. ⌜ now (words .exit) ≡ putRow grid (now (words .entry)) (row .0) (rowOf r) ⌝ }
 {
-    let sixth = row.cell(grid, 5);
-    if words.len() <= sixth {
+    let seventh = row.cell(grid, 6);
+    if words.len() <= seventh {
         return;
     }
     let first = row.cell(grid, 0);
@@ -53,12 +54,14 @@ fn put_cells(words: &mut [u32], grid: Grid, row: RowNumber, r: RowWords)
     let third = row.cell(grid, 2);
     let fourth = row.cell(grid, 3);
     let fifth = row.cell(grid, 4);
+    let sixth = row.cell(grid, 5);
     words[first] = r.kind;
     words[second] = r.first;
     words[third] = r.bytes;
     words[fourth] = r.children;
     words[fifth] = r.parent;
     words[sixth] = r.detail;
+    words[seventh] = r.branch;
 }
 
 // Puts a row into the words, if they have it. In a table by rows the cells are neighbours, which the compiler sees where the shape is known.
@@ -100,9 +103,19 @@ pub fn span(first: usize, next: usize) -> u32
     word(next - first)
 }
 
-// The row of a value that ends before `next`.
-pub fn row_words(h: Head, kind: u32, children: u32, next: usize) -> RowWords
-    ensures { λ r. ⌜ rowOf r ≡ valueRow h kind children next ⌝ }
+// How many rows stand from a row on and before row `used`, 0 where there are none.
+pub fn rows_from(row: RowNumber, used: u32) -> u32
+    ensures { λ r. ⌜ r ≡ used - row .0 ⌝ }
+{
+    if used < row.0 {
+        return 0;
+    }
+    used - row.0
+}
+
+// The row of a value that ends before `next` and has so many rows with all below it.
+pub fn row_words(h: Head, kind: u32, children: u32, branch: u32, next: usize) -> RowWords
+    ensures { λ r. ⌜ rowOf r ≡ valueRow h kind children branch next ⌝ }
 {
     let first = word(h.first);
     let bytes = span(h.first, next);
@@ -113,6 +126,7 @@ pub fn row_words(h: Head, kind: u32, children: u32, next: usize) -> RowWords
         children,
         parent: h.parent,
         detail: h.detail,
+        branch,
     }
 }
 
@@ -125,7 +139,7 @@ pub fn leaf(words: &mut [u32], grid: Grid, h: Head, kind: u32, mark: u32, read: 
         Number::Refused(number, place) => Walk::Refused { number, place },
         Number::Read(_, next) => {
             let row = h.row;
-            let r = row_words(h, kind, mark, next);
+            let r = row_words(h, kind, mark, 1, next);
             put_row(words, grid, row, r);
             let used = std::num::wrapping_add_u32(row.0, 1);
             Walk::Done(Reached { used, next })

@@ -9,6 +9,9 @@ enum-known-walked c = search needs
 enum-known-walked-2 : tie.Need-enum-known-walked-2
 enum-known-walked-2 c = search needs
 
+rows-from-requires : tie.Need-rows-from-requires
+rows-from-requires c κs = search needs
+
 row-words-requires : tie.Need-row-words-requires
 row-words-requires c κs = search needs
 
@@ -23,7 +26,7 @@ same-length c = search needs
 
 returns-2 : tie.Need-returns-2
 returns-2 c =
-    rw (c .before .before .before .before .before .before .before .walked2 .given .1, ← c .before .before .before .before .row-words .ensures) (refl, c .before .before .put-row .ensures)
+    rw (c .before .before .before .before .before .before .before .before .walked2 .given .1, ← c .before .before .before .before .before .rows-from .ensures, ← c .before .before .before .before .row-words .ensures) (refl, c .before .before .put-row .ensures)
 
 pub close-plain-spec : {M : Type 1} → statement M
 close-plain-spec =
@@ -31,6 +34,7 @@ close-plain-spec =
     (tie.spec
     enum-known-walked
     enum-known-walked-2
+    rows-from-requires
     row-words-requires
     put-row-requires
     returns

@@ -12,6 +12,9 @@ enum-known-walked-2 c = search needs
 keeps-rule-requires : tie.Need-keeps-rule-requires
 keeps-rule-requires c κs = search needs
 
+rows-from-requires : tie.Need-rows-from-requires
+rows-from-requires c κs = search needs
+
 row-words-requires : tie.Need-row-words-requires
 row-words-requires c κs = search needs
 
@@ -23,8 +26,8 @@ same-length c = search needs
 
 returns : tie.Need-returns
 returns c =
-    let k = sym (c .before .before .before .before .before .before .keeps-rule .ensures) ∙ c .before .before .before .before .before .if1 .taken in
-    rw (c .before .before .before .before .before .before .before .before .before .before .walked2 .given .1, k, ← c .before .before .before .before .row-words .ensures) (refl, c .before .before .put-row .ensures)
+    let k = sym (c .before .before .before .before .before .before .before .keeps-rule .ensures) ∙ c .before .before .before .before .before .before .if1 .taken in
+    rw (c .before .before .before .before .before .before .before .before .before .before .before .walked2 .given .1, k, ← c .before .before .before .before .before .rows-from .ensures, ← c .before .before .before .before .row-words .ensures) (refl, c .before .before .put-row .ensures)
 
 returns-2 : tie.Need-returns-2
 returns-2 c = rw (c .before .walked .given .1) (refl, refl)
@@ -44,6 +47,7 @@ close-spec =
     enum-known-walked
     enum-known-walked-2
     keeps-rule-requires
+    rows-from-requires
     row-words-requires
     put-row-requires
     same-length
