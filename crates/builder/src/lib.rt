@@ -14,6 +14,7 @@ ghost use lib.ListN.{length};
 ghost use Rattle.layout.specs.Rows.{width};
 ghost use Rattle.reading.specs.File.{loadOf, tableOf};
 ghost use Rattle.readers.specs.Judged.{judgedName};
+ghost use Rattle.branches.specs.Next.{rowsNext};
 ghost use Rattle.lookups.specs.Parts.{rowsPart};
 ghost use Rattle.lookups.specs.Texts.{rowsText};
 ghost use Rattle.lookups.specs.Signs.{rowsSigned};
@@ -113,6 +114,14 @@ pub extern "C" fn xnb_part(
     ensures { λ r. ⌜ (r, now (first .exit), now (len .exit)) ≡ spanTold (rowsPart (now (file .entry)) (now (words .entry)) row) ⌝ }
 {
     tell_span(lookups::part(file, words, RowNumber(row)), first, len)
+}
+
+// The number of the row behind a row and all below it, 0 where there is none in the room.
+#[no_mangle]
+pub extern "C" fn xnb_next(words: &[u32], row: u32) -> u32
+    ensures { λ r. ⌜ r ≡ rowsNext (now (words .entry)) row ⌝ }
+{
+    branches::next(words, RowNumber(row))
 }
 
 // The bytes of a text.

@@ -77,7 +77,7 @@ fn print_file(file: &[u8], out: &mut [u8]) {
 
 fn main() {
     let mut space = io::large_buffer();
-    // A line has at most 77 bytes, so those of 1,024 rows fit.
+    // A line has at most 88 bytes, so those of 1,024 rows fit.
     let mut out = [0u8; 98304];
     let n = io::read_full(0, &mut space);
     if 32768 < n {

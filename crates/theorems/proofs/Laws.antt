@@ -2,7 +2,7 @@
 use mathlib.Core.Path.{_≡_, refl, sym, ap, _∙_}
 use mathlib.Core.Bool.{Bool, true, false}
 use mathlib.Core.List.{List, _++_}
-use Prim.Native.Nat.{ℕ, _+_, _<_, _≤_}
+use Prim.Native.Nat.{ℕ, _+_, _*_, _-_, _<_, _≤_}
 use native.Mathlib.Omega.{arith}
 use lib.Dec.{leb}
 use lib.ListN.{length, take, drop, replicate, length-append}
@@ -10,12 +10,15 @@ use lib.Seq.{take-append-seam}
 use borrow.Author.Tests.{le-leb, lt-leb, leb-true, leb-false}
 use Rattle.laws.specs.Small.{differ}
 use Rattle.layout.specs.Tree.{count}
+use Rattle.layout.specs.Rows.{width}
 use Rattle.layout.specs.File.{sharedOf}
 use Rattle.layout.specs.Named.{named}
 use Rattle.reading.specs.Answer.{Answer, refused, read}
 use Rattle.reading.specs.Reads.{Small}
 use Rattle.reading.specs.File as reading
 use Rattle.reading.specs.File.{Load, refusal, accepted, fileAt, toLoad, roomOf, loadOf, tableOf}
+use Rattle.reading.specs.Grid.{byRows}
+use Rattle.branches.specs.Table.{TableSkips, file-skips}
 use Rattle.reading.specs.Refusals.{refusal-number, refusal-place}
 use Rattle.reading.specs.Theorems as T
 use Rattle.reading.specs.Theorems.{Fitting, rowsIn}
@@ -48,6 +51,10 @@ ends file words small = go (loadOf judgedName file words) refl where
       refuses n p e (a .0, a .1, b .0)
   go (accepted rows readers shared) e = fits (T.accepted-is named judgedName judges file words small rows readers shared e .0)
 
+-- the rule of the seventh word holds of the table of a file tree that fits
+table-skips : (file : List ℕ) (words room : ℕ) (f : Fitting named file words) {left : List ℕ} → left ≡ table (rowsIn named f) words → TableSkips byRows room left (length (rowsIn named f))
+table-skips file words room f e = rw e (file-skips named room (f .tree) file (f .lays) (replicate (words - width * length (rowsIn named f)) 0))
+
 -- ---- Loading
 
 module _ (file : List ℕ) (words : ℕ) {left : List ℕ} {r : Loading} (small : Small file)
@@ -77,10 +84,19 @@ module _ (file : List ℕ) (words : ℕ) {left : List ℕ} {r : Loading} (small 
       let e₂ : place ≡ q = cc in
       rw (e₁, e₂) i
 
+  skipped : Ends file words → (used readers shared : ℕ) → r ≡ Loaded used readers shared → TableSkips byRows (roomOf words) left used
+  skipped (refuses m q g i) used readers shared e =
+      let h : r ≡ Refused m q = answers ∙ ap answerOf g in
+      differ cc
+  skipped (fits f) used readers shared e =
+      let l = loaded f in
+      let k : length (rowsIn named f) ≡ used = cc in
+      rw k at (table-skips file words (roomOf words) f (l .1))
+
   pub load-exact : Exact file words left r
   load-exact =
       let e = ends file words small in
-      record { accepts = (only e, λ f. rw (loaded f .0) tt); rows = loaded; refuses = refused-as e; inside = placed e }
+      record { accepts = (only e, λ f. rw (loaded f .0) tt); rows = loaded; refuses = refused-as e; skips = skipped e; inside = placed e }
 
 -- ---- Rewriting
 
@@ -170,10 +186,18 @@ module _ (file : List ℕ) (words : ℕ) (out : List ℕ) {left end : List ℕ} 
         let l = too-long f (leb-false _ _ t) .0 in
         differ cc
 
+  rewrite-skipped : (n : ℕ) → r ≡ rewriting.Rewritten n → (f : Fitting named file words) → TableSkips byRows (roomOf words) left (length (rowsIn named f))
+  rewrite-skipped n e f = go (leb (length (shortFile (f .tree))) (length out)) refl where
+    go : (t : Bool) → leb (length (shortFile (f .tree))) (length out) ≡ t → TableSkips byRows (roomOf words) left (length (rowsIn named f))
+    go true t = table-skips file words (roomOf words) f (rewritten f (leb-true _ _ t) .2)
+    go false t =
+        let l = too-long f (leb-false _ _ t) .0 in
+        differ cc
+
   pub rewrite-exact : R.Exact file words left out end r
   rewrite-exact =
       let e = ends file words small in
-      record { rewrites = rewritten; too-small = too-long; refuses = not-rewritten e; inside = rewrite-placed e; written = begins e }
+      record { rewrites = rewritten; too-small = too-long; refuses = not-rewritten e; inside = rewrite-placed e; skips = rewrite-skipped; written = begins e }
 
 -- ---- A file that is rewritten, and then loaded or rewritten again
 

@@ -12,6 +12,9 @@ use Rattle.layout.specs.Resource.{Within}
 use Rattle.layout.specs.Rows.{Row, flat, width}
 use Rattle.layout.specs.File.{FileTree, sharedOf, FileLays, fileRows}
 use Rattle.layout.specs.Named.{named}
+use Rattle.reading.specs.File.{roomOf}
+use Rattle.reading.specs.Grid.{byRows}
+use Rattle.branches.specs.Table.{TableSkips}
 use Rattle.reading.specs.Theorems as T
 use Rattle.reading.specs.Theorems.{Fitting, rowsIn}
 use Rattle.load.specs.declared.Loading.{Loading}
@@ -54,5 +57,7 @@ pub record Exact (file : List ℕ) (words : ℕ) (left : List ℕ) (r : Loading)
       → (r ≡ Loaded (length (rowsIn named f)) (length (f .tree .names)) (count (sharedOf (f .tree .objects)))) × (left ≡ table (rowsIn named f) words)
   -- where none fits, the answer is one refusal's number and place, and every word is zero
   pub refuses : (Fitting named file words → ⊥) → (number : ℕ) × (place : ℕ) × (r ≡ Refused number place) × (left ≡ replicate words 0)
+  -- 02, Req 09: "It must hold of every table we leave": the rule of the seventh word
+  pub skips : (used readers shared : ℕ) → r ≡ Loaded used readers shared → TableSkips byRows (roomOf words) left used
   -- a refusal's number is one of 01's for a load, and its place is in the file
   pub inside : (number place : ℕ) → r ≡ Refused number place → (1 ≤ number) × (number ≤ 22) × (place ≤ length file)

@@ -6,6 +6,9 @@ use lib.ListN.{length, take, drop, replicate}
 use Rattle.layout.specs.Tree.{count}
 use Rattle.layout.specs.File.{sharedOf, FileLays}
 use Rattle.layout.specs.Named.{named}
+use Rattle.reading.specs.File.{roomOf}
+use Rattle.reading.specs.Grid.{byRows}
+use Rattle.branches.specs.Table.{TableSkips}
 use Rattle.reading.specs.Theorems.{Fitting, rowsIn}
 use Rattle.load.specs.declared.Loading.{Loading}
 use Rattle.load.specs.declared.Loading.the-variants.{Loaded}
@@ -41,6 +44,8 @@ pub record Exact (file : List ℕ) (words : ℕ) (left out end : List ℕ) (r : 
       → (number : ℕ) × (place : ℕ) × (r ≡ Refused number place) × (end ≡ out) × (left ≡ replicate words 0)
   -- a refusal's number is one of 01's for a load or 21, and its place is in the file or the bytes needed, which are no more than the file's
   pub inside : (number place : ℕ) → r ≡ Refused number place → (1 ≤ number) × (number ≤ 22) × (place ≤ length file)
+  -- 02, Req 09: "It must hold of every table we leave": the rule of the seventh word
+  pub skips : (n : ℕ) → r ≡ Rewritten n → (f : Fitting named file words) → TableSkips byRows (roomOf words) left (length (rowsIn named f))
   -- what is rewritten is a file tree's bytes, and the output then begins with bytes of which the above holds
   pub written : (n : ℕ) → r ≡ Rewritten n → (f : Fitting named file words) × (n ≤ length end) × Written f (take n end)
 

@@ -1,0 +1,5 @@
+pub mod Rule
+pub mod Frames
+pub mod Framed
+pub mod Table
+pub mod Next
