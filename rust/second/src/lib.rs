@@ -2,6 +2,7 @@
 //!
 //! It is written from documents 000, 01 and 02 alone and shares no code and no table with the proved loader.
 
+mod branches;
 mod cursor;
 mod header;
 mod image;
@@ -22,9 +23,10 @@ mod types;
 mod utf8;
 mod walk;
 
+pub use branches::broken_branch;
 pub use image::{level_size, longest_chain};
 pub use load::{builder_answer, load, Loaded};
-pub use lookup::{part, signed, text, time};
+pub use lookup::{next, part, signed, text, time};
 pub use printed::{printed_rows, refusal_line, shortened, INPUT_TOO_LONG, LONGEST_INPUT};
 pub use refusal::Refusal;
 pub use rewrite::rewrite;

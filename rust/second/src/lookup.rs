@@ -2,28 +2,27 @@
 
 use crate::kinds::{INT16, INT32, INT64, SBYTE, STRING, TIME_SPAN};
 use crate::refusal::{refuse, Refusal, NO_SUCH_ROW, OTHER_KIND};
-use crate::row::{room, WORDS_PER_ROW};
+use crate::row::{room, row_at};
 use crate::seven::read_seven;
 use crate::ticks::{split_ticks, Time};
 
 /// The part of the file that a row names.
 pub fn part<'f>(file: &'f [u8], words: &[u32], row: usize) -> Result<&'f [u8], Refusal> {
-    if row >= room(words) {
+    let Some(found) = row_at(words, row) else {
+        return refuse(NO_SUCH_ROW, row);
+    };
+    let first = u64::from(found.first);
+    let end = first + u64::from(found.length);
+    if found.length == 0 || end > file.len() as u64 {
         return refuse(NO_SUCH_ROW, row);
     }
-    let row_words = &words[row * WORDS_PER_ROW..];
-    let first = row_words[1] as u64;
-    let length = row_words[2] as u64;
-    if length == 0 || first + length > file.len() as u64 {
-        return refuse(NO_SUCH_ROW, row);
-    }
-    Ok(&file[first as usize..(first + length) as usize])
+    Ok(&file[first as usize..end as usize])
 }
 
 /// The bytes of a text, behind its type id and its count.
 pub fn text<'f>(file: &'f [u8], words: &[u32], row: usize) -> Result<&'f [u8], Refusal> {
     let part = part(file, words, row)?;
-    if kind_of(words, row) != STRING {
+    if kind_of(words, row) != Some(STRING) {
         return refuse(OTHER_KIND, row);
     }
     match text_in(part) {
@@ -48,10 +47,10 @@ fn text_in(part: &[u8]) -> Option<&[u8]> {
 pub fn signed(file: &[u8], words: &[u32], row: usize) -> Result<i64, Refusal> {
     let part = part(file, words, row)?;
     let size = match kind_of(words, row) {
-        SBYTE => 1,
-        INT16 => 2,
-        INT32 => 4,
-        INT64 | TIME_SPAN => 8,
+        Some(SBYTE) => 1,
+        Some(INT16) => 2,
+        Some(INT32) => 4,
+        Some(INT64 | TIME_SPAN) => 8,
         _ => return refuse(OTHER_KIND, row),
     };
     if part.len() < size {
@@ -63,10 +62,23 @@ pub fn signed(file: &[u8], words: &[u32], row: usize) -> Result<i64, Refusal> {
 /// The time of a TimeSpan.
 pub fn time(file: &[u8], words: &[u32], row: usize) -> Result<Time, Refusal> {
     let ticks = signed(file, words, row)?;
-    if kind_of(words, row) != TIME_SPAN {
+    if kind_of(words, row) != Some(TIME_SPAN) {
         return refuse(OTHER_KIND, row);
     }
     Ok(split_ticks(ticks))
+}
+
+/// The row number behind a row and all below it.
+///
+/// There is none if the row is not below the room, or if its count is 0 or ends past the room.
+pub fn next(words: &[u32], row: usize) -> Option<usize> {
+    let rows = row_at(words, row)?.rows as usize;
+    let behind = row.checked_add(rows)?;
+    if rows > 0 && behind <= room(words) {
+        Some(behind)
+    } else {
+        None
+    }
 }
 
 /// A little-endian number whose top bit is its sign.
@@ -77,6 +89,6 @@ fn sign_extended(bytes: &[u8]) -> i64 {
     i64::from_le_bytes(extended)
 }
 
-fn kind_of(words: &[u32], row: usize) -> u32 {
-    words[row * WORDS_PER_ROW]
+fn kind_of(words: &[u32], row: usize) -> Option<u32> {
+    row_at(words, row).map(|row| row.kind)
 }

@@ -138,6 +138,7 @@ impl<'f> Walk<'f> {
             children: 0,
             parent: spot.parent.map_or(0, |parent| parent as u32 + 1),
             detail: 0,
+            rows: 0,
         });
         Ok(row)
     }
@@ -145,11 +146,14 @@ impl<'f> Walk<'f> {
     /// Completes the row of the value that ends here.
     fn close_row(&mut self, row: usize, kind: u32, children: u32, detail: u32) -> RowRead {
         let end = self.cursor.at as u32;
+        // The rows behind it are those below it.
+        let rows = (self.rows.len() - row) as u32;
         let closed = &mut self.rows[row];
         closed.kind = kind;
         closed.length = end - closed.first;
         closed.children = children;
         closed.detail = detail;
+        closed.rows = rows;
         Ok(row)
     }
 

@@ -3,7 +3,7 @@
 use corpus::readers::{list_of, BYTE, INT16, INT32, INT64, SBYTE, STRING, TIME_SPAN};
 use corpus::values::*;
 use corpus::writer::write;
-use second::{load, part, signed, text as text_of, time, Refusal, Time};
+use second::{load, next, part, signed, text as text_of, time, Refusal, Time, WORDS_PER_ROW};
 
 fn refused<T>(number: u32, row: usize) -> Result<T, Refusal> {
     Err(Refusal { number, place: row })
@@ -32,7 +32,7 @@ fn loaded() -> (Vec<u8>, Vec<u32>) {
         null(),
     ];
     let file = write(&file(&names, object(1, list(elements)), vec![])).bytes;
-    let mut words = vec![0; 6 * 11 + 5];
+    let mut words = vec![0; WORDS_PER_ROW * 11 + 6];
     load(&file, &mut words).expect("a lawful file");
     (file, words)
 }
@@ -57,17 +57,15 @@ fn parts() {
 #[test]
 fn parts_of_tables_that_no_load_left() {
     let file = [1, 2, 3, 4];
-    assert_eq!(part(&file, &[0, 1, 3, 0, 0, 0], 0), Ok(&[2, 3, 4][..]));
-    assert_eq!(part(&file, &[0, 1, 4, 0, 0, 0], 0), refused(23, 0));
-    assert_eq!(part(&file, &[0, 4, 0, 0, 0, 0], 0), refused(23, 0));
-    assert_eq!(part(&file, &[0, u32::MAX, 1, 0, 0, 0], 0), refused(23, 0));
-    assert_eq!(part(&file, &[0, 1, u32::MAX, 0, 0, 0], 0), refused(23, 0));
-    assert_eq!(
-        part(&file, &[0, u32::MAX, u32::MAX, 0, 0, 0], 0),
-        refused(23, 0)
-    );
-    assert_eq!(part(&file, &[0, 0, 1, 0, 0], 0), refused(23, 0));
-    let many = vec![1; 6 * 65_537];
+    let row = |first, length| [0, first, length, 0, 0, 0, 0];
+    assert_eq!(part(&file, &row(1, 3), 0), Ok(&[2, 3, 4][..]));
+    assert_eq!(part(&file, &row(1, 4), 0), refused(23, 0));
+    assert_eq!(part(&file, &row(4, 0), 0), refused(23, 0));
+    assert_eq!(part(&file, &row(u32::MAX, 1), 0), refused(23, 0));
+    assert_eq!(part(&file, &row(1, u32::MAX), 0), refused(23, 0));
+    assert_eq!(part(&file, &row(u32::MAX, u32::MAX), 0), refused(23, 0));
+    assert_eq!(part(&file, &row(0, 1)[..6], 0), refused(23, 0));
+    let many = vec![1; WORDS_PER_ROW * 65_537];
     assert!(part(&file, &many, 65_535).is_ok());
     assert_eq!(part(&file, &many, 65_536), refused(23, 65_536));
 }
@@ -79,7 +77,7 @@ fn texts() {
     assert_eq!(text_of(&file, &words, 0), refused(24, 0));
     assert_eq!(text_of(&file, &words, 8), refused(24, 8));
     assert_eq!(text_of(&file, &words, 9), refused(23, 9));
-    let row = |length| [13, 0, length, 0, 0, 1];
+    let row = |length| [13, 0, length, 0, 0, 1, 1];
     assert_eq!(text_of(&[0, 1, b'x'], &row(3), 0), Ok(&b"x"[..]));
     assert_eq!(text_of(&[9, 0], &row(2), 0), Ok(&b""[..]));
     assert_eq!(text_of(&[1, 2, b'x'], &row(3), 0), refused(24, 0));
@@ -101,7 +99,7 @@ fn signed_numbers() {
     assert_eq!(signed(&file, &words, 6), Ok(77));
     assert_eq!(signed(&file, &words, 7), refused(24, 7));
     assert_eq!(signed(&file, &words, 9), refused(23, 9));
-    let row = |kind, length| [kind, 0, length, 0, 0, 0];
+    let row = |kind, length| [kind, 0, length, 0, 0, 0, 1];
     let bytes = [0x80; 8];
     assert_eq!(signed(&bytes, &row(3, 1), 0), refused(24, 0));
     assert_eq!(signed(&bytes, &row(5, 3), 0), refused(24, 0));
@@ -118,8 +116,44 @@ fn times() {
     assert_eq!(time(&file, &words, 5), refused(24, 5));
     assert_eq!(time(&file, &words, 7), refused(24, 7));
     assert_eq!(time(&file, &words, 9), refused(23, 9));
-    let row = [20, 0, 8, 0, 0, 0];
+    let row = |length| [20, 0, length, 0, 0, 0, 1];
     let (seconds, ticks) = (-1, 9_999_999);
-    assert_eq!(time(&[0xFF; 8], &row, 0), Ok(Time { seconds, ticks }));
-    assert_eq!(time(&[0xFF; 8], &[20, 0, 7, 0, 0, 0], 0), refused(24, 0));
+    assert_eq!(time(&[0xFF; 8], &row(8), 0), Ok(Time { seconds, ticks }));
+    assert_eq!(time(&[0xFF; 8], &row(7), 0), refused(24, 0));
+}
+
+#[test]
+fn next_rows() {
+    let (_, words) = loaded();
+    assert_eq!(next(&words, 0), Some(9));
+    for row in 1..9 {
+        assert_eq!(next(&words, row), Some(row + 1));
+    }
+    // Zero rows and rows past the room.
+    for row in [9, 10, 11, 12, usize::MAX] {
+        assert_eq!(next(&words, row), None, "row {row}");
+    }
+}
+
+#[test]
+fn next_rows_of_tables_that_no_load_left() {
+    // The room, the row asked for, its seventh word and the answer.
+    let cases = [
+        (1, 0, 1, Some(1)),
+        (1, 0, 2, None),
+        (1, 0, 0, None),
+        (3, 0, 3, Some(3)),
+        (3, 2, 1, Some(3)),
+        (3, 2, 2, None),
+        (3, 2, u32::MAX, None),
+        (3, 1, u32::MAX - 1, None),
+    ];
+    for (room, row, count, expected) in cases {
+        let mut words = vec![u32::MAX; WORDS_PER_ROW * room];
+        words[WORDS_PER_ROW * row + 6] = count;
+        let told = format!("row {row} of {room} with count {count}");
+        assert_eq!(next(&words, row), expected, "{told}");
+        assert_eq!(next(&words[1..], room - 1), None, "{told}");
+    }
+    assert_eq!(next(&[], 0), None);
 }

@@ -11,7 +11,7 @@ struct Wrong {
     wrong: &'static str,
 }
 
-const WRONG: [Wrong; 7] = [
+const WRONG: [Wrong; 9] = [
     Wrong {
         what: "DateTime's limit",
         file: "walk.rs",
@@ -55,6 +55,18 @@ const WRONG: [Wrong; 7] = [
         file: "header.rs",
         right: "PLATFORM, 3)",
         wrong: "PLATFORM, 4)",
+    },
+    Wrong {
+        what: "a value's rows without itself",
+        file: "walk.rs",
+        right: "(self.rows.len() - row) as u32",
+        wrong: "(self.rows.len() - row - 1) as u32",
+    },
+    Wrong {
+        what: "children for all rows below",
+        file: "walk.rs",
+        right: "(self.rows.len() - row) as u32",
+        wrong: "1 + children",
     },
 ];
 
