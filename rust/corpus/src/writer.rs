@@ -71,8 +71,10 @@ pub struct File {
     pub rest: Vec<u8>,
 }
 
-/// A row: kind, first byte, length, children, parent plus 1, detail.
-pub type Row = [u32; 6];
+pub const WORDS_PER_ROW: usize = 7;
+
+/// A row: kind, first byte, length, children, parent plus 1, detail, number of rows with all below it.
+pub type Row = [u32; WORDS_PER_ROW];
 
 /// A field that was written.
 #[derive(Clone, Copy, Debug)]
@@ -154,28 +156,33 @@ struct Writer {
 }
 
 impl Writer {
-    /// Writes a value and all below it; its row stands before theirs.
-    fn value(&mut self, value: &Value, parent: Option<usize>) {
+    /// Writes a value and all below it, and answers how many rows that are; its row stands before theirs.
+    fn value(&mut self, value: &Value, parent: Option<usize>) -> u32 {
         let start = self.bytes.len() as u32;
         let number = self.rows.len();
         let parent_word = parent.map_or(0, |row| row as u32 + 1);
         self.rows
-            .push([value.kind, start, 0, 0, parent_word, value.detail]);
-        self.parts(&value.parts, Some(number));
+            .push([value.kind, start, 0, 0, parent_word, value.detail, 0]);
+        let rows = 1 + self.parts(&value.parts, Some(number));
         self.rows[number][2] = self.bytes.len() as u32 - start;
+        self.rows[number][6] = rows;
+        rows
     }
 
-    fn parts(&mut self, parts: &[Part], owner: Option<usize>) {
+    /// Writes parts and answers how many rows they have.
+    fn parts(&mut self, parts: &[Part], owner: Option<usize>) -> u32 {
+        let mut rows = 0;
         for part in parts {
             match part {
                 Part::Field(role, bytes) => self.field(*role, bytes),
                 Part::Seven(role, seven) => self.field(*role, &seven_bytes(*seven)),
                 Part::Data(bytes) => self.data(bytes),
-                Part::Child(child) => self.child(child, owner),
+                Part::Child(child) => rows += self.child(child, owner),
                 Part::Fault => self.fault = Some(self.bytes.len()),
                 Part::End => self.end = Some(self.bytes.len()),
             }
         }
+        rows
     }
 
     fn field(&mut self, role: Role, bytes: &[u8]) {
@@ -197,9 +204,9 @@ impl Writer {
         field.data_end = self.bytes.len();
     }
 
-    fn child(&mut self, child: &Value, owner: Option<usize>) {
+    fn child(&mut self, child: &Value, owner: Option<usize>) -> u32 {
         let owner = owner.expect("only values have children");
         self.rows[owner][3] += 1;
-        self.value(child, Some(owner));
+        self.value(child, Some(owner))
     }
 }

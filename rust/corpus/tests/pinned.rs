@@ -5,6 +5,7 @@
 
 use corpus::folder::kept_files;
 use corpus::names::TABLE;
+use corpus::writer::Row;
 use corpus::Sample;
 use std::ops::RangeInclusive;
 
@@ -14,7 +15,7 @@ struct Kept {
     readers: Vec<String>,
     /// Where the primary object starts.
     primary: usize,
-    rows: Vec<[u32; 6]>,
+    rows: Vec<Row>,
     /// The number and place of its refusal, or nothing.
     refusal: Option<(u32, usize)>,
 }
@@ -54,10 +55,10 @@ fn name_length(bytes: &[u8], at: usize) -> Option<(usize, usize)> {
     Some((high * 128 + low - 128, at + 2))
 }
 
-/// The six words of a row line.
-fn row(line: &str) -> Option<[u32; 6]> {
+/// The seven words of a row line.
+fn row(line: &str) -> Option<Row> {
     let numbers: Result<Vec<u32>, _> = line.split(' ').map(str::parse).collect();
-    numbers.ok()?.get(1..7)?.try_into().ok()
+    numbers.ok()?.get(1..)?.try_into().ok()
 }
 
 fn refusal(rows: &str) -> Option<(u32, usize)> {
@@ -153,7 +154,7 @@ fn each_reader_with_the_kind_and_size_of_its_objects() {
     for (reader, kind, size) in READERS {
         demand(reader, &files, |file| {
             let object = file.rows.first();
-            let shows = |row: &[u32; 6]| row[0] == kind && (size == ANY || row[2] == 1 + size);
+            let shows = |row: &Row| row[0] == kind && (size == ANY || row[2] == 1 + size);
             file.is_by(reader) && object.is_some_and(shows)
         });
         if size != ANY {
@@ -228,7 +229,7 @@ const ARGUMENTS: [(&str, u32, u32); 32] = [
 ];
 
 /// Whether a row is an element of the first row's list, raw if it is a value and else an object.
-fn is_element(row: &[u32; 6], kind: u32, size: u32, value: bool) -> bool {
+fn is_element(row: &Row, kind: u32, size: u32, value: bool) -> bool {
     let raw = row[5] == 0;
     row[4] == 1 && row[0] == kind && (size == ANY || row[2] == size) && raw == value
 }

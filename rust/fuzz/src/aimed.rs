@@ -4,7 +4,7 @@ use crate::maker::{make, Made, Planted};
 use crate::random::Random;
 use crate::shape::{OBJECT, TEXTURE};
 use crate::{Case, Known, GENEROUS_WORDS};
-use corpus::writer::{set_length, seven_bytes, write, Field, Role, Seven, Written};
+use corpus::writer::{set_length, seven_bytes, write, Field, Role, Seven, Written, WORDS_PER_ROW};
 
 /// A damaged file whose refusal is known.
 pub fn aimed_case(random: &mut Random) -> Case {
@@ -38,7 +38,7 @@ fn made_and_written(random: &mut Random, planted: Planted) -> (Made, Written) {
     loop {
         let made = make(random, planted);
         let written = write(&made.file);
-        if 6 * written.rows.len() <= GENEROUS_WORDS {
+        if WORDS_PER_ROW * written.rows.len() <= GENEROUS_WORDS {
             return (made, written);
         }
     }
@@ -59,7 +59,7 @@ fn too_few_rows(random: &mut Random) -> Case {
     let room = random.below(written.rows.len());
     let place = written.rows[room][1] as usize;
     let mut case = case(written.bytes, 19, place);
-    case.words = 6 * room + random.below(6);
+    case.words = WORDS_PER_ROW * room + random.below(WORDS_PER_ROW);
     case
 }
 

@@ -11,12 +11,12 @@ pub mod packs;
 pub mod random;
 mod shape;
 
-use corpus::writer::{write, Row, Written};
+use corpus::writer::{write, Row, Written, WORDS_PER_ROW};
 use maker::{make, Planted};
 use random::Random;
 
 /// Words for 1,024 rows, as the builder and `rows` have.
-pub const GENEROUS_WORDS: usize = 6 * 1024;
+pub const GENEROUS_WORDS: usize = WORDS_PER_ROW * 1024;
 
 /// A file to be loaded with so many lent words.
 #[derive(Clone, Debug)]
@@ -94,6 +94,6 @@ fn some_words(random: &mut Random, rows: usize) -> usize {
     if rows <= 1024 && random.chance(60) {
         GENEROUS_WORDS
     } else {
-        6 * rows + random.below(6)
+        WORDS_PER_ROW * rows + random.below(WORDS_PER_ROW)
     }
 }

@@ -6,7 +6,7 @@ use corpus::readers::{
     dictionary_of, list_of, nullable_of, BOOLEAN, BYTE, CHAR, DATE_TIME, DECIMAL, STRING, TEXTURE2D,
 };
 use corpus::values::*;
-use corpus::writer::{write, File, Part, Role, Value};
+use corpus::writer::{write, File, Part, Role, Value, WORDS_PER_ROW};
 
 /// A case with a name to tell it by.
 pub struct Limit {
@@ -185,14 +185,14 @@ fn depths_and_rows() -> Vec<Limit> {
             let file = alone(&[list_of("System.Byte")], object(1, list(elements)));
             let number = past(rows > room_used, 19);
             let mut limit = limit(format!("{rows} rows in {room}"), number, file);
-            limit.case.words = 6 * room;
+            limit.case.words = WORDS_PER_ROW * room;
             limits.push(limit);
         }
     }
     let mut no_room = file_a();
     no_room.objects = vec![faulty(null())];
     let mut no_room = limit("no row", 19, no_room);
-    no_room.case.words = 5;
+    no_room.case.words = WORDS_PER_ROW - 1;
     limits.push(no_room);
     limits
 }
@@ -528,13 +528,13 @@ fn orders() -> Vec<Limit> {
     let names = [list_of("System.Object"), list_of("System.Byte")];
     let deep = alone(&names, buried(32, object(2, deep_bytes)));
     let mut deep = limit("18 before 19 and 1", 18, deep);
-    deep.case.words = 6 * 32;
+    deep.case.words = WORDS_PER_ROW * 32;
 
     let mut short_of_rows = file_a();
     short_of_rows.shared_count = vec![seven(Role::SharedCount, 1)];
     short_of_rows.objects.push(faulty(value(0, vec![])));
     let mut short_of_rows = limit("19 before 1", 19, short_of_rows);
-    short_of_rows.case.words = 6;
+    short_of_rows.case.words = WORDS_PER_ROW;
 
     let no_texture = |default_character| {
         let mut fields = font_fields("a");

@@ -2,7 +2,7 @@
 
 use fuzz::limits::cases;
 use fuzz::{case, Case, Known};
-use second::{load, rewrite, Loaded, Refusal};
+use second::{broken_branch, load, rewrite, Loaded, Refusal, WORDS_PER_ROW};
 use std::collections::BTreeMap;
 
 /// How many files are tried; FUZZ_FILES in the environment asks for another number.
@@ -33,7 +33,7 @@ fn check(name: &str, case: &Case) -> u32 {
                 shared: *shared,
             };
             assert_eq!(answer, Ok(loaded), "{name}");
-            assert_eq!(words[..6 * rows.len()], rows.concat(), "{name}");
+            assert_eq!(words[..WORDS_PER_ROW * rows.len()], rows.concat(), "{name}");
         }
         Some(Known::Refused { number, place }) => {
             let (number, place) = (*number, *place);
@@ -41,8 +41,10 @@ fn check(name: &str, case: &Case) -> u32 {
         }
         None => {}
     }
-    let used = answer.map_or(0, |loaded| 6 * loaded.rows);
-    assert!(words[used..].iter().all(|&word| word == 0), "{name}");
+    let used = answer.map_or(0, |loaded| loaded.rows);
+    let unused = &words[WORDS_PER_ROW * used..];
+    assert!(unused.iter().all(|&word| word == 0), "{name}");
+    assert_eq!(broken_branch(&words, used), None, "{name}");
     answer.map_or_else(|refusal| refusal.number, |_| 0)
 }
 
@@ -134,7 +136,8 @@ fn check_rewritten(seed: u64, case: &Case, words: &[u32], new_file: &[u8]) {
     let mut new_words = vec![0; case.words];
     let answer = load(new_file, &mut new_words);
     assert!(answer.is_ok(), "seed {seed}");
-    for (old, new) in words.chunks_exact(6).zip(new_words.chunks_exact(6)) {
+    let rows = words.chunks_exact(WORDS_PER_ROW);
+    for (old, new) in rows.zip(new_words.chunks_exact(WORDS_PER_ROW)) {
         assert_eq!((old[0], &old[3..]), (new[0], &new[3..]), "seed {seed}");
     }
     let mut again = vec![0; new_file.len()];
