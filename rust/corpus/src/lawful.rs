@@ -25,6 +25,7 @@ pub fn samples() -> Vec<Sample> {
     samples.extend(fonts());
     samples.extend(pages());
     samples.extend(depths());
+    samples.extend(branches());
     samples.extend(number_forms());
     samples.extend(reader_lists());
     samples.extend(limits());
@@ -490,6 +491,99 @@ fn depths() -> Vec<Sample> {
             ),
         ),
     ]
+}
+
+/// Values with many rows below them, and others behind them.
+fn branches() -> Vec<Sample> {
+    vec![
+        accepted("siblings-behind-each-depth", siblings_behind_each_depth()),
+        accepted("lists-of-four-to-depth-7", lists_of_four()),
+        accepted("large-shared-objects", large_shared_objects()),
+        accepted("shared-objects-behind-a-list", shared_behind_a_list()),
+    ]
+}
+
+/// The readers of lists of objects, type id 1, and of bytes, type id 2.
+fn list_and_byte_readers() -> [String; 2] {
+    [list_of("System.Object"), BYTE.to_string()]
+}
+
+/// Lists in lists to depth 32, with none, one or two values behind each.
+fn siblings_behind_each_depth() -> File {
+    let mut inner = null();
+    for depth in 1..32 {
+        let mut elements = vec![inner];
+        elements.resize(1 + depth % 3, object(2, byte(7)));
+        inner = object(1, list(elements));
+    }
+    file(&list_and_byte_readers(), inner, vec![])
+}
+
+/// Lists of an empty list, a value with many rows, a null and that value again.
+fn lists_of_four() -> File {
+    let mut inner = object(2, byte(7));
+    for _ in 1..7 {
+        let empty = object(1, list(vec![]));
+        inner = object(1, list(vec![empty, inner.clone(), null(), inner]));
+    }
+    file(&list_and_byte_readers(), inner, vec![])
+}
+
+/// A page, and shared objects of many rows with nulls and empty ones between them.
+fn large_shared_objects() -> File {
+    let mut names = font_readers();
+    names.extend([
+        PAGE.to_string(),
+        STRING.to_string(),
+        list_of("System.Object"),
+        array_of(&nullable_target("System.Int32")),
+        dictionary_of("System.String", &list_target("System.Byte")),
+        list_of("System.Byte"),
+        nullable_of("System.Char"),
+    ]);
+    let a_page = |picture, next| {
+        page(
+            bound_object(7, text("stop")),
+            rectangle([0, 0, 8, 8]),
+            reference(picture),
+            reference(next),
+        )
+    };
+    let nullables = (0..60).map(|number| match number % 3 {
+        0 => nothing(),
+        _ => something(int32(number)),
+    });
+    let entries = (0..20).map(|number| {
+        let bytes = (0..number).map(byte).collect();
+        let key = bound_object(7, text(&number.to_string()));
+        (key, bound_object(11, list(bytes)))
+    });
+    let shelf = vec![
+        object(1, font(font_fields("abc"))),
+        null(),
+        object(8, list(vec![object(12, something(character('x')))])),
+    ];
+    let shared = vec![
+        object(1, font(font_fields("0123456789"))),
+        object(2, texture(0, 8, 8, 4)),
+        object(6, a_page(2, 6)),
+        null(),
+        object(8, list(vec![])),
+        object(6, a_page(0, 3)),
+        object(9, array(nullables.collect())),
+        object(10, dictionary(entries.collect())),
+        object(12, nothing()),
+        object(8, list(shelf)),
+    ];
+    file(&names, object(6, a_page(2, 3)), shared)
+}
+
+/// A primary object of many rows, and shared objects without children behind it.
+fn shared_behind_a_list() -> File {
+    let names = [list_of("System.Byte"), BYTE.to_string()];
+    let bytes = list(vec![byte(1); 900]);
+    let shared = vec![object(2, byte(1)), null(), object(2, byte(2))];
+    file(&names, object(1, bytes), shared)
 }
 
 fn number_forms() -> Vec<Sample> {
