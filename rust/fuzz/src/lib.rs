@@ -2,6 +2,7 @@
 //!
 //! `case(seed)` gives one file; equal seeds give equal files.
 //! `limits::cases()` gives files at every bound of 01 and just past it.
+//! `tables::case(seed)` gives a table that no loader left.
 
 mod aimed;
 mod blind;
@@ -10,6 +11,7 @@ mod maker;
 pub mod packs;
 pub mod random;
 mod shape;
+pub mod tables;
 
 use corpus::writer::{write, Row, Written, WORDS_PER_ROW};
 use maker::{make, Planted};
