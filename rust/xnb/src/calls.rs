@@ -24,7 +24,8 @@ pub fn count_rows(file: &[u8]) -> Result<usize, Refused> {
     unpacked(raw::load(file))
 }
 
-/// Loads a file into lent words, six to a row; words past its rows are zero, and all after a refusal.
+/// Loads a file into lent words, [`WORDS_PER_ROW`](crate::WORDS_PER_ROW) to a row; words past its rows are zero,
+/// and all after a refusal.
 pub fn load(file: &[u8], words: &mut [u32]) -> Result<Loaded, Refused> {
     let (answer, readers, shared) = raw::load_rows(file, words);
     Ok(Loaded {
@@ -76,6 +77,14 @@ pub fn time(file: &[u8], words: &[u32], row: u32) -> Result<Time, Refused> {
     let (refusal, seconds, ticks) = raw::time(file, words, row);
     Refused::check(refusal, row)?;
     Ok(Time { seconds, ticks })
+}
+
+/// The row number behind a row and all below it: that of the next value with the same parent, if there is one.
+///
+/// The words may be any. There is no answer for a row past their room, or whose number of rows is 0 or ends past
+/// the room.
+pub fn next(words: &[u32], row: u32) -> Option<u32> {
+    Some(raw::next(words, row)).filter(|next| *next > 0)
 }
 
 /// An answer that holds a refusal above a place, or a number.

@@ -19,7 +19,7 @@ mod refusal;
 mod row;
 mod table;
 
-pub use calls::{count_rows, load, part, rewrite, shorten, signed, text, time, Loaded, Time};
+pub use calls::{count_rows, load, next, part, rewrite, shorten, signed, text, time, Loaded, Time};
 pub use explain::{explain, Explanation, ReaderName};
 pub use kind::Kind;
 pub use pack::Pack;

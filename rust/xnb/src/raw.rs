@@ -61,6 +61,7 @@ mod entries {
             seconds: *mut i64,
             ticks: *mut u32,
         ) -> u32;
+        pub fn xnb_next(words: *const u32, words_length: usize, row: u32) -> u32;
     }
 }
 
@@ -153,4 +154,9 @@ pub fn signed(file: &[u8], words: &[u32], row: u32) -> (u32, i64) {
 /// The refusal or 0, and the seconds and ticks.
 pub fn time(file: &[u8], words: &[u32], row: u32) -> (u32, i64, u32) {
     look_up(entries::xnb_time, file, words, row, (-1, u32::MAX))
+}
+
+/// The row number behind the row and all below it, or 0.
+pub fn next(words: &[u32], row: u32) -> u32 {
+    unsafe { entries::xnb_next(words.as_ptr(), words.len(), row) }
 }

@@ -2,7 +2,8 @@
 
 use crate::kind::Kind;
 
-pub const WORDS_PER_ROW: usize = 6;
+/// The words of a row in a table; lent words have room for as many rows as they hold whole ones.
+pub const WORDS_PER_ROW: usize = 7;
 /// A table has never room for more rows.
 pub const MOST_ROWS: usize = 65_536;
 
@@ -19,6 +20,8 @@ pub struct Row {
     /// The row number of the value that it belongs to.
     pub parent: Option<u32>,
     pub detail: Detail,
+    /// Its number of rows with all below it, itself included.
+    pub rows: usize,
 }
 
 /// What an object or a reference points to.
@@ -32,9 +35,9 @@ pub enum Detail {
 }
 
 impl Row {
-    /// The row in six words, or nothing if their kind is unknown.
+    /// The row in these words, or nothing if their kind is unknown.
     pub fn of_words(words: [u32; WORDS_PER_ROW]) -> Option<Row> {
-        let [kind, first, length, children, parent, detail] = words;
+        let [kind, first, length, children, parent, detail, rows] = words;
         let kind = Kind::of_number(kind)?;
         let detail = match (kind, detail) {
             (_, 0) => Detail::Nothing,
@@ -48,6 +51,7 @@ impl Row {
             children: children as usize,
             parent: parent.checked_sub(1),
             detail,
+            rows: rows as usize,
         })
     }
 }

@@ -3,8 +3,27 @@
 use crate::calls::{self, Loaded, Time};
 use crate::refusal::Refused;
 use crate::row::{full_words, Row, WORDS_PER_ROW};
+use std::iter::successors;
 
 /// A file and the rows of its values, in words of its own or in lent ones.
+///
+/// ```
+/// let mut file = b"XNBw\x05\x00\x55\x00\x00\x00\x01\x3B".to_vec();
+/// file.extend_from_slice(b"Microsoft.Xna.Framework.Content.ListReader`1[[System.Byte]]\x00\x00\x00\x00");
+/// // One shared object; the primary object, a list of three bytes; the shared object, a null.
+/// file.extend_from_slice(b"\x01\x01\x03\x00\x00\x00\x07\x08\x09\x00");
+///
+/// let table = xnb::Table::load(&file)?;
+/// assert!(table.objects().eq([0, 4]));
+/// assert!(table.children(0).eq([1, 2, 3]));
+/// let list = table.row(0).expect("the primary object");
+/// assert_eq!((list.children, list.rows), (3, 4));
+/// // Behind the list and all below it stands the shared object; behind that there is no row.
+/// assert_eq!(table.next(0), Some(4));
+/// assert_eq!(table.next(4), Some(5));
+/// assert_eq!(table.row(5), None);
+/// # Ok::<(), xnb::Refused>(())
+/// ```
 #[derive(Clone, Debug)]
 pub struct Table<'f, W = Vec<u32>> {
     file: &'f [u8],
@@ -23,7 +42,7 @@ impl<'f> Table<'f> {
 }
 
 impl<'f, W: AsRef<[u32]> + AsMut<[u32]>> Table<'f, W> {
-    /// Loads a file into these words; a row takes six.
+    /// Loads a file into these words; a row takes [`WORDS_PER_ROW`].
     pub fn load_into(file: &'f [u8], mut words: W) -> Result<Table<'f, W>, Refused> {
         let loaded = calls::load(file, words.as_mut())?;
         Ok(Table {
@@ -49,33 +68,40 @@ impl<'f, W: AsRef<[u32]>> Table<'f, W> {
         &self.words.as_ref()[..WORDS_PER_ROW * self.loaded.rows]
     }
 
+    /// One row, found without looking at any other.
     pub fn row(&self, number: u32) -> Option<Row> {
-        self.rows().nth(number as usize)
+        self.row_words().get(number as usize).map(decoded)
     }
 
     /// Every row in file order: a value stands before all below it.
     pub fn rows(&self) -> impl Iterator<Item = Row> + '_ {
-        let (rows, _) = self.words().as_chunks();
-        rows.iter()
-            .map(|words| Row::of_words(*words).expect("a load leaves known kinds"))
+        self.row_words().iter().map(decoded)
     }
 
-    /// The numbers of the rows that belong to a row, in file order.
+    /// The row number behind a value and all below it; the number of rows where no row is behind them.
+    pub fn next(&self, number: u32) -> Option<u32> {
+        calls::next(self.words(), number)
+    }
+
+    /// The numbers of the rows that belong to a row, in file order; each takes one step.
     pub fn children(&self, number: u32) -> impl Iterator<Item = u32> + '_ {
         let count = self.row(number).map_or(0, |row| row.children);
-        let behind = (0..).zip(self.rows()).skip(number as usize + 1);
-        behind
-            .filter(move |(_, row)| row.parent == Some(number))
-            .map(|(child, _)| child)
-            .take(count)
+        self.each_next(number.saturating_add(1)).take(count)
     }
 
-    /// The primary object's row number, then those of the shared objects.
+    /// The primary object's row number, then those of the shared objects; each takes one step.
     pub fn objects(&self) -> impl Iterator<Item = u32> + '_ {
-        let top = (0..)
-            .zip(self.rows())
-            .filter(|(_, row)| row.parent.is_none());
-        top.map(|(number, _)| number)
+        self.each_next(0).take(1 + self.loaded.shared)
+    }
+
+    /// A row number, then each behind the one before and all below that.
+    fn each_next(&self, first: u32) -> impl Iterator<Item = u32> + '_ {
+        let words = self.words();
+        successors(Some(first), |number| calls::next(words, *number))
+    }
+
+    fn row_words(&self) -> &[[u32; WORDS_PER_ROW]] {
+        self.words().as_chunks().0
     }
 
     /// The part of the file that a row names.
@@ -98,4 +124,9 @@ impl<'f, W: AsRef<[u32]>> Table<'f, W> {
     pub fn time(&self, number: u32) -> Result<Time, Refused> {
         calls::time(self.file, self.words(), number)
     }
+}
+
+/// A row that a load left.
+fn decoded(words: &[u32; WORDS_PER_ROW]) -> Row {
+    Row::of_words(*words).expect("a load leaves known kinds")
 }

@@ -4,6 +4,7 @@ mod sides;
 
 use corpus::folder::kept_files;
 use fuzz::random::Random;
+use second::WORDS_PER_ROW;
 use sides::{lookups, other_words, some_rows, Call, Counts, Sides};
 
 /// How many files are tried; FUZZ_FILES in the environment asks for another number.
@@ -16,8 +17,8 @@ fn files() -> u64 {
 fn compare(sides: &mut Sides, name: &str, file: &[u8], words: usize) {
     let rows = sides.load(name, file, words).unwrap_or(3);
     let random = &mut sides.random;
-    let fewer = random.below(6 * rows + 1);
-    let just = 6 * rows + random.below(12);
+    let fewer = random.below(WORDS_PER_ROW * rows + 1);
+    let just = WORDS_PER_ROW * rows + random.below(2 * WORDS_PER_ROW);
     for words in [fewer, just] {
         let _ = sides.load(name, file, words);
     }
@@ -27,8 +28,9 @@ fn compare(sides: &mut Sides, name: &str, file: &[u8], words: usize) {
     let _ = second::load(file, &mut table);
     let numbers = some_rows(&mut sides.random, table.len(), rows);
     lookups(sides, name, file, &table, &numbers);
-    let other = other_words(&mut sides.random, file, &table[..words.min(6 * rows)]);
-    let numbers = some_rows(&mut sides.random, other.len(), other.len() / 6);
+    table.truncate(WORDS_PER_ROW * rows);
+    let other = other_words(&mut sides.random, file, &table);
+    let numbers = some_rows(&mut sides.random, other.len(), other.len() / WORDS_PER_ROW);
     lookups(sides, name, file, &other, &numbers);
 }
 
@@ -74,7 +76,7 @@ fn limits_give_the_second_loaders_answers() {
 fn corpus_files_give_the_second_loaders_answers() {
     let mut sides = Sides::new(2);
     for file in kept_files() {
-        for words in [0, 5, 6, 100, 6 * 1024] {
+        for words in [0, 6, 7, 100, WORDS_PER_ROW * 1024] {
             compare(&mut sides, &file.name, &file.bytes, words);
         }
     }
@@ -86,7 +88,7 @@ fn corpus_files_give_the_second_loaders_answers() {
 fn lookups_stop_at_the_most_rows() {
     let mut sides = Sides::new(3);
     let file = [7; 8];
-    let row = [3, 1, 4, 0, 0, 0];
+    let row = [3, 1, 4, 0, 0, 0, 1];
     for rows in [65_535, 65_536, 65_537, 70_000] {
         let words = row.repeat(rows);
         let around = rows as u32 - 1..rows as u32 + 2;
@@ -99,10 +101,11 @@ fn lookups_stop_at_the_most_rows() {
 #[test]
 fn empty_slices_are_taken() {
     let mut sides = Sides::new(4);
-    for words in [0, 1, 6] {
+    for words in [0, 1, WORDS_PER_ROW] {
         compare(&mut sides, "the empty file", &[], words);
         compare(&mut sides, "the empty end of a file", &b"XNB"[3..], words);
     }
     assert_eq!(xnb::raw::load(&[]), 1 << 32);
     assert_eq!(xnb::raw::part(&[], &[], 0), (23, 0, 0));
+    assert_eq!(xnb::raw::next(&[], 0), 0);
 }

@@ -1,10 +1,11 @@
 //! The safe calls over files whose values are known.
 
+use corpus::folder::kept_files;
 use corpus::lawful::{file_a, file_b, page_to, PAGE_READERS};
 use corpus::readers::{list_of, INT32, SBYTE, STRING, TIME_SPAN};
 use corpus::values::*;
 use corpus::writer::write;
-use xnb::{Detail, Kind, Refusal, Refused, Table, Time};
+use xnb::{Detail, Kind, Refusal, Refused, Row, Table, Time, WORDS_PER_ROW};
 
 fn refused<T>(refusal: Refusal, place: u32) -> Result<T, Refused> {
     Err(Refused { refusal, place })
@@ -34,7 +35,7 @@ fn values_are_looked_up() {
     let table = Table::load(&file).expect("a lawful file");
     assert_eq!(table.loaded().rows, 5);
     assert_eq!(table.loaded().readers, 5);
-    assert_eq!(table.words().len(), 30);
+    assert_eq!(table.words().len(), 5 * WORDS_PER_ROW);
     assert_eq!(table.text(1), Ok("größer"));
     assert_eq!(table.signed(2), Ok(-1));
     assert_eq!(table.signed(3), Ok(-70_000));
@@ -60,7 +61,11 @@ fn rows_are_typed() {
     let row = table.row(2).expect("a row");
     assert_eq!(row.parent, Some(0));
     assert_eq!(row.detail, Detail::TypeId(3));
-    assert_eq!((row.children, row.length), (0, 2));
+    assert_eq!((row.children, row.length, row.rows), (0, 2, 1));
+    assert_eq!(
+        table.row(0).map(|row| (row.children, row.rows)),
+        Some((4, 5))
+    );
     assert_eq!(&file[row.first..row.first + row.length], [3, 0xFF]);
     assert_eq!(table.row(5), None);
 }
@@ -74,19 +79,49 @@ fn children_and_objects_are_found() {
     assert_eq!(table.children(5).collect::<Vec<_>>(), [6, 7, 8, 9]);
     assert_eq!(table.children(10).count(), 0);
     assert_eq!(table.children(99).count(), 0);
+    assert_eq!(table.children(u32::MAX).count(), 0);
+    let next = [0, 1, 5, 10, 11, u32::MAX].map(|number| table.next(number));
+    assert_eq!(next, [Some(5), Some(2), Some(10), Some(11), None, None]);
     let reference = table.row(9).expect("a row");
     assert_eq!(reference.kind, Kind::SharedReference);
     assert_eq!(reference.detail, Detail::ResourceId(2));
 }
 
+/// Going by `next` finds the rows that scanning finds.
+#[test]
+fn walks_find_what_scanning_finds() {
+    for sample in kept_files() {
+        let Ok(table) = Table::load(&sample.bytes) else {
+            continue;
+        };
+        let rows: Vec<Row> = table.rows().collect();
+        let named = |parent| {
+            let named = (0..)
+                .zip(&rows)
+                .filter(move |(_, row)| row.parent == parent);
+            named.map(|(number, _)| number)
+        };
+        assert!(table.objects().eq(named(None)), "{}", sample.name);
+        for (number, row) in (0..).zip(&rows) {
+            assert_eq!(table.row(number), Some(*row), "{}", sample.name);
+            let children = table.children(number);
+            assert!(
+                children.eq(named(Some(number))),
+                "{}: row {number}",
+                sample.name
+            );
+        }
+    }
+}
+
 #[test]
 fn words_may_be_lent() {
     let file = list_file();
-    let mut words = [7; 40];
+    let mut words = [7; 5 * WORDS_PER_ROW + 10];
     let table = Table::load_into(&file, &mut words[..]).expect("room enough");
     assert_eq!(table.words(), Table::load(&file).expect("lawful").words());
-    assert_eq!(words[30..], [0; 10]);
-    let too_few = Table::load_into(&file, [7; 29]).map(|table| table.loaded());
+    assert_eq!(words[5 * WORDS_PER_ROW..], [0; 10]);
+    let too_few = Table::load_into(&file, [7; 5 * WORDS_PER_ROW - 1]).map(|table| table.loaded());
     let last = Table::load(&file).expect("lawful").row(4).expect("a row");
     assert_eq!(too_few, refused(Refusal::NoRowLeft, last.first as u32));
 }
@@ -100,7 +135,7 @@ fn files_are_shortened() {
     assert_eq!(xnb::shorten(&padded_b), Ok(b.clone()));
     assert_eq!(xnb::shorten(&b), Ok(b.clone()));
     let mut out = [0xEE; 64];
-    let too_small = xnb::rewrite(&padded_b, &mut [7; 6], &mut out);
+    let too_small = xnb::rewrite(&padded_b, &mut [7; WORDS_PER_ROW], &mut out);
     assert_eq!(too_small, refused(Refusal::OutputTooSmall, 65));
     assert_eq!(out, [0xEE; 64]);
 }
@@ -129,6 +164,7 @@ fn a_table_of_its_own_words_has_all_the_room() {
     let most = bytes(65_535);
     let table = Table::load(&most).expect("room enough");
     assert_eq!(table.rows().count(), 65_536);
+    assert_eq!(table.row(0).map(|row| row.rows), Some(65_536));
     let more = bytes(65_536);
     let last = more.len() as u32 - 1;
     let answer = Table::load(&more).map(|table| table.loaded());

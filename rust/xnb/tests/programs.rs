@@ -3,7 +3,7 @@
 //! A refusal of `rows` goes to standard output, one of `shorten` to standard error.
 
 use corpus::folder::{folder, kept_files, root, shortest};
-use second::{printed_rows, shortened, LONGEST_INPUT};
+use second::{printed_rows, shortened, LONGEST_INPUT, WORDS_PER_ROW};
 use std::fs::File;
 use std::io::{ErrorKind, Write};
 use std::process::{Command, Stdio};
@@ -119,13 +119,13 @@ const WITHIN_LIMITS: [(&str, usize, &str, &str); 2] = [
         "ok-32768-bytes",
         32_768,
         "rows 1 readers 1 shared 0\n",
-        "\n0 13 61 32707 0 0 1\n",
+        "\n0 13 61 32707 0 0 1 1\n",
     ),
     (
         "ok-1024-rows",
         1_104,
         "rows 1024 readers 1 shared 0\n",
-        "\n1023 1 1103 1 0 1 0\n",
+        "\n1023 1 1103 1 0 1 0 1\n",
     ),
 ];
 
@@ -154,7 +154,7 @@ fn stored_files_at_and_past_the_limits_of_both_programs() {
         assert_eq!(rows(&input), refusal, "{name}");
         let refused = (vec![], refusal.as_bytes().to_vec());
         assert_eq!(run("shorten", &input), refused, "{name}");
-        let mut words = vec![0; 6 * 1025];
+        let mut words = vec![0; WORDS_PER_ROW * 1025];
         assert!(second::load(&input, &mut words).is_ok(), "{name} is lawful");
     }
 }

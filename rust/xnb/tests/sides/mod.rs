@@ -1,7 +1,7 @@
 //! Both loaders over the same input: their answers and the buffers that they leave must be equal.
 
 use fuzz::random::Random;
-use second::Refusal;
+use second::{broken_branch, Refusal, WORDS_PER_ROW};
 use std::fmt::{self, Debug, Display, Formatter};
 use xnb::raw;
 
@@ -148,7 +148,9 @@ impl Sides {
         let expected_numbers = (packed, readers as u32, shared as u32);
         assert_eq!(answer, expected_numbers, "{name}: load with {words} words");
         linked.check(name, &second);
-        if words == 6 * 1024 {
+        let rows = expected.map_or(0, |it| it.rows);
+        assert_eq!(broken_branch(linked.middle(), rows), None, "{name}");
+        if words == WORDS_PER_ROW * 1024 {
             assert_eq!(raw::load(file), packed, "{name}: the builder's number");
         }
         self.counts.count(Load, &expected);
@@ -191,7 +193,7 @@ impl Sides {
     }
 }
 
-/// The four lookups of each row number.
+/// The four lookups of each row number, and the row behind it and all below it.
 pub fn lookups(sides: &mut Sides, name: &str, file: &[u8], words: &[u32], rows: &[u32]) {
     for &row in rows {
         let number = row as usize;
@@ -223,6 +225,9 @@ pub fn lookups(sides: &mut Sides, name: &str, file: &[u8], words: &[u32], rows: 
         let expected = (number_of(&time) as u32, seconds, ticks);
         assert_eq!(raw::time(file, words, row), expected, "time, {told}");
         sides.counts.count(Time, &time);
+
+        let next = second::next(words, number).unwrap_or(0);
+        assert_eq!(raw::next(words, row) as usize, next, "next, {told}");
     }
 }
 
@@ -236,10 +241,10 @@ fn span(file: &[u8], answer: Result<&[u8], Refusal>) -> (u32, usize, usize) {
 
 /// Row numbers among those in use, around the room and far past it.
 pub fn some_rows(random: &mut Random, words: usize, used: usize) -> Vec<u32> {
-    let room = (words / 6).min(65_536) as u32;
+    let room = (words / WORDS_PER_ROW).min(65_536) as u32;
     let mut rows: Vec<u32> = (room.saturating_sub(2)..room + 3).collect();
-    // Six times the first number here is 2 in 32 bits.
-    rows.extend([715_827_883, 1 << 31, u32::MAX - 1, u32::MAX]);
+    // Seven times the first number here is 3 in 32 bits.
+    rows.extend([613_566_757, 1 << 31, u32::MAX - 1, u32::MAX]);
     rows.extend((0..8).map(|_| random.below(used + 1) as u32));
     rows
 }
@@ -251,7 +256,8 @@ pub fn other_words(random: &mut Random, file: &[u8], table: &[u32]) -> Vec<u32> 
         let count = random.below(60);
         words = (0..count).map(|_| random.number() as u32).collect();
     }
-    for row in words.chunks_exact_mut(6) {
+    let room = (words.len() / WORDS_PER_ROW) as u32;
+    for row in words.chunks_exact_mut(WORDS_PER_ROW) {
         if random.chance(60) {
             row[0] = random.pick(&[13, 13, 13, 2, 3, 5, 7, 20, 20, 12, 36, 37, 269]);
         }
@@ -266,6 +272,10 @@ pub fn other_words(random: &mut Random, file: &[u8], table: &[u32]) -> Vec<u32> 
             let overflow = 0u32.wrapping_sub(row[1]);
             let near = [rest, rest.wrapping_add(1), row[2].wrapping_add(1)];
             row[2] = random.pick(&[short, short, near[0], near[1], near[2], overflow]);
+        }
+        if random.chance(40) {
+            let near = random.between(0, room + 1);
+            row[6] = random.pick(&[near, near, room, row[6].wrapping_add(1), u32::MAX]);
         }
     }
     words
