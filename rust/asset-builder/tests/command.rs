@@ -67,7 +67,7 @@ fn rows_may_have_the_room_of_the_program() {
 
 #[test]
 fn several_files_are_told_apart() {
-    let expected = "==> ok-kind-00-null.xnb <==\nrows 1 readers 0 shared 0\n0 0 12 1 0 0 0\n\
+    let expected = "==> ok-kind-00-null.xnb <==\nrows 1 readers 0 shared 0\n0 0 12 1 0 0 0 1\n\
         ==> bad-06-flags.xnb <==\nrefused 6 at 5\n";
     let ran = run(&["rows", "ok-kind-00-null.xnb", "bad-06-flags.xnb"]);
     assert_eq!((ran.out.as_str(), ran.status), (expected, Some(1)));
@@ -188,7 +188,7 @@ fn standard_input_is_a_file() {
     let string = sample("ok-kind-13-string.xnb");
     let folder = folder();
     let ran = run_in(&folder, &["rows", "-"], &string);
-    assert_eq!(ran.out, "rows 1 readers 1 shared 0\n0 13 61 4 0 0 1\n");
+    assert_eq!(ran.out, "rows 1 readers 1 shared 0\n0 13 61 4 0 0 1 1\n");
     let ran = run_in(&folder, &["check", "-", "ok-kind-00-null.xnb"], &string);
     let expected = "-: rows 1 readers 1 shared 0\nok-kind-00-null.xnb: rows 1 readers 0 shared 0\n\
         2 files: 2 accepted, 0 refused, 0 unread\n";
@@ -407,19 +407,22 @@ fn every_accepted_file_has_a_tree() {
                 .sum();
             assert_eq!(told, rows, "{name}");
             let listed = json(&run(&["rows", "--json", &name]).out);
-            assert_eq!(
-                listed["rows"].as_array().expect("rows").len(),
-                rows,
-                "{name}"
-            );
+            let words = |line: &str| -> Json {
+                let words = line.split(' ').skip(1);
+                words.map(|it| it.parse::<u32>().expect("a word")).collect()
+            };
+            let expected: Json = file.rows.lines().skip(1).map(words).collect();
+            assert_eq!(listed["rows"], expected, "{name}");
         }
     }
 }
 
-/// The number of values in a tree.
+/// The number of values in a tree, which each value tells of itself and all below it.
 fn count(tree: &Json) -> usize {
     let children = tree["children"].as_array();
-    1 + children.map_or(0, |children| children.iter().map(count).sum())
+    let rows = 1 + children.map_or(0, |children| children.iter().map(count).sum());
+    assert_eq!(tree["rows"], rows);
+    rows
 }
 
 #[test]

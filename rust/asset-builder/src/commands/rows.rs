@@ -11,8 +11,11 @@ use xnb::{Table, WORDS_PER_ROW};
 /// Print the row table of each file
 ///
 /// The lines are those of the program `rows`: the number of rows, readers and
-/// shared objects, then for each row its number and its words; or a refusal,
-/// as `refused 7 at 6`. Of several files, each begins with `==> NAME <==`.
+/// shared objects, then for each row its number and its seven words; or a
+/// refusal, as `refused 7 at 6`. The words are kind, first byte, number of bytes,
+/// number of children, the parent's row number plus 1 or 0, type id or resource
+/// id, and the number of rows with all below it, itself included. Of several
+/// files, each begins with `==> NAME <==`.
 ///
 /// The program `rows` differs: it reads standard input alone, refuses more than
 /// 32768 bytes (9 at 0), and has room for 1024 rows. This command takes what the

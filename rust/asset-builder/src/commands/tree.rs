@@ -7,7 +7,7 @@ use crate::refusal::Told;
 use crate::run::{End, Run, Status};
 use crate::values::{value, Value};
 use serde::Serialize;
-use xnb::{Detail, Kind, Row, Table};
+use xnb::{Detail, Kind, Table};
 
 /// Print the values of each file as a tree
 ///
@@ -48,6 +48,8 @@ struct Node {
     kind: String,
     first: usize,
     length: usize,
+    /// Its number of rows with all below it, itself included.
+    rows: usize,
     #[serde(rename = "typeId", skip_serializing_if = "Option::is_none")]
     type_id: Option<u32>,
     #[serde(rename = "resourceId", skip_serializing_if = "Option::is_none")]
@@ -97,29 +99,28 @@ impl Tree {
 
 /// The primary object and the shared objects.
 fn objects(table: &Table) -> Vec<Node> {
-    let mut rows = (0..).zip(table.rows()).peekable();
-    let mut objects = Vec::new();
-    while rows.peek().is_some() {
-        let name = match objects.len() {
+    let named = |(position, number)| {
+        let name = match position {
             0 => "primary".to_string(),
-            position => format!("shared {position}"),
+            _ => format!("shared {position}"),
         };
-        objects.push(node(table, &mut rows, Some(name)));
-    }
-    objects
+        node(table, number, Some(name))
+    };
+    table.objects().enumerate().map(named).collect()
 }
 
-/// The next row and all below it: a value stands before its children, and they before what follows.
-fn node(table: &Table, rows: &mut impl Iterator<Item = (u32, Row)>, name: Option<String>) -> Node {
-    let (number, row) = rows.next().expect("a row has as many children as it says");
-    let children = (0..row.children).map(|index| node(table, rows, field(row.kind, index)));
-    let children = children.collect();
+/// A value and all below it.
+fn node(table: &Table, number: u32, name: Option<String>) -> Node {
+    let row = table.row(number).expect("the row of an object or a child");
+    let children = table.children(number).enumerate();
+    let children = children.map(|(index, child)| node(table, child, field(row.kind, index)));
     Node {
         row: number,
         name,
         kind: row.kind.to_string(),
         first: row.first,
         length: row.length,
+        rows: row.rows,
         type_id: match row.detail {
             Detail::TypeId(id) => Some(id),
             _ => None,
@@ -129,7 +130,7 @@ fn node(table: &Table, rows: &mut impl Iterator<Item = (u32, Row)>, name: Option
             _ => None,
         },
         value: value(table, number, &row),
-        children,
+        children: children.collect(),
     }
 }
 
