@@ -166,3 +166,11 @@ pub fn padded_objects(rows: usize) -> Input {
     corpus::lawful::pad_file(5, &mut file);
     input("small objects", format!("{rows} boxed Int32, padded"), file)
 }
+
+/// A null and so many shared objects, lists of numbers with so many rows together.
+pub fn shared_lists(count: usize, rows: usize) -> Input {
+    let numbers = list(vec![int32(9); rows / count - 1]);
+    let shared = vec![object(1, numbers); count];
+    let file = file(&[list_of("System.Int32")], null(), shared);
+    input("sharing", format!("{count} shared lists"), file)
+}

@@ -3,6 +3,7 @@
 //! A ratio is the other's time divided by the library's: 2 means twice as fast, 0.5 half as fast.
 //! All tasks use the same file, words and output; these are not cleared between turns.
 
+mod branches;
 mod inputs;
 mod marks;
 mod measure;
@@ -12,11 +13,12 @@ use inputs::Input;
 use measure::beside;
 use std::hint::black_box;
 
-const PARTS: [(&str, fn()); 7] = [
+const PARTS: [(&str, fn()); 8] = [
     ("builder", builder),
     ("load", load),
     ("utf8", utf8),
     ("rewrite", rewrite),
+    ("next", branches::measure),
     ("pack-read", packs::read),
     ("pack-find", packs::find),
     ("marks", marks::convert),
@@ -129,7 +131,7 @@ fn table(
     println!("|---|---|---|---|---|{}", "---|".repeat(names.len()));
     for input in inputs {
         let mut lent = Lent {
-            words: vec![0; 6 * rows(&input)],
+            words: vec![0; xnb::WORDS_PER_ROW * rows(&input)],
             out: vec![0; input.bytes.len()],
             file: input.bytes,
         };
