@@ -4,7 +4,7 @@
    else that it is given.
 
    A packed answer is the refusal's number (0 if there is none) times 2 to the 32, plus the refusal's place, or the number
-   of rows. Any other answer is the refusal's number, or 0; that of xnb_pack_find is told there. */
+   of rows. Any other answer is the refusal's number, or 0; those of xnb_next and xnb_pack_find are told there. */
 #ifndef XNB_H
 #define XNB_H
 
@@ -18,8 +18,10 @@ extern "C" {
 /* Loads an XNB file with room for 1,024 rows. The answer is packed. */
 uint64_t xnb_load(const uint8_t *file, size_t file_length);
 
-/* Loads an XNB file into the words: six make a row, and every word not in a used row is zero. Writes the number of readers
-   and the shared count, or 0 on a refusal. The answer is packed. */
+/* Loads an XNB file into the words: seven make a row, and every word not in a used row is zero. A row is kind, first byte,
+   number of bytes, number of children, the parent's row number plus 1 or 0, type id or resource id, and the number of rows
+   that the value has with all below it, itself included. Writes the number of readers and the shared count, or 0 on a
+   refusal. The answer is packed. */
 uint64_t xnb_load_rows(const uint8_t *file, size_t file_length, uint32_t *words, size_t words_length,
                        uint32_t *readers, uint32_t *shared);
 
@@ -49,6 +51,11 @@ uint32_t xnb_signed(const uint8_t *file, size_t file_length, const uint32_t *wor
 /* Writes the time of a row of kind 20: whole seconds, rounded down, and 0 to 9,999,999 ticks. */
 uint32_t xnb_time(const uint8_t *file, size_t file_length, const uint32_t *words, size_t words_length,
                   uint32_t row, int64_t *seconds, uint32_t *ticks);
+
+/* The row number behind a row and all below it, in words of any content: the row's number plus its seventh word. It is 0 if
+   the row is not below the room, which is the number of whole rows in the words and at most 65,536, or if the seventh word is
+   0 or ends past the room. It is no refusal's number. */
+uint32_t xnb_next(const uint32_t *words, size_t words_length, uint32_t row);
 
 /* The entries below take a pack of any length: a count of files in four bytes, and for each file a path behind its length
    as a seven-bit number, its size in four bytes, and its data. A table has four words for each file: where its path starts,
