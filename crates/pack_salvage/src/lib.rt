@@ -1,0 +1,1 @@
+// What salvaging a marked pack answers is specifications only: see specs/.
