@@ -13,7 +13,11 @@ use Rattle.reading.specs.Output.{Rewritten, written}
 use Rattle.reading.specs.Output as output
 use Rattle.marks.specs.declared.Converting.the-variants as converting
 use Rattle.marks.specs.Converting as marks
-use Rattle.builder.specs.Packs.{packTold, writtenTold, foundTold}
+use Rattle.pack_salvage.specs.Salvage.{Salvaged, salvaged}
+use Rattle.pack_salvage.specs.Salvage as salvage
+use Rattle.salvage.specs.declared.Salvaging.the-variants as salvaging
+use Rattle.salvage.specs.Salvaging as salvages
+use Rattle.builder.specs.Packs.{packTold, writtenTold, salvageTold, foundTold}
 
 pub pack-refused : (x : Pack) {number place : ℕ} → Refused number place ≡ answerOf x → _≡_ {A = ℕ × ℕ} (number, place) (packTold x)
 unfolding packTold
@@ -40,6 +44,22 @@ pub all-written : (x : Rewritten) {size : ℕ} → converting.Converted size ≡
 unfolding writtenTold
 all-written (output.refusal n p) q = differ cc
 all-written (written bytes) {size} q = let a : size ≡ length bytes = cc in rw a
+
+pub not-salvaged : (x : Salvaged) {number place : ℕ} → salvaging.Refused number place ≡ salvages.answerOf x → _≡_ {A = ℕ × ℕ × ℕ} (number, place, 0) (salvageTold x)
+unfolding salvageTold
+not-salvaged (salvage.refusal n p) {number} {place} q =
+    let a : number ≡ n = cc in
+    let b : place ≡ p = cc in
+    rw (a, b)
+not-salvaged (salvaged bytes l) q = differ cc
+
+pub all-salvaged : (x : Salvaged) {size n : ℕ} → salvaging.Salvaged size n ≡ salvages.answerOf x → _≡_ {A = ℕ × ℕ × ℕ} (0, size, n) (salvageTold x)
+unfolding salvageTold
+all-salvaged (salvage.refusal n p) q = differ cc
+all-salvaged (salvaged bytes l) {size} {n} q =
+    let a : size ≡ length bytes = cc in
+    let b : n ≡ length l = cc in
+    rw (a, b)
 
 pub none-found : (x : Found) → Absent ≡ foundAs x → _≡_ {A = ℕ × ℕ × ℕ} (0, 0, 0) (foundTold x)
 unfolding foundTold

@@ -4,6 +4,8 @@ use lib.ListN.{length}
 use Rattle.reading.specs.Output.{Rewritten, written}
 use Rattle.reading.specs.Output as output
 use Rattle.pack_reading.specs.Pack.{Pack, refusal, accepted}
+use Rattle.pack_salvage.specs.Salvage.{Salvaged, salvaged}
+use Rattle.pack_salvage.specs.Salvage as salvage
 use Rattle.pack_reading.specs.Lookup.{Found, absent, found}
 
 -- a refusal's number and place, or 0 and the number of files
@@ -15,6 +17,11 @@ packTold (accepted fs) = (0, length fs)
 unfoldable pub writtenTold : Rewritten → ℕ × ℕ
 writtenTold (output.refusal number place) = (number, place)
 writtenTold (written bytes) = (0, length bytes)
+
+-- a refusal's number and place, and 0; or 0, the length of the new pack and the number of stretches
+unfoldable pub salvageTold : Salvaged → ℕ × ℕ × ℕ
+salvageTold (salvage.refusal number place) = (number, place, 0)
+salvageTold (salvaged bytes l) = (0, length bytes, length l)
 
 -- 1, where the data starts and how many bytes it has; or three times 0
 unfoldable pub foundTold : Found → ℕ × ℕ × ℕ

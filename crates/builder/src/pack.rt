@@ -2,6 +2,7 @@
 use marks::Converting;
 use pack_lookup::Found;
 use packs::Reading;
+use salvage::Salvaging;
 ghost use mathlib.Core.Path.{_≡_};
 ghost use lib.ListN.{length};
 ghost use Rattle.reading.specs.Output.{outputOf};
@@ -11,7 +12,8 @@ ghost use Rattle.pack_reading.specs.Lookup.{findOf};
 ghost use Rattle.pack_records.specs.Records.{markOf};
 ghost use Rattle.pack_writing.specs.Convert.{convertOf};
 ghost use Rattle.marks.specs.Converting.{converted};
-ghost use Rattle.builder.specs.Packs.{packTold, writtenTold, foundTold};
+ghost use Rattle.pack_salvage.specs.Salvage.{salvageFor, outputFor, listFor};
+ghost use Rattle.builder.specs.Packs.{packTold, writtenTold, salvageTold, foundTold};
 
 // Reads a pack of either form into the table, and writes the number of files, or a refusal's place: the answer is the refusal's number, or 0.
 fn read_pack(pack: &[u8], table: &mut [u64], marked: bool, at: &mut u64) -> u32
@@ -81,6 +83,36 @@ pub extern "C" fn xnb_pack_unmark(pack: &[u8], out: &mut [u8], at: &mut u64) -> 
     ensures { λ _. ⌜ now (out .exit) ≡ outputOf (convertOf marked plain (now (pack .entry)) (length (now (out .entry)))) (now (out .entry)) ⌝ }
 {
     convert_pack(pack, out, false, at)
+}
+
+// Writes a marked pack of the records that a damaged one still holds, and the list of the skipped stretches, with the length of each.
+#[no_mangle]
+pub extern "C" fn xnb_pack_salvage(
+    pack: &[u8],
+    out: &mut [u8],
+    list: &mut [u64],
+    at: &mut u64,
+    stretches: &mut u64,
+) -> u32
+    ensures { λ r. ⌜ (r, now (at .exit), now (stretches .exit)) ≡ salvageTold (salvageFor (now (pack .entry)) (now (out .entry)) (now (list .entry))) ⌝ }
+    ensures { λ _. ⌜ now (out .exit) ≡ outputFor (now (pack .entry)) (now (out .entry)) (now (list .entry)) ⌝ }
+    ensures { λ _. ⌜ now (list .exit) ≡ listFor (now (pack .entry)) (now (out .entry)) (now (list .entry)) ⌝ }
+{
+    match salvage::salvage(pack, out, list) {
+        Salvaging::Refused { number, place } => {
+            *at = place as u64;
+            *stretches = 0;
+            number
+        }
+        Salvaging::Salvaged {
+            length: size,
+            stretches: n,
+        } => {
+            *at = size as u64;
+            *stretches = n as u64;
+            0
+        }
+    }
 }
 
 // Finds the data of the first file of a path, and writes where it starts and how many bytes it has: the answer is 1, or 0 where there is none.

@@ -1,0 +1,47 @@
+use mathlib.Core.Path.{sym, _∙_}
+use Rattle.pack_salvage.specs.Salvage.{salvageFor}
+use Rattle.builder.proofs.Packs.{not-salvaged, all-salvaged}
+use borrow.Author.Needs.{needs}
+use Rattle.builder.proofs.pack.xnb_pack_salvage.Statement.{statement}
+use Rattle.builder.proofs.pack.xnb_pack_salvage.Tie as tie
+
+salvage-requires : tie.Need-salvage-requires
+salvage-requires c κs = search needs
+
+enum-known-number : tie.Need-enum-known-number
+enum-known-number c = search needs
+
+enum-known-size : tie.Need-enum-known-size
+enum-known-size c = search needs
+
+same-length : tie.Need-same-length
+same-length c = search needs
+
+same-length-2 : tie.Need-same-length-2
+same-length-2 c = search needs
+
+returns : tie.Need-returns
+returns c = (not-salvaged (salvageFor (c .before .before .before .before .before .before .before .before .before .before .before .before .before .args .pack .now) (c .before .before .before .before .before .before .before .before .before .before .before .before .before .args .out .now) (c .before .before .before .before .before .before .before .before .before .before .before .before .before .args .list .now)) (sym (c .before .number .given .1) ∙ c .before .before .before .before .before .before .before .salvage .ensures .0), c .before .before .before .before .before .before .before .salvage .ensures .1)
+
+same-length-3 : tie.Need-same-length-3
+same-length-3 c = search needs
+
+same-length-4 : tie.Need-same-length-4
+same-length-4 c = search needs
+
+returns-2 : tie.Need-returns-2
+returns-2 c = (all-salvaged (salvageFor (c .before .before .before .before .before .before .before .before .before .before .before .before .before .args .pack .now) (c .before .before .before .before .before .before .before .before .before .before .before .before .before .args .out .now) (c .before .before .before .before .before .before .before .before .before .before .before .before .before .args .list .now)) (sym (c .before .size .given .1) ∙ c .before .before .before .before .before .before .before .salvage .ensures .0), c .before .before .before .before .before .before .before .salvage .ensures .1)
+
+pub xnb-pack-salvage-spec : {M : Type 1} → statement M
+xnb-pack-salvage-spec =
+    tie.close
+    (tie.spec
+    salvage-requires
+    enum-known-number
+    enum-known-size
+    same-length
+    same-length-2
+    returns
+    same-length-3
+    same-length-4
+    returns-2)
