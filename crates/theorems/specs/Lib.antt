@@ -2,3 +2,4 @@ pub mod Exact
 pub mod Rewriting
 pub mod Packs
 pub mod Marks
+pub mod Salvage

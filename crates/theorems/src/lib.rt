@@ -1,6 +1,7 @@
-// What is demanded of loading and rewriting, as contracts: each function calls the code, and is here for what it ensures (specs/Exact.antt and specs/Rewriting.antt, from top to bottom; of packs, packed.rt and specs/Packs.antt, converted.rt and specs/Marks.antt).
+// What is demanded of loading and rewriting, as contracts: each function calls the code, and is here for what it ensures (specs/Exact.antt and specs/Rewriting.antt, from top to bottom; of packs, packed.rt and specs/Packs.antt, converted.rt and specs/Marks.antt, salvaged.rt and specs/Salvage.antt).
 mod converted;
 mod packed;
+mod salvaged;
 
 use load::Loading;
 use rewrite::Rewriting;
