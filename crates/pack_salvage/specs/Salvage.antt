@@ -1,16 +1,17 @@
 -- What salvaging a marked pack answers, and what it leaves in the output and in the list of skipped stretches (Req 11). Assumes nothing.
-use mathlib.Core.Path.{_≡_, refl, ap}
+use mathlib.Core.Path.{_≡_, refl, ap, subst}
 use mathlib.Core.Bool.{Bool, cond}
 use mathlib.Core.List.{List, [], _∷_, _++_}
-use Prim.Native.Nat.{ℕ, zero, _+_, _*_, _/_, _≤_}
+use Prim.Native.Nat.{ℕ, zero, suc, _+_, _*_, _/_, _≤_}
 use native.Mathlib.Omega.{arith}
 use lib.Dec.{leb}
 use lib.ListN.{length, drop}
+use lib.Seq.{drop-append-seam}
 use borrow.Author.Tests.{le-leb}
 use Rattle.layout.specs.Number.{little}
-use Rattle.reading.specs.Reads.{Small, small-drop}
+use Rattle.reading.specs.Reads.{Small, small-drop, small-left}
 use Rattle.pack_layout.specs.Pack.{Stored, marked, recordBytes, recordsBytes, packBytes, PackLays}
-use Rattle.pack_salvage.specs.Scan.{Piece, Scanned, keptOf, allKept, kept-lawful, keeps-all, kept-all}
+use Rattle.pack_salvage.specs.Scan.{Piece, kept, skipped, Scanned, piecesBytes, makes-up, keptOf, allKept, kept-lawful, keeps-all, kept-all}
 use Rattle.pack_salvage.specs.Scanning.{scan, scan-is, is-scanned}
 use Rattle.pack_salvage.specs.Stretches.{Stretch, stretches, words}
 
@@ -92,6 +93,35 @@ accepted-stays fs file out list small w room =
     let s : scan 4096 zero (drop 4 file) ≡ allKept fs = scan-is (small-drop 4 file small) (rw (f .0) (keeps-all 4096 fs (w .lawful) (w .not-many))) in
     rw (s, kept-all fs, no-stretch 4 fs, ← w .parts, le-leb 4 (length file) (f .1), le-leb (length file) out room, le-leb 0 (list / 2) (omega arith))
 
+small-append : (a b : List ℕ) → Small a → Small b → Small (a ++ b)
+unfolding Small
+small-append [] b h k = k
+small-append (x ∷ a) b h k = (h .0, small-append a b (h .1) k)
+
+small-little : (k n : ℕ) → Small (little k n)
+unfolding little Small
+small-little zero n = tt
+small-little (suc k) n = (omega arith, small-little k (n / 256))
+
+kept-small : (ps : List Piece) → Small (piecesBytes ps) → Small (recordsBytes marked (keptOf ps))
+unfolding piecesBytes keptOf recordsBytes Small
+kept-small [] h = tt
+kept-small (kept f ∷ ps) h =
+    let a = recordBytes marked f in
+    let b = piecesBytes ps in
+    let k : Small b = subst Small (drop-append-seam a b) (small-drop (length a) (a ++ b) h) in
+    small-append a (recordsBytes marked (keptOf ps)) (small-left a b h) (kept-small ps k)
+kept-small (skipped b ∷ ps) h = kept-small ps (h .1)
+
+-- the new pack is a file of bytes
+new-small : (file : List ℕ) → Small file → Small (newPack file)
+unfolding packBytes
+new-small file small =
+    let fs = keptOf (piecesOf file) in
+    let e = makes-up (pieces-scanned file small) in
+    small-append (little 4 (length fs)) (recordsBytes marked fs) (small-little 4 (length fs)) (kept-small (piecesOf file) (rw e (small-drop 4 file small)))
+
 -- so salvaging what was salvaged gives the same bytes, with nothing skipped
-pub twice-is-once : (file : List ℕ) (out list : ℕ) → Small file → Small (newPack file) → length (newPack file) ≤ out → salvageOf (newPack file) out list ≡ salvaged (newPack file) []
-twice-is-once file out list small tiny room = accepted-stays (keptOf (piecesOf file)) (newPack file) out list tiny (pack-written file small) room
+pub twice-is-once : (file : List ℕ) (out list : ℕ) → Small file → length (newPack file) ≤ out → salvageOf (newPack file) out list ≡ salvaged (newPack file) []
+twice-is-once file out list small room =
+    accepted-stays (keptOf (piecesOf file)) (newPack file) out list (new-small file small) (pack-written file small) room

@@ -1,29 +1,26 @@
 -- The pieces of a scan from record to record, as the code goes. Assumes nothing.
 use mathlib.Core.Path.{_≡_, refl, sym, ap, subst, _∙_}
-use mathlib.Core.Bool.{Bool, true, false, cond}
-use mathlib.Core.List.{List, [], _∷_, _++_, append-nil, append-assoc}
-use mathlib.Core.Logic.{_⊎_, inl, inr}
+use mathlib.Core.List.{List, [], _∷_, _++_}
+use mathlib.Core.Logic.{inl, inr}
 use Prim.Native.Nat.{ℕ, zero, suc, _+_, _-_, _≤_, _<_}
 use native.Mathlib.Omega.{arith}
 use native.Mathlib.Decide.{decLt}
-use lib.Dec.{eqb}
-use lib.ListN.{length, take, drop, getD, length-append, length-drop, take-append-drop}
-use lib.Seq.{drop-drop, drop-cons, drop-length, length-take-le, take-append-seam}
+use lib.ListN.{length, drop, getD}
+use lib.Seq.{drop-cons}
 use borrow.Author.Tests.{eq-eqb, ne-eqb}
 use Rattle.laws.specs.Small.{differ}
-use Rattle.reading.specs.Answer.{Answer, refused, read, Ok, not-read, is-read}
-use Rattle.reading.specs.Reads.{Small, small-drop, Spans}
-use Rattle.pack_layout.specs.Pack.{Stored, Lawful, marked, recordBytes, recordsBytes}
+use Rattle.reading.specs.Answer.{Answer, refused, read, Ok, is-read}
+use Rattle.reading.specs.Reads.{Small, Spans}
+use Rattle.pack_layout.specs.Pack.{Stored, Lawful, marked, recordBytes}
 use Rattle.pack_reading.specs.Pack.{recordAt}
 use Rattle.pack_reading.specs.Laws.{record-reads}
 use Rattle.pack_records.specs.declared.Record.the-variants as record′
 use Rattle.pack_records.specs.Records.{recorded}
-use Rattle.packs.specs.Walk.{Got, got, records-append}
+use Rattle.packs.specs.Walk.{got}
 use Rattle.pack_salvage.specs.Scan.{Piece, kept, skipped, allSkipped, Stands, NoneStands, Scanned, at-end, no-more, keeps, goes-on, keptOf}
-use Rattle.pack_salvage.specs.Scanning.{scan, is-scanned, scan-none, scan-keeps, scan-goes-on, record-length}
-use Rattle.pack_salvage.specs.Stretches.{Stretch, joined, stretches, Apart, apart-later, stretches-apart}
-use Rattle.pack_salvage.specs.Salvage.{piecesOf, skippedOf}
-use Rattle.salvage.specs.Salvaging.{NoLead, StandsFrom, NextRecord, gap, gapOf}
+use Rattle.pack_salvage.specs.Scanning.{scan, scan-goes-on}
+use Rattle.pack_salvage.specs.Stretches.{Stretch, joined, stretches, Apart}
+use Rattle.salvage.specs.Salvaging.{NoLead, StandsFrom, NextRecord, gap}
 
 -- ---- Where a record stands, and where none does
 

@@ -2,11 +2,10 @@
 use mathlib.Core.Path.{_≡_, refl, sym, ap, subst, _∙_}
 use mathlib.Core.List.{List, [], _∷_, _++_, append-nil, append-assoc}
 use mathlib.Core.Logic.{_⊎_, inl, inr}
-use Prim.Native.Nat.{ℕ, suc, _+_, _*_, _-_, _/_, _≤_, _<_}
+use Prim.Native.Nat.{ℕ, _+_, _*_, _-_, _/_, _≤_, _<_}
 use native.Mathlib.Omega.{arith}
-use lib.Dec.{leb}
 use lib.ListN.{length, take, drop, length-append, length-drop}
-use lib.Seq.{drop-drop, take-append-seam, drop-append-seam, drop-append-add}
+use lib.Seq.{drop-drop, take-append-seam, drop-append-add}
 use borrow.Author.Tests.{le-leb, lt-leb}
 use Rattle.fill.specs.Fill.{inside, pasted, copied}
 use Rattle.layout.specs.Number.{little}
@@ -17,7 +16,7 @@ use Rattle.packs.specs.Walk.{records-append}
 use Rattle.pack_salvage.specs.Scan.{keptOf, kept-lawful}
 use Rattle.pack_salvage.specs.Stretches.{Stretch, stretches, words}
 use Rattle.pack_salvage.specs.Salvage.{piecesOf, newPack, skippedOf, Salvaged, refusal, salvaged, unless, salvageOf, outputOf, listOf, salvageFor, outputFor, listFor, pieces-scanned}
-use Rattle.salvage.specs.Salvaging.{StandsFrom, NextRecord, gapOf, GapFits, gapPut, countPut, Fits, sizeOf, answerOf}
+use Rattle.salvage.specs.Salvaging.{StandsFrom, NextRecord, gapOf, GapFits, gapPut, countPut, Fits, answerOf}
 use Rattle.salvage.specs.declared.Salvaging.the-variants as salvaging
 use Rattle.salvage.proofs.Gaps.{one-gap}
 use Rattle.salvage.proofs.Turns.{pack-length, one-more-length, Reached, begin, leftAt, turn, Ended, ends-here, ends-counted}

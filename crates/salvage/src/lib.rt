@@ -93,6 +93,7 @@ fn next_record(pack: &[u8], from: usize) -> Span
 // How many stretches are skipped from one place to another: one, or none where nothing stands between.
 fn gap(from: usize, to: usize) -> usize
     ensures { λ r. ⌜ r ≡ length (gapOf from to) ⌝ }
+    ensures { λ r. ⌜ r ≤ 1 ⌝ }
 {
     if from < to {
         return 1;

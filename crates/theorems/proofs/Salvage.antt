@@ -1,8 +1,8 @@
 -- From the contract of salvaging to what is demanded of it. Assumes nothing.
 use mathlib.Core.Path.{_≡_, refl, sym, ap, subst, _∙_}
-use mathlib.Core.Bool.{Bool, true, false, cond}
-use mathlib.Core.List.{List, [], _∷_, _++_}
-use Prim.Native.Nat.{ℕ, _*_, _/_, _≤_, _<_}
+use mathlib.Core.Bool.{Bool, true, false}
+use mathlib.Core.List.{List, _++_}
+use Prim.Native.Nat.{ℕ, _*_, _/_, _≤_}
 use native.Mathlib.Omega.{arith}
 use lib.Dec.{leb}
 use lib.ListN.{length, take, drop, length-append, take-append-drop}
@@ -15,7 +15,7 @@ use Rattle.pack_reading.specs.Pack.{roomOf, packOf, tableFor}
 use Rattle.pack_reading.specs.Theorems.{Fitting, files-are, table-is}
 use Rattle.packs.specs.declared.Reading.{Reading}
 use Rattle.packs.specs.Files as packs
-use Rattle.pack_salvage.specs.Scan.{Piece, piecesBytes, makes-up, keptOf}
+use Rattle.pack_salvage.specs.Scan.{Piece, makes-up, keptOf}
 use Rattle.pack_salvage.specs.Scanning.{scan-is}
 use Rattle.pack_salvage.specs.Stretches.{words, stretches-apart, covers}
 use Rattle.pack_salvage.specs.Salvage as S

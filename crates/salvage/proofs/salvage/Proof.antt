@@ -1,5 +1,4 @@
-use mathlib.Core.Path.{_≡_, sym, ap, _∙_}
-use Prim.Native.Nat.{ℕ}
+use mathlib.Core.Path.{_≡_, sym, ap}
 use native.Mathlib.Omega.{arith}
 use lib.ListN.{length}
 use Rattle.pack_salvage.specs.Scan.{keptOf}
@@ -21,14 +20,14 @@ measure-requires c κs = search needs
 returns-2 : tie.Need-returns-2
 returns-2 c =
     let b : c .before .measure .result .bytes ≡ length (newPack (c .before .before .before .before .before .before .args .pack .now)) = ap (λ (s : Size). s .bytes) (c .before .measure .ensures) in
-    let x = no-output (c .before .before .before .before .before .before .args .pack .now) (c .before .before .before .before .before .before .args .out .now) (c .before .before .before .before .before .before .args .list .now) (c .before .before .if1 .left) (rw b at (c .if2 .taken)) in
+    let x = no-output (c .before .before .before .before .before .before .args .pack .now) (c .before .before .before .before .before .before .args .out .now) (c .before .before .before .before .before .before .args .list .now) (c .before .before .if1 .left) (omega (arith, b, c .if2 .taken)) in
     (rw b (x .answer), (x .same-output, x .same-list))
 
 returns-3 : tie.Need-returns-3
 returns-3 c =
     let b : c .before .before .measure .result .bytes ≡ length (newPack (c .before .before .before .before .before .before .before .args .pack .now)) = ap (λ (s : Size). s .bytes) (c .before .before .measure .ensures) in
     let s : c .before .before .measure .result .stretches ≡ length (skippedOf (c .before .before .before .before .before .before .before .args .pack .now)) = ap (λ (s : Size). s .stretches) (c .before .before .measure .ensures) in
-    let x = no-list (c .before .before .before .before .before .before .before .args .pack .now) (c .before .before .before .before .before .before .before .args .out .now) (c .before .before .before .before .before .before .before .args .list .now) (c .before .before .before .if1 .left) (rw b at (c .before .if2 .left)) (rw s at (c .if3 .taken)) in
+    let x = no-list (c .before .before .before .before .before .before .before .args .pack .now) (c .before .before .before .before .before .before .before .args .out .now) (c .before .before .before .before .before .before .before .args .list .now) (c .before .before .before .if1 .left) (omega (arith, b, c .before .if2 .left)) (omega (arith, s, c .if3 .taken)) in
     (rw s (x .answer), (x .same-output, x .same-list))
 
 put-pieces-requires : tie.Need-put-pieces-requires
@@ -36,7 +35,7 @@ put-pieces-requires c κs =
     let b : c .before .before .before .before .measure .result .bytes ≡ length (newPack (c .before .before .before .before .before .before .before .before .before .args .pack .now)) = ap (λ (s : Size). s .bytes) (c .before .before .before .before .measure .ensures) in
     let s : c .before .before .before .before .measure .result .stretches ≡ length (skippedOf (c .before .before .before .before .before .before .before .before .before .args .pack .now)) = ap (λ (s : Size). s .stretches) (c .before .before .before .before .measure .ensures) in
     let r : c .before .before .before .before .measure .result .records ≡ length (keptOf (piecesOf (c .before .before .before .before .before .before .before .before .before .args .pack .now))) = ap (λ (s : Size). s .records) (c .before .before .before .before .measure .ensures) in
-    record { long = c .before .before .before .before .before .if1 .left; count = r; room = rw b at (c .before .before .before .if2 .left); listed = omega (arith, s, c .before .before .if3 .left) }
+    record { long = c .before .before .before .before .before .if1 .left; count = r; room = omega (arith, b, c .before .before .before .if2 .left); listed = omega (arith, s, c .before .before .if3 .left) }
 
 same-length : tie.Need-same-length
 same-length c = search needs
@@ -49,7 +48,7 @@ returns-4 c =
     let b : c .before .before .before .before .before .before .before .before .before .measure .result .bytes ≡ length (newPack (c .before .before .before .before .before .before .before .before .before .before .before .before .before .before .args .pack .now)) = ap (λ (s : Size). s .bytes) (c .before .before .before .before .before .before .before .before .before .measure .ensures) in
     let s : c .before .before .before .before .before .before .before .before .before .measure .result .stretches ≡ length (skippedOf (c .before .before .before .before .before .before .before .before .before .before .before .before .before .before .args .pack .now)) = ap (λ (s : Size). s .stretches) (c .before .before .before .before .before .before .before .before .before .measure .ensures) in
     let r : c .before .before .before .before .before .before .before .before .before .measure .result .records ≡ length (keptOf (piecesOf (c .before .before .before .before .before .before .before .before .before .before .before .before .before .before .args .pack .now))) = ap (λ (s : Size). s .records) (c .before .before .before .before .before .before .before .before .before .measure .ensures) in
-    (rw (b, s) (sym (put-answer (c .before .before .before .before .before .before .before .before .before .before .before .before .before .before .args .pack .now) (c .before .before .before .before .before .before .before .before .before .measure .result .records) (c .before .before .before .before .before .before .before .before .before .before .before .before .before .before .args .out .now) (c .before .before .before .before .before .before .before .before .before .before .before .before .before .before .args .list .now) (record { long = c .before .before .before .before .before .before .before .before .before .before .if1 .left; count = r; room = rw b at (c .before .before .before .before .before .before .before .before .if2 .left); listed = omega (arith, s, c .before .before .before .before .before .before .before .if3 .left) }))), c .before .before .before .before .put-pieces .ensures)
+    (rw (b, s) (sym (put-answer (c .before .before .before .before .before .before .before .before .before .before .before .before .before .before .args .pack .now) (c .before .before .before .before .before .before .before .before .before .measure .result .records) (c .before .before .before .before .before .before .before .before .before .before .before .before .before .before .args .out .now) (c .before .before .before .before .before .before .before .before .before .before .before .before .before .before .args .list .now) (record { long = c .before .before .before .before .before .before .before .before .before .before .if1 .left; count = r; room = omega (arith, b, c .before .before .before .before .before .before .before .before .if2 .left); listed = omega (arith, s, c .before .before .before .before .before .before .before .if3 .left) }))), c .before .before .before .before .put-pieces .ensures)
 
 pub salvage-spec : {M : Type 1} → statement M
 salvage-spec =
