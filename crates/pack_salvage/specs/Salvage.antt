@@ -11,6 +11,8 @@ use borrow.Author.Tests.{le-leb}
 use Rattle.layout.specs.Number.{little}
 use Rattle.reading.specs.Reads.{Small, small-drop, small-left}
 use Rattle.pack_layout.specs.Pack.{Stored, marked, recordBytes, recordsBytes, packBytes, PackLays}
+use Rattle.pack_reading.specs.Pack.{roomOf, packOf, accepted}
+use Rattle.pack_reading.specs.Theorems.{files-are}
 use Rattle.pack_salvage.specs.Scan.{Piece, kept, skipped, Scanned, piecesBytes, makes-up, keptOf, allKept, kept-lawful, keeps-all, kept-all}
 use Rattle.pack_salvage.specs.Scanning.{scan, scan-is, is-scanned}
 use Rattle.pack_salvage.specs.Stretches.{Stretch, stretches, words}
@@ -48,7 +50,7 @@ unfoldable pub outputOf : Salvaged → (out : List ℕ) → List ℕ
 outputOf (refusal number place) out = out
 outputOf (salvaged bytes l) out = bytes ++ drop (length bytes) out
 
--- "start and length in 64-bit words"
+-- the list, two words a stretch
 unfoldable pub listOf : Salvaged → (list : List ℕ) → List ℕ
 listOf (refusal number place) list = list
 listOf (salvaged bytes l) list = words l ++ drop (2 * length l) list
@@ -74,6 +76,11 @@ pub pack-written : (file : List ℕ) → Small file → PackLays marked (keptOf 
 pack-written file small =
     let k = kept-lawful (pieces-scanned file small) in
     record { lawful = k .0; not-many = k .1; parts = refl }
+
+-- which the reader of marked packs accepts, with the right count, where the table has room
+pub written-accepted : (file : List ℕ) (room : ℕ) → Small file → length (keptOf (piecesOf file)) ≤ roomOf room → packOf marked (newPack file) room ≡ accepted (keptOf (piecesOf file))
+written-accepted file room small h =
+    files-are marked (newPack file) room (record { files = keptOf (piecesOf file); lays = pack-written file small; room = h })
 
 no-stretch : (at : ℕ) (fs : List Stored) → stretches at (allKept fs) ≡ []
 unfolding stretches allKept

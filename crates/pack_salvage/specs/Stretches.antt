@@ -27,12 +27,12 @@ stretches at [] = []
 stretches at (kept f ∷ ps) = stretches (at + length (recordBytes marked f)) ps
 stretches at (skipped b ∷ ps) = joined at (stretches (suc at) ps)
 
--- the words of stretches
+-- "start and length in 64-bit words"
 unfoldable pub words : List Stretch → List ℕ
 words [] = []
 words (s ∷ l) = s .0 ∷ s .1 ∷ words l
 
--- stretches from a place on: none is empty, and no two touch
+-- stretches from a place on, in file order: none is empty, and no two touch
 unfoldable pub Apart : (at : ℕ) → List Stretch → Type 0
 Apart at [] = Unit {0}
 Apart at (s ∷ l) = (at ≤ s .0) × (1 ≤ s .1) × Apart (suc (s .0 + s .1)) l
