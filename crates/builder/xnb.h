@@ -82,12 +82,13 @@ uint32_t xnb_pack_mark(const uint8_t *pack, size_t pack_length, uint8_t *out, si
 /* The same from a marked pack to one without marks, with the refusals of xnb_marked_read in place of xnb_pack_read's. */
 uint32_t xnb_pack_unmark(const uint8_t *pack, size_t pack_length, uint8_t *out, size_t out_length, uint64_t *at);
 
-/* Writes a marked pack of the records that a damaged marked pack still holds to the start of `out`, and writes its length to
-   `at`. The skipped stretches go to the start of `list` in file order, two words each, the start in the pack and the length,
-   and their number to `stretches`. Bytes of `out` and words of `list` past them stay. On a refusal, of which the answer is the
-   number, `at` is its place, `stretches` is 0, and `out` and `list` are unchanged: 1 the pack has under four bytes (at 0); 21
-   `out` is too short, and its place is the number of bytes needed; 52 `list` is too short, and its place is the number of
-   stretches needed. */
+/* Writes the records that a damaged marked pack still holds, as a marked pack, to the start of `out`, and writes its length
+   to `at`. The skipped stretches go to the start of `list` in file order, two words each, the start in the pack and the
+   length, and their number to `stretches`. Bytes of `out` and words of `list` past them stay. From byte 4 on a mark with a
+   whole record behind it is kept, and any other byte is skipped; behind the 4,096th record all is skipped. On a refusal, of
+   which the answer is the number, `at` is its place, `stretches` is 0, and `out` and `list` are unchanged: 1 the pack has
+   under four bytes (at 0); 21 `out` is too short, and its place is the number of bytes needed, which is never more than the
+   pack has; 52 `list` is too short, and its place is the number of stretches needed, which is never more than 4,097. */
 uint32_t xnb_pack_salvage(const uint8_t *pack, size_t pack_length, uint8_t *out, size_t out_length,
                           uint64_t *list, size_t list_length, uint64_t *at, uint64_t *stretches);
 
