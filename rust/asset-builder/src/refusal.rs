@@ -4,7 +4,7 @@ use crate::names::{escaped, is_printable, plain_lines};
 use crate::terminal::Paint;
 use serde::Serialize;
 use xnb::pack::PackRefused;
-use xnb::Refusal::{NoSuchRow, OtherKind, OutputTooSmall};
+use xnb::Refusal::{ListTooShort, NoSuchRow, OtherKind, OutputTooSmall};
 use xnb::{explain, ReaderName, Refused};
 
 /// The bytes on a line of a dump.
@@ -70,8 +70,8 @@ impl<'f> Told<'f> {
     pub fn of_pack(pack: &'f [u8], refused: PackRefused) -> Told<'f> {
         let PackRefused { refusal, place } = refused;
         let mut told = Told::at_byte(pack, refusal.number(), place, refused.rule());
-        if refusal == OutputTooSmall {
-            // The place is the number of bytes needed.
+        if matches!(refusal, OutputTooSmall | ListTooShort) {
+            // The place is the number of bytes or of stretches needed.
             told.bytes = None;
         }
         told

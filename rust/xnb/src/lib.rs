@@ -17,6 +17,7 @@ pub mod pack;
 pub mod raw;
 mod refusal;
 mod row;
+pub mod salvage;
 mod table;
 
 pub use calls::{count_rows, load, next, part, rewrite, shorten, signed, text, time, Loaded, Time};

@@ -25,8 +25,10 @@ use std::fmt::{self, Display, Formatter};
 pub const WORDS_PER_FILE: usize = 4;
 /// A pack has never more files.
 pub const MOST_FILES: usize = 4096;
+/// The bytes of the file count.
+pub(crate) const COUNT_BYTES: usize = 4;
 
-/// A refusal and its place: a byte of the pack, or the bytes that a conversion needs.
+/// A refusal and its place: a byte of the pack, or the bytes of output or the stretches of a list that are needed.
 #[derive(Clone, Copy, Debug, PartialEq, Eq)]
 pub struct PackRefused {
     pub refusal: Refusal,
@@ -63,6 +65,7 @@ impl Display for PackRefused {
         let (rule, place) = (self.rule(), self.place);
         match self.refusal {
             Refusal::OutputTooSmall => write!(out, "{rule}, which takes {place} bytes"),
+            Refusal::ListTooShort => write!(out, "{rule}, which are {place}"),
             _ => write!(out, "{rule}, at byte {place}"),
         }
     }

@@ -6,6 +6,7 @@
 
 pub mod marks;
 pub mod pack;
+pub mod salvage;
 
 mod entries {
     extern "C" {

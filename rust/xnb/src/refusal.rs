@@ -31,12 +31,13 @@ pub enum Refusal {
     OtherKind = 24,
     NoTableRoom = 31,
     MissingMark = 51,
+    ListTooShort = 52,
 }
 
 use Refusal::*;
 
 /// Each refusal with its rule in words, in order of number.
-const RULES: [(Refusal, &str); 26] = [
+const RULES: [(Refusal, &str); 27] = [
     (PastEnd, "a field runs past the end of the file"),
     (NotXnb, "the file does not begin with XNB"),
     (Platform, "the platform is not w, m or x"),
@@ -78,6 +79,10 @@ const RULES: [(Refusal, &str); 26] = [
     (OtherKind, "the row is not of the kind asked for"),
     (NoTableRoom, "the table has no room for a file"),
     (MissingMark, "a file's record does not begin with a mark"),
+    (
+        ListTooShort,
+        "the list is too short for the skipped stretches",
+    ),
 ];
 
 impl Refusal {
@@ -140,7 +145,7 @@ mod tests {
 
     #[test]
     fn numbers_and_refusals_match() {
-        for number in (1..=24).chain([31, 51]) {
+        for number in (1..=24).chain([31, 51, 52]) {
             let refusal = Refusal::of_number(number).expect("a refusal");
             assert_eq!(refusal.number(), number);
             assert!(!refusal.rule().is_empty());
