@@ -1,6 +1,7 @@
 //! Salvage by the second program over damaged marked packs.
 
-use fuzz::packs::salvage::{case, cuts, single_damages, Salvage, SalvageCase};
+use fuzz::packs::partition::check_partition;
+use fuzz::packs::salvage::{case, cuts, limits, single_damages, Salvage, SalvageCase};
 use second::marks::{marked_read, MARK};
 use second::salvage::{salvage, Salvaged};
 use second::Refusal;
@@ -45,27 +46,7 @@ fn check(name: &str, case: &SalvageCase) -> usize {
     let (again, nothing) = salvaged(&out);
     assert!(again == out && nothing.is_empty(), "{name}: once more");
 
-    // Kept records, skipped stretches and the four count bytes make up the input.
-    let mut skipped = list.chunks_exact(2).peekable();
-    let (mut at, mut kept_at) = (4, 4);
-    for file in 0..=files {
-        while let Some(stretch) = skipped.next_if(|stretch| stretch[0] == at as u64) {
-            assert!(stretch[1] > 0, "{name}: an empty stretch");
-            at += stretch[1] as usize;
-            let next = skipped.peek().map(|next| next[0]);
-            assert!(next.is_none_or(|next| next > at as u64), "{name}: joined");
-        }
-        if file < files {
-            let entry = &table[4 * file..][..4];
-            let end = (entry[2] + entry[3]) as usize;
-            let record = &out[kept_at..end];
-            assert!(pack[at..].starts_with(record), "{name}: record {file}");
-            assert!(record.starts_with(&MARK));
-            (at, kept_at) = (at + record.len(), end);
-        }
-    }
-    assert_eq!((at, kept_at, skipped.next()), (pack.len(), out.len(), None));
-
+    check_partition(name, pack, &out, &table[..4 * files], &list);
     check_rooms(name, pack, &out, &list);
     list.len() / 2
 }
@@ -119,13 +100,18 @@ fn generated_packs_are_salvaged() {
 }
 
 #[test]
-fn every_cut_and_every_single_damage() {
-    for (number, case) in cuts().iter().enumerate() {
-        check(&format!("cut {number}"), case);
-    }
-    let damages = single_damages();
-    for (number, case) in damages.iter().enumerate() {
-        check(&format!("damage {number} of {}", damages.len()), case);
+fn every_cut_and_every_single_damage_and_limit() {
+    let named = [
+        ("cut", cuts()),
+        ("damage", single_damages()),
+        ("limit", limits()),
+    ];
+    for (name, cases) in named {
+        for (number, case) in cases.iter().enumerate() {
+            if case.bytes.len() >= 4 {
+                check(&format!("{name} {number}"), case);
+            }
+        }
     }
 }
 

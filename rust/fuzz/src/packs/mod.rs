@@ -9,6 +9,7 @@ pub mod huge;
 pub mod limits;
 pub mod lookups;
 mod maker;
+pub mod partition;
 pub mod salvage;
 
 pub use maker::some_files;

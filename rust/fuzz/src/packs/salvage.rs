@@ -11,6 +11,7 @@ use std::ops::Range;
 
 pub const MARK: &[u8] = &[0xFD, 0xFE];
 const MOST_RECORDS: usize = 4096;
+const SIZE_BYTES: usize = 4;
 
 /// A damaged pack, and what its salvage keeps and skips, if that is known without one.
 #[derive(Clone, Debug)]
@@ -89,6 +90,7 @@ fn put_together(random: &mut Random, records: usize) -> SalvageCase {
         match random.below(10) {
             0 => swallowing(random, &mut pieces),
             1 if records < 50 => nested(random, &mut pieces),
+            2 => overlapped(random, &mut pieces),
             _ => pieces.keep(&record(&some_file(random))),
         }
     }
@@ -229,6 +231,17 @@ fn swallowing(random: &mut Random, pieces: &mut Pieces) {
     pieces.skip(&next[lost..]);
 }
 
+/// A record whose size is too large and begins with the mark of another record, which is kept.
+fn overlapped(random: &mut Random, pieces: &mut Pieces) {
+    let mut outer = quiet_file(random);
+    outer.data = vec![];
+    let head = record(&outer);
+    let count = random.below(20);
+    pieces.skip(&head[..head.len() - SIZE_BYTES]);
+    // The outer size ends in the inner path's length and first byte, which is not 0.
+    pieces.keep(&record(&stored("a", quiet_bytes(random, count))));
+}
+
 /// A file that holds a marked pack and whose own record is broken: the inner records are kept.
 fn nested(random: &mut Random, pieces: &mut Pieces) {
     let inner: Vec<Stored> = (0..random.below(4)).map(|_| quiet_file(random)).collect();
@@ -237,7 +250,7 @@ fn nested(random: &mut Random, pieces: &mut Pieces) {
     outer.data = vec![];
     let mut head = record(&outer);
     let size = pack.bytes.len() as u32;
-    let end = head.len() - 4;
+    let end = head.len() - SIZE_BYTES;
     head[end..].copy_from_slice(&size.to_le_bytes());
     let wrong = random.below(2);
     head[wrong] = [0, 0xFF][wrong];
@@ -268,7 +281,25 @@ pub fn cuts() -> Vec<SalvageCase> {
     cases
 }
 
-/// A marked pack with each of its bits flipped, each byte left out, and a byte put before each.
+/// Packs of nearly 4,096 records and more, with nothing between them or a byte around each.
+pub fn limits() -> Vec<SalvageCase> {
+    let mut cases = Vec::new();
+    for (count, between) in [4095, 4096, 4097]
+        .into_iter()
+        .flat_map(|it| [(it, ""), (it, "?")])
+    {
+        let mut pieces = Pieces::new(vec![0; 4]);
+        for number in 0..count {
+            pieces.skip(between.as_bytes());
+            pieces.keep(&record(&stored(format!("{number}"), "")));
+        }
+        pieces.skip(between.as_bytes());
+        cases.push(pieces.case());
+    }
+    cases
+}
+
+/// A marked pack cut before each byte, with each of its bits flipped, each byte left out, and a byte put before each.
 pub fn single_damages() -> Vec<SalvageCase> {
     let mut random = Random::new(1);
     let files: Vec<Stored> = (0..4).map(|_| some_file(&mut random)).collect();
@@ -276,6 +307,7 @@ pub fn single_damages() -> Vec<SalvageCase> {
     let mut cases = Vec::new();
     let mut add = |bytes| cases.push(SalvageCase { bytes, known: None });
     for place in 0..whole.len() {
+        add(whole[..place].to_vec());
         for bit in 0..8 {
             let mut bytes = whole.clone();
             bytes[place] ^= 1 << bit;
