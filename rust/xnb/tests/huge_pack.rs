@@ -1,12 +1,14 @@
-//! A pack of over 4 GiB; apart from the other tests for the memory it asks for.
+//! Packs of over 4 GiB; apart from the other tests for the memory it asks for.
 //!
 //!     cargo test --release --offline --package xnb --test huge_pack -- --ignored
 
 use corpus::lawful::file_b;
+use corpus::packs::marked::MARKED;
 use corpus::packs::{Places, NO_MARK};
 use corpus::writer::write;
 use fuzz::packs::huge::huge;
 use xnb::raw::pack as raw;
+use xnb::salvage::{salvage_into, Written};
 use xnb::Pack;
 
 #[test]
@@ -47,5 +49,29 @@ fn a_pack_of_over_4_gib() -> Result<(), String> {
     huge.bytes[wrong] = 0xFF;
     let not_text = raw::read(&huge.bytes, &mut table);
     assert_eq!(not_text, (15, huge.places[2].count as u64));
+    Ok(())
+}
+
+#[test]
+#[ignore = "asks for 5 GiB of memory, of which it touches little"]
+fn a_damaged_pack_of_over_4_gib() -> Result<(), String> {
+    let mut huge = huge(MARKED.mark, b"data".to_vec())?;
+    let [first, behind, rest, end] = huge.places[..] else {
+        return Err("four files".to_string());
+    };
+    assert!(behind.start > 1 << 32);
+    for lost in [first, rest] {
+        huge.bytes[lost.start] = 0;
+    }
+    let kept = [behind, end].map(|it| &huge.bytes[it.start..it.end]);
+    let kept = [&[2, 0, 0, 0], kept[0], kept[1]].concat();
+    let (mut out, mut list) = (vec![0xEE; kept.len() + 1], [7; 5]);
+    let (length, stretches) = (kept.len(), 2);
+    let written = salvage_into(&huge.bytes, &mut out, &mut list);
+    assert_eq!(written, Ok(Written { length, stretches }));
+    assert_eq!(out, [&kept[..], &[0xEE]].concat());
+    let skipped = [first, rest].map(|it| [it.start, it.end - it.start].map(|word| word as u64));
+    assert_eq!(list[..4], skipped.concat());
+    assert_eq!(list[4], 7);
     Ok(())
 }
