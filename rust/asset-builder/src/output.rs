@@ -103,7 +103,8 @@ impl Output {
         match self {
             Output::Standard => run.print_bytes(bytes).map(|()| true),
             Output::File(path) => {
-                let written = write_whole(path, bytes);
+                let write = || write_whole(path, bytes);
+                let written = run.progress().during("writing", write);
                 if let Err(error) = &written {
                     run.fail(shown(path), error);
                 }

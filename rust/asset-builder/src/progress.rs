@@ -1,11 +1,16 @@
 //! Progress of long work, on a terminal.
 
 use indicatif::{ProgressBar, ProgressStyle};
+use std::sync::mpsc::{channel, Receiver, RecvTimeoutError};
+use std::thread;
 use std::time::{Duration, Instant};
 
 /// Work that takes less shows no progress.
 const LONG: Duration = Duration::from_millis(500);
 const OF_FILES: &str = "{bar:40} {pos} of {len}, {eta} left";
+/// How often the time of a step without parts is shown anew.
+const TICK: Duration = Duration::from_millis(100);
+const OF_STEP: &str = "{msg} for {elapsed}";
 const OF_BYTES: &str = "{bar:40} {bytes} of {total_bytes}, {eta} left";
 
 /// How far the work is; it is shown on standard error once the work has taken long.
@@ -66,6 +71,22 @@ impl Progress {
         bar.set_position(self.done);
     }
 
+    /// Does a step that has no parts; once it has taken long, its name and its time are shown,
+    /// unless it is a part of work whose progress is shown.
+    pub fn during<T>(&self, name: &'static str, step: impl FnOnce() -> T) -> T {
+        if !self.shown || self.bar.is_some() {
+            return step();
+        }
+        // The thread sees that the step has ended when its end of the channel is gone.
+        let (running, ended) = channel();
+        thread::scope(|scope| {
+            scope.spawn(move || show_until(&ended, name));
+            let done = step();
+            drop(running);
+            done
+        })
+    }
+
     /// Does something with the progress out of the way.
     pub fn aside<T>(&self, action: impl FnOnce() -> T) -> T {
         match &self.bar {
@@ -80,6 +101,21 @@ impl Progress {
             bar.finish_and_clear();
         }
     }
+}
+
+/// Shows a step from when it has taken long until it has ended.
+fn show_until(ended: &Receiver<()>, name: &'static str) {
+    let goes_on = |time| ended.recv_timeout(time) == Err(RecvTimeoutError::Timeout);
+    if !goes_on(LONG) {
+        return;
+    }
+    let style = ProgressStyle::with_template(OF_STEP).expect("a template of ours");
+    let spinner = ProgressBar::new_spinner().with_style(style);
+    spinner.set_message(name);
+    while goes_on(TICK) {
+        spinner.tick();
+    }
+    spinner.finish_and_clear();
 }
 
 fn new_bar(total: u64, template: &str) -> ProgressBar {

@@ -5,7 +5,7 @@ mod common;
 use common::{run, shell};
 use corpus::folder::folder;
 
-const COMMANDS: [&str; 9] = [
+const COMMANDS: [&str; 10] = [
     "check",
     "rows",
     "tree",
@@ -13,6 +13,7 @@ const COMMANDS: [&str; 9] = [
     "pack",
     "mark",
     "unmark",
+    "salvage",
     "completions",
     "man",
 ];
@@ -61,7 +62,7 @@ fn every_command_has_help_and_a_version() {
 fn wrong_commands_are_told() {
     let sample = "ok-kind-13-string.xnb";
     let pack = "ok-pack-of-one-file.pak";
-    let wrong: [(&[&str], &str); 20] = [
+    let wrong: [(&[&str], &str); 23] = [
         (&[], "Usage: asset-builder <COMMAND>"),
         (&["build", sample], "'build'"),
         (&["check"], "<FILE>"),
@@ -87,6 +88,9 @@ fn wrong_commands_are_told() {
         ),
         (&["mark", pack], "--output <OUT>"),
         (&["unmark", "-o", "out"], "<IN>"),
+        (&["salvage", pack], "--output <OUT>"),
+        (&["salvage", "--list"], "<IN>"),
+        (&["salvage", pack, "-o"], "'--output <OUT>'"),
         (
             &["mark", pack, pack, "-o", "out"],
             "'ok-pack-of-one-file.pak'",

@@ -58,6 +58,7 @@ fn the_tour_prints_what_readme_says() {
         "pack extract",
         "mark",
         "unmark",
+        "salvage",
         "completions",
         "man",
     ] {

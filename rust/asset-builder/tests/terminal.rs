@@ -59,6 +59,7 @@ fn a_closed_pipe_ends_quietly() {
         ("pack list --json .", "1\n"),
         ("pack list ok-pack-mixed-case.pak", "0\n"),
         ("pack find ok-pack-mixed-case.pak fonts\\\\door", "0\n"),
+        ("salvage --list salvage-cut-in-data.damaged", "0\n"),
         ("man", "0\n"),
         ("--help", "0\n"),
     ];

@@ -6,6 +6,7 @@ mod convert;
 mod man;
 mod pack;
 mod rows;
+mod salvage;
 mod shorten;
 mod tree;
 
@@ -24,7 +25,7 @@ const MOST_ROWS: u32 = xnb::MOST_ROWS as u32;
 const STATUSES: &str = "0 if every file was taken, 1 if one was refused or not found, \
     2 for a wrong command or a file that could not be read or written.";
 
-/// Checks, shows and shortens XNB files, and reads and converts packs of files, through the proved library
+/// Checks, shows and shortens XNB files, and reads, converts and salvages packs of files, through the proved library
 #[derive(Parser)]
 #[command(name = "asset-builder", version, propagate_version = true)]
 #[command(after_help = format!("Exit status: {STATUSES}"))]
@@ -42,6 +43,7 @@ pub enum Command {
     Pack(pack::Pack),
     Mark(convert::Mark),
     Unmark(convert::Unmark),
+    Salvage(salvage::Salvage),
     Completions(completions::Completions),
     Man(man::Man),
 }
@@ -56,6 +58,7 @@ impl Command {
             Command::Pack(command) => command.run(run),
             Command::Mark(command) => command.run(run),
             Command::Unmark(command) => command.run(run),
+            Command::Salvage(command) => command.run(run),
             Command::Completions(command) => command.run(run),
             Command::Man(command) => command.run(run),
         }
