@@ -8,6 +8,7 @@ mod inputs;
 mod marks;
 mod measure;
 mod packs;
+mod salvage;
 
 use inputs::Input;
 use measure::beside;
@@ -22,6 +23,7 @@ const PARTS: [(&str, fn()); 8] = [
     ("pack-read", packs::read),
     ("pack-find", packs::find),
     ("marks", marks::convert),
+    ("salvage", salvage::salvage),
 ];
 
 /// Measures the parts that are named, or all.
