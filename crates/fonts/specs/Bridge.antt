@@ -7,20 +7,19 @@ use native.Mathlib.Omega.{arith}
 use native.Mathlib.Numerals.{add-one}
 use lib.Dec.{ltb, eqb}
 use lib.ListN.{length, drop}
-use Rattle.laws.specs.Small.{differ}
 use Rattle.layout.specs.Target.{Target, fixed, char, texture2D, spriteFont, list, isValue, kindOf}
 use Rattle.layout.specs.Tree.{Trees, none, tree, count, size, kindAt, childrenAt}
 use Rattle.layout.specs.Slot.{Slot, raw, object, slotOf, rawOrObject, each, fontSlots}
 use Rattle.layout.specs.Layout.{Lays}
 use Rattle.layout.specs.Resource.{Within}
 use Rattle.layout.specs.Rows.{width}
-use Rattle.reading.specs.Answer.{read, Ok, not-read, is-read}
+use Rattle.reading.specs.Answer.{read}
 use Rattle.reading.specs.Reads.{Small}
 use Rattle.reading.specs.Rules.{same, same-true, same-refl}
 use Rattle.reading.specs.Font.{rising, fontTest, fontIf, fontOk}
 use Rattle.reading.specs.Drafts.{draftsOf}
-use Rattle.reading.specs.Walk.{Taken, Outcome, point, sequence, walk}
-use Rattle.reading.specs.Sound.{Read, walks-sound}
+use Rattle.reading.specs.Walk.{Taken, point, sequence, walk}
+use Rattle.reading.specs.Sound.{walks-sound}
 use Rattle.ids.specs.declared.Grid.{Grid}
 use Rattle.table.specs.Written.{written}
 use Rattle.fonts.specs.FontWords.{beyond, beyond-is, wordAt, after, some, equal, allThere, allEqual, fontWords, by-rows}
@@ -127,16 +126,9 @@ module _ (g : Grid) (file : List ℕ) (small : Small file) (readers : List Targe
   -- a font's eight children were read and their rows stored, with room for them: the test over the words is the test over the trees
   pub font-words : fontWords g file w′ used ≡ fontTest point (a .2)
   font-words =
-      go (sequence (λ y b v. walk file readers shared room d y b v (suc used)) (each fontSlots) at (suc used))
-      (walks-sound file readers shared room small d (each fontSlots) at (suc used) (suc used)) q where
-        go : (o : Outcome) → Ok (Read file readers shared room small d (each fontSlots) at (suc used) (suc used)) o → o ≡ read a e → fontWords g file w′ used ≡ fontTest point (a .2)
-        go o not-read p = differ cc
-        go o (is-read {a = b} {e = f} v) p =
-            let qb : b ≡ a = cc in
-            let s : Stands g w′ (suc used) (a .1) = rw ew (written-stands g w (suc used) (a .1) long few fits) in
-            let s′ : Stands g w′ (suc used) (b .1) = rw qb s in
-            let x = laid-words g file w′ readers (Within shared) (b .2) (v .bytes) (v .laid) at (suc used) (suc used) used (drop f file, v .there) (rw (v .rows-are) at s′) in
-            rw qb at x
+      let v = walks-sound file readers shared room small d (each fontSlots) at (suc used) (suc used) .got q in
+      let s : Stands g w′ (suc used) (a .1) = rw ew (written-stands g w (suc used) (a .1) long few fits) in
+      laid-words g file w′ readers (Within shared) (a .2) (v .bytes) (v .laid) at (suc used) (suc used) used (drop e file, v .there) (rw (v .rows-are) at s)
 
   -- the walk's test of a font whose children were read, over the words
   pub font-judged : fontOk point spriteFont (a .2) ≡ fontWords g file w′ used

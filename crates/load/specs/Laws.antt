@@ -16,14 +16,14 @@ use Rattle.layout.specs.File.{objectsPlan, header}
 use Rattle.layout.specs.Text.{ascii}
 use Rattle.layout.specs.Number.{little}
 use Rattle.layout.specs.Named.{named}
-use Rattle.reading.specs.Answer.{Answer, refused, read, bind, check, Ok, not-read, is-read}
+use Rattle.reading.specs.Answer.{Answer, refused, read, bind, check}
 use Rattle.reading.specs.Reads.{Small, reads-bounds}
 use Rattle.reading.specs.References.{length-flat}
 use Rattle.reading.specs.Walk.{Taken, sequence, walk}
 use Rattle.reading.specs.Grid.{cell}
 use Rattle.reading.specs.Drafts.{bare, length-bare}
 use Rattle.reading.specs.File.{Loaded as FileLoaded, rootKinds, headerAt, listsAt, objectsAt, finished, fileAt, toLoad, loadOf, tableOf, roomOf}
-use Rattle.reading.specs.Front.{Headed, header-sound, lists-reads}
+use Rattle.reading.specs.Front.{header-sound, lists-reads}
 use Rattle.ids.specs.declared.Grid.{Grid}
 use Rattle.ids.specs.Position.{cellOf}
 use Rattle.table.specs.declared.Reached.{Reached}
@@ -160,10 +160,11 @@ pub record HeaderRead (file : List ℕ) (at : ℕ) : Type 0 where
   pub inside : at ≤ length file
 
 pub header-read : (file : List ℕ) → Small file → {v at : ℕ} → Header-read v at ≡ headerOf file → HeaderRead file at
-header-read file s {v} {at} e = go (headerAt file) refl (header-sound file s) e where
-  go : (x : Answer (ℕ × ℕ)) → headerAt file ≡ x → Ok (λ h e. (e ≡ 10) × Headed file (h .0) (h .1)) x → Header-read v at ≡ toHeader x → HeaderRead file at
-  go x q not-read e = differ cc
-  go x q (is-read {a = h} {e = f} v) e =
+header-read file s {v} {at} e = go (headerAt file) refl e where
+  go : (x : Answer (ℕ × ℕ)) → headerAt file ≡ x → Header-read v at ≡ toHeader x → HeaderRead file at
+  go (refused n p) q e = differ cc
+  go (read h f) q e =
+      let v = header-sound file s .got q in
       let z : f ≡ at = cc in
       record { h = h; is = q ∙ ap (read h) z; short = v .1 .short; inside = omega (arith, z, v .0, ap length (v .1 .parts) ∙ length-append (header (h .0) (h .1) (length file)) (drop 10 file), header-length (h .0) (h .1) (length file)) }
 

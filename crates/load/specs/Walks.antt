@@ -8,11 +8,11 @@ use Rattle.laws.specs.Small.{differ}
 use Rattle.layout.specs.Target.{Target}
 use Rattle.layout.specs.Slot as L
 use Rattle.layout.specs.Slot.{each}
-use Rattle.reading.specs.Answer.{Answer, refused, read, Ok, not-read, is-read}
+use Rattle.reading.specs.Answer.{Answer, refused, read}
 use Rattle.reading.specs.Reads.{Small, reads-bounds}
 use Rattle.reading.specs.Heads.{Opening, headAt, head-reads}
-use Rattle.reading.specs.Walk.{Taken, Outcome, sequence, walk}
-use Rattle.reading.specs.Sound.{ReadValue, walk-sound}
+use Rattle.reading.specs.Walk.{Taken, sequence, walk}
+use Rattle.reading.specs.Sound.{walk-sound}
 use Rattle.reading.specs.Bounds.{sequence-bounds}
 use Rattle.table.specs.declared.Head.{Head}
 use Rattle.table.specs.declared.Walk.{Walk}
@@ -76,9 +76,4 @@ close-ready {file} {words} {w₁} {g} {h} {at} {next} t readers shared depth pla
 
 -- a value takes a row
 pub walk-takes : (file : List ℕ) (readers : List Target) (shared room : ℕ) → Small file → (d : ℕ) (x : L.Slot) (at used parent : ℕ) (a : Taken) (e : ℕ) → walk file readers shared room d x at used parent ≡ read a e → used < a .0
-walk-takes file readers shared room small d x at used parent a e q = go (walk file readers shared room d x at used parent) (walk-sound file readers shared room small d x at used parent) q where
-  go : (o : Outcome) → Ok (ReadValue file readers shared room small d x at used parent) o → o ≡ read a e → used < a .0
-  go o not-read p = differ cc
-  go o (is-read {a = b} {e = f} v) p =
-      let qb : b ≡ a = cc in
-      rw (← qb) (omega (arith, v .used-is))
+walk-takes file readers shared room small d x at used parent a e q = omega (arith, walk-sound file readers shared room small d x at used parent .got q .used-is)

@@ -7,7 +7,7 @@ use native.Mathlib.Omega.{arith}
 use lib.ListN.{length}
 use borrow.Author.Tests.{le-leb, lt-leb}
 use Rattle.laws.specs.Small.{differ}
-use Rattle.reading.specs.Answer.{Answer, refused, read, Ok, is-read}
+use Rattle.reading.specs.Answer.{Answer, refused, read, Ok}
 use Rattle.reading.specs.Reads.{Small}
 use Rattle.reading.specs.Output.{Rewritten, refusal, fitted, outputOf}
 use Rattle.pack_layout.specs.Pack.{Stored, PackLays, packBytes}
@@ -55,7 +55,7 @@ module _ (marked : Bool) (pack : List ℕ) where
   counted-of : {n : ℕ} (x : Answer (List Stored)) → Ok (λ fs e. PackLays (markOf (not marked)) fs pack × (length fs ≤ 4096)) x → Read n ≡ packs.answerOf (toPack x) → Counted marked pack n
   unfolding toPack
   counted-of (refused number place) k q = differ cc
-  counted-of {n} (read fs e) (is-read v) q = let l : n ≡ length fs = cc in record { files = fs; lays = v .0; count = sym l }
+  counted-of {n} (read fs e) k q = let l : n ≡ length fs = cc in record { files = fs; lays = k .got refl .0; count = sym l }
 
   pub counted : {n : ℕ} → Small pack → Read n ≡ countOf (not marked) pack → Counted marked pack n
   counted small q = counted-of (packAt (markOf (not marked)) pack 4096) (pack-sound (markOf (not marked)) pack 4096 small) q

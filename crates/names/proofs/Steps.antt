@@ -14,7 +14,7 @@ use Rattle.names.specs.declared.Parsed.{Parsed}
 use Rattle.names.specs.declared.Parsed.the-variants.{Name as Parsed-name, Broken as Parsed-broken}
 use Rattle.names.specs.Parse.{Read, broken, name, span, starts, tailOf, ended, closed, opening, onOnly, onSecond, onFirst, afterHead, headed, nameIn}
 use Rattle.names.specs.Complete.{length-write}
-use Rattle.names.specs.Sound.{Ok, read, Stands, span-le, sound}
+use Rattle.names.specs.Sound.{Ok, Stands, span-le, sound}
 use Rattle.names.specs.Contract.{answer, met, Parses, Inside, tailed, passed, tailedAfter, closing}
 use Rattle.names.proofs.Laws.{rest, starts-fits}
 use Rattle.names.specs.Codes.{heads-short, codes-append, codes-length}
@@ -77,7 +77,8 @@ pub record Took (s : List ℕ) (a used l k u : ℕ) : Type 0 where
 
 took-as : (s : List ℕ) (a used l k u : ℕ) → a ≤ length s → (r : Read) → nameIn l (drop a s) ≡ r → Ok (Stands l (drop a s)) r → Parsed-name k u ≡ answer used r → Took s a used l k u
 took-as s a used l k u h (broken hs) q o e = differ cc
-took-as s a used l k u h (name n j) q (Ok.read p) e =
+took-as s a used l k u h (name n j) q o e =
+    let p = o .got refl in
     let i : k ≡ j = cc in
     let v : u ≡ used + length (headings n) = cc in
     record { n = n; is = q ∙ ap (name n) (sym i); more = v; within = omega (arith, length-drop a s, ap length (p .1), length-write n (drop j (drop a s)), p .2); most = omega (arith, heads-short l n (p .0), p .2) }

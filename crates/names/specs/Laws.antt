@@ -12,7 +12,7 @@ use Rattle.laws.specs.Small.{differ}
 use Rattle.layout.specs.Name.{Name, write, text, Formed}
 use Rattle.names.specs.Parse.{Read, broken, name, nameIn, whole, nameOf}
 use Rattle.names.specs.Complete.{long, length-write, complete, end}
-use Rattle.names.specs.Sound.{Ok, not-read, read, got, Stands, sound}
+use Rattle.names.specs.Sound.{Ok, not-read, is-read, Stands, sound}
 use Rattle.names.specs.Heading.{Heading, headings}
 
 -- the text of a lawful name is read as that name
@@ -28,18 +28,18 @@ Whole s n k = Formed 8 n × (s ≡ text n) × (k ≡ length s)
 whole-sound : (s : List ℕ) (n : Name) (k : ℕ) → Stands 8 s n k → (b : Bool) → eqb k (length s) ≡ b → Ok (Whole s) (cond b (name n k) (broken (headings n)))
 whole-sound s n k p true b =
     let z : k ≡ length s = eqb-true k (length s) b in
-    Ok.read (p .0, p .1 ∙ ap (write n) (rw z (drop-length s)), z)
-whole-sound s n k p false b = Ok.not-read
+    is-read (p .0, p .1 ∙ ap (write n) (rw z (drop-length s)), z)
+whole-sound s n k p false b = not-read
 
 read-sound : (s : List ℕ) (r : Read) → Ok (Stands 8 s) r → Ok (Whole s) (whole s r)
 unfolding whole
-read-sound s (broken hs) o = Ok.not-read
-read-sound s (name n k) (Ok.read p) = whole-sound s n k p (eqb k (length s)) refl
+read-sound s (broken hs) o = not-read
+read-sound s (name n k) o = whole-sound s n k (o .got refl) (eqb k (length s)) refl
 
 -- bytes that are read as a name are the text of that name, which is lawful
 pub read-is-text : (s : List ℕ) (n : Name) (k : ℕ) → nameOf s ≡ name n k → Formed 8 n × (s ≡ text n) × (k ≡ length s)
 unfolding nameOf
-read-is-text s n k e = got (read-sound s (nameIn 8 s) (sound 8 s)) e
+read-is-text s n k e = read-sound s (nameIn 8 s) (sound 8 s) .got e
 
 -- bytes that are not read are the text of no lawful name
 pub broken-is-no-text : (s : List ℕ) (hs : List Heading) → nameOf s ≡ broken hs → (n : Name) → Formed 8 n → s ≡ text n → ⊥

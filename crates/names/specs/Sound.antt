@@ -9,6 +9,8 @@ use lib.ListN.{length, take, drop, take-append-drop}
 use lib.Seq.{drop-drop, length-take-le}
 use borrow.Author.Tests.{eqb-true}
 use Rattle.laws.specs.Small.{differ, both}
+use Rattle.laws.specs.Ok as law
+use Rattle.laws.specs.Ok.{ok-pick}
 use Rattle.layout.specs.Text.{ascii}
 use Rattle.layout.specs.Name.{Tail, none, some, Name, simple, one, two, writeTail, write, headByte, tailByte, all, Head, Tailed, Formed}
 use Rattle.names.specs.Parse.{Read, broken, name, span, starts, tailSize, tailOf, ended, closed, opening, onOnly, onSecond, onFirst, afterHead, headed, nameIn}
@@ -16,21 +18,14 @@ use Rattle.names.specs.Complete.{long, longTail}
 use Rattle.names.specs.Heading.{Heading}
 
 -- what holds of a name that was read
-pub data Ok (P : Name → ℕ → Type 0) : Read → Type 0 where
-  not-read : {hs : List Heading} → Ok P (broken hs)
-  read : {n : Name} {k : ℕ} → P n k → Ok P (name n k)
+abbrev pub Ok : (Name → ℕ → Type 0) → Read → Type 0
+Ok P r = law.Ok name P r
 
-module _ {P : Name → ℕ → Type 0} where
-  ok-pick : (b : Bool) {x y : Read} → (b ≡ true → Ok P x) → Ok P y → Ok P (cond b x y)
-  ok-pick true f g = f refl
-  ok-pick false f g = g
+pub not-read : {P : Name → ℕ → Type 0} {hs : List Heading} → Ok P (broken hs)
+not-read = record { got = λ q. differ cc }
 
-  pub got : {r : Read} {n : Name} {k : ℕ} → Ok P r → r ≡ name n k → P n k
-  got Ok.not-read e = differ cc
-  got {n} {k} (Ok.read {n = m} {k = j} p) e =
-      let a : m ≡ n = cc in
-      let b : j ≡ k = cc in
-      rw (a, b) at p
+pub is-read : {P : Name → ℕ → Type 0} {n : Name} {k : ℕ} → P n k → Ok P (name n k)
+is-read {n = n} {k = k} p = record { got = λ {a} {b} q. let i : n ≡ a = cc in let j : k ≡ b = cc in rw (i, j) at p }
 
 pub span-le : (p : ℕ → Bool) (s : List ℕ) → span p s ≤ length s
 unfolding span
@@ -79,14 +74,14 @@ module _ {P : Name → ℕ → Type 0} (n : Tail → Name) (s : List ℕ) where
   ended-sound e f =
       let r = tail-sound (drop e s) in
       let k = tailSize (drop e s) in
-      Ok.read (f (tailOf (drop e s)) (e + k) (r .0) (r .1 ∙ ap (writeTail (tailOf (drop e s))) (drop-drop k e s)) (ap (λ (z : ℕ). e + z) (r .2)))
+      is-read (f (tailOf (drop e s)) (e + k) (r .0) (r .1 ∙ ap (writeTail (tailOf (drop e s))) (drop-drop k e s)) (ap (λ (z : ℕ). e + z) (r .2)))
 
   closed-sound : (e : ℕ) → ((t : Tail) (k : ℕ) → Tailed t → drop e s ≡ ascii "]]" ++ writeTail t (drop k s) → k ≡ e + 2 + longTail t → P (n t) k) → Ok P (closed n s e)
   unfolding closed ascii
   closed-sound e f =
       ok-pick (starts (ascii "]]") (drop e s))
       (λ b. ended-sound (e + 2) (λ t k ok q m. f t k ok (starts-is (ascii "]]") (drop e s) b ∙ ap (λ (l : List ℕ). ascii "]]" ++ l) (drop-drop 2 e s ∙ q)) m))
-      Ok.not-read
+      not-read
 
 -- what was read, and where it stands
 abbrev pub Stands : ℕ → List ℕ → Name → ℕ → Type 0
@@ -107,8 +102,9 @@ module _ (l : ℕ) (s : List ℕ) (h : ℕ) (head : Head (take h s)) (size : len
 
   only-sound : starts (ascii "`1[[") (drop h s) ≡ true → (r : Read) → Ok (Stands l (drop (h + 4) s)) r → Ok (Stands (suc l) s) (onOnly s h (h + 4) r)
   unfolding onOnly Formed write long ascii
-  only-sound b (broken hs) o = Ok.not-read
-  only-sound b (name x k) (Ok.read p) =
+  only-sound b (broken hs) o = not-read
+  only-sound b (name x k) o =
+      let p = o .got refl in
       closed-sound (one (take h s) x) s (h + 4 + k)
       (λ t j ok q m.
       let v : drop (h + 4) s ≡ write x (ascii "]]" ++ writeTail t (drop j s)) = p .1 ∙ ap (write x) (drop-drop k (h + 4) s ∙ q) in
@@ -118,8 +114,9 @@ module _ (l : ℕ) (s : List ℕ) (h : ℕ) (head : Head (take h s)) (size : len
   second-sound : (x : Name) (k : ℕ) → Stands l (drop (h + 4) s) x k → starts (ascii "`2[[") (drop h s) ≡ true → starts (ascii "],[") (drop (h + 4 + k) s) ≡ true
       → (r : Read) → Ok (Stands l (drop (h + 4 + k + 3) s)) r → Ok (Stands (suc l) s) (onSecond s h x (h + 4 + k + 3) r)
   unfolding onSecond Formed write long ascii
-  second-sound x k p b c (broken hs) o = Ok.not-read
-  second-sound x k p b c (name y m) (Ok.read o) =
+  second-sound x k p b c (broken hs) o = not-read
+  second-sound x k p b c (name y m) r =
+      let o = r .got refl in
       closed-sound (two (take h s) x y) s (h + 4 + k + 3 + m)
       (λ t j ok q e.
       let r₃ = ascii "]]" ++ writeTail t (drop j s) in
@@ -131,16 +128,16 @@ module _ (l : ℕ) (s : List ℕ) (h : ℕ) (head : Head (take h s)) (size : len
 
   first-sound : starts (ascii "`2[[") (drop h s) ≡ true → (r : Read) → Ok (Stands l (drop (h + 4) s)) r → Ok (Stands (suc l) s) (onFirst below s h (h + 4) r)
   unfolding onFirst
-  first-sound b (broken hs) o = Ok.not-read
-  first-sound b (name x k) (Ok.read p) =
-      ok-pick (starts (ascii "],[") (drop (h + 4 + k) s)) (λ c. second-sound x k p b c (below (drop (h + 4 + k + 3) s)) (sound-below (drop (h + 4 + k + 3) s))) Ok.not-read
+  first-sound b (broken hs) o = not-read
+  first-sound b (name x k) o =
+      ok-pick (starts (ascii "],[") (drop (h + 4 + k) s)) (λ c. second-sound x k (o .got refl) b c (below (drop (h + 4 + k + 3) s)) (sound-below (drop (h + 4 + k + 3) s))) not-read
 
   -- by what follows the head
   by-opening : (b₁ b₂ b₃ : Bool) → starts (ascii "`1[[") (drop h s) ≡ b₁ → starts (ascii "`2[[") (drop h s) ≡ b₂ → Ok (Stands (suc l) s) (afterHead below s h (cond b₁ 1 (cond b₂ 2 (cond b₃ 3 0))))
   unfolding afterHead
   by-opening true b₂ b₃ e₁ e₂ = only-sound e₁ (below (drop (h + 4) s)) (sound-below (drop (h + 4) s))
   by-opening false true b₃ e₁ e₂ = first-sound e₂ (below (drop (h + 4) s)) (sound-below (drop (h + 4) s))
-  by-opening false false true e₁ e₂ = Ok.not-read
+  by-opening false false true e₁ e₂ = not-read
   by-opening false false false e₁ e₂ = simple-sound
 
   after-sound : Ok (Stands (suc l) s) (afterHead below s h (opening (drop h s)))
@@ -149,7 +146,7 @@ module _ (l : ℕ) (s : List ℕ) (h : ℕ) (head : Head (take h s)) (size : len
 
 head-sound : (l : ℕ) (s : List ℕ) (below : List ℕ → Read) → ((r : List ℕ) → Ok (Stands l r) (below r)) → (h : ℕ) → h ≡ span headByte s → Ok (Stands (suc l) s) (headed below s h)
 unfolding headed
-head-sound l s below f zero e = Ok.not-read
+head-sound l s below f zero e = not-read
 head-sound l s below f (suc h) e =
     let z : length (take (suc h) s) ≡ suc h = length-take-le (suc h) s (omega (arith, span-le headByte s)) in
     let b : all headByte (take (suc h) s) ≡ true = rw e (span-is headByte s) in
@@ -158,5 +155,5 @@ head-sound l s below f (suc h) e =
 
 pub sound : (l : ℕ) (s : List ℕ) → Ok (Stands l s) (nameIn l s)
 unfolding nameIn
-sound zero s = Ok.not-read
+sound zero s = not-read
 sound (suc l) s = head-sound l s (nameIn l) (sound l) (span headByte s) refl

@@ -7,7 +7,6 @@ use native.Mathlib.Omega.{arith}
 use lib.Dec.{eqb}
 use lib.ListN.{length}
 use borrow.Author.Tests.{eqb-true, eqb-false}
-use Rattle.laws.specs.Small.{differ}
 use Rattle.layout.specs.Target.{Target, spriteFont, kindOf}
 use Rattle.layout.specs.Tree.{Trees, none, tree, count, size}
 use Rattle.layout.specs.Slot as L
@@ -17,12 +16,12 @@ use Rattle.layout.specs.Resource.{Within}
 use Rattle.layout.specs.Rows.{row, width}
 use Rattle.layout.specs.Named.{plain, fixedKind}
 use Rattle.layout.specs.Number.{between}
-use Rattle.reading.specs.Answer.{Answer, refused, read, bind, check, Ok, not-read, is-read}
+use Rattle.reading.specs.Answer.{Answer, refused, read, bind, check}
 use Rattle.reading.specs.Reads.{Small}
 use Rattle.reading.specs.Font.{fontOk}
 use Rattle.reading.specs.Heads.{Opening, headAt}
 use Rattle.reading.specs.Walk.{Taken, Outcome, point, sequence, rawAt, walk}
-use Rattle.reading.specs.Sound.{Read, walks-sound}
+use Rattle.reading.specs.Sound.{walks-sound}
 use Rattle.reading.specs.Bounds.{sequence-bounds}
 use Rattle.reading.specs.Drafts.{Draft, drafted}
 use Rattle.types.specs.Code.{Lawful}
@@ -72,14 +71,10 @@ module _ (g : Grid) (file : List ℕ) (small : Small file) (readers : List Targe
   -- children that stand in slots which no child has a say in
   pub slots-counted : (slots : List L.Slot) (at used parent : ℕ) (a : Taken) (e : ℕ) → sequence (λ y b v. walk file readers shared (g .room) below y b v parent) (each slots) at used ≡ read a e
       → (count (a .2) ≡ length slots) × (used + length slots ≤ a .0)
-  slots-counted slots at used parent a e q = go (sequence (λ y b v. walk file readers shared (g .room) below y b v parent) (each slots) at used) (walks-sound file readers shared (g .room) small below (each slots) at used parent) q where
-    go : (o : Outcome) → Ok (Read file readers shared (g .room) small below (each slots) at used parent) o → o ≡ read a e → (count (a .2) ≡ length slots) × (used + length slots ≤ a .0)
-    go o not-read p = differ cc
-    go o (is-read {a = b} {e = f} v) p =
-        let qb : b ≡ a = cc in
-        let c = laid-count readers (Within shared) slots (b .2) (v .bytes) (v .laid) in
-        let d : (count (b .2) ≡ length slots) × (used + length slots ≤ b .0) = (c .0, omega (arith, c .0, c .1, v .used-is)) in
-        rw qb at d
+  slots-counted slots at used parent a e q =
+      let v = walks-sound file readers shared (g .room) small below (each slots) at used parent .got q in
+      let c = laid-count readers (Within shared) slots (a .2) (v .bytes) (v .laid) in
+      (c .0, omega (arith, c .0, c .1, v .used-is))
 
   module _ (t : Target) (lawful : Lawful t) (h : Head) (at : ℕ) (w₀ : List ℕ) (long : width * g .room ≤ length w₀) (few : g .room < 2 ^ 32) (free : h .row .0 < g .room) where
     abbrev pub rawOf : Outcome

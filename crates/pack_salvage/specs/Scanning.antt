@@ -5,7 +5,7 @@ use Prim.Native.Nat.{ℕ, zero, suc, pred, _+_, _≤_}
 use native.Mathlib.Omega.{arith}
 use lib.ListN.{length, drop, length-append}
 use lib.Seq.{drop-append-seam, drop-nil}
-use Rattle.reading.specs.Answer.{Answer, refused, read, Ok, is-read}
+use Rattle.reading.specs.Answer.{Answer, refused, read, Ok}
 use Rattle.reading.specs.Reads.{Small, small-drop, Spans}
 use Rattle.pack_layout.specs.Pack.{Stored, Lawful, marked, recordBytes}
 use Rattle.pack_reading.specs.Pack.{recordAt}
@@ -63,9 +63,9 @@ unfolding tried
 tried-scanned left b bs (refused number place) q o onward further =
     goes-on (λ f rest w. let z : refused number place ≡ read f (length (recordBytes marked f)) = sym q ∙ reads-it f rest (b ∷ bs) w in
     let y : _≡_ {A = ℕ} 0 1 = cc in absurd (omega arith)) further
-tried-scanned left b bs (read f zero) q (is-read w) onward further =
-    absurd (let s = stands (b ∷ bs) f zero w in omega (arith, s .1, record-length f))
-tried-scanned left b bs (read f (suc e)) q (is-read w) onward further = keeps (stands (b ∷ bs) f (suc e) w .0) (onward e)
+tried-scanned left b bs (read f zero) q o onward further =
+    absurd (let s = stands (b ∷ bs) f zero (o .got refl) in omega (arith, s .1, record-length f))
+tried-scanned left b bs (read f (suc e)) q o onward further = keeps (stands (b ∷ bs) f (suc e) (o .got refl) .0) (onward e)
 
 scanned-from : (bs : List ℕ) (left n : ℕ) → Small bs → Scanned left (drop n bs) (scan left n bs)
 unfolding scan Small
@@ -98,7 +98,7 @@ unfolding scan tried
 scan-goes-on left b bs h none = go (recordAt marked (b ∷ bs) 0) (record-reads marked (b ∷ bs) .sound h 0) where
   go : (x : Answer Stored) → Ok (Whole (b ∷ bs)) x → tried x b (λ n. scan left n bs) (λ _. scan (suc left) zero bs) ≡ skipped b ∷ scan (suc left) zero bs
   go (refused number place) o = refl
-  go (read f e) (is-read w) = absurd (none f (drop e (b ∷ bs)) (stands (b ∷ bs) f e w .0))
+  go (read f e) o = absurd (none f (drop e (b ∷ bs)) (stands (b ∷ bs) f e (o .got refl) .0))
 
 pub scan-is : {left : ℕ} {bs : List ℕ} {ps : List Piece} → Small bs → Scanned left bs ps → scan left zero bs ≡ ps
 unfolding scan Small

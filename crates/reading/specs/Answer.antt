@@ -6,6 +6,7 @@ use native.Mathlib.Omega.{arith}
 use lib.Dec.{leb}
 use borrow.Author.Tests.{leb-true, le-leb}
 use Rattle.laws.specs.Small.{differ}
+use Rattle.laws.specs.Ok as law
 
 -- refused with a number and a place, or a value and the next byte
 pub data Answer (A : Type 0) : Type 0 where
@@ -25,24 +26,26 @@ unfoldable pub several : {A B : Type 0} → (none : B) (add : A → B → B) →
 several none add r zero at = read none at
 several none add r (suc n) at = bind (r at) (λ a e. bind (several none add r n e) (λ l next. read (add a l) next))
 
-pub data Ok {A : Type 0} (P : A → ℕ → Type 0) : Answer A → Type 0 where
-  not-read : {n p : ℕ} → Ok P (refused n p)
-  is-read : {a : A} {e : ℕ} → P a e → Ok P (read a e)
+-- what holds of a value that was read, and of the next byte
+abbrev pub Ok : {A : Type 0} → (A → ℕ → Type 0) → Answer A → Type 0
+Ok P x = law.Ok read P x
+
+pub not-read : {A : Type 0} {P : A → ℕ → Type 0} {n p : ℕ} → Ok P (refused n p)
+not-read = record { got = λ q. differ cc }
+
+pub is-read : {A : Type 0} {P : A → ℕ → Type 0} {a : A} {e : ℕ} → P a e → Ok P (read a e)
+is-read {a = v} {e = e} p = record { got = λ {a} {b} q. let i : v ≡ a = cc in let j : e ≡ b = cc in rw (i, j) at p }
 
 pub ok-bind : {A B : Type 0} {P : A → ℕ → Type 0} {Q : B → ℕ → Type 0} {x : Answer A} {k : A → ℕ → Answer B}
     → Ok P x → ((a : A) (e : ℕ) → P a e → Ok Q (k a e)) → Ok Q (bind x k)
 unfolding bind
-ok-bind not-read f = not-read
-ok-bind (is-read p) f = f _ _ p
+ok-bind {x = refused n p} o f = not-read
+ok-bind {x = read a e} o f = f a e (o .got refl)
 
 pub ok-check : {A : Type 0} {Q : A → ℕ → Type 0} (b : Bool) (n p : ℕ) (x : Answer A) → (b ≡ true → Ok Q x) → Ok Q (check b n p x)
 unfolding check
 ok-check true n p x f = f refl
 ok-check false n p x f = not-read
-
-pub ok-weaken : {A : Type 0} {P Q : A → ℕ → Type 0} {x : Answer A} → Ok P x → ((a : A) (e : ℕ) → P a e → Q a e) → Ok Q x
-ok-weaken not-read f = not-read
-ok-weaken (is-read p) f = is-read (f _ _ p)
 
 -- a number from 1 to m
 unfoldable pub within : ℕ → ℕ → Bool

@@ -5,17 +5,16 @@ use mathlib.Core.Logic.{inl, inr}
 use Prim.Native.Nat.{ℕ, suc, _+_, _-_, _≤_}
 use native.Mathlib.Omega.{arith}
 use lib.ListN.{length, drop, length-append, length-drop}
-use Rattle.laws.specs.Small.{differ}
 use Rattle.layout.specs.Target.{Target}
 use Rattle.layout.specs.Tree.{Trees, none, tree, size, told, count}
 use Rattle.layout.specs.Slot.{Slot, raw, object, reference, leaf, Plan, stop, put}
 use Rattle.layout.specs.Layout.{Value, Lays}
 use Rattle.layout.specs.Resource.{Within}
 use Rattle.layout.specs.Rows.{rawRows, notedRows, valueRows}
-use Rattle.reading.specs.Answer.{read, Ok, not-read, is-read}
+use Rattle.reading.specs.Answer.{read}
 use Rattle.reading.specs.Reads.{Small}
-use Rattle.reading.specs.Walk.{Taken, Outcome, sequence, walk}
-use Rattle.reading.specs.Sound.{Read, ReadValue, walk-sound, walks-sound}
+use Rattle.reading.specs.Walk.{Taken, sequence, walk}
+use Rattle.reading.specs.Sound.{ReadValue, walk-sound, walks-sound}
 use Rattle.reading.specs.Drafts.{Below, valueDrafts, draftsOf}
 
 module _ (readers : List Target) (refers : Target → ℕ → Type 0) where
@@ -69,37 +68,22 @@ module _ (file : List ℕ) (readers : List Target) (shared room : ℕ) (small : 
       }
 
   pub walk-bounds : (d : ℕ) (x : Slot) (at used parent : ℕ) (a : Taken) (e : ℕ) → walk file readers shared room d x at used parent ≡ read a e → Bounds file room at used a e
-  walk-bounds d x at used parent a e q = go (walk file readers shared room d x at used parent) (walk-sound file readers shared room small d x at used parent) q where
-    go : (o : Outcome) → Ok (ReadValue file readers shared room small d x at used parent) o → o ≡ read a e → Bounds file room at used a e
-    go o not-read p = differ cc
-    go o (is-read {a = b} {e = f} v) p =
-        let qb : b ≡ a = cc in
-        let qf : f ≡ e = cc in
-        rw (qb, qf) at (value-bounds at used parent b f v)
+  walk-bounds d x at used parent a e q = value-bounds at used parent a e (walk-sound file readers shared room small d x at used parent .got q)
 
   -- a value is one tree
   pub walk-single : (d : ℕ) (x : Slot) (at used parent : ℕ) (a : Taken) (e : ℕ) → walk file readers shared room d x at used parent ≡ read a e → count (a .2) ≡ 1
-  walk-single d x at used parent a e q = go (walk file readers shared room d x at used parent) (walk-sound file readers shared room small d x at used parent) q where
-    go : (o : Outcome) → Ok (ReadValue file readers shared room small d x at used parent) o → o ≡ read a e → count (a .2) ≡ 1
-    go o not-read p = differ cc
-    go o (is-read {a = b} {e = f} v) p =
-        let qb : b ≡ a = cc in
-        rw (← qb) (rw (v .tree-is) (one-tree (v .kind) (v .id) (v .own) (v .children)))
+  walk-single d x at used parent a e q =
+      let v = walk-sound file readers shared room small d x at used parent .got q in
+      rw (v .tree-is) (one-tree (v .kind) (v .id) (v .own) (v .children))
 
   pub sequence-bounds : (d : ℕ) (plan : Plan) (at used parent : ℕ) (a : Taken) (e : ℕ)
       → sequence (λ y b v. walk file readers shared room d y b v parent) plan at used ≡ read a e → Bounds file room at used a e
   sequence-bounds d plan at used parent a e q =
-      go (sequence (λ y b v. walk file readers shared room d y b v parent) plan at used) (walks-sound file readers shared room small d plan at used parent) q where
-        go : (o : Outcome) → Ok (Read file readers shared room small d plan at used parent) o → o ≡ read a e → Bounds file room at used a e
-        go o not-read p = differ cc
-        go o (is-read {a = b} {e = f} v) p =
-            let qb : b ≡ a = cc in
-            let qf : f ≡ e = cc in
-            let l : length (b .1) ≡ size (b .2) = ap length (v .rows-are) ∙ rows-length readers (Within shared) plan (b .2) (v .bytes) (v .laid) at used parent in
-            let bounds : Bounds file room at used b f = record {
-              ahead = omega (arith, v .end);
-              inside = ends file (v .bytes) at f (v .there) (v .end);
-              counted = omega (arith, v .used-is);
-              fits = v .room-left;
-            } in
-            rw (qb, qf) at bounds
+      let v = walks-sound file readers shared room small d plan at used parent .got q in
+      let l : length (a .1) ≡ size (a .2) = ap length (v .rows-are) ∙ rows-length readers (Within shared) plan (a .2) (v .bytes) (v .laid) at used parent in
+      record {
+        ahead = omega (arith, v .end);
+        inside = ends file (v .bytes) at e (v .there) (v .end);
+        counted = omega (arith, v .used-is);
+        fits = v .room-left;
+      }

@@ -9,6 +9,7 @@ use lib.Dec.{ltb, leb, eqb}
 use lib.ListN.{length, take, drop, getD, replicate}
 use lib.Seq.{take-append-seam}
 use borrow.Author.Tests.{leb-true, le-leb, ltb-true, lt-ltb, eqb-true, eq-eqb}
+use Rattle.laws.specs.Ok.{ok-weaken}
 use Rattle.layout.specs.Number.{little}
 use Rattle.layout.specs.Text.{Character}
 use Rattle.layout.specs.Target.{Target, fixed, char, string, object, texture, texture2D, spriteFont, page, enum, nullable, array, list, dictionary}
@@ -17,7 +18,7 @@ use Rattle.layout.specs.Image.{levels, digits}
 use Rattle.layout.specs.Slot.{Leaf, level, Slot, raw, slotOf, Plan, stop, each, pairs, leaves, fontSlots, pageSlots}
 use Rattle.layout.specs.Head.{Textual, Flagged, Counted, Pictured, Head}
 use Rattle.layout.specs.Layout.{Leafed}
-use Rattle.reading.specs.Answer.{Answer, refused, read, bind, check, not-read, is-read, ok-bind, ok-check, ok-weaken, within, within-true, true-within}
+use Rattle.reading.specs.Answer.{Answer, refused, read, bind, check, not-read, is-read, ok-bind, ok-check, within, within-true, true-within}
 use Rattle.reading.specs.Reads.{Reads, pure-reads, bind-reads, check-reads, here-reads, convert, some, some-reads, field, field-reads}
 use Rattle.reading.specs.Seven.{sevenAt, seven-reads}
 use Rattle.reading.specs.Little.{littleAt, little-reads}

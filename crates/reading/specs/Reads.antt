@@ -8,8 +8,8 @@ use lib.Dec.{leb}
 use lib.ListN.{length, getD, take, drop, length-append, length-drop, take-append-drop}
 use lib.Seq.{drop-drop, drop-append-seam, take-append-seam, length-take-le}
 use borrow.Author.Tests.{leb-true, le-leb}
-use Rattle.laws.specs.Small.{differ}
-use Rattle.reading.specs.Answer.{Answer, read, bind, check, Ok, not-read, is-read, ok-bind, ok-check, ok-weaken}
+use Rattle.laws.specs.Ok.{ok-weaken}
+use Rattle.reading.specs.Answer.{Answer, read, bind, check, Ok, is-read, ok-bind, ok-check}
 
 -- a file of bytes
 unfoldable pub Small : List ℕ → Type 0
@@ -143,27 +143,20 @@ pub record Next (file : List ℕ) {A : Type 0} (F : A → List ℕ → Type 0) (
 
 pub next-of : {file : List ℕ} {A : Type 0} {F : A → List ℕ → Type 0} {r : ℕ → Answer A} → Reads file F r → Small file
     → (at : ℕ) {a : A} {e : ℕ} → r at ≡ read a e → Next file F at a e
-next-of {file} {F = F} {r = r} x s at {a} {e} q = go (r at) (x .sound s at) q where
-  go : (o : Answer _) → Ok (Spans file F at) o → o ≡ read a e → Next file F at a e
-  go o not-read p = differ cc
-  go o (is-read {a = b} {e = f} v) p =
-      let eq : b ≡ a = cc in
-      let ef : f ≡ e = cc in
-      let l : length file - at ≡ length (v .0) + (length file - f) = omega (arith, length-drop at file, length-drop f file, simp length-append at (ap length (v .2))) in
-      record {
-        form = v .0;
-        laid = rw eq at (v .1);
-        behind = sym ef ∙ v .3;
-        within = λ some. omega arith;
-      }
+next-of {file} x s at {a} {e} q =
+    let v = x .sound s at .got q in
+    let l : length file - at ≡ length (v .0) + (length file - e) = omega (arith, length-drop at file, length-drop e file, simp length-append at (ap length (v .2))) in
+    record {
+      form = v .0;
+      laid = v .1;
+      behind = v .3;
+      within = λ some. omega (arith, v .3);
+    }
 
 -- what is read from inside the file ends inside it
 pub reads-bounds : {file : List ℕ} {A : Type 0} {F : A → List ℕ → Type 0} {r : ℕ → Answer A} → Reads file F r → Small file
     → (at : ℕ) → at ≤ length file → {a : A} {e : ℕ} → r at ≡ read a e → (at ≤ e) × (e ≤ length file)
-reads-bounds {file} {A} {F} {r} x s at h {a} {e} q = go (r at) (x .sound s at) q where
-  go : (o : Answer A) → Ok (Spans file F at) o → o ≡ read a e → (at ≤ e) × (e ≤ length file)
-  go o not-read p = differ cc
-  go o (is-read {a = b} {e = f} v) p =
-      let ef : f ≡ e = cc in
-      let l : length file - at ≡ length (v .0) + (length file - f) = omega (arith, length-drop at file, length-drop f file, simp length-append at (ap length (v .2))) in
-      (omega (arith, v .3), omega (arith, v .3))
+reads-bounds {file} x s at h {a} {e} q =
+    let v = x .sound s at .got q in
+    let l : length file - at ≡ length (v .0) + (length file - e) = omega (arith, length-drop at file, length-drop e file, simp length-append at (ap length (v .2))) in
+    (omega (arith, v .3), omega (arith, v .3))

@@ -7,6 +7,7 @@ use native.Mathlib.Omega.{arith}
 use lib.Dec.{ltb, leb}
 use lib.ListN.{length, drop, length-append}
 use borrow.Author.Tests.{leb-true, ltb-true}
+use Rattle.laws.specs.Ok.{ok-weaken}
 use Rattle.layout.specs.Number.{Seven}
 use Rattle.layout.specs.Target.{Target, kindOf, spriteFont}
 use Rattle.layout.specs.Tree.{Trees, none, tree, count, size, depth, childrenAt, toldOf, told}
@@ -15,7 +16,7 @@ use Rattle.layout.specs.Head.{Head}
 use Rattle.layout.specs.Layout.{Raw, Value, Lays}
 use Rattle.layout.specs.Resource.{Within}
 use Rattle.layout.specs.Rows.{row, rawRows, notedRows, valueRows}
-use Rattle.reading.specs.Answer.{read, Ok, not-read, is-read, ok-bind, ok-check, ok-weaken}
+use Rattle.reading.specs.Answer.{read, Ok, not-read, is-read, ok-bind, ok-check}
 use Rattle.reading.specs.Reads.{Small, Spans}
 use Rattle.reading.specs.Seven.{seven-reads}
 use Rattle.reading.specs.Rules.{Found, missing, found, reader, reader-sound, serves, serves-sound}

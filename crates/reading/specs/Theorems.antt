@@ -15,7 +15,7 @@ use Rattle.layout.specs.Layout.{Lays}
 use Rattle.layout.specs.Resource.{Within}
 use Rattle.layout.specs.File.{FileTree, sharedOf, header, FileLays, fileRows}
 use Rattle.layout.specs.Rows.{Row, flat, width}
-use Rattle.reading.specs.Answer.{Answer, refused, read, Ok, not-read, is-read}
+use Rattle.reading.specs.Answer.{Answer, refused, read, Ok}
 use Rattle.reading.specs.Reads.{Small}
 use Rattle.reading.specs.Little.{value-little}
 use Rattle.reading.specs.Unique.{unique}
@@ -62,8 +62,8 @@ module _ (named : List ℕ → Target → Type 0) (nameOf : List ℕ → Named) 
 
     fitting : (x : Answer Loaded) → Ok (IsFile named file (roomOf words)) x → Accepts (toLoad x) → Fitting named file words
     unfolding Accepts toLoad
-    fitting (refused number place) not-read a = absurd a
-    fitting (read l e) (is-read v) a = record { tree = l .tree; lays = v .lays; room = v .room-left }
+    fitting (refused number place) o a = absurd a
+    fitting (read l e) o a = let v = o .got refl in record { tree = l .tree; lays = v .lays; room = v .room-left }
 
     -- "the loader accepts the file exactly when some file tree, as 01 has it, may have it as its bytes and the table has room for a row for each value in that tree"
     pub accepts : Small file → Accepts (loadOf nameOf file words) ↔ Fitting named file words

@@ -11,9 +11,10 @@ use lib.ListN.{length, getD, take, drop, length-append, take-append-drop}
 use lib.Seq.{drop-drop, drop-append-seam, drop-nil, length-take-le}
 use borrow.Author.Tests.{ltb-true, ltb-false, lt-ltb, le-ltb, leb-true, le-leb, eqb-true, eqb-false}
 use Rattle.laws.specs.Small.{differ, both}
+use Rattle.laws.specs.Ok.{ok-weaken}
 use Rattle.layout.specs.Text.{Utf8, one, two, three, four, Utf8s, end, then}
 use Rattle.layout.specs.Number.{between}
-use Rattle.reading.specs.Answer.{Answer, refused, read, check, Ok, not-read, is-read, ok-check, ok-weaken, within, within-true, true-within}
+use Rattle.reading.specs.Answer.{Answer, refused, read, check, Ok, not-read, is-read, ok-check, within, within-true, true-within}
 use Rattle.reading.specs.Reads.{Reads}
 
 -- how many bytes the character has that the lead byte b starts (00 to 7F hex: 1, C2 to DF: 2, E0 to EF: 3, F0 to F4: 4); 0 where b starts none

@@ -4,18 +4,17 @@ use mathlib.Core.List.{List}
 use Prim.Native.Nat.{ℕ, suc, _*_, _≤_}
 use native.Mathlib.Omega.{arith}
 use lib.ListN.{length, replicate, length-replicate}
-use Rattle.laws.specs.Small.{differ}
 use Rattle.layout.specs.Target.{Target, object as anything}
 use Rattle.layout.specs.Resource.{Within}
 use Rattle.layout.specs.Rows.{width}
 use Rattle.layout.specs.Slot.{object}
 use Rattle.layout.specs.Tree.{count, size}
 use Rattle.layout.specs.File.{objectsPlan}
-use Rattle.reading.specs.Answer.{Ok, not-read, is-read, read}
+use Rattle.reading.specs.Answer.{read}
 use Rattle.reading.specs.Reads.{Small}
 use Rattle.reading.specs.Resource.{length-kinds}
 use Rattle.reading.specs.Drafts.{Draft}
-use Rattle.reading.specs.Walk.{Taken, Outcome}
+use Rattle.reading.specs.Walk.{Taken}
 use Rattle.reading.specs.Sound.{Read, walks-sound}
 use Rattle.reading.specs.File.{objectsAt, rootKinds}
 use Rattle.reading.specs.References.{roots-are, rows-length, slots-count}
@@ -49,9 +48,4 @@ module _ (g : Grid) (file : List ℕ) (readers : List Target) (shared : ℕ) (sm
   pub objects-drafted : (w : List ℕ) (at : ℕ) (a : Taken) (e : ℕ) → objectsAt file (g .room) readers shared at ≡ read a e → width * g .room ≤ length w
       → Drafted g (written g w 0 (a .1)) (a .0) (a .1) w
   unfolding objectsAt
-  objects-drafted w at a e q h = go (objectsAt file (g .room) readers shared at) (walks-sound file readers shared (g .room) small 32 (objectsPlan shared) at 0 0) q where
-    go : (o : Outcome) → Ok (Read file readers shared (g .room) small 32 (objectsPlan shared) at 0 0) o → o ≡ read a e → Drafted g (written g w 0 (a .1)) (a .0) (a .1) w
-    go o not-read p = differ cc
-    go o (is-read {a = b} {e = f} v) p =
-        let qb : b ≡ a = cc in
-        rw qb at (read-drafted w at b f v h)
+  objects-drafted w at a e q h = read-drafted w at a e (walks-sound file readers shared (g .room) small 32 (objectsPlan shared) at 0 0 .got q) h

@@ -9,7 +9,7 @@ use lib.ListN.{length, drop, getD}
 use lib.Seq.{drop-cons}
 use borrow.Author.Tests.{eq-eqb, ne-eqb}
 use Rattle.laws.specs.Small.{differ}
-use Rattle.reading.specs.Answer.{Answer, refused, read, Ok, is-read}
+use Rattle.reading.specs.Answer.{Answer, refused, read, Ok}
 use Rattle.reading.specs.Reads.{Small, Spans}
 use Rattle.pack_layout.specs.Pack.{Stored, Lawful, marked, recordBytes}
 use Rattle.pack_reading.specs.Pack.{recordAt}
@@ -37,12 +37,9 @@ module _ (pack : List ℕ) (at : ℕ) where
       differ cc
 
   stands-of : {f : Stored} {e : ℕ} (x : Answer Stored) → Ok (Spans pack (λ f l. Lawful f × (l ≡ recordBytes marked f)) at) x → x ≡ read f e → Stands f (drop e pack) (drop at pack)
-  stands-of {f} {e} (refused number place) o q = differ cc
-  stands-of {f} {e} (read g n) (is-read w) q =
-      let a : g ≡ f = cc in
-      let b : n ≡ e = cc in
-      let s : Stands g (drop n pack) (drop at pack) = record { lawful = w .1 .0; parts = w .2 ∙ ap (λ (l : List ℕ). l ++ drop n pack) (w .1 .1) } in
-      rw (a, b) at s
+  stands-of {f} {e} x o q =
+      let w = o .got q in
+      record { lawful = w .1 .0; parts = w .2 ∙ ap (λ (l : List ℕ). l ++ drop e pack) (w .1 .1) }
 
   pub found-stands : {start size first count : ℕ} → Small pack → record′.Read start size first count ≡ recorded marked at (recordAt marked pack at)
       → (first + count ≤ length pack) × StandsFrom pack at (first + count)

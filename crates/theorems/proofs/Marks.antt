@@ -9,7 +9,7 @@ use lib.ListN.{length, take, drop, replicate, length-append}
 use lib.Seq.{take-append-seam}
 use borrow.Author.Tests.{leb-true, le-leb, lt-leb}
 use Rattle.laws.specs.Small.{differ}
-use Rattle.reading.specs.Answer.{Answer, refused, read, Ok, is-read}
+use Rattle.reading.specs.Answer.{Answer, refused, read, Ok}
 use Rattle.reading.specs.Reads.{Small}
 use Rattle.reading.specs.Output.{Rewritten, refusal, written, fitted, outputOf}
 use Rattle.pack_layout.specs.Pack.{Stored, packBytes, PackLays}
@@ -52,7 +52,7 @@ none-fits : (from to pack : List ℕ) (x : Answer (List Stored)) (out : ℕ) →
     → (number : ℕ) × (place : ℕ) × (answerOf (byPack to x out) ≡ Refused number place)
 unfolding byPack
 none-fits from to pack (refused n p) out k none = (n, p, refl)
-none-fits from to pack (read fs e) out (is-read v) none = absurd (none fs (v .0))
+none-fits from to pack (read fs e) out k none = absurd (none fs (k .got refl .0))
 
 -- the new pack at the output's start
 at-start : (new out : List ℕ) → length new ≤ length out → (length new ≤ length (new ++ drop (length new) out)) × (take (length new) (new ++ drop (length new) out) ≡ new)
@@ -69,7 +69,8 @@ was-written : (from to pack : List ℕ) (x : Answer (List Stored)) (out : List �
     → (fs : List Stored) × PackLays from fs pack × (n ≤ length (outputOf (byPack to x (length out)) out)) × PackLays to fs (take n (outputOf (byPack to x (length out)) out))
 unfolding byPack fitted
 was-written from to pack (refused n p) out k q = differ cc
-was-written from to pack (read fs e) out (is-read v) q =
+was-written from to pack (read fs e) out k q =
+    let v = k .got refl in
     let w = fit-written (packBytes to fs) out (leb (length (packBytes to fs)) (length out)) refl q in
     (fs, v .0, w .0, rw (w .1) (other-form from to fs (v .0)))
 

@@ -16,7 +16,7 @@ use Rattle.names.specs.Parse.{Read, broken, name, nameOf}
 use Rattle.names.specs.Contract.{coded, refused, no-room, roomy, answerOf, contentOf, ReadsName}
 use Rattle.types.specs.declared.Resolved.the-variants.{Target, Broken, Unknown, NoRoom}
 use Rattle.types.specs.Code.{code}
-use Rattle.types.specs.Coded.{Ok, some, reader-coded}
+use Rattle.types.specs.Coded.{Ok, reader-coded}
 use Rattle.types.specs.Judge.{isKnown, readerOk}
 use Rattle.types.specs.Contract.{judged, resolution, left, content, Resolves}
 use Rattle.types.proofs.Judging.{reader-judged}
@@ -87,7 +87,8 @@ module _ (s c c′ : List ℕ) (used : ℕ) where
   known-as : {end : ℕ} (g : Got end) (r : Typed) → readerOf (g .n) ≡ r → Ok (λ t. codes true (headings (g .n)) ≡ code t) r → isKnown r ≡ true → Resolves s c c′ used (Target end)
   unfolding resolution content judged left isKnown
   known-as g unknown q o e = differ cc
-  known-as {end} g (known t) q (Ok.some p) e =
+  known-as {end} g (known t) q o e =
+      let p = o .got refl in
       let l : end ≡ used + length (code t) = omega (arith, g .ends, codes-length true (headings (g .n)), ap length p) in
       record { answers = rw (g .room, g .is, q, l); writes = g .writes ∙ rw (g .room, g .is, q, p) }
 

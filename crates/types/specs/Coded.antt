@@ -1,6 +1,6 @@
 -- The heads' codes of a name that has a target are that target's codes. Assumes nothing.
 use mathlib.Core.Path.{_≡_, refl, ap}
-use mathlib.Core.Bool.{Bool, true, false, not, _&&_, cond}
+use mathlib.Core.Bool.{true, false, not, _&&_}
 use mathlib.Core.List.{List, [], _∷_, _++_}
 use mathlib.Core.Logic.{_⊎_, inl, inr}
 use Prim.Native.Nat.{ℕ, _+_, _*_}
@@ -8,6 +8,8 @@ use native.Mathlib.Omega.{arith}
 use lib.Dec.{eqb}
 use borrow.Author.Tests.{eqb-true}
 use Rattle.laws.specs.Small.{differ}
+use Rattle.laws.specs.Ok as law
+use Rattle.laws.specs.Ok.{ok-pick}
 use Rattle.layout.specs.Target.{Target, fixed, char, string, object, texture, texture2D, spriteFont, page, enum, nullable, array, list, dictionary, kindOf, isValue}
 use Rattle.layout.specs.Name.{Name, simple, one, two}
 use Rattle.layout.specs.Kind.{lookup, targets, readers}
@@ -17,25 +19,19 @@ use Rattle.names.specs.Codes.{codes-append}
 use Rattle.names.specs.Heading.{headings}
 use Rattle.names.specs.Kind.{codes, listed, node}
 
--- what holds of a target that is known
-pub data Ok (P : Target → Type 0) : Typed → Type 0 where
-  none : Ok P unknown
-  some : {t : Target} → P t → Ok P (known t)
+-- what holds of a target that is known; nothing stands beside it in the answer
+abbrev pub Ok : (Target → Type 0) → Typed → Type 0
+Ok P r = law.Ok (λ t (_ : Unit {0}). known t) (λ t _. P t) r
 
-module _ {P : Target → Type 0} where
-  pub ok-pick : (b : Bool) {x y : Typed} → (b ≡ true → Ok P x) → Ok P y → Ok P (cond b x y)
-  ok-pick true f g = f refl
-  ok-pick false f g = g
+pub none : {P : Target → Type 0} → Ok P unknown
+none = record { got = λ q. differ cc }
 
-  pub got : {r : Typed} {t : Target} → Ok P r → r ≡ known t → P t
-  got Ok.none e = differ cc
-  got {t} (Ok.some {t = u} p) e =
-      let a : u ≡ t = cc in
-      rw a at p
+pub some : {P : Target → Type 0} {t : Target} → P t → Ok P (known t)
+some {t = t} p = record { got = λ {a} q. let i : t ≡ a = cc in rw i at p }
 
 pub any-type : (r : Typed) → Ok (λ _. Unit {0}) r
-any-type unknown = Ok.none
-any-type (known t) = Ok.some tt
+any-type unknown = none
+any-type (known t) = some tt
 
 -- by the kinds that take no argument
 module _ {P : Target → Type 0} (k : ℕ) where
@@ -43,29 +39,30 @@ module _ {P : Target → Type 0} (k : ℕ) where
       → (k ≡ 33 → P spriteFont) → (k ≡ 34 → P page) → Ok P (plain k)
   unfolding plain
   ok-plain f c s o t u w p =
-      ok-pick (fixedKind k) (λ b. Ok.some (f b)) (ok-pick (eqb k 12) (λ b. Ok.some (c (eqb-true k 12 b))) (ok-pick (eqb k 13) (λ b. Ok.some (s (eqb-true k 13 b)))
-      (ok-pick (eqb k 14) (λ b. Ok.some (o (eqb-true k 14 b))) (ok-pick (eqb k 31) (λ b. Ok.some (t (eqb-true k 31 b))) (ok-pick (eqb k 32) (λ b. Ok.some (u (eqb-true k 32 b)))
-      (ok-pick (eqb k 33) (λ b. Ok.some (w (eqb-true k 33 b))) (ok-pick (eqb k 34) (λ b. Ok.some (p (eqb-true k 34 b))) Ok.none)))))))
+      ok-pick (fixedKind k) (λ b. some (f b)) (ok-pick (eqb k 12) (λ b. some (c (eqb-true k 12 b))) (ok-pick (eqb k 13) (λ b. some (s (eqb-true k 13 b)))
+      (ok-pick (eqb k 14) (λ b. some (o (eqb-true k 14 b))) (ok-pick (eqb k 31) (λ b. some (t (eqb-true k 31 b))) (ok-pick (eqb k 32) (λ b. some (u (eqb-true k 32 b)))
+      (ok-pick (eqb k 33) (λ b. some (w (eqb-true k 33 b))) (ok-pick (eqb k 34) (λ b. some (p (eqb-true k 34 b))) none)))))))
 
 -- by the kinds that take one argument and two, where Q is known of an argument
 module _ {P Q : Target → Type 0} (k : ℕ) where
   pub ok-wrapped : {r : Typed} → Ok Q r → ((t : Target) → k ≡ 16 → Q t → P (nullable t)) → ((t : Target) → k ≡ 18 → Q t → P (list t)) → Ok P (wrapped k r)
   unfolding wrapped nullableOf
-  ok-wrapped Ok.none f g = Ok.none
-  ok-wrapped (Ok.some {t = t} p) f g =
-      ok-pick (eqb k 16) (λ b. ok-pick (isValue t && not (eqb (kindOf t) 16)) (λ _. Ok.some (f t (eqb-true k 16 b) p)) Ok.none)
-      (ok-pick (eqb k 18) (λ b. Ok.some (g t (eqb-true k 18 b) p)) Ok.none)
+  ok-wrapped {r = unknown} o f g = none
+  ok-wrapped {r = known t} o f g =
+      let p = o .got refl in
+      ok-pick (eqb k 16) (λ b. ok-pick (isValue t && not (eqb (kindOf t) 16)) (λ _. some (f t (eqb-true k 16 b) p)) none)
+      (ok-pick (eqb k 18) (λ b. some (g t (eqb-true k 18 b) p)) none)
 
   pub ok-paired : {R : Target → Type 0} {r s : Typed} → Ok Q r → Ok R s → ((t u : Target) → k ≡ 19 → Q t → R u → P (dictionary t u)) → Ok P (paired k r s)
   unfolding paired
-  ok-paired Ok.none o f = Ok.none
-  ok-paired (Ok.some p) Ok.none f = Ok.none
-  ok-paired (Ok.some {t = t} p) (Ok.some {t = u} q) f = ok-pick (eqb k 19) (λ b. Ok.some (f t u (eqb-true k 19 b) p q)) Ok.none
+  ok-paired {r = unknown} o p f = none
+  ok-paired {r = known t} {s = unknown} o p f = none
+  ok-paired {r = known t} {s = known u} o p f = ok-pick (eqb k 19) (λ b. some (f t u (eqb-true k 19 b) (o .got refl) (p .got refl))) none
 
 pub ok-array : {P Q : Target → Type 0} {r : Typed} → Ok Q r → ((t : Target) → Q t → P (array t)) → Ok P (arrayOf r)
 unfolding arrayOf
-ok-array Ok.none f = Ok.none
-ok-array (Ok.some {t = t} p) f = Ok.some (f t p)
+ok-array {r = unknown} o f = none
+ok-array {r = known t} o f = some (f t (o .got refl))
 
 -- a head with no argument
 plain-coded : (k : ℕ) → Ok (λ t. node k 0 ∷ [] ≡ code t) (plain k)
@@ -90,9 +87,9 @@ type-coded (two h a b t) = rw (codes-append (headings a) (headings b)) (paired-c
 
 enum-coded : (n : Name) → Ok (λ t. node 15 1 ∷ codes false (headings n) ≡ code t) (enumOf n)
 unfolding enumOf headings codes listed code
-enum-coded (simple h t) = ok-pick (eqb (lookup h targets) 0) (λ b. Ok.some (rw (eqb-true (lookup h targets) 0 b))) Ok.none
-enum-coded (one h a t) = Ok.none
-enum-coded (two h a b t) = Ok.none
+enum-coded (simple h t) = ok-pick (eqb (lookup h targets) 0) (λ b. some (rw (eqb-true (lookup h targets) 0 b))) none
+enum-coded (one h a t) = none
+enum-coded (two h a b t) = none
 
 -- the target of a reader
 pub reader-coded : (n : Name) → Ok (λ t. codes true (headings n) ≡ code t) (readerOf n)
@@ -121,9 +118,9 @@ module _ {P : ℕ → Type 0} (E : Type 0) (f : (k : ℕ) → fixedKind k ≡ tr
   -- a reader's target keeps it too, unless it is an enum
   enum-is : (n : Name) → Ok (λ t. Throughout P E t ⊎ ((name : List ℕ) × (t ≡ enum name))) (enumOf n)
   unfolding enumOf
-  enum-is (simple h t) = ok-pick (eqb (lookup h targets) 0) (λ _. Ok.some {t = enum h} (inr (h, refl))) Ok.none
-  enum-is (one h a t) = Ok.none
-  enum-is (two h a b t) = Ok.none
+  enum-is (simple h t) = ok-pick (eqb (lookup h targets) 0) (λ _. some {t = enum h} (inr (h, refl))) none
+  enum-is (one h a t) = none
+  enum-is (two h a b t) = none
 
   plain-is : (k : ℕ) → Ok (λ t. Throughout P E t ⊎ ((name : List ℕ) × (t ≡ enum name))) (plain k)
   unfolding Throughout

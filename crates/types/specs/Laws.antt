@@ -10,6 +10,7 @@ use lib.ListN.{length, take, drop, getD, set}
 use lib.Seq.{drop-drop, drop-append-seam, getD-drop, drop-set-add, length-take-le, sets, sets-eq}
 use borrow.Author.Tests.{eqb-true, eq-eqb, ltb-true}
 use Rattle.laws.specs.Small.{differ, both}
+use Rattle.laws.specs.Ok.{ok-pick}
 use Rattle.layout.specs.Target.{Target, fixed, char, string, object, texture, texture2D, spriteFont, page, enum, nullable, array, list, dictionary, kindOf, isValue, Serves, same, any, picture}
 use Rattle.layout.specs.Fixed.{sizes}
 use Rattle.layout.specs.Name.{Name, simple, one, two}
@@ -22,7 +23,7 @@ use Rattle.names.specs.Sound.{starts-is}
 use Rattle.types.specs.Finite.{allBelow, below-is}
 use Rattle.types.specs.Code.{code, Throughout, Lawful, NoEnum, Stands}
 use Rattle.types.specs.Place.{kindAt, valueKind, extent, placeAfter, equalAt, fitsAt}
-use Rattle.types.specs.Coded.{Ok, none, some, got, any-type, ok-pick, ok-plain, ok-wrapped, ok-paired, ok-array, type-keeps, reader-keeps}
+use Rattle.types.specs.Coded.{Ok, none, some, any-type, ok-plain, ok-wrapped, ok-paired, ok-array, type-keeps, reader-keeps}
 use Rattle.types.specs.Decode.{fixed-small, unique}
 use Rattle.types.specs.Extent.{code-extent, code-agree, code-kind}
 
@@ -192,32 +193,33 @@ paired-kind k r s = ok-paired k (any-type r) (any-type s) (λ t u e _ _. sym e)
 
 enum-kind : (n : Name) → Ok (λ t. kindOf t ≡ 15) (enumOf n)
 unfolding enumOf kindOf
-enum-kind (simple h t) = ok-pick (eqb (lookup h targets) 0) (λ _. Ok.some {t = enum h} refl) Ok.none
-enum-kind (one h a t) = Ok.none
-enum-kind (two h a b t) = Ok.none
+enum-kind (simple h t) = ok-pick (eqb (lookup h targets) 0) (λ _. some {t = enum h} refl) none
+enum-kind (one h a t) = none
+enum-kind (two h a b t) = none
 
 -- a target has the kind that its name's head names
 pub argument-kind : (n : Name) (t : Target) → typeOf n ≡ known t → kindOf t ≡ lookup (headOf n) targets
 unfolding headOf typeOf
-argument-kind (simple h tail) t e = got (plain-kind (lookup h targets)) e
-argument-kind (one h a tail) t e = got (wrapped-kind (lookup h targets) (typeOf a)) e
-argument-kind (two h a b tail) t e = got (paired-kind (lookup h targets) (typeOf a) (typeOf b)) e
+argument-kind (simple h tail) t e = plain-kind (lookup h targets) .got e
+argument-kind (one h a tail) t e = wrapped-kind (lookup h targets) (typeOf a) .got e
+argument-kind (two h a b tail) t e = paired-kind (lookup h targets) (typeOf a) (typeOf b) .got e
 
 pub reader-kind : (n : Name) (t : Target) → readerOf n ≡ known t → kindOf t ≡ lookup (headOf n) readers
 unfolding headOf readerOf kindOf
-reader-kind (simple h tail) t e = got (plain-kind (lookup h readers)) e
+reader-kind (simple h tail) t e = plain-kind (lookup h readers) .got e
 reader-kind (one h a tail) t e =
     let k = lookup h readers in
-    got {P = λ t. kindOf t ≡ k}
-    (ok-pick (eqb k 15) (λ b. rw (eqb-true k 15 b) (enum-kind a)) (ok-pick (eqb k 17) (λ b. ok-array (any-type (typeOf a)) (λ t _. sym (eqb-true k 17 b))) (wrapped-kind k (typeOf a)))) e
-reader-kind (two h a b tail) t e = got (paired-kind (lookup h readers) (typeOf a) (typeOf b)) e
+    let o : Ok (λ t. kindOf t ≡ k) (readerOf (one h a tail))
+    = ok-pick (eqb k 15) (λ b. rw (eqb-true k 15 b) (enum-kind a)) (ok-pick (eqb k 17) (λ b. ok-array (any-type (typeOf a)) (λ t _. sym (eqb-true k 17 b))) (wrapped-kind k (typeOf a))) in
+    o .got e
+reader-kind (two h a b tail) t e = paired-kind (lookup h readers) (typeOf a) (typeOf b) .got e
 
 -- a declared type has no enum in it: an argument's type has none, and a reader's target has none unless it is one
 pub argument-has-no-enum : (n : Name) (t : Target) → typeOf n ≡ known t → NoEnum t
-argument-has-no-enum n t e = got (type-keeps ⊥ (λ k _. tt) n) e
+argument-has-no-enum n t e = type-keeps ⊥ (λ k _. tt) n .got e
 
 pub reader-has-no-enum : (n : Name) (t : Target) → readerOf n ≡ known t → NoEnum t ⊎ ((name : List ℕ) × (t ≡ enum name))
-reader-has-no-enum n t e = got (reader-keeps ⊥ (λ k _. tt) n) e
+reader-has-no-enum n t e = reader-keeps ⊥ (λ k _. tt) n .got e
 
 lawful-as : (t : Target) → Lawful t ⊎ ((name : List ℕ) × (t ≡ enum name)) → Lawful t
 unfolding Throughout
@@ -225,7 +227,7 @@ lawful-as t (inl w) = w
 lawful-as t (inr w) = rw (w .1) tt
 
 pub reader-is-lawful : (n : Name) (t : Target) → readerOf n ≡ known t → Lawful t
-reader-is-lawful n t e = lawful-as t (got (reader-keeps (Unit {0}) (λ k h. h) n) e)
+reader-is-lawful n t e = lawful-as t (reader-keeps (Unit {0}) (λ k h. h) n .got e)
 
 -- the codes of a target that are written at a place stand there
 pub written-stands : (c : List ℕ) (place : ℕ) (t : Target) → Lawful t → place + length (code t) ≤ length c → Stands (sets c place (code t)) place t

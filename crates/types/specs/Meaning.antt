@@ -17,7 +17,7 @@ use Rattle.names.specs.Codes.{read-has-room, codes-length}
 use Rattle.names.specs.Contract.{coded, refused, no-room, roomy}
 use Rattle.types.specs.declared.Resolved.{Resolved}
 use Rattle.types.specs.Code.{code, Stands}
-use Rattle.types.specs.Coded.{got, reader-coded}
+use Rattle.types.specs.Coded.{reader-coded}
 use Rattle.types.specs.Laws.{reader-is-lawful, written-stands}
 use Rattle.types.specs.Contract.{told, judged, resolution, left, content, Resolves}
 use Rattle.names.specs.Heading.{headings}
@@ -41,7 +41,7 @@ module _ (s c c′ : List ℕ) (used : ℕ) where
   known-as end n j q i (known t) e a w =
       let g = read-is-text s n j i in
       let z : end ≡ used + length (code t) = cc in
-      let l : length (headings n) ≡ length (code t) = sym (codes-length true (headings n)) ∙ ap length (got (reader-coded n) e) in
+      let l : length (headings n) ≡ length (code t) = sym (codes-length true (headings n)) ∙ ap length (reader-coded n .got e) in
       let h : used + length (code t) ≤ length c = omega (arith, leb-true (used + length s) (length c) q, read-has-room s n j i) in
       record {
         n = n;

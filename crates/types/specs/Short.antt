@@ -8,6 +8,7 @@ use lib.Dec.{eqb, leb}
 use lib.ListN.{length, length-append}
 use borrow.Author.Tests.{leb-true, eqb-true}
 use Rattle.laws.specs.Small.{differ, both}
+use Rattle.laws.specs.Ok.{ok-pick, ok-weaken}
 use Rattle.layout.specs.Text.{ascii}
 use Rattle.layout.specs.Target.{Target}
 use Rattle.layout.specs.Name.{Name, simple, one, two, text}
@@ -16,7 +17,7 @@ use Rattle.layout.specs.Kind.{Entry, entry, alike, lookup, reader, readers, tar
 use Rattle.layout.specs.Named.{Typed, known, fixedKind, plain, wrapped, paired, typeOf, enumOf, readerOf}
 use Rattle.names.specs.Complete.{long, length-write}
 use Rattle.types.specs.Code.{code}
-use Rattle.types.specs.Coded.{Ok, none, some, ok-pick, got, ok-plain, ok-wrapped, ok-paired, ok-array, reader-coded}
+use Rattle.types.specs.Coded.{Ok, none, some, ok-plain, ok-wrapped, ok-paired, ok-array, reader-coded}
 use Rattle.names.specs.Codes.{codes-length, alike-then}
 use Rattle.names.specs.Heading.{headings}
 use Rattle.names.specs.Kind.{codes}
@@ -71,20 +72,16 @@ type-short (two h a b t) = paired-some (lookup h targets) (type-short a) (type-s
 
 enum-short : (n : Name) → Ok (λ _. length (headings n) ≡ 1) (enumOf n)
 unfolding enumOf headings
-enum-short (simple h t) = ok-pick (eqb (lookup h targets) 0) (λ _. Ok.some refl) Ok.none
-enum-short (one h a t) = Ok.none
-enum-short (two h a b t) = Ok.none
-
-ok-weaken : {P Q : Target → Type 0} {r : Typed} → Ok P r → ((t : Target) → P t → Q t) → Ok Q r
-ok-weaken Ok.none f = Ok.none
-ok-weaken (Ok.some {t = t} p) f = Ok.some (f t p)
+enum-short (simple h t) = ok-pick (eqb (lookup h targets) 0) (λ _. some refl) none
+enum-short (one h a t) = none
+enum-short (two h a b t) = none
 
 reader-short : (n : Name) → Ok (λ _. Short n) (readerOf n)
 unfolding readerOf headings long
 reader-short (simple h t) = plain-some (lookup h readers) (λ z. omega (arith, reader-long h z))
 reader-short (one h a t) =
     let k = lookup h readers in
-    ok-pick (eqb k 15) (λ b. ok-weaken (enum-short a) (λ t e. omega (arith, reader-long h (λ z. omega (arith, eqb-true k 15 b)))))
+    ok-pick (eqb k 15) (λ b. ok-weaken (enum-short a) (λ t _ e. omega (arith, reader-long h (λ z. omega (arith, eqb-true k 15 b)))))
     (ok-pick (eqb k 17) (λ b. ok-array (type-short a) (λ t p. omega (arith, reader-long h (λ z. omega (arith, eqb-true k 17 b)))))
     (wrapped-some k (type-short a) (λ z p. omega (arith, reader-long h z))))
 reader-short (two h a b t) = paired-some (lookup h readers) (type-short a) (type-short b) (λ z p q. omega (arith, reader-long h z, length-append (headings a) (headings b)))
@@ -92,5 +89,5 @@ reader-short (two h a b t) = paired-some (lookup h readers) (type-short a) (type
 -- a reader's name has at least 11 bytes for each code of its target
 pub codes-are-few : (n : Name) (t : Target) → readerOf n ≡ known t → 11 * length (code t) ≤ length (text n)
 codes-are-few n t e =
-    let q : codes true (headings n) ≡ code t = got (reader-coded n) e in
-    omega (arith, got (reader-short n) e, codes-length true (headings n), ap length q, length-write n [])
+    let q : codes true (headings n) ≡ code t = reader-coded n .got e in
+    omega (arith, reader-short n .got e, codes-length true (headings n), ap length q, length-write n [])
