@@ -22,28 +22,32 @@ pub fn first(s: &[u8], start: usize) -> Step
     step_at(s, start, 0, 0, Step::HandsOn(0))
 }
 
-// Step 2: the second byte joins its low seven bits above the 7 read, ends the number if it is below 80 hex, else hands on, and refuses with 1 if the file ends before it.
+// Step 2: the second byte joins its low seven bits above the 7 read,
+// ends the number if it is below 80 hex, else hands on, and refuses with 1 if the file ends before it.
 pub fn second(s: &[u8], start: usize, so_far: Step) -> Step
     ensures { λ r. ⌜ r ≡ step 1 (now (s .entry)) start «so_far» ⌝ }
 {
     step_at(s, start, 1, 7, so_far)
 }
 
-// Step 3: the third byte joins its low seven bits above the 14 read, ends the number if it is below 80 hex, else hands on, and refuses with 1 if the file ends before it.
+// Step 3: the third byte joins its low seven bits above the 14 read,
+// ends the number if it is below 80 hex, else hands on, and refuses with 1 if the file ends before it.
 pub fn third(s: &[u8], start: usize, so_far: Step) -> Step
     ensures { λ r. ⌜ r ≡ step 2 (now (s .entry)) start «so_far» ⌝ }
 {
     step_at(s, start, 2, 14, so_far)
 }
 
-// Step 4: the fourth byte joins its low seven bits above the 21 read, ends the number if it is below 80 hex, else hands on, and refuses with 1 if the file ends before it.
+// Step 4: the fourth byte joins its low seven bits above the 21 read,
+// ends the number if it is below 80 hex, else hands on, and refuses with 1 if the file ends before it.
 pub fn fourth(s: &[u8], start: usize, so_far: Step) -> Step
     ensures { λ r. ⌜ r ≡ step 3 (now (s .entry)) start «so_far» ⌝ }
 {
     step_at(s, start, 3, 21, so_far)
 }
 
-// Step 5: the fifth byte joins its bits above the 28 read and ends the number, as no sixth may follow; it refuses with 8 if it is above 0F hex, and with 1 if the file ends before it.
+// Step 5: the fifth byte joins its bits above the 28 read and ends the number, as no sixth may follow;
+// it refuses with 8 if it is above 0F hex, and with 1 if the file ends before it.
 pub fn fifth(s: &[u8], start: usize, so_far: Step) -> Number
     ensures { λ r. ⌜ told r ≡ lastStep (now (s .entry)) start «so_far» ⌝ }
 {

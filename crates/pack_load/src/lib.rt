@@ -5,7 +5,8 @@ ghost use mathlib.Core.Path.{_≡_};
 ghost use lib.ListN.{length};
 ghost use Rattle.pack_load.specs.Opened.{openedOf, rowsOf};
 
-// Nothing of that path; or a refusal's number and place, counted from the start of the file's data; or the number of rows used, the number of readers and the shared count.
+// Nothing of that path; or a refusal's number and place, counted from the start of the file's data;
+// or the number of rows used, the number of readers and the shared count.
 pub enum Opened {
     Absent,
     Refused {
