@@ -1,15 +1,20 @@
 -- One more zero of a fill, one more byte of a copy, and ranges that end inside. Assumes nothing.
-use mathlib.Core.Path.{_≡_, refl, sym, subst}
+use mathlib.Core.Path.{_≡_, refl, sym, ap, subst}
 use mathlib.Core.Bool.{Bool, true, false, _&&_, and-eq-true-iff}
-use mathlib.Core.List.{List, append-nil}
-use Prim.Native.Nat.{ℕ, suc, _+_, _-_, _≤_, _<_}
+use mathlib.Core.List.{List, _∷_, append-nil}
+use Prim.Native.Nat.{ℕ, zero, suc, _+_, _-_, _≤_, _<_}
 use native.Mathlib.Numerals.{add-one}
 use native.Mathlib.Omega.{arith}
 use lib.Dec.{leb}
-use lib.ListN.{length, drop, getD, set, replicate, length-replicate, getD-replicate, length-drop, drop-of-length-le}
+use lib.ListN.{length, take, drop, getD, set, replicate, length-replicate, getD-replicate, length-drop, drop-of-length-le}
 use lib.Seq.{paste, paste-zero, paste-suc, getD-drop, take-all}
 use borrow.Author.Tests.{leb-true, le-leb}
-use Rattle.fill.specs.Fill.{cleared, pasted, inside, copied}
+use Rattle.fill.specs.Fill.{cleared, wiped, pasted, inside, copied}
+
+take-replicate : (n m : ℕ) → n ≤ m → take n (replicate {A = ℕ} m 0) ≡ replicate n 0
+take-replicate zero m h = refl
+take-replicate (suc n) zero h = absurd (omega arith)
+take-replicate (suc n) (suc m) h = ap (λ (l : List ℕ). 0 ∷ l) (take-replicate n m (omega arith))
 
 module _ (d : List ℕ) (k : ℕ) where
   -- d with zeros from k up to i
@@ -34,6 +39,11 @@ module _ (d : List ℕ) (k : ℕ) where
   zeroed-all i low h =
       let z : List ℕ = replicate (length d - k) 0 in
       rw (take-all (i - k) z (omega (arith, length-replicate {A = ℕ} (length d - k) 0)), drop-of-length-le d {i = k + (i - k)} (omega arith)) (append-nil _)
+
+  -- zeros up to an index that is not behind the end
+  pub zeroed-range : (i to : ℕ) → to ≤ length d → i - k ≡ to - k → zeroed i ≡ wiped d k to
+  unfolding wiped
+  zeroed-range i to h e = rw (e, take-replicate (to - k) (length d - k) (omega arith)) refl
 
 pub pasted-more : (d : List ℕ) (to : ℕ) (src : List ℕ) (from i n : ℕ) → to + n ≤ length d → from + n ≤ length src → i < n
     → set (pasted d to src from i) (to + i) (getD src (from + i) 0) ≡ pasted d to src from (i + 1)

@@ -9,6 +9,10 @@ use lib.ListN.{length, take, drop, replicate}
 unfoldable pub cleared : List ℕ → ℕ → List ℕ
 cleared l from = take from l ++ replicate (length l - from) 0
 
+-- zeros from an index to before another
+unfoldable pub wiped : List ℕ → (from to : ℕ) → List ℕ
+wiped l from to = take from l ++ replicate (to - from) 0 ++ drop (from + (to - from)) l
+
 -- n bytes of src from an index on, put into out from an index on
 unfoldable pub pasted : (out : List ℕ) (to : ℕ) (src : List ℕ) (from n : ℕ) → List ℕ
 pasted out to src from n = take to out ++ take n (drop from src) ++ drop (to + n) out

@@ -1,8 +1,8 @@
 // Zeros into a lent table, and bytes of one slice into another.
 ghost use mathlib.Core.Path.{_≡_};
-ghost use Prim.Native.Nat.{_+_, _≤_};
+ghost use Prim.Native.Nat.{_+_, _≤_, min};
 ghost use lib.ListN.{length};
-ghost use Rattle.fill.specs.Fill.{cleared, pasted, inside, copied};
+ghost use Rattle.fill.specs.Fill.{cleared, wiped, pasted, inside, copied};
 
 // Zeros from index `from` on; what stands before it is kept.
 pub fn clear(out: &mut [u32], from: usize)
@@ -15,7 +15,29 @@ pub fn clear(out: &mut [u32], from: usize)
     }
 }
 
-// The same for 64-bit words.
+// The smaller of two numbers.
+fn least(a: usize, b: usize) -> usize
+    ensures { λ r. ⌜ r ≡ min a b ⌝ }
+{
+    if a < b {
+        return a;
+    }
+    b
+}
+
+// Zeros from index `from` to before index `to`; what stands before and behind is kept.
+pub fn clear_range(out: &mut [u32], from: usize, to: usize)
+    ensures { λ _. ⌜ now (out .exit) ≡ wiped (now (out .entry)) from (min to (length (now (out .entry)))) ⌝ }
+{
+    let end = least(to, out.len());
+    let mut i = from;
+    while i < end {
+        out[i] = 0;
+        i += 1;
+    }
+}
+
+// The same as `clear` for 64-bit words.
 pub fn clear64(out: &mut [u64], from: usize)
     ensures { λ _. ⌜ now (out .exit) ≡ cleared (now (out .entry)) from ⌝ }
 {

@@ -1,6 +1,5 @@
 -- What the contracts of loading state. Assumes nothing.
 use mathlib.Core.Path.{_≡_}
-use mathlib.Core.Bool.{false}
 use mathlib.Core.List.{List}
 use Prim.Native.Nat.{ℕ}
 use lib.ListN.{length}
@@ -61,18 +60,18 @@ NestWalks g file codes rd shared nest at used depth entry exit r =
 -- a file whose rows stand in the words as drafts is loaded as far as its end says
 abbrev pub Finishes : Grid → (file : List ℕ) (readers shared next used : ℕ) → (entry exit : List ℕ) → Loading → Type 0
 Finishes g file readers shared next used entry exit r =
-    g .columns ≡ false → (platform flags : ℕ) (names : List (List ℕ)) (a : Taken) (w : List ℕ) → Drafted g entry used (a .1) w → Loads (finished file platform flags names readers shared a next) entry exit r
+    (platform flags : ℕ) (names : List (List ℕ)) (a : Taken) (w : List ℕ) → Drafted g entry used (a .1) w → Loads g (finished file platform flags names readers shared a next) entry exit r
 
 -- the objects of a file with this reader list are loaded
 abbrev pub ObjectsLoad : Grid → (file codes : List ℕ) → Readers → (shared at : ℕ) → (entry exit : List ℕ) → Loading → Type 0
 ObjectsLoad g file codes rd shared at entry exit r =
-    g .columns ≡ false → (platform flags : ℕ) (names : List (List ℕ)) (readers : List Target) → Listed codes rd readers
-    → Loads (bind (objectsAt file (g .room) readers shared at) (λ a e. finished file platform flags names (length readers) shared a e)) entry exit r
+    (platform flags : ℕ) (names : List (List ℕ)) (readers : List Target) → Listed codes rd readers
+    → Loads g (bind (objectsAt file (g .room) readers shared at) (λ a e. finished file platform flags names (length readers) shared a e)) entry exit r
 
 -- what stands behind the header is loaded
 abbrev pub ListsLoad : Grid → (file : List ℕ) (at : ℕ) → (entry exit : List ℕ) → Loading → Type 0
-ListsLoad g file at entry exit r = g .columns ≡ false → (platform flags : ℕ) → Loads (behindHeader file (g .room) platform flags at) entry exit r
+ListsLoad g file at entry exit r = (platform flags : ℕ) → Loads g (behindHeader file (g .room) platform flags at) entry exit r
 
 -- the file is loaded
 abbrev pub FileLoads : Grid → (file entry exit : List ℕ) → Loading → Type 0
-FileLoads g file entry exit r = g .columns ≡ false → Loads (fileAt judgedName file (g .room)) entry exit r
+FileLoads g file entry exit r = Loads g (fileAt judgedName file (g .room)) entry exit r

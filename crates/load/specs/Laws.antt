@@ -1,7 +1,7 @@
 -- Laws of loading: each step of the code against what loading answers. Assumes nothing.
 use mathlib.Core.Path.{_≡_, refl, sym, ap, subst, _∙_}
-use mathlib.Core.Bool.{false}
-use mathlib.Core.List.{List, [], _∷_, _++_}
+use mathlib.Core.Bool.{Bool, true, false}
+use mathlib.Core.List.{List, [], _∷_, _++_, map}
 use Prim.Native.Nat.{ℕ, _+_, _*_, _-_, _≤_}
 use native.Mathlib.Omega.{arith}
 use native.Mathlib.Numerals.{add-one}
@@ -11,7 +11,7 @@ use Rattle.laws.specs.Small.{differ}
 use Rattle.layout.specs.Target.{Target, object as anything}
 use Rattle.layout.specs.Slot as L
 use Rattle.layout.specs.Slot.{each, object}
-use Rattle.layout.specs.Rows.{Row, flat, width}
+use Rattle.layout.specs.Rows.{Row, words, flat, width}
 use Rattle.layout.specs.File.{objectsPlan, header}
 use Rattle.layout.specs.Text.{ascii}
 use Rattle.layout.specs.Number.{little}
@@ -20,7 +20,7 @@ use Rattle.reading.specs.Answer.{Answer, refused, read, bind, check}
 use Rattle.reading.specs.Reads.{Small, reads-bounds}
 use Rattle.reading.specs.References.{length-flat}
 use Rattle.reading.specs.Walk.{Taken, sequence, walk}
-use Rattle.reading.specs.Grid.{cell}
+use Rattle.reading.specs.Grid.{shapeOf, cell, writtenRows}
 use Rattle.reading.specs.Drafts.{bare, length-bare}
 use Rattle.reading.specs.File.{Loaded as FileLoaded, rootKinds, headerAt, listsAt, objectsAt, finished, fileAt, toLoad, loadOf, tableOf, roomOf}
 use Rattle.reading.specs.Front.{header-sound, lists-reads}
@@ -38,7 +38,11 @@ use Rattle.heads.specs.Nests.{Prelude, prelude, NestIs, begins, object-at}
 use Rattle.resources.specs.declared.Settled.{Settled}
 use Rattle.resources.specs.declared.Settled.the-variants.{Fine, Wrong}
 use Rattle.resources.specs.Settled.{settledOf, settled as rows-settled, answered, judged-is, Drafted}
-use Rattle.resources.specs.Flat.{settled-flat}
+use Rattle.resources.specs.Flat.{rows-flat}
+use Rattle.table.specs.Cleared.{clearedBehind, behind-columns, behind-rows}
+use Rattle.columns.specs.Columns.{columnsTableOf, rowsIn, tableIn}
+use Rattle.columns.specs.Stored.{settled-columns}
+use Rattle.words.specs.Grids.{gridOf}
 use Rattle.resources.specs.Objects.{objects-drafted}
 use Rattle.load.specs.declared.Loading.{Loading}
 use Rattle.load.specs.declared.Loading.the-variants.{Refused, Loaded}
@@ -76,29 +80,40 @@ module _ (file : List ℕ) (platform flags : ℕ) (names : List (List ℕ)) (rea
         take-left [] y = refl
         take-left (b ∷ x) y = ap (λ (l : List ℕ). b ∷ l) (take-left x y)
 
-    -- all is well: the rows, and zeros behind them
-    pub all-well : {g : Grid} {used : ℕ} {entry mid exit w : List ℕ} → g .columns ≡ false → Drafted g entry used (a .1) w → Fine ≡ settledOf (drop 1 (rootKinds (a .1))) (a .1) → mid ≡ rows-settled g w (a .1) → exit ≡ cleared mid (cellOf g used 0)
-        → Loads (finished file platform flags names readers shared a next) entry exit (Loaded used readers shared)
+    -- by rows
+    rows-left : (g : Grid) (w : List ℕ) (rows : List Row) → g .columns ≡ false → length rows ≤ g .room → width * g .room ≤ length w
+        → clearedBehind g (writtenRows (shapeOf (g .columns)) (g .room) w 0 (map words rows)) (length rows) ≡ flat rows ++ replicate (length w - width * length rows) 0
     unfolding cell
-    all-well {g} {used} {entry} {mid} {exit} {w} by d s m c =
+    rows-left g w rows by fits long =
+        let x : width * length rows ≤ length w = omega arith in
+        let k : length (drop (width * length rows) w) ≡ length w - width * length rows = length-drop (width * length rows) w in
+        let y : cellOf g (length rows) 0 ≡ width * length rows = rw by (omega arith) in
+        behind-rows g _ (length rows) by ∙ rw (y, by, rows-flat (g .room) w rows x, ← k) (cleared-rows rows (drop (width * length rows) w))
+
+    -- in either shape
+    rows-left-in : (g : Grid) (w : List ℕ) (rows : List Row) → length rows ≤ g .room → width * g .room ≤ length w → (b : Bool) → g .columns ≡ b
+        → clearedBehind g (writtenRows (shapeOf (g .columns)) (g .room) w 0 (map words rows)) (length rows) ≡ rowsIn b (g .room) rows (length w)
+    rows-left-in g w rows fits long false e = rows-left g w rows e fits long
+    rows-left-in g w rows fits long true e = behind-columns g _ (length rows) e ∙ settled-columns g w rows e fits long
+
+    -- all is well: the rows, and zeros elsewhere
+    pub all-well : {g : Grid} {used : ℕ} {entry mid exit w : List ℕ} → Drafted g entry used (a .1) w → Fine ≡ settledOf (drop 1 (rootKinds (a .1))) (a .1) → mid ≡ rows-settled g w (a .1)
+        → exit ≡ clearedBehind g mid used → Loads g (finished file platform flags names readers shared a next) entry exit (Loaded used readers shared)
+    unfolding rows-settled
+    all-well {g} {used} {entry} {mid} {exit} {w} d s m c =
         let n : used ≡ length (a .1) = d .count in
         let b : length (bare (a .1)) ≡ length (a .1) = length-bare (a .1) in
-        let x : width * length (a .1) ≤ length w = omega (arith, d .fits, d .long) in
-        let k : length (drop (width * length (a .1)) w) ≡ length w - width * length (a .1) = length-drop (width * length (a .1)) w in
         let e : length entry ≡ length w = ap length (d .stand) ∙ length-written g w 0 (a .1) in
-        let l : length entry - width * length (a .1) ≡ length (drop (width * length (a .1)) w) = omega arith in
-        let y : cellOf g used 0 ≡ width * length (bare (a .1)) = rw by (omega arith) in
-        let z : mid ≡ flat (bare (a .1)) ++ drop (width * length (a .1)) w = m ∙ settled-flat g w (a .1) by x in
-        rw (settled Fine (sym s), l) (rw n refl, c ∙ rw (z, y) (cleared-rows (bare (a .1)) (drop (width * length (a .1)) w)))
+        rw (settled Fine (sym s), e) (rw n refl, c ∙ rw (m, n, ← b) (rows-left-in g w (bare (a .1)) (omega (arith, d .fits)) (d .long) (g .columns) refl))
 
 -- only the words' length counts
-same-size : (w w′ exit : List ℕ) (r : Loading) → length w′ ≡ length w → (x : Answer FileLoaded) → Loads x w′ exit r → Loads x w exit r
-same-size w w′ exit r l (refused n p) c = c
-same-size w w′ exit r l (read a e) c = rw (← l) c
+same-size : (g : Grid) (w w′ exit : List ℕ) (r : Loading) → length w′ ≡ length w → (x : Answer FileLoaded) → Loads g x w′ exit r → Loads g x w exit r
+same-size g w w′ exit r l (refused n p) c = c
+same-size g w w′ exit r l (read a e) c = rw (← l) c
 
 -- a refusal
-pub loads-refused : (x : Answer FileLoaded) (entry exit : List ℕ) {n p : ℕ} → x ≡ refused n p → Loads x entry exit (Refused n p)
-loads-refused x entry exit e = rw e refl
+pub loads-refused : (g : Grid) (x : Answer FileLoaded) (entry exit : List ℕ) {n p : ℕ} → x ≡ refused n p → Loads g x entry exit (Refused n p)
+loads-refused g x entry exit e = rw e refl
 
 module _ (g : Grid) (file : List ℕ) (small : Small file) (codes : List ℕ) (shared at : ℕ) (few : shared ≤ 256) where
   -- the slots of the primary and the shared objects
@@ -136,9 +151,9 @@ module _ (g : Grid) (file : List ℕ) (small : Small file) (codes : List ℕ) (s
         let d = objects-drafted g file readers shared small few w at (y .taken) (reached .next) q long in
         record { taken = y .taken; is = q; drafted = subst (λ x. Drafted g x (reached .used) (y .taken .1) w) (sym (y .words)) (subst (λ m. Drafted g (written g w 0 (y .taken .1)) m (y .taken .1) w) (y .rows-used) d) }
 
-    pub objects-loaded : (w w′ exit : List ℕ) {next used : ℕ} (r : Loading) (o : Rooted w w′ next used) → length w′ ≡ length w → Loads (finished file platform flags names (length readers) shared (o .taken) next) w′ exit r → Loads whole w exit r
+    pub objects-loaded : (w w′ exit : List ℕ) {next used : ℕ} (r : Loading) (o : Rooted w w′ next used) → length w′ ≡ length w → Loads g (finished file platform flags names (length readers) shared (o .taken) next) w′ exit r → Loads g whole w exit r
     unfolding bind
-    objects-loaded w w′ exit {next} {used} r o l c = rw (o .is) (same-size w w′ exit r l (finished file platform flags names (length readers) shared (o .taken) next) c)
+    objects-loaded w w′ exit {next} {used} r o l c = rw (o .is) (same-size g w w′ exit r l (finished file platform flags names (length readers) shared (o .taken) next) c)
 
 -- the codes keep the types that fonts and pages declare
 pub kept-prelude : (codes : List ℕ) → take 11 codes ≡ prelude → Prelude codes
@@ -215,19 +230,24 @@ unfolding cleared
 none-kept mid n e = let z : length mid - 0 ≡ n = omega (arith, e) in rw z
 
 -- the whole: what is answered, and what the words hold at the end
-module _ (file entry : List ℕ) where
-  pub load-refused : (mid : List ℕ) {exit : List ℕ} {n p : ℕ} → Loads (fileAt judgedName file (roomOf (length entry))) entry mid (Refused n p) → length mid ≡ length entry → exit ≡ cleared mid 0
-      → (Refused n p ≡ answerOf (loadOf judgedName file (length entry))) × (exit ≡ tableOf (loadOf judgedName file (length entry)) (length entry))
-  unfolding loadOf toLoad tableOf cleared
-  load-refused mid {exit} {n} {p} l m e = go (fileAt judgedName file (roomOf (length entry))) l where
-    go : (x : Answer FileLoaded) → Loads x entry mid (Refused n p) → (Refused n p ≡ answerOf (toLoad x)) × (exit ≡ tableOf (toLoad x) (length entry))
-    go (refused a b) l = (l, e ∙ none-kept mid (length entry) m)
-    go (read a f) l = absurd (let q : Refused n p ≡ Loaded (length (a .rows)) (a .readers) (a .shared) = l .0 in differ cc)
+module _ (file entry : List ℕ) (columns : Bool) where
+  abbrev loads : (exit : List ℕ) → Loading → Type 0
+  loads exit r = Loads (gridOf (length entry) columns) (fileAt judgedName file (roomOf (length entry))) entry exit r
 
-  pub load-loaded : {exit : List ℕ} {rows readers shared : ℕ} → Loads (fileAt judgedName file (roomOf (length entry))) entry exit (Loaded rows readers shared)
-      → (Loaded rows readers shared ≡ answerOf (loadOf judgedName file (length entry))) × (exit ≡ tableOf (loadOf judgedName file (length entry)) (length entry))
-  unfolding loadOf toLoad tableOf
-  load-loaded {exit} {rows} {readers} {shared} l = go (fileAt judgedName file (roomOf (length entry))) l where
-    go : (x : Answer FileLoaded) → Loads x entry exit (Loaded rows readers shared) → (Loaded rows readers shared ≡ answerOf (toLoad x)) × (exit ≡ tableOf (toLoad x) (length entry))
-    go (refused a b) l = differ cc
-    go (read a f) l = (l .0 ∙ rw (length-bare (a .rows)), l .1 ∙ rw (length-bare (a .rows)))
+  pub load-refused : (mid : List ℕ) {exit : List ℕ} {n p : ℕ} → loads mid (Refused n p) → length mid ≡ length entry → exit ≡ cleared mid 0
+      → (Refused n p ≡ answerOf (loadOf judgedName file (length entry))) × (exit ≡ tableIn columns (loadOf judgedName file (length entry)) (length entry))
+  unfolding loadOf toLoad tableOf columnsTableOf cleared
+  load-refused mid {exit} {n} {p} l m e = go columns (fileAt judgedName file (roomOf (length entry))) l where
+    go : (b : Bool) (x : Answer FileLoaded) → Loads (gridOf (length entry) b) x entry mid (Refused n p) → (Refused n p ≡ answerOf (toLoad x)) × (exit ≡ tableIn b (toLoad x) (length entry))
+    go false (refused a b) l = (l, e ∙ none-kept mid (length entry) m)
+    go true (refused a b) l = (l, e ∙ none-kept mid (length entry) m)
+    go b (read a f) l = absurd (let q : Refused n p ≡ Loaded (length (a .rows)) (a .readers) (a .shared) = l .0 in differ cc)
+
+  pub load-loaded : {exit : List ℕ} {rows readers shared : ℕ} → loads exit (Loaded rows readers shared)
+      → (Loaded rows readers shared ≡ answerOf (loadOf judgedName file (length entry))) × (exit ≡ tableIn columns (loadOf judgedName file (length entry)) (length entry))
+  unfolding loadOf toLoad tableOf columnsTableOf
+  load-loaded {exit} {rows} {readers} {shared} l = go columns (fileAt judgedName file (roomOf (length entry))) l where
+    go : (b : Bool) (x : Answer FileLoaded) → Loads (gridOf (length entry) b) x entry exit (Loaded rows readers shared) → (Loaded rows readers shared ≡ answerOf (toLoad x)) × (exit ≡ tableIn b (toLoad x) (length entry))
+    go b (refused c d) l = differ cc
+    go false (read a f) l = (l .0 ∙ rw (length-bare (a .rows)), l .1)
+    go true (read a f) l = (l .0 ∙ rw (length-bare (a .rows)), l .1)

@@ -15,6 +15,7 @@ ghost use Prim.Native.Nat.{_*_, _≤_};
 ghost use lib.ListN.{length, take};
 ghost use Rattle.layout.specs.Rows.{width};
 ghost use Rattle.reading.specs.File.{loadOf, tableOf};
+ghost use Rattle.columns.specs.Columns.{columnsTableOf, tableIn};
 ghost use Rattle.readers.specs.Judged.{judgedName};
 ghost use Rattle.leaves.specs.Plain.{Begin};
 ghost use Rattle.heads.specs.Nests.{prelude};
@@ -149,12 +150,13 @@ fn load_rows(file: &[u8], words: &mut [u32], grid: Grid) -> Loading
     }
 }
 
-// Loads a file into the words: its rows, then zeros; only zeros after a refusal.
-pub fn load(file: &[u8], words: &mut [u32]) -> Loading
+// Loads a file into the words, by rows or in columns: its rows, and zeros elsewhere; only zeros after a refusal.
+pub fn load_in(file: &[u8], words: &mut [u32], columns: bool) -> Loading
     ensures { λ r. ⌜ r ≡ answerOf (loadOf judgedName (now (file .entry)) (length (now (words .entry)))) ⌝ }
-    ensures { λ _. ⌜ now (words .exit) ≡ tableOf (loadOf judgedName (now (file .entry)) (length (now (words .entry)))) (length (now (words .entry))) ⌝ }
+    ensures { λ _. ⌜ now (words .exit)
+        ≡ tableIn columns (loadOf judgedName (now (file .entry)) (length (now (words .entry)))) (length (now (words .entry))) ⌝ }
 {
-    let grid = words::grid(words.len());
+    let grid = words::shaped(words.len(), columns);
     match load_rows(file, words, grid) {
         Loading::Refused { number, place } => {
             fill::clear(words, 0);
@@ -170,4 +172,21 @@ pub fn load(file: &[u8], words: &mut [u32]) -> Loading
             shared,
         },
     }
+}
+
+// Loads a file into the words: its rows, then zeros; only zeros after a refusal.
+pub fn load(file: &[u8], words: &mut [u32]) -> Loading
+    ensures { λ r. ⌜ r ≡ answerOf (loadOf judgedName (now (file .entry)) (length (now (words .entry)))) ⌝ }
+    ensures { λ _. ⌜ now (words .exit) ≡ tableOf (loadOf judgedName (now (file .entry)) (length (now (words .entry)))) (length (now (words .entry))) ⌝ }
+{
+    load_in(file, words, false)
+}
+
+// Loads a file into the words in columns: all kinds, then all first bytes, and so on; only zeros after a refusal.
+pub fn load_columns(file: &[u8], words: &mut [u32]) -> Loading
+    ensures { λ r. ⌜ r ≡ answerOf (loadOf judgedName (now (file .entry)) (length (now (words .entry)))) ⌝ }
+    ensures { λ _. ⌜ now (words .exit)
+        ≡ columnsTableOf (loadOf judgedName (now (file .entry)) (length (now (words .entry)))) (length (now (words .entry))) ⌝ }
+{
+    load_in(file, words, true)
 }

@@ -1,4 +1,5 @@
 pub mod Written
+pub mod Cleared
 pub mod Contract
 pub mod Leaf
 pub mod Loop

@@ -2,11 +2,11 @@
 use answers::Number;
 use ids::Grid;
 use ids::RowNumber;
+use ids::WIDTH;
 ghost use mathlib.Core.Path.{_≡_};
 ghost use Prim.Native.Nat.{_-_};
-ghost use Rattle.fill.specs.Fill.{cleared};
-ghost use Rattle.ids.specs.Position.{cellOf};
 ghost use Rattle.table.specs.Written.{putRow};
+ghost use Rattle.table.specs.Cleared.{columnsCleared, clearedBehind};
 ghost use Rattle.table.specs.Leaf.{rowOf, valueRow, inWord, leafAnswer, leafWords};
 ghost use Rattle.answers.specs.Told.{told};
 
@@ -79,10 +79,28 @@ pub fn put_row(words: &mut [u32], grid: Grid, row: RowNumber, r: RowWords)
     put_cells(words, by_rows, row, r);
 }
 
-// Zeros behind the rows before row `used`, in a table by rows.
-pub fn clear_behind(words: &mut [u32], grid: Grid, used: RowNumber)
-    ensures { λ _. ⌜ now (words .exit) ≡ cleared (now (words .entry)) (cellOf grid (used .0) 0) ⌝ }
+// Zeros in each column from row `used` on, and behind the columns.
+fn clear_columns(words: &mut [u32], grid: Grid, used: RowNumber)
+    ensures { λ _. ⌜ now (words .exit) ≡ columnsCleared grid (now (words .entry)) (used .0) ⌝ }
 {
+    let mut j = 0;
+    while j < WIDTH {
+        let from = used.cell(grid, j);
+        let to = RowNumber(grid.room).cell(grid, j);
+        fill::clear_range(words, from, to);
+        j += 1;
+    }
+    fill::clear(words, RowNumber(0).cell(grid, WIDTH));
+}
+
+// Zeros in every word that is in no row before row `used`.
+pub fn clear_behind(words: &mut [u32], grid: Grid, used: RowNumber)
+    ensures { λ _. ⌜ now (words .exit) ≡ clearedBehind grid (now (words .entry)) (used .0) ⌝ }
+{
+    if grid.columns {
+        clear_columns(words, grid, used);
+        return;
+    }
     fill::clear(words, used.cell(grid, 0));
 }
 

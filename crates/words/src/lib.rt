@@ -1,4 +1,4 @@
-// The words of a row table that a caller lends: the word of a row, how many rows there is room for, and its shape by rows.
+// The words of a row table that a caller lends: the word of a row, how many rows there is room for, and its shape.
 use ids::Grid;
 use ids::RowNumber;
 use ids::WIDTH;
@@ -6,7 +6,7 @@ ghost use mathlib.Core.Path.{_≡_};
 ghost use lib.ListN.{getD};
 ghost use Rattle.reading.specs.File.{roomOf};
 ghost use Rattle.ids.specs.Position.{cellOf};
-ghost use Rattle.words.specs.Grids.{rowsGrid};
+ghost use Rattle.words.specs.Grids.{gridOf, rowsGrid, columnsGrid};
 
 // A word of a row, 0 where there is none.
 pub fn word_of(words: &[u32], grid: Grid, row: RowNumber, word: u32) -> u32
@@ -30,12 +30,26 @@ pub fn room(words: usize) -> u32
     rows as u32
 }
 
-// A table by rows, with the room of so many words.
-pub fn grid(words: usize) -> Grid
-    ensures { λ r. ⌜ r ≡ rowsGrid words ⌝ }
+// A table by rows or in columns, with the room of so many words.
+pub fn shaped(words: usize, columns: bool) -> Grid
+    ensures { λ r. ⌜ r ≡ gridOf words columns ⌝ }
 {
     Grid {
         room: room(words),
-        columns: false,
+        columns,
     }
+}
+
+// A table by rows.
+pub fn grid(words: usize) -> Grid
+    ensures { λ r. ⌜ r ≡ rowsGrid words ⌝ }
+{
+    shaped(words, false)
+}
+
+// A table in columns.
+pub fn columns_grid(words: usize) -> Grid
+    ensures { λ r. ⌜ r ≡ columnsGrid words ⌝ }
+{
+    shaped(words, true)
 }

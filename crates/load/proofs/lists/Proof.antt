@@ -38,22 +38,22 @@ objects-requires c κs =
 
 returns : tie.Need-returns
 returns c =
-    λ by platform flags.
+    λ platform flags.
     let a = c .before .before .before .before .before .before .before .before .before .before .before .before .args in
     let file = a .file .now in
     let l = rw (c .before .number .given .1) at (c .before .before .before .read-lists .ensures .0) in
-    loads-refused _ (a .words .now) _ (lists-refused file (a .grid .room) platform flags (a .at) (sym (short-file file (a .at) (c .before .before .before .before .before .before .before .before .before .before .before .before .pre .0)) ∙ l))
+    loads-refused _ _ (a .words .now) _ (lists-refused file (a .grid .room) platform flags (a .at) (sym (short-file file (a .at) (c .before .before .before .before .before .before .before .before .before .before .before .before .pre .0)) ∙ l))
 
 same-length : tie.Need-same-length
 same-length c = search needs
 
 returns-2 : tie.Need-returns-2
 returns-2 c =
-    λ by platform flags.
+    λ platform flags.
     let a = c .before .before .before .before .before .before .before .before .before .before .before .before .before .before .before .before .before .args in
     let file = a .file .now in
     let l = rw (c .before .before .before .before .before .before .count .given .1) at (c .before .before .before .before .before .before .before .before .read-lists .ensures .0) in
-    rw (behind-lists file (a .grid .room) platform flags (a .at) (sym (short-file file (a .at) (c .before .before .before .before .before .before .before .before .before .before .before .before .before .before .before .before .before .pre .0)) ∙ l .answer)) (c .before .before .objects .ensures by platform flags (l .names) (l .readers) (l .listed))
+    rw (behind-lists file (a .grid .room) platform flags (a .at) (sym (short-file file (a .at) (c .before .before .before .before .before .before .before .before .before .before .before .before .before .before .before .before .before .pre .0)) ∙ l .answer)) (c .before .before .objects .ensures platform flags (l .names) (l .readers) (l .listed))
 
 pub lists-spec : {M : Type 1} → statement M
 lists-spec =

@@ -22,19 +22,19 @@ lists-requires c κs =
     (h .short, h .inside, c .before .before .before .before .before .before .before .pre)
 
 returns : tie.Need-returns
-returns c = λ by.
+returns c =
     let file = c .before .before .before .before .before .before .args .file .now in
-    loads-refused _ (c .before .before .before .before .before .before .args .words .now) _ (header-refused file (c .before .before .before .before .before .before .args .grid .room) (rw (c .before .number .given .1) at (c .before .before .before .header .ensures)))
+    loads-refused _ _ (c .before .before .before .before .before .before .args .words .now) _ (header-refused file (c .before .before .before .before .before .before .args .grid .room) (rw (c .before .number .given .1) at (c .before .before .before .header .ensures)))
 
 same-length : tie.Need-same-length
 same-length c = search needs
 
 returns-2 : tie.Need-returns-2
-returns-2 c = λ by.
+returns-2 c =
     let file = c .before .before .before .before .before .before .before .before .before .before .args .file .now in
     let small = small-by-index file (λ i h. omega (arith, c .before .before .before .before .before .before .before .before .before .shared-slice-known .given i)) in
     let h = header-read file small (rw (c .before .before .before .before .before .at .given .1) at (c .before .before .before .before .before .before .before .header .ensures)) in
-    rw (file-behind file (c .before .before .before .before .before .before .before .before .before .before .args .grid .room) h) (c .before .before .lists .ensures by (h .h .0) (h .h .1))
+    rw (file-behind file (c .before .before .before .before .before .before .before .before .before .before .args .grid .room) h) (c .before .before .lists .ensures (h .h .0) (h .h .1))
 
 pub load-rows-spec : {M : Type 1} → statement M
 load-rows-spec =

@@ -29,23 +29,23 @@ same-length c = search needs
 
 returns : tie.Need-returns
 returns c =
-    λ by platform flags names readers l.
+    λ platform flags names readers l.
     let a = (c .before .before .before .before .before .before .before .before .before .before .args) in
     let small = small-by-index (a .file .now) (λ i h. omega (arith, (c .before .before .before .before .before .before .before .before .before .shared-slice-known) .given i)) in
     let w = (c .before .before .before .before .before .nested) .ensures readers (each (roots (a .grid) (a .file .now) small (a .codes .now) (a .shared) (a .at) ((c .before .before .before .before .before .before .before .before .before .before .pre) .2))) l (roots-are (a .grid) (a .file .now) small (a .codes .now) (a .shared) (a .at) ((c .before .before .before .before .before .before .before .before .before .before .pre) .2) ((c .before .before .before .before .before .before .before .before .before .before .pre) .1 .prelude)) in
-    loads-refused _ (a .words .now) _ (objects-lost (a .grid) (a .file .now) small (a .codes .now) (a .shared) (a .at) ((c .before .before .before .before .before .before .before .before .before .before .pre) .2) platform flags names readers w ((c .before .number) .given .1))
+    loads-refused _ _ (a .words .now) _ (objects-lost (a .grid) (a .file .now) small (a .codes .now) (a .shared) (a .at) ((c .before .before .before .before .before .before .before .before .before .before .pre) .2) platform flags names readers w ((c .before .number) .given .1))
 
 same-length-2 : tie.Need-same-length-2
 same-length-2 c = search needs
 
 returns-2 : tie.Need-returns-2
 returns-2 c =
-    λ by platform flags names readers l.
+    λ platform flags names readers l.
     let a = (c .before .before .before .before .before .before .before .before .before .before .before .before .before .before .args) in
     let small = small-by-index (a .file .now) (λ i h. omega (arith, (c .before .before .before .before .before .before .before .before .before .before .before .before .before .shared-slice-known) .given i)) in
     let w = (c .before .before .before .before .before .before .before .before .before .nested) .ensures readers (each (roots (a .grid) (a .file .now) small (a .codes .now) (a .shared) (a .at) ((c .before .before .before .before .before .before .before .before .before .before .before .before .before .before .pre) .2))) l (roots-are (a .grid) (a .file .now) small (a .codes .now) (a .shared) (a .at) ((c .before .before .before .before .before .before .before .before .before .before .before .before .before .before .pre) .2) ((c .before .before .before .before .before .before .before .before .before .before .before .before .before .before .pre) .1 .prelude)) in
     let o = objects-got (a .grid) (a .file .now) small (a .codes .now) (a .shared) (a .at) ((c .before .before .before .before .before .before .before .before .before .before .before .before .before .before .pre) .2) platform flags names readers ((c .before .before .before .before .before .before .before .before .before .before .before .before .before .before .pre) .0 .long) w ((c .before .before .before .before .before .reached) .given .1) in
-    objects-loaded (a .grid) (a .file .now) small (a .codes .now) (a .shared) (a .at) ((c .before .before .before .before .before .before .before .before .before .before .before .before .before .before .pre) .2) platform flags names readers (a .words .now) _ _ _ o (search needs) (rw (l .counts) at ((c .before .before .finish) .ensures by platform flags names (o .taken) _ (o .drafted)))
+    objects-loaded (a .grid) (a .file .now) small (a .codes .now) (a .shared) (a .at) ((c .before .before .before .before .before .before .before .before .before .before .before .before .before .before .pre) .2) platform flags names readers (a .words .now) _ _ _ o (search needs) (rw (l .counts) at ((c .before .before .finish) .ensures platform flags names (o .taken) _ (o .drafted)))
 
 pub objects-spec : {M : Type 1} → statement M
 objects-spec = tie.close (tie.spec add-n nested-requires enum-known-number enum-known-reached finish-requires same-length returns same-length-2 returns-2)

@@ -1,0 +1,1 @@
+// A table in columns is stated in specifications only: see specs/.
