@@ -5,7 +5,7 @@ ghost use mathlib.Core.Path.{_≡_};
 ghost use Rattle.branches.specs.Next.{nextOf, rowsNext};
 
 // The number of the row behind a row and all below it in a table of a shape, 0 where there is none in the room.
-fn next_of(words: &[u32], grid: Grid, row: RowNumber) -> u32
+pub fn next_of(words: &[u32], grid: Grid, row: RowNumber) -> u32
     ensures { λ r. ⌜ r ≡ nextOf grid (now (words .entry)) (row .0) ⌝ }
 {
     let number = row.0;

@@ -1,4 +1,5 @@
 // The entries for an asset builder in another language: each takes slices and numbers, and answers one number.
+mod by_columns;
 mod pack;
 
 use ids::RowNumber;
@@ -13,6 +14,7 @@ ghost use Prim.Native.Nat.{_*_, _<_};
 ghost use lib.ListN.{length};
 ghost use Rattle.layout.specs.Rows.{width};
 ghost use Rattle.reading.specs.File.{loadOf, tableOf};
+ghost use Rattle.columns.specs.Columns.{tableIn};
 ghost use Rattle.readers.specs.Judged.{judgedName};
 ghost use Rattle.branches.specs.Next.{rowsNext};
 ghost use Rattle.lookups.specs.Parts.{rowsPart};
@@ -42,18 +44,19 @@ pub extern "C" fn xnb_load(file: &[u8]) -> u64
     xnb_load_rows(file, &mut words, &mut readers, &mut shared)
 }
 
-// Loads a file into the words: the answer is packed as above, and the number of readers and the shared count are 0 on a refusal.
-#[no_mangle]
-pub extern "C" fn xnb_load_rows(
+// Loads a file into the words, by rows or in columns: the answer is packed as above, and the number of readers and the shared count are 0 on a refusal.
+pub(crate) fn load_told(
     file: &[u8],
     words: &mut [u32],
+    columns: bool,
     readers: &mut u32,
     shared: &mut u32,
 ) -> u64
     ensures { λ r. ⌜ (r, now (readers .exit), now (shared .exit)) ≡ loadTold (loadOf judgedName (now (file .entry)) (length (now (words .entry)))) ⌝ }
-    ensures { λ _. ⌜ now (words .exit) ≡ tableOf (loadOf judgedName (now (file .entry)) (length (now (words .entry)))) (length (now (words .entry))) ⌝ }
+    ensures { λ _. ⌜ now (words .exit)
+        ≡ tableIn columns (loadOf judgedName (now (file .entry)) (length (now (words .entry)))) (length (now (words .entry))) ⌝ }
 {
-    match load::load(file, words) {
+    match load::load_in(file, words, columns) {
         Loading::Refused { number, place } => {
             *readers = 0;
             *shared = 0;
@@ -71,6 +74,20 @@ pub extern "C" fn xnb_load_rows(
     }
 }
 
+// Loads a file into the words.
+#[no_mangle]
+pub extern "C" fn xnb_load_rows(
+    file: &[u8],
+    words: &mut [u32],
+    readers: &mut u32,
+    shared: &mut u32,
+) -> u64
+    ensures { λ r. ⌜ (r, now (readers .exit), now (shared .exit)) ≡ loadTold (loadOf judgedName (now (file .entry)) (length (now (words .entry)))) ⌝ }
+    ensures { λ _. ⌜ now (words .exit) ≡ tableOf (loadOf judgedName (now (file .entry)) (length (now (words .entry)))) (length (now (words .entry))) ⌝ }
+{
+    load_told(file, words, false, readers, shared)
+}
+
 // Rewrites a file into the output: a refusal is packed as above, else the answer is the length of the rewritten file.
 #[no_mangle]
 pub extern "C" fn xnb_rewrite(file: &[u8], words: &mut [u32], out: &mut [u8]) -> u64
@@ -85,7 +102,7 @@ pub extern "C" fn xnb_rewrite(file: &[u8], words: &mut [u32], out: &mut [u8]) ->
 }
 
 // Writes a span's first byte and length, 0 on a refusal: the answer is the refusal's number, or 0.
-fn tell_span(span: Span, first: &mut usize, len: &mut usize) -> u32
+pub(crate) fn tell_span(span: Span, first: &mut usize, len: &mut usize) -> u32
     ensures { λ r. ⌜ (r, now (first .exit), now (len .exit)) ≡ spanTold span ⌝ }
 {
     match span {
@@ -138,12 +155,11 @@ pub extern "C" fn xnb_text(
     tell_span(lookups::text(file, words, RowNumber(row)), first, len)
 }
 
-// The signed number of a row, 0 on a refusal: the answer is the refusal's number, or 0.
-#[no_mangle]
-pub extern "C" fn xnb_signed(file: &[u8], words: &[u32], row: u32, value: &mut i64) -> u32
-    ensures { λ r. ⌜ (r, now (value .exit)) ≡ signedTold (rowsSigned (now (file .entry)) (now (words .entry)) row) ⌝ }
+// A signed number, 0 on a refusal: the answer is the refusal's number, or 0.
+pub(crate) fn tell_signed(looked: Whole, value: &mut i64) -> u32
+    ensures { λ r. ⌜ (r, now (value .exit)) ≡ signedTold looked ⌝ }
 {
-    match lookups::signed(file, words, RowNumber(row)) {
+    match looked {
         Whole::Refused(number, _) => {
             *value = 0;
             number
@@ -155,18 +171,11 @@ pub extern "C" fn xnb_signed(file: &[u8], words: &[u32], row: u32, value: &mut i
     }
 }
 
-// The time of a row in seconds and ticks, 0 on a refusal: the answer is the refusal's number, or 0.
-#[no_mangle]
-pub extern "C" fn xnb_time(
-    file: &[u8],
-    words: &[u32],
-    row: u32,
-    seconds: &mut i64,
-    ticks: &mut u32,
-) -> u32
-    ensures { λ r. ⌜ (r, now (seconds .exit), now (ticks .exit)) ≡ timeTold (rowsTime (now (file .entry)) (now (words .entry)) row) ⌝ }
+// A time in seconds and ticks, 0 on a refusal: the answer is the refusal's number, or 0.
+pub(crate) fn tell_time(looked: Moment, seconds: &mut i64, ticks: &mut u32) -> u32
+    ensures { λ r. ⌜ (r, now (seconds .exit), now (ticks .exit)) ≡ timeTold looked ⌝ }
 {
-    match lookups::time(file, words, RowNumber(row)) {
+    match looked {
         Moment::Refused(number, _) => {
             *seconds = 0;
             *ticks = 0;
@@ -180,4 +189,26 @@ pub extern "C" fn xnb_time(
             0
         }
     }
+}
+
+// The signed number of a row.
+#[no_mangle]
+pub extern "C" fn xnb_signed(file: &[u8], words: &[u32], row: u32, value: &mut i64) -> u32
+    ensures { λ r. ⌜ (r, now (value .exit)) ≡ signedTold (rowsSigned (now (file .entry)) (now (words .entry)) row) ⌝ }
+{
+    tell_signed(lookups::signed(file, words, RowNumber(row)), value)
+}
+
+// The time of a row in seconds and ticks.
+#[no_mangle]
+pub extern "C" fn xnb_time(
+    file: &[u8],
+    words: &[u32],
+    row: u32,
+    seconds: &mut i64,
+    ticks: &mut u32,
+) -> u32
+    ensures { λ r. ⌜ (r, now (seconds .exit), now (ticks .exit)) ≡ timeTold (rowsTime (now (file .entry)) (now (words .entry)) row) ⌝ }
+{
+    tell_time(lookups::time(file, words, RowNumber(row)), seconds, ticks)
 }

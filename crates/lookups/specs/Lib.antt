@@ -3,3 +3,4 @@ pub mod Texts
 pub mod Signs
 pub mod Times
 pub mod Examples
+pub mod Same

@@ -6,7 +6,7 @@ use lib.Dec.{ltb, leb}
 use lib.ListN.{length, getD, take, drop}
 use Rattle.ids.specs.declared.Grid.{Grid}
 use Rattle.ids.specs.Position.{cellOf}
-use Rattle.words.specs.Grids.{rowsGrid}
+use Rattle.words.specs.Grids.{rowsGrid, columnsGrid}
 use Rattle.lookups.specs.declared.Span.{Span}
 use Rattle.lookups.specs.declared.Span.the-variants.{Refused, Found}
 
@@ -35,6 +35,10 @@ partOf g file words row =
 -- the same in a table by rows
 abbrev pub rowsPart : (file words : List ℕ) (row : ℕ) → Span
 rowsPart file words row = partOf (rowsGrid (length words)) file words row
+
+-- and in a table in columns
+abbrev pub columnsPart : (file words : List ℕ) (row : ℕ) → Span
+columnsPart file words row = partOf (columnsGrid (length words)) file words row
 
 -- what is answered for a refusal, and what for a part
 unfoldable pub inPart : {A : Type 0} → (refuse : ℕ → ℕ → A) → Span → (found : ℕ → ℕ → A) → A

@@ -6,7 +6,7 @@ use lib.Dec.{leb, eqb}
 use lib.IntN.{ℤ, pos, negsuc}
 use lib.ListN.{length}
 use Rattle.ids.specs.declared.Grid.{Grid}
-use Rattle.words.specs.Grids.{rowsGrid}
+use Rattle.words.specs.Grids.{rowsGrid, columnsGrid}
 use Rattle.reading.specs.Answer.{Answer, refused, read}
 use Rattle.reading.specs.Little.{littleAt}
 use Rattle.lookups.specs.declared.Whole.{Whole}
@@ -46,3 +46,7 @@ signedOf g file words row = lookup Refused (λ bytes first kind. signedIn bytes 
 -- the same in a table by rows
 abbrev pub rowsSigned : (file words : List ℕ) (row : ℕ) → Whole
 rowsSigned file words row = signedOf (rowsGrid (length words)) file words row
+
+-- and in a table in columns
+abbrev pub columnsSigned : (file words : List ℕ) (row : ℕ) → Whole
+columnsSigned file words row = signedOf (columnsGrid (length words)) file words row

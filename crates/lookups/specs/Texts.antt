@@ -4,7 +4,7 @@ use Prim.Native.Nat.{ℕ, _+_, _-_}
 use lib.Dec.{eqb}
 use lib.ListN.{length}
 use Rattle.ids.specs.declared.Grid.{Grid}
-use Rattle.words.specs.Grids.{rowsGrid}
+use Rattle.words.specs.Grids.{rowsGrid, columnsGrid}
 use Rattle.reading.specs.Answer.{Answer, refused, read, bind}
 use Rattle.reading.specs.Seven.{sevenAt}
 use Rattle.lookups.specs.declared.Span.{Span}
@@ -30,3 +30,7 @@ textOf g file words row = lookup Refused (λ bytes first kind. textIn bytes firs
 -- the same in a table by rows
 abbrev pub rowsText : (file words : List ℕ) (row : ℕ) → Span
 rowsText file words row = textOf (rowsGrid (length words)) file words row
+
+-- and in a table in columns
+abbrev pub columnsText : (file words : List ℕ) (row : ℕ) → Span
+columnsText file words row = textOf (columnsGrid (length words)) file words row

@@ -5,7 +5,7 @@ use Prim.Native.Nat.{ℕ}
 use lib.ListN.{length}
 use lib.Dec.{eqb}
 use Rattle.ids.specs.declared.Grid.{Grid}
-use Rattle.words.specs.Grids.{rowsGrid}
+use Rattle.words.specs.Grids.{rowsGrid, columnsGrid}
 use Rattle.ticks.specs.Split.{splitOf}
 use Rattle.lookups.specs.declared.Whole.{Whole}
 use Rattle.lookups.specs.declared.Whole.the-variants as whole
@@ -27,3 +27,7 @@ timeOf g file words row = asTime row (signedOf g file words row) (eqb (kindOf g 
 -- the same in a table by rows
 abbrev pub rowsTime : (file words : List ℕ) (row : ℕ) → Moment
 rowsTime file words row = timeOf (rowsGrid (length words)) file words row
+
+-- and in a table in columns
+abbrev pub columnsTime : (file words : List ℕ) (row : ℕ) → Moment
+columnsTime file words row = timeOf (columnsGrid (length words)) file words row

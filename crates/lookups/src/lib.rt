@@ -18,7 +18,7 @@ pub enum Span {
 }
 
 // The part of the file that a row names, in a table of a shape.
-fn part_of(file: &[u8], words: &[u32], grid: Grid, row: RowNumber) -> Span
+pub fn part_of(file: &[u8], words: &[u32], grid: Grid, row: RowNumber) -> Span
     ensures { λ r. ⌜ r ≡ partOf grid (now (file .entry)) (now (words .entry)) (row .0) ⌝ }
 {
     let number = row.0;
@@ -97,7 +97,7 @@ fn text_in(bytes: &[u8], first: usize, kind: u32, row: u32) -> Span
 }
 
 // The bytes of a text behind its type id and count, in a table of a shape.
-fn text_of(file: &[u8], words: &[u32], grid: Grid, row: RowNumber) -> Span
+pub fn text_of(file: &[u8], words: &[u32], grid: Grid, row: RowNumber) -> Span
     ensures { λ r. ⌜ r ≡ textOf grid (now (file .entry)) (now (words .entry)) (row .0) ⌝ }
 {
     let number = row.0;
@@ -192,7 +192,7 @@ fn signed_in(bytes: &[u8], kind: u32, row: u32) -> Whole
 }
 
 // The signed number in the last bytes of a row's part, in a table of a shape.
-fn signed_of(file: &[u8], words: &[u32], grid: Grid, row: RowNumber) -> Whole
+pub fn signed_of(file: &[u8], words: &[u32], grid: Grid, row: RowNumber) -> Whole
     ensures { λ r. ⌜ r ≡ signedOf grid (now (file .entry)) (now (words .entry)) (row .0) ⌝ }
 {
     let number = row.0;
@@ -220,7 +220,7 @@ pub enum Moment {
 }
 
 // The time in a row's part, whose kind is TimeSpan, in a table of a shape.
-fn time_of(file: &[u8], words: &[u32], grid: Grid, row: RowNumber) -> Moment
+pub fn time_of(file: &[u8], words: &[u32], grid: Grid, row: RowNumber) -> Moment
     ensures { λ r. ⌜ r ≡ timeOf grid (now (file .entry)) (now (words .entry)) (row .0) ⌝ }
 {
     let number = row.0;

@@ -1,47 +1,15 @@
-use mathlib.Core.Path.{sym, _∙_}
-use lib.ListN.{length}
-use Rattle.builder.proofs.Laws.{load-place, load-refused, load-accepted}
 use borrow.Author.Needs.{needs}
 use Rattle.builder.proofs.xnb_load_rows.Statement.{statement}
 use Rattle.builder.proofs.xnb_load_rows.Tie as tie
 
-load-requires : tie.Need-load-requires
-load-requires c κs = search needs
-
-enum-known-number : tie.Need-enum-known-number
-enum-known-number c = search needs
-
-refused-requires : tie.Need-refused-requires
-refused-requires c κs = load-place (c .before .before .before .before .before .before .before .before .before .args .file .now) (length (c .before .before .before .before .before .before .before .before .before .args .words .now)) (sym (c .before .number .given .1) ∙ c .before .before .before .before .before .load .ensures .0)
-
-enum-known-rows : tie.Need-enum-known-rows
-enum-known-rows c = search needs
-
-cast-result : tie.Need-cast-result
-cast-result c = search needs
+load-told-requires : tie.Need-load-told-requires
+load-told-requires c κs = search needs
 
 same-length : tie.Need-same-length
 same-length c = search needs
 
 returns : tie.Need-returns
-returns c = (load-refused _ (sym (c .before .before .number .given .1) ∙ c .before .before .before .before .before .before .load .ensures .0) (c .refused .ensures), c .before .before .before .before .before .before .load .ensures .1)
-
-same-length-2 : tie.Need-same-length-2
-same-length-2 c = search needs
-
-returns-2 : tie.Need-returns-2
-returns-2 c = (load-accepted _ (sym (c .before .rows .given .1) ∙ c .before .before .before .before .before .load .ensures .0), c .before .before .before .before .before .load .ensures .1)
+returns c = c .before .before .load-told .ensures
 
 pub xnb-load-rows-spec : {M : Type 1} → statement M
-xnb-load-rows-spec =
-    tie.close
-    (tie.spec
-    load-requires
-    enum-known-number
-    refused-requires
-    enum-known-rows
-    cast-result
-    same-length
-    returns
-    same-length-2
-    returns-2)
+xnb-load-rows-spec = tie.close (tie.spec load-told-requires same-length returns)
