@@ -37,7 +37,7 @@ length-framed [] = refl
 length-framed (r ∷ rows) = ap suc (length-framed rows)
 
 -- the rule holds of every table in which the rows of trees stand
-pub stand-skips : (s : Shape) (room : ℕ) (table : List ℕ) (rows : List Row) (ts : Trees) → framed rows ≡ frames ts 0 0 → Stand s room table rows → TableSkips s room table (length rows)
+stand-skips : (s : Shape) (room : ℕ) (table : List ℕ) (rows : List Row) (ts : Trees) → framed rows ≡ frames ts 0 0 → Stand s room table rows → TableSkips s room table (length rows)
 stand-skips s room table rows ts e stand =
     let l : length (frames ts 0 0) ≡ length rows = sym (ap length e) ∙ length-framed rows in
     let k = rw (← e, length-framed rows) at (skips ts) in
@@ -57,13 +57,12 @@ rows-stand room (r ∷ rows) rest (suc i) j h k =
     let z : width * suc i + j ≡ suc (suc (suc (suc (suc (suc (suc (width * i + j))))))) = omega arith in
     rw z (rows-stand room rows rest i j (omega arith) k)
 
--- the rule holds of the rows of every file tree, by rows
-pub file-skips : (named : List ℕ → Target → Type 0) (room : ℕ) (ft : FileTree) (bs : List ℕ) (w : FileLays named ft bs) (rest : List ℕ)
-    → TableSkips byRows room (flat (fileRows named ft bs w) ++ rest) (length (fileRows named ft bs w))
+-- the rule holds of every table in which the rows of a file tree stand
+pub file-skips : (named : List ℕ → Target → Type 0) (s : Shape) (room : ℕ) (ft : FileTree) (bs : List ℕ) (w : FileLays named ft bs) (table : List ℕ)
+    → Stand s room table (fileRows named ft bs w) → TableSkips s room table (length (fileRows named ft bs w))
 unfolding fileRows
-file-skips named room ft bs w rest =
+file-skips named s room ft bs w table stand =
     let plan = objectsPlan (count (sharedOf (ft .objects))) in
     let refers = Resource (sharedOf (ft .objects)) in
-    stand-skips byRows room (flat (fileRows named ft bs w) ++ rest) (fileRows named ft bs w) (ft .objects)
-    (rows-framed (w .readers) refers plan (ft .objects) (w .values) (w .laid) (10 + length (w .before)) 0 0)
-    (rows-stand room (fileRows named ft bs w) rest)
+    stand-skips s room table (fileRows named ft bs w) (ft .objects)
+    (rows-framed (w .readers) refers plan (ft .objects) (w .values) (w .laid) (10 + length (w .before)) 0 0) stand

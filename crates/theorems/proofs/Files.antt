@@ -1,6 +1,6 @@
 -- From the contracts over packs to what is demanded of them. Assumes nothing.
 use mathlib.Core.Path.{_≡_, refl, sym, ap, subst, _∙_}
-use mathlib.Core.Bool.{Bool}
+use mathlib.Core.Bool.{Bool, false}
 use mathlib.Core.List.{List, _++_}
 use Prim.Native.Nat.{ℕ, _*_, _-_}
 use lib.ListN.{length, take, drop, replicate, take-append-drop}
@@ -107,7 +107,7 @@ open-exact pack table path words small answers leaves =
           let e = first-exactly pack path (wholes table) a n m in
           let y = loadOf judgedName (take n (drop a pack)) words in
           let left-is = leaves ∙ ap (leaving pack words) e in
-          (load.answerOf y, answers ∙ ap (opening pack words) e ∙ loaded-as y, load-exact (take n (drop a pack)) words (small-part a n pack small) refl left-is);
+          (load.answerOf y, answers ∙ ap (opening pack words) e ∙ loaded-as y, load-exact (take n (drop a pack)) words false (small-part a n pack small) refl left-is);
     }
 
 -- ---- Finding in the table that reading left

@@ -17,8 +17,10 @@ use Rattle.reading.specs.Answer.{Answer, refused, read}
 use Rattle.reading.specs.Reads.{Small}
 use Rattle.reading.specs.File as reading
 use Rattle.reading.specs.File.{Load, refusal, accepted, fileAt, toLoad, roomOf, loadOf, tableOf}
-use Rattle.reading.specs.Grid.{byRows}
-use Rattle.branches.specs.Table.{TableSkips, file-skips}
+use Rattle.reading.specs.Grid.{byRows, byColumns, shapeOf}
+use Rattle.columns.specs.Columns.{columnsTableOf, tableIn}
+use Rattle.branches.specs.Table.{TableSkips, rows-stand, file-skips}
+use Rattle.theorems.proofs.Columns.{rows-room, columns-stand}
 use Rattle.reading.specs.Refusals.{refusal-number, refusal-place}
 use Rattle.reading.specs.Theorems as T
 use Rattle.reading.specs.Theorems.{Fitting, rowsIn}
@@ -38,11 +40,11 @@ use Rattle.theorems.specs.Rewriting as R
 use Rattle.readers.specs.Judged.{judgedName, judges, ten-or-eleven}
 
 -- how a load ends: with one refusal, placed in the file, or with a file tree that fits
-data Ends (file : List ℕ) (words : ℕ) : Type 0 where
+pub data Ends (file : List ℕ) (words : ℕ) : Type 0 where
   refuses : (number place : ℕ) → loadOf judgedName file words ≡ refusal number place → (1 ≤ number) × (number ≤ 22) × (place ≤ length file) → Ends file words
   fits : Fitting named file words → Ends file words
 
-ends : (file : List ℕ) (words : ℕ) → Small file → Ends file words
+pub ends : (file : List ℕ) (words : ℕ) → Small file → Ends file words
 ends file words small = go (loadOf judgedName file words) refl where
   go : (x : Load) → loadOf judgedName file words ≡ x → Ends file words
   go (refusal n p) e =
@@ -51,19 +53,32 @@ ends file words small = go (loadOf judgedName file words) refl where
       refuses n p e (a .0, a .1, b .0)
   go (accepted rows readers shared) e = fits (T.accepted-is named judgedName judges file words small rows readers shared e .0)
 
+-- what a load leaves, where a file tree fits and where it refuses, in either shape
+pub table-in : (file : List ℕ) (words : ℕ) (f : Fitting named file words) (columns : Bool) → tableIn columns (loadOf judgedName file words) words ≡ table columns (rowsIn named f) words
+unfolding columnsTableOf
+table-in file words f false = T.table-is named judgedName judges file words f
+table-in file words f true = rw (T.rows-are named judgedName judges file words f)
+
+pub cleared-in : (file : List ℕ) (words m q : ℕ) → loadOf judgedName file words ≡ refusal m q → (columns : Bool) → tableIn columns (loadOf judgedName file words) words ≡ replicate words 0
+unfolding columnsTableOf
+cleared-in file words m q e false = T.refusal-clears named judgedName judges file words m q e
+cleared-in file words m q e true = rw e
+
 -- the rule of the seventh word holds of the table of a file tree that fits
-table-skips : (file : List ℕ) (words room : ℕ) (f : Fitting named file words) {left : List ℕ} → left ≡ table (rowsIn named f) words → TableSkips byRows room left (length (rowsIn named f))
-table-skips file words room f e = rw e (file-skips named room (f .tree) file (f .lays) (replicate (words - width * length (rowsIn named f)) 0))
+table-skips : (file : List ℕ) (words : ℕ) (f : Fitting named file words) (columns : Bool) {left : List ℕ} → left ≡ table columns (rowsIn named f) words
+    → TableSkips (shapeOf columns) (roomOf words) left (length (rowsIn named f))
+table-skips file words f false e = rw e (file-skips named byRows (roomOf words) (f .tree) file (f .lays) (table false (rowsIn named f) words) (rows-stand (roomOf words) (rowsIn named f) (replicate (words - width * length (rowsIn named f)) 0)))
+table-skips file words f true e = rw e (file-skips named byColumns (roomOf words) (f .tree) file (f .lays) (table true (rowsIn named f) words) (columns-stand (roomOf words) (rowsIn named f) (rows-room file words f) (replicate (words - width * roomOf words) 0)))
 
 -- ---- Loading
 
-module _ (file : List ℕ) (words : ℕ) {left : List ℕ} {r : Loading} (small : Small file)
+module _ (file : List ℕ) (words : ℕ) (columns : Bool) {left : List ℕ} {r : Loading} (small : Small file)
     (answers : r ≡ answerOf (loadOf judgedName file words))
-    (leaves : left ≡ tableOf (loadOf judgedName file words) words) where
+    (leaves : left ≡ tableIn columns (loadOf judgedName file words) words) where
   loaded : (f : Fitting named file words)
-      → (r ≡ Loaded (length (rowsIn named f)) (length (f .tree .names)) (count (sharedOf (f .tree .objects)))) × (left ≡ table (rowsIn named f) words)
+      → (r ≡ Loaded (length (rowsIn named f)) (length (f .tree .names)) (count (sharedOf (f .tree .objects)))) × (left ≡ table columns (rowsIn named f) words)
   loaded f =
-      (answers ∙ ap answerOf (T.rows-are named judgedName judges file words f), leaves ∙ T.table-is named judgedName judges file words f)
+      (answers ∙ ap answerOf (T.rows-are named judgedName judges file words f), leaves ∙ table-in file words f columns)
 
   only : Ends file words → Accepted r → Fitting named file words
   only (fits f) a = f
@@ -72,7 +87,7 @@ module _ (file : List ℕ) (words : ℕ) {left : List ℕ} {r : Loading} (small 
   refused-as : Ends file words → (Fitting named file words → ⊥)
       → (number : ℕ) × (place : ℕ) × (r ≡ Refused number place) × (left ≡ replicate words 0)
   refused-as (fits f) none = absurd (none f)
-  refused-as (refuses m q e i) none = (m, q, answers ∙ ap answerOf e, leaves ∙ T.refusal-clears named judgedName judges file words m q e)
+  refused-as (refuses m q e i) none = (m, q, answers ∙ ap answerOf e, leaves ∙ cleared-in file words m q e columns)
 
   placed : Ends file words → (number place : ℕ) → r ≡ Refused number place → (1 ≤ number) × (number ≤ 22) × (place ≤ length file)
   placed (fits f) number place e =
@@ -84,16 +99,16 @@ module _ (file : List ℕ) (words : ℕ) {left : List ℕ} {r : Loading} (small 
       let e₂ : place ≡ q = cc in
       rw (e₁, e₂) i
 
-  skipped : Ends file words → (used readers shared : ℕ) → r ≡ Loaded used readers shared → TableSkips byRows (roomOf words) left used
+  skipped : Ends file words → (used readers shared : ℕ) → r ≡ Loaded used readers shared → TableSkips (shapeOf columns) (roomOf words) left used
   skipped (refuses m q g i) used readers shared e =
       let h : r ≡ Refused m q = answers ∙ ap answerOf g in
       differ cc
   skipped (fits f) used readers shared e =
       let l = loaded f in
       let k : length (rowsIn named f) ≡ used = cc in
-      rw k at (table-skips file words (roomOf words) f (l .1))
+      rw k at (table-skips file words f columns (l .1))
 
-  pub load-exact : Exact file words left r
+  pub load-exact : Exact columns file words left r
   load-exact =
       let e = ends file words small in
       record { accepts = (only e, λ f. rw (loaded f .0) tt); rows = loaded; refuses = refused-as e; skips = skipped e; inside = placed e }
@@ -125,7 +140,7 @@ module _ (file : List ℕ) (words : ℕ) (out : List ℕ) {left end : List ℕ} 
     (writes : end ≡ outputOf (rewriteOf judgedName file words (length out)) out)
     (leaves : left ≡ wordsOf (rewriteOf judgedName file words (length out)) (tableOf (loadOf judgedName file words) words)) where
   rewritten : (f : Fitting named file words) → length (shortFile (f .tree)) ≤ length out
-      → (r ≡ rewriting.Rewritten (length (shortFile (f .tree)))) × (end ≡ shortFile (f .tree) ++ drop (length (shortFile (f .tree))) out) × (left ≡ table (rowsIn named f) words)
+      → (r ≡ rewriting.Rewritten (length (shortFile (f .tree)))) × (end ≡ shortFile (f .tree) ++ drop (length (shortFile (f .tree))) out) × (left ≡ table false (rowsIn named f) words)
   unfolding fitted outputOf wordsOf
   rewritten f h =
       let is = S.rewrite-is named judgedName judges file words (length out) f in
@@ -189,7 +204,7 @@ module _ (file : List ℕ) (words : ℕ) (out : List ℕ) {left end : List ℕ} 
   rewrite-skipped : (n : ℕ) → r ≡ rewriting.Rewritten n → (f : Fitting named file words) → TableSkips byRows (roomOf words) left (length (rowsIn named f))
   rewrite-skipped n e f = go (leb (length (shortFile (f .tree))) (length out)) refl where
     go : (t : Bool) → leb (length (shortFile (f .tree))) (length out) ≡ t → TableSkips byRows (roomOf words) left (length (rowsIn named f))
-    go true t = table-skips file words (roomOf words) f (rewritten f (leb-true _ _ t) .2)
+    go true t = table-skips file words f false (rewritten f (leb-true _ _ t) .2)
     go false t =
         let l = too-long f (leb-false _ _ t) .0 in
         differ cc
@@ -218,12 +233,12 @@ module _ {file : List ℕ} {words : ℕ} {left out end : List ℕ} {r : Rewritin
   pub not-loaded-again : {number place : ℕ} {left₂ : List ℕ} {r₂ : Loading} → r ≡ rewriting.Refused number place → R.Again file words left₂ (length out) r₂
   not-loaded-again e = record { reads = λ f h. absurd (first-refused e f h) }
 
-  pub loaded-again : {n : ℕ} {left₂ : List ℕ} {r₂ : Loading} → r ≡ rewriting.Rewritten n → length left ≡ words → Exact (take n end) (length left) left₂ r₂ → R.Again file words left₂ (length out) r₂
+  pub loaded-again : {n : ℕ} {left₂ : List ℕ} {r₂ : Loading} → r ≡ rewriting.Rewritten n → length left ≡ words → Exact false (take n end) (length left) left₂ r₂ → R.Again file words left₂ (length out) r₂
   loaded-again {n} {left₂} {r₂} e l y = record {
     reads = λ f h.
         let g = S.again named judgedName judges file words f in
         let p = first-wrote e f h in
-        let z : Exact (shortFile (f .tree)) words left₂ r₂ = rw (l, p) at y in
+        let z : Exact false (shortFile (f .tree)) words left₂ r₂ = rw (l, p) at y in
         let a = z .rows g in
         (g, refl, a .0, a .1);
   }

@@ -1,6 +1,6 @@
 -- Req 01 of the code: what is demanded of reading a pack, of finding a file by its path, and of loading its data. Each record is the contract of a function that calls the code. Assumes nothing.
 use mathlib.Core.Path.{_≡_}
-use mathlib.Core.Bool.{Bool}
+use mathlib.Core.Bool.{Bool, false}
 use mathlib.Core.List.{List, [], _++_}
 use mathlib.Core.Logic.{_↔_}
 use Prim.Native.Nat.{ℕ, _*_, _-_}
@@ -65,7 +65,7 @@ pub record Opens (pack table path : List ℕ) (words : ℕ) (left : List ℕ) (r
   pub absent : (r ≡ opened.Absent) ↔ NoMatch pack path (wholes table)
   pub zeros : r ≡ opened.Absent → left ≡ replicate words 0
   -- "The XNB loader takes the data as a part of the pack; demands 2 and 3 then hold of that part, with places counted from its start"
-  pub part : (a n : ℕ) → FirstMatch pack path (wholes table) a n → (l : Loading) × (r ≡ openedAs l) × Exact (take n (drop a pack)) words left l
+  pub part : (a n : ℕ) → FirstMatch pack path (wholes table) a n → (l : Loading) × (r ≡ openedAs l) × Exact false (take n (drop a pack)) words left l
 
 -- ---- Finding in the table that reading left
 

@@ -1,5 +1,6 @@
 -- What is demanded of the code of `rewrite`, which is the contract of `rewrite_exact`. `shortFile` goes from a file tree to its shortest bytes, with no file in it. Assumes nothing.
 use mathlib.Core.Path.{_≡_}
+use mathlib.Core.Bool.{false}
 use mathlib.Core.List.{List, _++_}
 use Prim.Native.Nat.{ℕ, _+_, _<_, _≤_}
 use lib.ListN.{length, take, drop, replicate}
@@ -35,7 +36,7 @@ pub record Written {file : List ℕ} {words : ℕ} (f : Fitting named file words
 pub record Exact (file : List ℕ) (words : ℕ) (left out end : List ℕ) (r : Rewriting) : Type 0 where
   -- where a file tree fits and the output has room, the shortest bytes of the tree: "out's bytes past it unchanged, the words as the load of the input left them, the answer its length"
   pub rewrites : (f : Fitting named file words) → length (shortFile (f .tree)) ≤ length out
-      → (r ≡ Rewritten (length (shortFile (f .tree)))) × (end ≡ shortFile (f .tree) ++ drop (length (shortFile (f .tree))) out) × (left ≡ table (rowsIn named f) words)
+      → (r ≡ Rewritten (length (shortFile (f .tree)))) × (end ≡ shortFile (f .tree) ++ drop (length (shortFile (f .tree))) out) × (left ≡ table false (rowsIn named f) words)
   -- where the output has no room, "21 with the bytes needed, words zero, out untouched"
   pub too-small : (f : Fitting named file words) → length out < length (shortFile (f .tree))
       → (r ≡ Refused 21 (length (shortFile (f .tree)))) × (end ≡ out) × (left ≡ replicate words 0)
@@ -54,7 +55,7 @@ pub record Again (file : List ℕ) (words : ℕ) (left : List ℕ) (out : ℕ) (
   -- "reading it gives those objects again": the answer and the rows are those of the same file tree, as its values stand in the rewritten file
   pub reads : (f : Fitting named file words) → length (shortFile (f .tree)) ≤ out
       → (g : Fitting named (shortFile (f .tree)) words) × (g .tree ≡ f .tree)
-      × (r ≡ Loaded (length (rowsIn named g)) (length (g .tree .names)) (count (sharedOf (g .tree .objects)))) × (left ≡ table (rowsIn named g) words)
+      × (r ≡ Loaded (length (rowsIn named g)) (length (g .tree .names)) (count (sharedOf (g .tree .objects)))) × (left ≡ table false (rowsIn named g) words)
 
 -- For a file that is rewritten and then rewritten again: the number of words lent, the number of bytes lent for the first output, the second as it was lent and as it is left, and the second answer.
 pub record Twice (file : List ℕ) (words out : ℕ) (second end : List ℕ) (r : Rewriting) : Type 0 where

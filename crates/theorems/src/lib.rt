@@ -1,19 +1,30 @@
-// What is demanded of loading and rewriting, as contracts: each function calls the code, and is here for what it ensures (specs/Exact.antt and specs/Rewriting.antt, from top to bottom; of packs, packed.rt and specs/Packs.antt, converted.rt and specs/Marks.antt, salvaged.rt and specs/Salvage.antt).
+// What is demanded of loading and rewriting, as contracts: each function calls the code, and is here for what it ensures
+// (specs/Exact.antt and specs/Rewriting.antt, from top to bottom; of columns, columned.rt and specs/Columns.antt;
+// of packs, packed.rt and specs/Packs.antt, converted.rt and specs/Marks.antt, salvaged.rt and specs/Salvage.antt).
+mod columned;
 mod converted;
 mod packed;
 mod salvaged;
 
 use load::Loading;
 use rewrite::Rewriting;
+ghost use mathlib.Core.Bool.{true, false};
 ghost use lib.ListN.{length};
 ghost use Rattle.theorems.specs.Exact.{Exact};
 ghost use Rattle.theorems.specs.Rewriting as R;
 
 // A file that is loaded.
 pub fn load_exact(file: &[u8], words: &mut [u32]) -> Loading
-    ensures { λ r. ⌜ Exact (now (file .entry)) (length (now (words .entry))) (now (words .exit)) r ⌝ }
+    ensures { λ r. ⌜ Exact false (now (file .entry)) (length (now (words .entry))) (now (words .exit)) r ⌝ }
 {
     load::load(file, words)
+}
+
+// A file that is loaded in columns.
+pub fn load_columns_exact(file: &[u8], words: &mut [u32]) -> Loading
+    ensures { λ r. ⌜ Exact true (now (file .entry)) (length (now (words .entry))) (now (words .exit)) r ⌝ }
+{
+    load::load_columns(file, words)
 }
 
 // A file that is rewritten.

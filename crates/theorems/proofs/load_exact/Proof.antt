@@ -1,3 +1,4 @@
+use mathlib.Core.Bool.{false}
 use lib.ListN.{length}
 use native.Mathlib.Omega.{arith}
 use Rattle.reading.specs.Reads.{small-by-index}
@@ -15,7 +16,7 @@ same-length c = search needs
 returns : tie.Need-returns
 returns c =
     let file = c .before .before .before .before .before .before .args .file .now in
-    load-exact file (length (c .before .before .before .before .before .before .args .words .now))
+    load-exact file (length (c .before .before .before .before .before .before .args .words .now)) false
     (small-by-index file (λ i h. omega (arith, c .before .before .before .before .before .shared-slice-known .given i)))
     (c .before .before .load .ensures .0)
     (c .before .before .load .ensures .1)

@@ -1,0 +1,35 @@
+use mathlib.Core.Path.{sym, ap, _∙_}
+use native.Mathlib.Omega.{arith}
+use lib.ListN.{length}
+use Rattle.reading.specs.Reads.{small-by-index}
+use Rattle.load.specs.Loads.{answerOf}
+use borrow.Author.Needs.{needs}
+use Rattle.theorems.proofs.Both.{same-load, same-rows}
+use Rattle.theorems.proofs.columned.load_both.Statement.{statement}
+use Rattle.theorems.proofs.columned.load_both.Tie as tie
+
+load-requires : tie.Need-load-requires
+load-requires c κs = search needs
+
+load-columns-requires : tie.Need-load-columns-requires
+load-columns-requires c κs = search needs
+
+same-length : tie.Need-same-length
+same-length c = search needs
+
+same-length-2 : tie.Need-same-length-2
+same-length-2 c = search needs
+
+returns : tie.Need-returns
+returns c = λ room.
+    let a = c .before .before .before .before .before .before .before .before .before .before .before .args in
+    let file = a .file .now in
+    let n = length (a .words .now) in
+    let m = length (a .columns .now) in
+    let small = small-by-index file (λ i h. omega (arith, c .before .before .before .before .before .before .before .before .before .before .shared-slice-known .given i)) in
+    let by-rows = c .before .before .before .before .before .before .load .ensures in
+    let by-columns = c .before .before .load-columns .ensures in
+    (by-rows .0 ∙ ap answerOf (same-load file n m room) ∙ sym (by-columns .0), same-rows file n m small room (by-rows .1) (by-columns .1))
+
+pub load-both-spec : {M : Type 1} → statement M
+load-both-spec = tie.close (tie.spec load-requires load-columns-requires same-length same-length-2 returns)

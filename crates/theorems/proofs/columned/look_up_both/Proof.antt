@@ -1,0 +1,75 @@
+use mathlib.Core.Path.{sym, ap, _∙_}
+use Rattle.ids.specs.declared.Grid.{Grid}
+use Rattle.lookups.specs.Parts.{partOf}
+use Rattle.lookups.specs.Texts.{textOf}
+use Rattle.lookups.specs.Signs.{signedOf}
+use Rattle.lookups.specs.Times.{timeOf}
+use Rattle.lookups.specs.Same.{same-part, same-text, same-signed, same-time}
+use Rattle.branches.specs.Next.{nextOf, same-next}
+use borrow.Author.Needs.{needs}
+use Rattle.theorems.proofs.columned.look_up_both.Statement.{statement}
+use Rattle.theorems.proofs.columned.look_up_both.Tie as tie
+
+columns-grid-requires : tie.Need-columns-grid-requires
+columns-grid-requires c κs = search needs
+
+part-requires : tie.Need-part-requires
+part-requires c κs = search needs
+
+text-requires : tie.Need-text-requires
+text-requires c κs = search needs
+
+signed-requires : tie.Need-signed-requires
+signed-requires c κs = search needs
+
+time-requires : tie.Need-time-requires
+time-requires c κs = search needs
+
+next-requires : tie.Need-next-requires
+next-requires c κs = search needs
+
+part-of-requires : tie.Need-part-of-requires
+part-of-requires c κs = search needs
+
+text-of-requires : tie.Need-text-of-requires
+text-of-requires c κs = search needs
+
+signed-of-requires : tie.Need-signed-of-requires
+signed-of-requires c κs = search needs
+
+time-of-requires : tie.Need-time-of-requires
+time-of-requires c κs = search needs
+
+next-of-requires : tie.Need-next-of-requires
+next-of-requires c κs = search needs
+
+returns : tie.Need-returns
+returns c = λ s.
+    let a = c .before .before .before .before .before .before .before .before .before .before .before .before .before .before .args in
+    let file = a .file .now in
+    let w = a .columns .now in
+    let row = a .row .0 in
+    let e = c .before .before .before .before .before .before .before .before .before .before .columns-grid .ensures in
+    let part-same = c .before .before .before .before .before .before .before .before .before .part .ensures ∙ same-part s file row ∙ sym (c .before .before .before .before .part-of .ensures ∙ ap (λ (g : Grid). partOf g file w row) e) in
+    let text-same = c .before .before .before .before .before .before .before .before .text .ensures ∙ same-text s file row ∙ sym (c .before .before .before .text-of .ensures ∙ ap (λ (g : Grid). textOf g file w row) e) in
+    let signed-same = c .before .before .before .before .before .before .before .signed .ensures ∙ same-signed s file row ∙ sym (c .before .before .signed-of .ensures ∙ ap (λ (g : Grid). signedOf g file w row) e) in
+    let time-same = c .before .before .before .before .before .before .time .ensures ∙ same-time s file row ∙ sym (c .before .time-of .ensures ∙ ap (λ (g : Grid). timeOf g file w row) e) in
+    let next-same = c .before .before .before .before .before .next .ensures ∙ same-next s row ∙ sym (c .next-of .ensures ∙ ap (λ (g : Grid). nextOf g w row) e) in
+    λ i. record { part = part-same i; text = text-same i; signed = signed-same i; time = time-same i; next = next-same i }
+
+pub look-up-both-spec : {M : Type 1} → statement M
+look-up-both-spec =
+    tie.close
+    (tie.spec
+    columns-grid-requires
+    part-requires
+    text-requires
+    signed-requires
+    time-requires
+    next-requires
+    part-of-requires
+    text-of-requires
+    signed-of-requires
+    time-of-requires
+    next-of-requires
+    returns)

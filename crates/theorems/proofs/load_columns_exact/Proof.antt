@@ -1,0 +1,25 @@
+use mathlib.Core.Bool.{true}
+use lib.ListN.{length}
+use native.Mathlib.Omega.{arith}
+use Rattle.reading.specs.Reads.{small-by-index}
+use borrow.Author.Needs.{needs}
+use Rattle.theorems.proofs.Laws.{load-exact}
+use Rattle.theorems.proofs.load_columns_exact.Statement.{statement}
+use Rattle.theorems.proofs.load_columns_exact.Tie as tie
+
+load-columns-requires : tie.Need-load-columns-requires
+load-columns-requires c κs = search needs
+
+same-length : tie.Need-same-length
+same-length c = search needs
+
+returns : tie.Need-returns
+returns c =
+    let file = c .before .before .before .before .before .before .args .file .now in
+    load-exact file (length (c .before .before .before .before .before .before .args .words .now)) true
+    (small-by-index file (λ i h. omega (arith, c .before .before .before .before .before .shared-slice-known .given i)))
+    (c .before .before .load-columns .ensures .0)
+    (c .before .before .load-columns .ensures .1)
+
+pub load-columns-exact-spec : {M : Type 1} → statement M
+load-columns-exact-spec = tie.close (tie.spec load-columns-requires same-length returns)
