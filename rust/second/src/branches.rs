@@ -1,15 +1,15 @@
-//! The rule of Req 09 over the words of a table.
+//! The rule of Req 09 over the words of a table in either shape.
 
-use crate::row::{room, row_at, Row};
+use crate::row::Row;
+use crate::table::Table;
 
 /// The first used row that breaks the rule, if one does; the first rows of the table are used.
 ///
 /// "The rows that name a used row as parent are as many as its children; the first is the next row, each
 /// other one stands the former's count further on, and its own count ends with the last (1 if none)."
-pub fn broken_branch(words: &[u32], used: usize) -> Option<usize> {
-    let rows: Vec<Row> = (0..room(words))
-        .filter_map(|it| row_at(words, it))
-        .collect();
+pub fn broken_branch(table: Table, used: usize) -> Option<usize> {
+    let numbers = 0..table.room();
+    let rows: Vec<Row> = numbers.filter_map(|number| table.row(number)).collect();
     let mut naming = vec![Vec::new(); used];
     for (number, row) in rows.iter().enumerate() {
         let parent = row.parent.checked_sub(1);

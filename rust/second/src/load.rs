@@ -7,8 +7,9 @@ use crate::name::parse_name;
 use crate::refusal::{
     demand, refuse, Refusal, LEFT_OVER, NAME_GRAMMAR, NAME_HEAD, READER_VERSION, TOO_LARGE,
 };
-use crate::row::{fill, room, Row, WORDS_PER_ROW};
+use crate::row::{Row, WORDS_PER_ROW};
 use crate::seven::Seven;
+use crate::table::{fill, room, Shape};
 use crate::types::{reader_target, Type};
 use crate::walk::{Spot, Walk};
 
@@ -33,12 +34,17 @@ pub struct Read {
     pub sevens: Vec<(usize, Seven)>,
 }
 
-/// Loads a file and leaves its rows in the words, with zeros in every other word.
+/// Loads a file into the table of 01.
 pub fn load(file: &[u8], words: &mut [u32]) -> Result<Loaded, Refusal> {
+    load_in(Shape::Rows, file, words)
+}
+
+/// Loads a file and leaves its rows in the words, with zeros in every other word.
+pub fn load_in(shape: Shape, file: &[u8], words: &mut [u32]) -> Result<Loaded, Refusal> {
     let answer = read_file(file, room(words));
     match answer {
         Ok(read) => {
-            fill(words, &read.rows);
+            fill(shape, words, &read.rows);
             Ok(read.loaded)
         }
         Err(refusal) => {

@@ -2,13 +2,13 @@
 
 use crate::kinds::{INT16, INT32, INT64, SBYTE, STRING, TIME_SPAN};
 use crate::refusal::{refuse, Refusal, NO_SUCH_ROW, OTHER_KIND};
-use crate::row::{room, row_at};
 use crate::seven::read_seven;
+use crate::table::Table;
 use crate::ticks::{split_ticks, Time};
 
 /// The part of the file that a row names.
-pub fn part<'f>(file: &'f [u8], words: &[u32], row: usize) -> Result<&'f [u8], Refusal> {
-    let Some(found) = row_at(words, row) else {
+pub fn part<'f>(file: &'f [u8], table: Table, row: usize) -> Result<&'f [u8], Refusal> {
+    let Some(found) = table.row(row) else {
         return refuse(NO_SUCH_ROW, row);
     };
     let first = u64::from(found.first);
@@ -20,9 +20,9 @@ pub fn part<'f>(file: &'f [u8], words: &[u32], row: usize) -> Result<&'f [u8], R
 }
 
 /// The bytes of a text, behind its type id and its count.
-pub fn text<'f>(file: &'f [u8], words: &[u32], row: usize) -> Result<&'f [u8], Refusal> {
-    let part = part(file, words, row)?;
-    if kind_of(words, row) != Some(STRING) {
+pub fn text<'f>(file: &'f [u8], table: Table, row: usize) -> Result<&'f [u8], Refusal> {
+    let part = part(file, table, row)?;
+    if kind_of(table, row) != Some(STRING) {
         return refuse(OTHER_KIND, row);
     }
     match text_in(part) {
@@ -44,9 +44,9 @@ fn text_in(part: &[u8]) -> Option<&[u8]> {
 }
 
 /// The signed number in the last bytes of the part.
-pub fn signed(file: &[u8], words: &[u32], row: usize) -> Result<i64, Refusal> {
-    let part = part(file, words, row)?;
-    let size = match kind_of(words, row) {
+pub fn signed(file: &[u8], table: Table, row: usize) -> Result<i64, Refusal> {
+    let part = part(file, table, row)?;
+    let size = match kind_of(table, row) {
         Some(SBYTE) => 1,
         Some(INT16) => 2,
         Some(INT32) => 4,
@@ -60,9 +60,9 @@ pub fn signed(file: &[u8], words: &[u32], row: usize) -> Result<i64, Refusal> {
 }
 
 /// The time of a TimeSpan.
-pub fn time(file: &[u8], words: &[u32], row: usize) -> Result<Time, Refusal> {
-    let ticks = signed(file, words, row)?;
-    if kind_of(words, row) != Some(TIME_SPAN) {
+pub fn time(file: &[u8], table: Table, row: usize) -> Result<Time, Refusal> {
+    let ticks = signed(file, table, row)?;
+    if kind_of(table, row) != Some(TIME_SPAN) {
         return refuse(OTHER_KIND, row);
     }
     Ok(split_ticks(ticks))
@@ -71,10 +71,10 @@ pub fn time(file: &[u8], words: &[u32], row: usize) -> Result<Time, Refusal> {
 /// The row number behind a row and all below it.
 ///
 /// There is none if the row is not below the room, or if its count is 0 or ends past the room.
-pub fn next(words: &[u32], row: usize) -> Option<usize> {
-    let rows = row_at(words, row)?.rows as usize;
+pub fn next(table: Table, row: usize) -> Option<usize> {
+    let rows = table.row(row)?.rows as usize;
     let behind = row.checked_add(rows)?;
-    if rows > 0 && behind <= room(words) {
+    if rows > 0 && behind <= table.room() {
         Some(behind)
     } else {
         None
@@ -89,6 +89,6 @@ fn sign_extended(bytes: &[u8]) -> i64 {
     i64::from_le_bytes(extended)
 }
 
-fn kind_of(words: &[u32], row: usize) -> Option<u32> {
-    row_at(words, row).map(|row| row.kind)
+fn kind_of(table: Table, row: usize) -> Option<u32> {
+    table.row(row).map(|row| row.kind)
 }

@@ -2,8 +2,8 @@
 
 use crate::load::{read_file, Read};
 use crate::refusal::{refuse, Refusal, OUTPUT_TOO_SMALL};
-use crate::row::{fill, room};
 use crate::seven::shortest_seven;
+use crate::table::{fill, room, Shape};
 
 /// Writes the shortened file to the start of the output and answers its length.
 ///
@@ -17,7 +17,7 @@ pub fn rewrite(file: &[u8], words: &mut [u32], out: &mut [u8]) -> Result<usize, 
         return refuse(OUTPUT_TOO_SMALL, shortened.len());
     }
     out[..shortened.len()].copy_from_slice(&shortened);
-    fill(words, &read.rows);
+    fill(Shape::Rows, words, &read.rows);
     Ok(shortened.len())
 }
 

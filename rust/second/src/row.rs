@@ -1,7 +1,6 @@
-//! The row table.
+//! Rows of the table.
 
 pub const WORDS_PER_ROW: usize = 7;
-const MOST_ROWS: usize = 65_536;
 
 /// One value of the file, as the table tells it.
 #[derive(Clone, Copy, Debug, PartialEq, Eq)]
@@ -31,8 +30,8 @@ impl Row {
         ]
     }
 
-    pub fn of_words(words: &[u32; WORDS_PER_ROW]) -> Row {
-        let &[kind, first, length, children, parent, detail, rows] = words;
+    pub fn of_words(words: [u32; WORDS_PER_ROW]) -> Row {
+        let [kind, first, length, children, parent, detail, rows] = words;
         Row {
             kind,
             first,
@@ -42,28 +41,5 @@ impl Row {
             detail,
             rows,
         }
-    }
-}
-
-/// How many rows the lent words have room for.
-pub fn room(words: &[u32]) -> usize {
-    (words.len() / WORDS_PER_ROW).min(MOST_ROWS)
-}
-
-/// A row of the table, unless the room ends before it.
-pub fn row_at(words: &[u32], number: usize) -> Option<Row> {
-    if number < room(words) {
-        let (rows, _) = words.as_chunks();
-        rows.get(number).map(Row::of_words)
-    } else {
-        None
-    }
-}
-
-/// Writes the rows and zeros behind them.
-pub fn fill(words: &mut [u32], rows: &[Row]) {
-    words.fill(0);
-    for (row, place) in rows.iter().zip(words.chunks_exact_mut(WORDS_PER_ROW)) {
-        place.copy_from_slice(&row.words());
     }
 }

@@ -1,11 +1,17 @@
 //! The rule of Req 09: how many rows a value has with all below it.
 
-use second::{broken_branch, load, next, WORDS_PER_ROW};
+use second::{broken_branch, load_in, next, Shape, Table, WORDS_PER_ROW};
 
-/// A table of these rows, each given by its children, its parent plus 1 and its count.
-fn table(rows: &[[u32; 3]]) -> Vec<u32> {
-    let row = |[children, parent, count]: &[u32; 3]| [18, 9, 9, *children, *parent, 1, *count];
-    rows.iter().flat_map(row).collect()
+/// The words of these rows, each given by its children, its parent plus 1 and its count, and zeros behind them.
+fn table(shape: Shape, rows: &[[u32; 3]], room: usize) -> Vec<u32> {
+    let mut words = vec![0; WORDS_PER_ROW * room];
+    for (number, [children, parent, count]) in rows.iter().enumerate() {
+        let row = [18, 9, 9, *children, *parent, 1, *count];
+        for (column, word) in row.into_iter().enumerate() {
+            words[shape.place(room, number, column)] = word;
+        }
+    }
+    words
 }
 
 /// A name, the rows and the first of them that breaks the rule.
@@ -58,66 +64,85 @@ fn each_part_of_the_rule_is_judged() {
         ),
     ];
     for (name, rows, expected) in cases {
-        assert_eq!(broken_branch(&table(rows), rows.len()), expected, "{name}");
+        for shape in Shape::BOTH {
+            let words = table(shape, rows, rows.len());
+            let broken = broken_branch(Table::new(shape, &words), rows.len());
+            assert_eq!(broken, expected, "{shape:?}: {name}");
+        }
     }
 }
 
 #[test]
 fn rows_past_the_used_ones_are_no_children() {
-    let used = [[1, 0, 2], [0, 1, 1]];
-    let mut words = table(&used);
-    words.extend([0; 2 * WORDS_PER_ROW + 3]);
-    assert_eq!(broken_branch(&words, 2), None);
-    words[3 * WORDS_PER_ROW + 4] = 1;
-    assert_eq!(broken_branch(&words, 2), Some(0));
-    assert_eq!(broken_branch(&words[..WORDS_PER_ROW], 2), Some(0));
-    assert_eq!(broken_branch(&[], 1), Some(0));
+    for shape in Shape::BOTH {
+        let mut words = table(shape, &[[1, 0, 2], [0, 1, 1]], 4);
+        let broken = |words: &[u32]| broken_branch(Table::new(shape, words), 2);
+        assert_eq!(broken(&words), None);
+        words[shape.place(4, 3, 4)] = 1;
+        assert_eq!(broken(&words), Some(0));
+        // The used rows do not fit.
+        assert_eq!(broken(&table(shape, &[[1, 0, 2]], 1)), Some(0));
+        assert_eq!(broken(&[]), Some(0));
+    }
 }
 
-/// The words of a sample, and how many rows are used.
-fn loaded(file: &[u8]) -> (Vec<u32>, usize) {
-    let mut words = vec![7; WORDS_PER_ROW * 1024 + 3];
-    let used = load(file, &mut words).map_or(0, |it| it.rows);
+const ROOM: usize = 1024;
+
+/// The words of a sample, with room for 1,024 rows and three words in excess, and how many rows are used.
+fn loaded(shape: Shape, file: &[u8]) -> (Vec<u32>, usize) {
+    let mut words = vec![7; WORDS_PER_ROW * ROOM + 3];
+    let used = load_in(shape, file, &mut words).map_or(0, |it| it.rows);
     (words, used)
 }
 
 #[test]
 fn every_table_keeps_the_rule_and_loses_it_with_one_word_changed() {
+    for shape in Shape::BOTH {
+        let samples = corpus::samples();
+        let changed: usize = samples
+            .iter()
+            .map(|it| change_words(shape, it.name.as_ref(), &it.bytes))
+            .sum();
+        assert!(changed > 5_000, "only {changed} words");
+    }
+}
+
+/// Changes counts of children and of rows, one at a time; a large table is tried at some rows only.
+fn change_words(shape: Shape, name: &str, file: &[u8]) -> usize {
     let mut changed = 0;
-    for sample in corpus::samples() {
-        let (mut words, used) = loaded(&sample.bytes);
-        assert_eq!(broken_branch(&words, used), None, "{}", sample.name);
-        // A large table is tried at some rows only.
-        for row in (0..used).step_by(1 + used / 20) {
-            for column in [3, 6] {
-                let word = WORDS_PER_ROW * row + column;
-                for other in [words[word] + 1, words[word].wrapping_sub(1), u32::MAX] {
-                    let right = std::mem::replace(&mut words[word], other);
-                    let told = format!("{}: row {row}, word {column}", sample.name);
-                    assert!(broken_branch(&words, used).is_some(), "{told}");
-                    words[word] = right;
-                    changed += 1;
-                }
+    let (mut words, used) = loaded(shape, file);
+    let broken = |words: &[u32]| broken_branch(Table::new(shape, words), used);
+    assert_eq!(broken(&words), None, "{shape:?}: {name}");
+    for row in (0..used).step_by(1 + used / 20) {
+        for column in [3, 6] {
+            let word = shape.place(ROOM, row, column);
+            for other in [words[word] + 1, words[word].wrapping_sub(1), u32::MAX] {
+                let right = std::mem::replace(&mut words[word], other);
+                let told = format!("{shape:?}: {name}: row {row}, word {column}");
+                assert!(broken(&words).is_some(), "{told}");
+                words[word] = right;
+                changed += 1;
             }
         }
     }
-    assert!(changed > 5_000, "only {changed} words");
+    changed
 }
 
 #[test]
 fn next_leads_from_object_to_object_and_to_the_end() {
     for sample in corpus::samples() {
-        let (words, used) = loaded(&sample.bytes);
-        let words = &words[..WORDS_PER_ROW * used];
-        let objects = std::iter::successors(Some(0), |row| next(words, *row));
-        let objects: Vec<usize> = objects.take_while(|row| *row < used).collect();
-        let rows = words.chunks_exact(WORDS_PER_ROW).enumerate();
-        let without_parent = rows.filter(|(_, row)| row[4] == 0);
-        let expected: Vec<usize> = without_parent.map(|(number, _)| number).collect();
-        assert_eq!(objects, expected, "{}", sample.name);
-        for row in 0..used {
-            let count = words[WORDS_PER_ROW * row + 6] as usize;
-            assert_eq!(next(words, row), Some(row + count), "{}", sample.name);
+        for shape in Shape::BOTH {
+            let (words, used) = loaded(shape, &sample.bytes);
+            let table = Table::new(shape, &words);
+            let row = |number| table.row(number).expect("a used row");
+            let objects = std::iter::successors(Some(0), |row| next(table, *row));
+            let objects = objects.take_while(|row| *row < used);
+            let without_parent = (0..used).filter(|number| row(*number).parent == 0);
+            assert!(objects.eq(without_parent), "{}", sample.name);
+            for number in 0..used {
+                let behind = number + row(number).rows as usize;
+                assert_eq!(next(table, number), Some(behind), "{}", sample.name);
+            }
         }
     }
 }

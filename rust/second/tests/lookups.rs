@@ -1,16 +1,18 @@
-//! Looking up parts, texts and signed numbers.
+//! Looking up parts, texts and signed numbers, in tables of both shapes.
 
 use corpus::readers::{list_of, BYTE, INT16, INT32, INT64, SBYTE, STRING, TIME_SPAN};
 use corpus::values::*;
 use corpus::writer::write;
-use second::{load, next, part, signed, text as text_of, time, Refusal, Time, WORDS_PER_ROW};
+use second::{
+    load_in, next, part, signed, text as text_of, time, Refusal, Shape, Table, Time, WORDS_PER_ROW,
+};
 
 fn refused<T>(number: u32, row: usize) -> Result<T, Refusal> {
     Err(Refusal { number, place: row })
 }
 
 /// A list of one text and signed numbers, loaded with room for two rows too many.
-fn loaded() -> (Vec<u8>, Vec<u32>) {
+fn loaded(shape: Shape) -> (Vec<u8>, Vec<u32>) {
     let names = [
         list_of("System.Object"),
         STRING.to_string(),
@@ -33,106 +35,125 @@ fn loaded() -> (Vec<u8>, Vec<u32>) {
     ];
     let file = write(&file(&names, object(1, list(elements)), vec![])).bytes;
     let mut words = vec![0; WORDS_PER_ROW * 11 + 6];
-    load(&file, &mut words).expect("a lawful file");
+    load_in(shape, &file, &mut words).expect("a lawful file");
     (file, words)
+}
+
+/// Looks up in the table of that list, in each shape.
+fn in_both_shapes(look_up: fn(&[u8], Table)) {
+    for shape in Shape::BOTH {
+        let (file, words) = loaded(shape);
+        look_up(&file, Table::new(shape, &words));
+    }
+}
+
+/// A table of one row, whose words stand alike in both shapes.
+fn alone(row: &[u32]) -> Table<'_> {
+    Table::new(Shape::Columns, row)
 }
 
 #[test]
 fn parts() {
-    let (file, words) = loaded();
-    assert_eq!(
-        part(&file, &words, 2),
-        Ok(&[0x83, 0x80, 0x80, 0x80, 0, 0xFF][..])
-    );
-    assert_eq!(part(&file, &words, 8), Ok(&[0][..]));
-    let whole = part(&file, &words, 0).expect("the list");
-    assert_eq!(whole, &file[words[1] as usize..]);
-    assert_eq!(part(&file, &words, 9), refused(23, 9));
-    assert_eq!(part(&file, &words, 11), refused(23, 11));
-    assert_eq!(part(&file, &words, usize::MAX), refused(23, usize::MAX));
-    let shorter = &file[..file.len() - 1];
-    assert_eq!(part(shorter, &words, 8), refused(23, 8));
+    in_both_shapes(|file, table| {
+        let padded = [0x83, 0x80, 0x80, 0x80, 0, 0xFF];
+        assert_eq!(part(file, table, 2), Ok(&padded[..]));
+        assert_eq!(part(file, table, 8), Ok(&[0][..]));
+        let whole = part(file, table, 0).expect("the list");
+        let first = table.row(0).expect("the list").first;
+        assert_eq!(whole, &file[first as usize..]);
+        assert_eq!(part(file, table, 9), refused(23, 9));
+        assert_eq!(part(file, table, 11), refused(23, 11));
+        assert_eq!(part(file, table, usize::MAX), refused(23, usize::MAX));
+        let shorter = &file[..file.len() - 1];
+        assert_eq!(part(shorter, table, 8), refused(23, 8));
+    });
 }
 
 #[test]
 fn parts_of_tables_that_no_load_left() {
     let file = [1, 2, 3, 4];
     let row = |first, length| [0, first, length, 0, 0, 0, 0];
-    assert_eq!(part(&file, &row(1, 3), 0), Ok(&[2, 3, 4][..]));
-    assert_eq!(part(&file, &row(1, 4), 0), refused(23, 0));
-    assert_eq!(part(&file, &row(4, 0), 0), refused(23, 0));
-    assert_eq!(part(&file, &row(u32::MAX, 1), 0), refused(23, 0));
-    assert_eq!(part(&file, &row(1, u32::MAX), 0), refused(23, 0));
-    assert_eq!(part(&file, &row(u32::MAX, u32::MAX), 0), refused(23, 0));
-    assert_eq!(part(&file, &row(0, 1)[..6], 0), refused(23, 0));
+    assert_eq!(part(&file, alone(&row(1, 3)), 0), Ok(&[2, 3, 4][..]));
+    assert_eq!(part(&file, alone(&row(1, 4)), 0), refused(23, 0));
+    assert_eq!(part(&file, alone(&row(4, 0)), 0), refused(23, 0));
+    for (first, length) in [(u32::MAX, 1), (1, u32::MAX), (u32::MAX, u32::MAX)] {
+        assert_eq!(part(&file, alone(&row(first, length)), 0), refused(23, 0));
+    }
+    assert_eq!(part(&file, alone(&row(0, 1)[..6]), 0), refused(23, 0));
     let many = vec![1; WORDS_PER_ROW * 65_537];
-    assert!(part(&file, &many, 65_535).is_ok());
-    assert_eq!(part(&file, &many, 65_536), refused(23, 65_536));
+    for shape in Shape::BOTH {
+        let many = Table::new(shape, &many);
+        assert!(part(&file, many, 65_535).is_ok());
+        assert_eq!(part(&file, many, 65_536), refused(23, 65_536));
+    }
 }
 
 #[test]
 fn texts() {
-    let (file, words) = loaded();
-    assert_eq!(text_of(&file, &words, 1), Ok("größer".as_bytes()));
-    assert_eq!(text_of(&file, &words, 0), refused(24, 0));
-    assert_eq!(text_of(&file, &words, 8), refused(24, 8));
-    assert_eq!(text_of(&file, &words, 9), refused(23, 9));
-    let row = |length| [13, 0, length, 0, 0, 1, 1];
-    assert_eq!(text_of(&[0, 1, b'x'], &row(3), 0), Ok(&b"x"[..]));
-    assert_eq!(text_of(&[9, 0], &row(2), 0), Ok(&b""[..]));
-    assert_eq!(text_of(&[1, 2, b'x'], &row(3), 0), refused(24, 0));
-    assert_eq!(text_of(&[1, 0, b'x'], &row(3), 0), refused(24, 0));
-    assert_eq!(text_of(&[0x81, 0], &row(1), 0), refused(24, 0));
-    assert_eq!(text_of(&[1, 0x80], &row(2), 0), refused(24, 0));
-    assert_eq!(text_of(&[1], &row(1), 0), refused(24, 0));
-    let broken = [1, 0x80, 0x80, 0x80, 0x80, 0x10];
-    assert_eq!(text_of(&broken, &row(6), 0), refused(24, 0));
+    in_both_shapes(|file, table| {
+        assert_eq!(text_of(file, table, 1), Ok("größer".as_bytes()));
+        assert_eq!(text_of(file, table, 0), refused(24, 0));
+        assert_eq!(text_of(file, table, 8), refused(24, 8));
+        assert_eq!(text_of(file, table, 9), refused(23, 9));
+    });
+    let of_length = |length| [13, 0, length, 0, 0, 1, 1];
+    let text_in = |part: &'static [u8]| text_of(part, alone(&of_length(part.len() as u32)), 0);
+    assert_eq!(text_in(&[0, 1, b'x']), Ok(&b"x"[..]));
+    assert_eq!(text_in(&[9, 0]), Ok(&b""[..]));
+    assert_eq!(text_in(&[1, 2, b'x']), refused(24, 0));
+    assert_eq!(text_in(&[1, 0, b'x']), refused(24, 0));
+    assert_eq!(text_in(&[1, 0x80]), refused(24, 0));
+    assert_eq!(text_in(&[1]), refused(24, 0));
+    assert_eq!(text_in(&[1, 0x80, 0x80, 0x80, 0x80, 0x10]), refused(24, 0));
+    // The part ends inside the type id.
+    assert_eq!(text_of(&[0x81, 0], alone(&of_length(1)), 0), refused(24, 0));
 }
 
 #[test]
 fn signed_numbers() {
-    let (file, words) = loaded();
-    assert_eq!(signed(&file, &words, 2), Ok(-1));
-    assert_eq!(signed(&file, &words, 3), Ok(-2));
-    assert_eq!(signed(&file, &words, 4), Ok(i64::from(i32::MIN)));
-    assert_eq!(signed(&file, &words, 5), Ok(i64::MIN));
-    assert_eq!(signed(&file, &words, 6), Ok(77));
-    assert_eq!(signed(&file, &words, 7), refused(24, 7));
-    assert_eq!(signed(&file, &words, 9), refused(23, 9));
-    let row = |kind, length| [kind, 0, length, 0, 0, 0, 1];
-    let bytes = [0x80; 8];
-    assert_eq!(signed(&bytes, &row(3, 1), 0), refused(24, 0));
-    assert_eq!(signed(&bytes, &row(5, 3), 0), refused(24, 0));
-    assert_eq!(signed(&bytes, &row(7, 7), 0), refused(24, 0));
-    assert_eq!(signed(&bytes, &row(20, 7), 0), refused(24, 0));
-    assert_eq!(signed(&bytes, &row(2, 8), 0), Ok(-128));
+    in_both_shapes(|file, table| {
+        assert_eq!(signed(file, table, 2), Ok(-1));
+        assert_eq!(signed(file, table, 3), Ok(-2));
+        assert_eq!(signed(file, table, 4), Ok(i64::from(i32::MIN)));
+        assert_eq!(signed(file, table, 5), Ok(i64::MIN));
+        assert_eq!(signed(file, table, 6), Ok(77));
+        assert_eq!(signed(file, table, 7), refused(24, 7));
+        assert_eq!(signed(file, table, 9), refused(23, 9));
+    });
+    let signed_in = |kind, length| signed(&[0x80; 8], alone(&[kind, 0, length, 0, 0, 0, 1]), 0);
+    for (kind, length) in [(3, 1), (5, 3), (7, 7), (20, 7)] {
+        assert_eq!(signed_in(kind, length), refused(24, 0));
+    }
+    assert_eq!(signed_in(2, 8), Ok(-128));
 }
 
 #[test]
 fn times() {
-    let (file, words) = loaded();
-    let (seconds, ticks) = (0, 77);
-    assert_eq!(time(&file, &words, 6), Ok(Time { seconds, ticks }));
-    assert_eq!(time(&file, &words, 5), refused(24, 5));
-    assert_eq!(time(&file, &words, 7), refused(24, 7));
-    assert_eq!(time(&file, &words, 9), refused(23, 9));
-    let row = |length| [20, 0, length, 0, 0, 0, 1];
+    in_both_shapes(|file, table| {
+        let (seconds, ticks) = (0, 77);
+        assert_eq!(time(file, table, 6), Ok(Time { seconds, ticks }));
+        assert_eq!(time(file, table, 5), refused(24, 5));
+        assert_eq!(time(file, table, 7), refused(24, 7));
+        assert_eq!(time(file, table, 9), refused(23, 9));
+    });
+    let time_in = |length| time(&[0xFF; 8], alone(&[20, 0, length, 0, 0, 0, 1]), 0);
     let (seconds, ticks) = (-1, 9_999_999);
-    assert_eq!(time(&[0xFF; 8], &row(8), 0), Ok(Time { seconds, ticks }));
-    assert_eq!(time(&[0xFF; 8], &row(7), 0), refused(24, 0));
+    assert_eq!(time_in(8), Ok(Time { seconds, ticks }));
+    assert_eq!(time_in(7), refused(24, 0));
 }
 
 #[test]
 fn next_rows() {
-    let (_, words) = loaded();
-    assert_eq!(next(&words, 0), Some(9));
-    for row in 1..9 {
-        assert_eq!(next(&words, row), Some(row + 1));
-    }
-    // Zero rows and rows past the room.
-    for row in [9, 10, 11, 12, usize::MAX] {
-        assert_eq!(next(&words, row), None, "row {row}");
-    }
+    in_both_shapes(|_, table| {
+        assert_eq!(next(table, 0), Some(9));
+        for row in 1..9 {
+            assert_eq!(next(table, row), Some(row + 1));
+        }
+        // Zero rows and rows past the room.
+        for row in [9, 10, 11, 12, usize::MAX] {
+            assert_eq!(next(table, row), None, "row {row}");
+        }
+    });
 }
 
 #[test]
@@ -148,12 +169,15 @@ fn next_rows_of_tables_that_no_load_left() {
         (3, 2, u32::MAX, None),
         (3, 1, u32::MAX - 1, None),
     ];
-    for (room, row, count, expected) in cases {
-        let mut words = vec![u32::MAX; WORDS_PER_ROW * room];
-        words[WORDS_PER_ROW * row + 6] = count;
-        let told = format!("row {row} of {room} with count {count}");
-        assert_eq!(next(&words, row), expected, "{told}");
-        assert_eq!(next(&words[1..], room - 1), None, "{told}");
+    for shape in Shape::BOTH {
+        for (room, row, count, expected) in cases {
+            let mut words = vec![u32::MAX; WORDS_PER_ROW * room];
+            words[shape.place(room, row, 6)] = count;
+            let told = format!("{shape:?}: row {row} of {room} with count {count}");
+            assert_eq!(next(Table::new(shape, &words), row), expected, "{told}");
+            let shorter = Table::new(shape, &words[1..]);
+            assert_eq!(next(shorter, room - 1), None, "{told}");
+        }
+        assert_eq!(next(Table::new(shape, &[]), 0), None);
     }
-    assert_eq!(next(&[], 0), None);
 }
