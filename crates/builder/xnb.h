@@ -4,7 +4,8 @@
    else that it is given.
 
    A packed answer is the refusal's number (0 if there is none) times 2 to the 32, plus the refusal's place, or the number
-   of rows. Any other answer is the refusal's number, or 0; those of xnb_next and xnb_pack_find are told there. */
+   of rows. Any other answer is the refusal's number, or 0; those of xnb_next, xnb_columns_next and xnb_pack_find
+   are told there. */
 #ifndef XNB_H
 #define XNB_H
 
@@ -56,6 +57,35 @@ uint32_t xnb_time(const uint8_t *file, size_t file_length, const uint32_t *words
    the row is not below the room, which is the number of whole rows in the words and at most 65,536, or if the seventh word is
    0 or ends past the room. It is no refusal's number. */
 uint32_t xnb_next(const uint32_t *words, size_t words_length, uint32_t row);
+
+/* The entries below have the rows of the entries above in columns: all kinds first, then all first bytes, and so on in the
+   order of a row's seven words. Each column is as long as the room, which is the number of words divided by seven, rounded
+   down, and at most 65,536: word j of row i, both counted from 0, is words[i + room * j]. */
+
+/* Loads an XNB file as xnb_load_rows does: with as many words lent, every answer is the same and every row has the same
+   number. Every word of a row that is not used is zero, and so is every word in excess of the seven columns; on a refusal
+   all words are zero. */
+uint64_t xnb_load_columns(const uint8_t *file, size_t file_length, uint32_t *words, size_t words_length,
+                          uint32_t *readers, uint32_t *shared);
+
+/* As xnb_part, in words that xnb_load_columns left. */
+uint32_t xnb_columns_part(const uint8_t *file, size_t file_length, const uint32_t *words, size_t words_length,
+                          uint32_t row, size_t *first, size_t *length);
+
+/* As xnb_text, in words that xnb_load_columns left. */
+uint32_t xnb_columns_text(const uint8_t *file, size_t file_length, const uint32_t *words, size_t words_length,
+                          uint32_t row, size_t *first, size_t *length);
+
+/* As xnb_signed, in words that xnb_load_columns left. */
+uint32_t xnb_columns_signed(const uint8_t *file, size_t file_length, const uint32_t *words, size_t words_length,
+                            uint32_t row, int64_t *value);
+
+/* As xnb_time, in words that xnb_load_columns left. */
+uint32_t xnb_columns_time(const uint8_t *file, size_t file_length, const uint32_t *words, size_t words_length,
+                          uint32_t row, int64_t *seconds, uint32_t *ticks);
+
+/* As xnb_next, in words of any content that are read in columns. */
+uint32_t xnb_columns_next(const uint32_t *words, size_t words_length, uint32_t row);
 
 /* The entries below take a pack of any length: a count of files in four bytes, and for each file a path behind its length
    as a seven-bit number, its size in four bytes, and its data. A table has four words for each file: where its path starts,
