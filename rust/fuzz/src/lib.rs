@@ -2,7 +2,7 @@
 //!
 //! `case(seed)` gives one file; equal seeds give equal files.
 //! `limits::cases()` gives files at every bound of 01 and just past it.
-//! `tables::case(seed)` gives a table that no loader left.
+//! `tables::case(seed)` gives a table that no loader left, and `tables::in_columns` puts a table into columns.
 
 mod aimed;
 mod blind;

@@ -1,9 +1,23 @@
-//! Tables that no loader left, to ask for the row behind a row and all below it.
+//! Tables that no loader left, to ask for the row behind a row and all below it; tables by rows put into columns.
 
 use crate::random::Random;
 use corpus::writer::WORDS_PER_ROW;
 
-/// Any words, a row number, and the row number behind it and all below it, or 0.
+/// A table can name no more rows.
+pub const MOST_ROWS: usize = 65_536;
+
+/// The same rows in columns: all kinds first, then all first bytes, and so on, each column as long as the room.
+///
+/// Words in excess of the rows stay where they are.
+pub fn in_columns(by_rows: &[u32]) -> Vec<u32> {
+    let room = (by_rows.len() / WORDS_PER_ROW).min(MOST_ROWS);
+    let (rows, excess) = by_rows.split_at(WORDS_PER_ROW * room);
+    let column = |word| rows.iter().skip(word).step_by(WORDS_PER_ROW);
+    let columns = (0..WORDS_PER_ROW).flat_map(column);
+    columns.chain(excess).copied().collect()
+}
+
+/// Any words by rows, a row number, and the row number behind it and all below it, or 0.
 #[derive(Clone, Debug)]
 pub struct TableCase {
     pub words: Vec<u32>,

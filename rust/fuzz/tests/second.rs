@@ -1,8 +1,9 @@
 //! The second loader over generated files.
 
 use fuzz::limits::cases;
+use fuzz::tables::in_columns;
 use fuzz::{case, Case, Known};
-use second::{broken_branch, load, rewrite, Loaded, Refusal, WORDS_PER_ROW};
+use second::{broken_branch, load, load_in, rewrite, Loaded, Refusal, Shape, Table, WORDS_PER_ROW};
 use std::collections::BTreeMap;
 
 /// How many files are tried; FUZZ_FILES in the environment asks for another number.
@@ -44,8 +45,21 @@ fn check(name: &str, case: &Case) -> u32 {
     let used = answer.map_or(0, |loaded| loaded.rows);
     let unused = &words[WORDS_PER_ROW * used..];
     assert!(unused.iter().all(|&word| word == 0), "{name}");
-    assert_eq!(broken_branch(&words, used), None, "{name}");
+    let rows = Table::new(Shape::Rows, &words);
+    assert_eq!(broken_branch(rows, used), None, "{name}");
+    check_columns(name, case, answer, &words);
     answer.map_or_else(|refusal| refusal.number, |_| 0)
+}
+
+/// The table in columns has the answer and the rows of the table by rows.
+fn check_columns(name: &str, case: &Case, answer: Result<Loaded, Refusal>, by_rows: &[u32]) {
+    let mut columns = vec![0x5555_5555; case.words];
+    let columns_answer = load_in(Shape::Columns, &case.bytes, &mut columns);
+    assert_eq!(columns_answer, answer, "{name}");
+    assert!(columns == in_columns(by_rows), "{name}: other columns");
+    let used = answer.map_or(0, |loaded| loaded.rows);
+    let columns = Table::new(Shape::Columns, &columns);
+    assert_eq!(broken_branch(columns, used), None, "{name}");
 }
 
 #[test]
