@@ -3,6 +3,7 @@
 use crate::raw;
 use crate::refusal::Refused;
 use crate::row::full_words;
+use crate::shape::Shape;
 
 /// What an accepted file holds.
 #[derive(Clone, Copy, Debug, PartialEq, Eq)]
@@ -24,17 +25,6 @@ pub fn count_rows(file: &[u8]) -> Result<usize, Refused> {
     unpacked(raw::load(file))
 }
 
-/// Loads a file into lent words, [`WORDS_PER_ROW`](crate::WORDS_PER_ROW) to a row; words past its rows are zero,
-/// and all after a refusal.
-pub fn load(file: &[u8], words: &mut [u32]) -> Result<Loaded, Refused> {
-    let (answer, readers, shared) = raw::load_rows(file, words);
-    Ok(Loaded {
-        rows: unpacked(answer)?,
-        readers: readers as usize,
-        shared: shared as usize,
-    })
-}
-
 /// Writes the shortest form of a file to the start of the output and answers its length.
 ///
 /// The words are left as by a load of the file; the output is untouched after a refusal.
@@ -51,40 +41,52 @@ pub fn shorten(file: &[u8]) -> Result<Vec<u8>, Refused> {
     Ok(out)
 }
 
-/// The part of the file that a row names.
-pub fn part<'f>(file: &'f [u8], words: &[u32], row: u32) -> Result<&'f [u8], Refused> {
-    let (refusal, first, length) = raw::part(file, words, row);
-    Refused::check(refusal, row)?;
-    Ok(&file[first..first + length])
-}
+impl Shape {
+    /// Loads a file into lent words, [`WORDS_PER_ROW`](crate::WORDS_PER_ROW) to a row; every other word is zero,
+    /// and all are after a refusal.
+    pub fn load(self, file: &[u8], words: &mut [u32]) -> Result<Loaded, Refused> {
+        let (answer, readers, shared) = raw::load_table(self, file, words);
+        Ok(Loaded {
+            rows: unpacked(answer)?,
+            readers: readers as usize,
+            shared: shared as usize,
+        })
+    }
 
-/// The bytes of a text.
-pub fn text<'f>(file: &'f [u8], words: &[u32], row: u32) -> Result<&'f [u8], Refused> {
-    let (refusal, first, length) = raw::text(file, words, row);
-    Refused::check(refusal, row)?;
-    Ok(&file[first..first + length])
-}
+    /// The part of the file that a row names.
+    pub fn part<'f>(self, file: &'f [u8], words: &[u32], row: u32) -> Result<&'f [u8], Refused> {
+        let (refusal, first, length) = raw::part(self, file, words, row);
+        Refused::check(refusal, row)?;
+        Ok(&file[first..first + length])
+    }
 
-/// A number of kind SByte, Int16, Int32, Int64 or TimeSpan.
-pub fn signed(file: &[u8], words: &[u32], row: u32) -> Result<i64, Refused> {
-    let (refusal, value) = raw::signed(file, words, row);
-    Refused::check(refusal, row)?;
-    Ok(value)
-}
+    /// The bytes of a text.
+    pub fn text<'f>(self, file: &'f [u8], words: &[u32], row: u32) -> Result<&'f [u8], Refused> {
+        let (refusal, first, length) = raw::text(self, file, words, row);
+        Refused::check(refusal, row)?;
+        Ok(&file[first..first + length])
+    }
 
-/// The time of a TimeSpan.
-pub fn time(file: &[u8], words: &[u32], row: u32) -> Result<Time, Refused> {
-    let (refusal, seconds, ticks) = raw::time(file, words, row);
-    Refused::check(refusal, row)?;
-    Ok(Time { seconds, ticks })
-}
+    /// A number of kind SByte, Int16, Int32, Int64 or TimeSpan.
+    pub fn signed(self, file: &[u8], words: &[u32], row: u32) -> Result<i64, Refused> {
+        let (refusal, value) = raw::signed(self, file, words, row);
+        Refused::check(refusal, row)?;
+        Ok(value)
+    }
 
-/// The row number behind a row and all below it: that of the next value with the same parent, if there is one.
-///
-/// The words may be any. There is no answer for a row past their room, or whose number of rows is 0 or ends past
-/// the room.
-pub fn next(words: &[u32], row: u32) -> Option<u32> {
-    Some(raw::next(words, row)).filter(|next| *next > 0)
+    /// The time of a TimeSpan.
+    pub fn time(self, file: &[u8], words: &[u32], row: u32) -> Result<Time, Refused> {
+        let (refusal, seconds, ticks) = raw::time(self, file, words, row);
+        Refused::check(refusal, row)?;
+        Ok(Time { seconds, ticks })
+    }
+
+    /// The row number behind a row and all below it: that of the next value with the same parent, if there is one.
+    ///
+    /// There is no answer for a row past the words' room, or whose number of rows is 0 or ends past the room.
+    pub fn next(self, words: &[u32], row: u32) -> Option<u32> {
+        Some(raw::next(self, words, row)).filter(|next| *next > 0)
+    }
 }
 
 /// An answer that holds a refusal above a place, or a number.

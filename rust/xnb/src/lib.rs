@@ -18,12 +18,14 @@ pub mod raw;
 mod refusal;
 mod row;
 pub mod salvage;
+mod shape;
 mod table;
 
-pub use calls::{count_rows, load, next, part, rewrite, shorten, signed, text, time, Loaded, Time};
+pub use calls::{count_rows, rewrite, shorten, Loaded, Time};
 pub use explain::{explain, Explanation, ReaderName};
 pub use kind::Kind;
 pub use pack::Pack;
 pub use refusal::{Refusal, Refused};
 pub use row::{Detail, Row, MOST_ROWS, WORDS_PER_ROW};
-pub use table::Table;
+pub use shape::{ByColumns, ByRows, Shape, Shaped};
+pub use table::{Columns, Grid, Table};

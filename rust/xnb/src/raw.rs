@@ -8,6 +8,8 @@ pub mod marks;
 pub mod pack;
 pub mod salvage;
 
+use crate::shape::Shape;
+
 mod entries {
     extern "C" {
         pub fn xnb_load(file: *const u8, file_length: usize) -> u64;
@@ -63,6 +65,50 @@ mod entries {
             ticks: *mut u32,
         ) -> u32;
         pub fn xnb_next(words: *const u32, words_length: usize, row: u32) -> u32;
+        pub fn xnb_load_columns(
+            file: *const u8,
+            file_length: usize,
+            words: *mut u32,
+            words_length: usize,
+            readers: *mut u32,
+            shared: *mut u32,
+        ) -> u64;
+        pub fn xnb_columns_part(
+            file: *const u8,
+            file_length: usize,
+            words: *const u32,
+            words_length: usize,
+            row: u32,
+            first: *mut usize,
+            length: *mut usize,
+        ) -> u32;
+        pub fn xnb_columns_text(
+            file: *const u8,
+            file_length: usize,
+            words: *const u32,
+            words_length: usize,
+            row: u32,
+            first: *mut usize,
+            length: *mut usize,
+        ) -> u32;
+        pub fn xnb_columns_signed(
+            file: *const u8,
+            file_length: usize,
+            words: *const u32,
+            words_length: usize,
+            row: u32,
+            value: *mut i64,
+        ) -> u32;
+        pub fn xnb_columns_time(
+            file: *const u8,
+            file_length: usize,
+            words: *const u32,
+            words_length: usize,
+            row: u32,
+            seconds: *mut i64,
+            ticks: *mut u32,
+        ) -> u32;
+        pub fn xnb_columns_next(words: *const u32, words_length: usize, row: u32) -> u32;
     }
 }
 
@@ -75,10 +121,14 @@ pub fn load(file: &[u8]) -> u64 {
 }
 
 /// The packed answer, the reader count and the shared count.
-pub fn load_rows(file: &[u8], words: &mut [u32]) -> (u64, u32, u32) {
+pub fn load_table(shape: Shape, file: &[u8], words: &mut [u32]) -> (u64, u32, u32) {
+    let entry = match shape {
+        Shape::Rows => entries::xnb_load_rows,
+        Shape::Columns => entries::xnb_load_columns,
+    };
     let (mut readers, mut shared) = (u32::MAX, u32::MAX);
     let answer = unsafe {
-        entries::xnb_load_rows(
+        entry(
             file.as_ptr(),
             file.len(),
             words.as_mut_ptr(),
@@ -132,32 +182,49 @@ fn look_up<A, B>(
 }
 
 /// The refusal or 0, and the first byte and the length of the row's part.
-pub fn part(file: &[u8], words: &[u32], row: u32) -> (u32, usize, usize) {
-    let unwritten = (usize::MAX, usize::MAX);
-    look_up(entries::xnb_part, file, words, row, unwritten)
+pub fn part(shape: Shape, file: &[u8], words: &[u32], row: u32) -> (u32, usize, usize) {
+    let entry = match shape {
+        Shape::Rows => entries::xnb_part,
+        Shape::Columns => entries::xnb_columns_part,
+    };
+    look_up(entry, file, words, row, (usize::MAX, usize::MAX))
 }
 
 /// The refusal or 0, and the first byte and the length of the text.
-pub fn text(file: &[u8], words: &[u32], row: u32) -> (u32, usize, usize) {
-    let unwritten = (usize::MAX, usize::MAX);
-    look_up(entries::xnb_text, file, words, row, unwritten)
+pub fn text(shape: Shape, file: &[u8], words: &[u32], row: u32) -> (u32, usize, usize) {
+    let entry = match shape {
+        Shape::Rows => entries::xnb_text,
+        Shape::Columns => entries::xnb_columns_text,
+    };
+    look_up(entry, file, words, row, (usize::MAX, usize::MAX))
 }
 
 /// The refusal or 0, and the number.
-pub fn signed(file: &[u8], words: &[u32], row: u32) -> (u32, i64) {
+pub fn signed(shape: Shape, file: &[u8], words: &[u32], row: u32) -> (u32, i64) {
+    let entry = match shape {
+        Shape::Rows => entries::xnb_signed,
+        Shape::Columns => entries::xnb_columns_signed,
+    };
     let mut value = -1;
     let (bytes, rows) = (file.as_ptr(), words.as_ptr());
-    let refusal =
-        unsafe { entries::xnb_signed(bytes, file.len(), rows, words.len(), row, &mut value) };
+    let refusal = unsafe { entry(bytes, file.len(), rows, words.len(), row, &mut value) };
     (refusal, value)
 }
 
 /// The refusal or 0, and the seconds and ticks.
-pub fn time(file: &[u8], words: &[u32], row: u32) -> (u32, i64, u32) {
-    look_up(entries::xnb_time, file, words, row, (-1, u32::MAX))
+pub fn time(shape: Shape, file: &[u8], words: &[u32], row: u32) -> (u32, i64, u32) {
+    let entry = match shape {
+        Shape::Rows => entries::xnb_time,
+        Shape::Columns => entries::xnb_columns_time,
+    };
+    look_up(entry, file, words, row, (-1, u32::MAX))
 }
 
 /// The row number behind the row and all below it, or 0.
-pub fn next(words: &[u32], row: u32) -> u32 {
-    unsafe { entries::xnb_next(words.as_ptr(), words.len(), row) }
+pub fn next(shape: Shape, words: &[u32], row: u32) -> u32 {
+    let entry = match shape {
+        Shape::Rows => entries::xnb_next,
+        Shape::Columns => entries::xnb_columns_next,
+    };
+    unsafe { entry(words.as_ptr(), words.len(), row) }
 }

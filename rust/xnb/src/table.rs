@@ -1,11 +1,14 @@
 //! A loaded file.
 
-use crate::calls::{self, Loaded, Time};
+use crate::calls::{Loaded, Time};
+use crate::kind::Kind;
 use crate::refusal::Refused;
 use crate::row::{full_words, Row, WORDS_PER_ROW};
+use crate::shape::{room, ByColumns, ByRows, Shaped};
 use std::iter::successors;
+use std::marker::PhantomData;
 
-/// A file and the rows of its values, in words of its own or in lent ones.
+/// A file and the rows of its values, row after row.
 ///
 /// ```
 /// let mut file = b"XNBw\x05\x00\x55\x00\x00\x00\x01\x3B".to_vec();
@@ -24,36 +27,67 @@ use std::iter::successors;
 /// assert_eq!(table.row(5), None);
 /// # Ok::<(), xnb::Refused>(())
 /// ```
+pub type Table<'f, W = Vec<u32>> = Grid<'f, ByRows, W>;
+
+/// A file and the rows of its values in columns, for searches in one word of all rows.
+///
+/// A column has a word for each row in use: the word of row 3 is the column's `[3]`, whatever room the words have.
+///
+/// ```
+/// let mut file = b"XNBw\x05\x00\x55\x00\x00\x00\x01\x3B".to_vec();
+/// file.extend_from_slice(b"Microsoft.Xna.Framework.Content.ListReader`1[[System.Byte]]\x00\x00\x00\x00");
+/// // One shared object; the primary object, a list of three bytes; the shared object, a null.
+/// file.extend_from_slice(b"\x01\x01\x03\x00\x00\x00\x07\x08\x09\x00");
+///
+/// let columns = xnb::Columns::load(&file)?;
+/// assert_eq!(columns.kinds(), [18, 1, 1, 1, 0]);
+/// assert_eq!(columns.first_bytes(), [76, 81, 82, 83, 84]);
+/// assert_eq!(columns.lengths(), [8, 1, 1, 1, 1]);
+/// assert_eq!(columns.child_counts(), [3, 0, 0, 0, 0]);
+/// assert_eq!(columns.parents(), [0, 1, 1, 1, 0]);
+/// assert_eq!(columns.details(), [1, 0, 0, 0, 0]);
+/// assert_eq!(columns.row_counts(), [4, 1, 1, 1, 1]);
+/// assert!(columns.of_kind(xnb::Kind::Byte).eq([1, 2, 3]));
+/// // All else is as in a table by rows.
+/// assert!(columns.rows().eq(xnb::Table::load(&file)?.rows()));
+/// assert!(columns.objects().eq([0, 4]));
+/// assert_eq!(columns.part(2)?, [8]);
+/// # Ok::<(), xnb::Refused>(())
+/// ```
+pub type Columns<'f, W = Vec<u32>> = Grid<'f, ByColumns, W>;
+
+/// A file and the rows of its values, in words of its own or in lent ones: a [`Table`] or [`Columns`].
 #[derive(Clone, Debug)]
-pub struct Table<'f, W = Vec<u32>> {
+pub struct Grid<'f, S, W = Vec<u32>> {
     file: &'f [u8],
     words: W,
     loaded: Loaded,
+    shape: PhantomData<S>,
 }
 
-impl<'f> Table<'f> {
+impl<'f, S: Shaped> Grid<'f, S> {
     /// Loads a file with room for all its rows.
-    pub fn load(file: &'f [u8]) -> Result<Table<'f>, Refused> {
-        let mut table = Table::load_into(file, full_words(file))?;
-        table.words.truncate(WORDS_PER_ROW * table.loaded.rows);
-        table.words.shrink_to_fit();
-        Ok(table)
+    pub fn load(file: &'f [u8]) -> Result<Grid<'f, S>, Refused> {
+        let mut grid = Grid::load_into(file, full_words(file))?;
+        S::SHAPE.shrink(&mut grid.words, grid.loaded.rows);
+        Ok(grid)
     }
 }
 
-impl<'f, W: AsRef<[u32]> + AsMut<[u32]>> Table<'f, W> {
+impl<'f, S: Shaped, W: AsRef<[u32]> + AsMut<[u32]>> Grid<'f, S, W> {
     /// Loads a file into these words; a row takes [`WORDS_PER_ROW`].
-    pub fn load_into(file: &'f [u8], mut words: W) -> Result<Table<'f, W>, Refused> {
-        let loaded = calls::load(file, words.as_mut())?;
-        Ok(Table {
+    pub fn load_into(file: &'f [u8], mut words: W) -> Result<Grid<'f, S, W>, Refused> {
+        let loaded = S::SHAPE.load(file, words.as_mut())?;
+        Ok(Grid {
             file,
             words,
             loaded,
+            shape: PhantomData,
         })
     }
 }
 
-impl<'f, W: AsRef<[u32]>> Table<'f, W> {
+impl<'f, S: Shaped, W: AsRef<[u32]>> Grid<'f, S, W> {
     pub fn file(&self) -> &'f [u8] {
         self.file
     }
@@ -63,24 +97,26 @@ impl<'f, W: AsRef<[u32]>> Table<'f, W> {
         self.loaded
     }
 
-    /// The words of the rows in use.
-    pub fn words(&self) -> &[u32] {
-        &self.words.as_ref()[..WORDS_PER_ROW * self.loaded.rows]
-    }
-
     /// One row, found without looking at any other.
     pub fn row(&self, number: u32) -> Option<Row> {
-        self.row_words().get(number as usize).map(decoded)
+        let number = number as usize;
+        (number < self.loaded.rows).then(|| self.used_row(number))
     }
 
     /// Every row in file order: a value stands before all below it.
     pub fn rows(&self) -> impl Iterator<Item = Row> + '_ {
-        self.row_words().iter().map(decoded)
+        (0..self.loaded.rows).map(|number| self.used_row(number))
+    }
+
+    fn used_row(&self, number: usize) -> Row {
+        let words = S::SHAPE.row(self.words.as_ref(), number);
+        let row = words.and_then(Row::of_words);
+        row.expect("a load leaves rows of known kinds")
     }
 
     /// The row number behind a value and all below it; the number of rows where no row is behind them.
     pub fn next(&self, number: u32) -> Option<u32> {
-        calls::next(self.words(), number)
+        S::SHAPE.next(self.words.as_ref(), number)
     }
 
     /// The numbers of the rows that belong to a row, in file order; each takes one step.
@@ -96,37 +132,83 @@ impl<'f, W: AsRef<[u32]>> Table<'f, W> {
 
     /// A row number, then each behind the one before and all below that.
     fn each_next(&self, first: u32) -> impl Iterator<Item = u32> + '_ {
-        let words = self.words();
-        successors(Some(first), |number| calls::next(words, *number))
-    }
-
-    fn row_words(&self) -> &[[u32; WORDS_PER_ROW]] {
-        self.words().as_chunks().0
+        successors(Some(first), |number| self.next(*number))
     }
 
     /// The part of the file that a row names.
     pub fn part(&self, number: u32) -> Result<&'f [u8], Refused> {
-        calls::part(self.file, self.words(), number)
+        S::SHAPE.part(self.file, self.words.as_ref(), number)
     }
 
     /// The text of a String.
     pub fn text(&self, number: u32) -> Result<&'f str, Refused> {
-        let bytes = calls::text(self.file, self.words(), number)?;
+        let bytes = S::SHAPE.text(self.file, self.words.as_ref(), number)?;
         Ok(std::str::from_utf8(bytes).expect("a load takes only UTF-8"))
     }
 
     /// The number of an SByte, Int16, Int32, Int64 or TimeSpan.
     pub fn signed(&self, number: u32) -> Result<i64, Refused> {
-        calls::signed(self.file, self.words(), number)
+        S::SHAPE.signed(self.file, self.words.as_ref(), number)
     }
 
     /// The time of a TimeSpan.
     pub fn time(&self, number: u32) -> Result<Time, Refused> {
-        calls::time(self.file, self.words(), number)
+        S::SHAPE.time(self.file, self.words.as_ref(), number)
     }
 }
 
-/// A row that a load left.
-fn decoded(words: &[u32; WORDS_PER_ROW]) -> Row {
-    Row::of_words(*words).expect("a load leaves known kinds")
+impl<W: AsRef<[u32]>> Table<'_, W> {
+    /// The words of the rows in use.
+    pub fn words(&self) -> &[u32] {
+        &self.words.as_ref()[..WORDS_PER_ROW * self.loaded.rows]
+    }
+}
+
+impl<W: AsRef<[u32]>> Columns<'_, W> {
+    /// The number of each row's kind, as [`Kind::number`] gives it.
+    pub fn kinds(&self) -> &[u32] {
+        self.column(0)
+    }
+
+    /// The place of each row's first byte in the file.
+    pub fn first_bytes(&self) -> &[u32] {
+        self.column(1)
+    }
+
+    /// Each row's number of bytes.
+    pub fn lengths(&self) -> &[u32] {
+        self.column(2)
+    }
+
+    /// Each row's number of children.
+    pub fn child_counts(&self) -> &[u32] {
+        self.column(3)
+    }
+
+    /// The row number of each row's parent plus 1, or 0.
+    pub fn parents(&self) -> &[u32] {
+        self.column(4)
+    }
+
+    /// The type id of each object, the resource id of each reference, else 0.
+    pub fn details(&self) -> &[u32] {
+        self.column(5)
+    }
+
+    /// Each row's number of rows with all below it, itself included.
+    pub fn row_counts(&self) -> &[u32] {
+        self.column(6)
+    }
+
+    /// The numbers of the rows of a kind, found in the column of kinds alone.
+    pub fn of_kind(&self, kind: Kind) -> impl Iterator<Item = u32> + '_ {
+        let kinds = (0..).zip(self.kinds());
+        let found = kinds.filter(move |(_, number)| **number == kind.number());
+        found.map(|(row, _)| row)
+    }
+
+    fn column(&self, column: usize) -> &[u32] {
+        let words = self.words.as_ref();
+        &words[room(words) * column..][..self.loaded.rows]
+    }
 }

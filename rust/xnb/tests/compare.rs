@@ -1,11 +1,13 @@
 //! The static library against the second loader, every word of every lent buffer compared.
 
+mod lent;
 mod sides;
 
 use corpus::folder::kept_files;
 use fuzz::random::Random;
 use second::WORDS_PER_ROW;
-use sides::{lookups, other_words, some_rows, Call, Counts, Sides};
+use sides::{in_shape, lookups, other_words, some_rows, Call, Counts, Sides, SHAPES};
+use xnb::Shape;
 
 /// How many files are tried; FUZZ_FILES in the environment asks for another number.
 fn files() -> u64 {
@@ -22,21 +24,28 @@ fn compare(sides: &mut Sides, name: &str, file: &[u8], words: usize) {
     for words in [fewer, just] {
         let _ = sides.load(name, file, words);
     }
-    sides.rewrites(name, file, words);
+    if sides.shape == Shape::Rows {
+        sides.rewrites(name, file, words);
+    }
 
-    let mut table = vec![0; words];
-    let _ = second::load(file, &mut table);
-    let numbers = some_rows(&mut sides.random, table.len(), rows);
-    lookups(sides, name, file, &table, &numbers);
-    table.truncate(WORDS_PER_ROW * rows);
-    let other = other_words(&mut sides.random, file, &table);
-    let numbers = some_rows(&mut sides.random, other.len(), other.len() / WORDS_PER_ROW);
-    lookups(sides, name, file, &other, &numbers);
+    let mut by_rows = vec![0; words];
+    let _ = second::load(file, &mut by_rows);
+    look_up(sides, name, file, &by_rows, rows);
+    by_rows.truncate(WORDS_PER_ROW * rows);
+    let other = other_words(&mut sides.random, file, &by_rows);
+    look_up(sides, name, file, &other, other.len() / WORDS_PER_ROW);
+}
+
+/// Looks up in these words, of which so many rows are used, put into the shape that is compared.
+fn look_up(sides: &mut Sides, name: &str, file: &[u8], by_rows: &[u32], used: usize) {
+    let numbers = some_rows(&mut sides.random, by_rows.len(), used);
+    let words = in_shape(sides.shape, by_rows);
+    lookups(sides, name, file, &words, &numbers);
 }
 
 /// The cases of the seeds that leave this rest.
-fn generated(rest: u64, threads: u64) -> Counts {
-    let mut sides = Sides::new(rest);
+fn generated(shape: Shape, rest: u64, threads: u64) -> Counts {
+    let mut sides = Sides::new(shape, rest);
     for seed in (rest..files()).step_by(threads as usize) {
         let case = fuzz::case(seed);
         sides.random = Random::new(!seed);
@@ -45,67 +54,80 @@ fn generated(rest: u64, threads: u64) -> Counts {
     sides.counts
 }
 
-#[test]
-fn generated_files_give_the_second_loaders_answers() {
+/// All generated files, in two threads.
+fn compare_generated(shape: Shape) {
     const THREADS: u64 = 2;
     let mut counts = Counts::default();
     std::thread::scope(|scope| {
-        let parts = [0, 1].map(|rest| scope.spawn(move || generated(rest, THREADS)));
+        let parts = [0, 1].map(|rest| scope.spawn(move || generated(shape, rest, THREADS)));
         for part in parts {
             counts.add(&part.join().expect("no difference"));
         }
     });
-    println!("{} files\n{counts}", files());
+    println!("{} files, {shape:?}\n{counts}", files());
     if files() >= 100_000 {
-        counts.check();
+        counts.check(shape);
     }
+}
+
+#[test]
+fn generated_files_give_the_second_loaders_answers() {
+    SHAPES.into_iter().for_each(compare_generated);
 }
 
 #[test]
 fn limits_give_the_second_loaders_answers() {
     let limits = fuzz::limits::cases();
     assert!(limits.len() > 500, "only {} limits", limits.len());
-    let mut sides = Sides::new(1);
-    for limit in &limits {
-        compare(&mut sides, &limit.name, &limit.case.bytes, limit.case.words);
+    for shape in SHAPES {
+        let mut sides = Sides::new(shape, 1);
+        for limit in &limits {
+            compare(&mut sides, &limit.name, &limit.case.bytes, limit.case.words);
+        }
+        println!("{} files, {shape:?}\n{}", limits.len(), sides.counts);
     }
-    println!("{} files\n{}", limits.len(), sides.counts);
 }
 
 #[test]
 fn corpus_files_give_the_second_loaders_answers() {
-    let mut sides = Sides::new(2);
-    for file in kept_files() {
-        for words in [0, 6, 7, 100, WORDS_PER_ROW * 1024] {
-            compare(&mut sides, &file.name, &file.bytes, words);
+    for shape in SHAPES {
+        let mut sides = Sides::new(shape, 2);
+        for file in kept_files() {
+            for words in [0, 6, 7, 100, WORDS_PER_ROW * 1024] {
+                compare(&mut sides, &file.name, &file.bytes, words);
+            }
         }
+        println!("{shape:?}\n{}", sides.counts);
     }
-    println!("{}", sides.counts);
 }
 
 /// A table has room for 65,536 rows however many words are lent.
 #[test]
 fn lookups_stop_at_the_most_rows() {
-    let mut sides = Sides::new(3);
     let file = [7; 8];
     let row = [3, 1, 4, 0, 0, 0, 1];
-    for rows in [65_535, 65_536, 65_537, 70_000] {
-        let words = row.repeat(rows);
-        let around = rows as u32 - 1..rows as u32 + 2;
-        let numbers: Vec<u32> = around.chain(65_534..65_538).collect();
-        lookups(&mut sides, "many rows", &file, &words, &numbers);
+    for shape in SHAPES {
+        let mut sides = Sides::new(shape, 3);
+        for rows in [65_535, 65_536, 65_537, 70_000] {
+            let words = in_shape(shape, &row.repeat(rows));
+            let around = rows as u32 - 1..rows as u32 + 2;
+            let numbers: Vec<u32> = around.chain(65_534..65_538).collect();
+            lookups(&mut sides, "many rows", &file, &words, &numbers);
+        }
+        assert!(sides.counts.of(Call::Part, 0) > 0 && sides.counts.of(Call::Part, 23) > 0);
     }
-    assert!(sides.counts.of(Call::Part, 0) > 0 && sides.counts.of(Call::Part, 23) > 0);
 }
 
 #[test]
 fn empty_slices_are_taken() {
-    let mut sides = Sides::new(4);
-    for words in [0, 1, WORDS_PER_ROW] {
-        compare(&mut sides, "the empty file", &[], words);
-        compare(&mut sides, "the empty end of a file", &b"XNB"[3..], words);
+    for shape in SHAPES {
+        let mut sides = Sides::new(shape, 4);
+        for words in [0, 1, WORDS_PER_ROW] {
+            compare(&mut sides, "the empty file", &[], words);
+            compare(&mut sides, "the empty end of a file", &b"XNB"[3..], words);
+        }
+        assert_eq!(xnb::raw::part(shape, &[], &[], 0), (23, 0, 0));
+        assert_eq!(xnb::raw::next(shape, &[], 0), 0);
     }
     assert_eq!(xnb::raw::load(&[]), 1 << 32);
-    assert_eq!(xnb::raw::part(&[], &[], 0), (23, 0, 0));
-    assert_eq!(xnb::raw::next(&[], 0), 0);
 }

@@ -2,14 +2,16 @@
 
 use corpus::folder::kept_files;
 use std::collections::BTreeMap;
-use xnb::{explain, load, Explanation, Refusal, Refused, WORDS_PER_ROW};
+use xnb::{explain, Explanation, Refusal, Refused, Shape, WORDS_PER_ROW};
 
 const GENERATED_FILES: u64 = 20_000;
 const BUILDER_ROWS: usize = 1024;
 
 /// The refusal of a file with its explanation; nothing for a file that is taken.
 fn refused(file: &[u8], room: usize) -> Option<(Refusal, Option<Explanation<'_>>)> {
-    let refused = load(file, &mut vec![0; WORDS_PER_ROW * room]).err()?;
+    let refused = Shape::Rows
+        .load(file, &mut vec![0; WORDS_PER_ROW * room])
+        .err()?;
     Some((refused.refusal, explain(file, refused, room)))
 }
 
@@ -294,7 +296,8 @@ fn nothing_is_told_of_another_refusal() {
 #[test]
 fn a_missing_row_is_told() {
     for file in kept_files() {
-        let Ok(loaded) = load(&file.bytes, &mut vec![0; WORDS_PER_ROW * BUILDER_ROWS]) else {
+        let Ok(loaded) = Shape::Rows.load(&file.bytes, &mut vec![0; WORDS_PER_ROW * BUILDER_ROWS])
+        else {
             continue;
         };
         let room = loaded.rows - 1;

@@ -1,23 +1,31 @@
 //! The row behind a row and all below it: the static library against the second program, over any words.
 
-use fuzz::tables::{case, most_rows, TableCase};
-use xnb::raw;
+use fuzz::tables::{case, in_columns, most_rows, TableCase};
+use xnb::{raw, Shape};
 
 const TABLES: u64 = 40_000;
 
-/// Compares the answers for the row asked for, for each row of a small table and for those behind its room.
+/// Compares the answers in both shapes for the row asked for, for each row of a small table and for those behind its
+/// room.
 fn compare(name: &str, table: &TableCase) {
     let TableCase { words, row, next } = table;
-    assert_eq!(raw::next(words, *row), *next, "{name}: row {row}");
-    assert_eq!(xnb::next(words, *row), Some(*next).filter(|it| *it > 0));
+    let columns = in_columns(words);
     let rows = (words.len() / xnb::WORDS_PER_ROW).min(500) as u32;
-    for row in 0..rows + 3 {
-        let expected = second::next(words, row as usize).unwrap_or(0);
-        assert_eq!(
-            raw::next(words, row) as usize,
-            expected,
-            "{name}: row {row}"
-        );
+    let shapes = [
+        (Shape::Rows, second::Shape::Rows, words),
+        (Shape::Columns, second::Shape::Columns, &columns),
+    ];
+    for (shape, seconds, words) in shapes {
+        let told = format!("{name}: {shape:?}");
+        assert_eq!(raw::next(shape, words, *row), *next, "{told}: row {row}");
+        let known = Some(*next).filter(|next| *next > 0);
+        assert_eq!(shape.next(words, *row), known, "{told}");
+        let table = second::Table::new(seconds, words);
+        for row in 0..rows + 3 {
+            let expected = second::next(table, row as usize).unwrap_or(0);
+            let answer = raw::next(shape, words, row) as usize;
+            assert_eq!(answer, expected, "{told}: row {row}");
+        }
     }
 }
 

@@ -1,9 +1,11 @@
 //! Both loaders over the same input: their answers and the buffers that they leave must be equal.
 
+use crate::lent::Lent;
 use fuzz::random::Random;
-use second::{broken_branch, Refusal, WORDS_PER_ROW};
-use std::fmt::{self, Debug, Display, Formatter};
-use xnb::raw;
+use fuzz::tables::in_columns;
+use second::{broken_branch, Refusal, Table, WORDS_PER_ROW};
+use std::fmt::{self, Display, Formatter};
+use xnb::{raw, Shape};
 
 /// What was called.
 #[derive(Clone, Copy)]
@@ -47,14 +49,15 @@ impl Counts {
         }
     }
 
-    /// Every answer that a call can give has occurred often.
-    pub fn check(&self) {
+    /// Every answer that a call can give has occurred often; a rewrite leaves its table by rows.
+    pub fn check(&self, shape: Shape) {
         for (call, name) in CALLS {
-            let numbers: Vec<usize> = match call {
-                Load => (0..=20).chain([22]).collect(),
-                Rewrite => (0..=22).collect(),
-                Part => vec![0, 23],
-                Text | Signed | Time => vec![0, 23, 24],
+            let numbers: Vec<usize> = match (call, shape) {
+                (Load, _) => (0..=20).chain([22]).collect(),
+                (Rewrite, Shape::Rows) => (0..=22).collect(),
+                (Rewrite, Shape::Columns) => vec![],
+                (Part, _) => vec![0, 23],
+                (Text | Signed | Time, _) => vec![0, 23, 24],
             };
             for number in numbers {
                 let count = self.of(call, number);
@@ -80,34 +83,6 @@ impl Display for Counts {
     }
 }
 
-/// A buffer of garbage; its middle is lent and its margins must stay.
-struct Lent<T> {
-    all: Vec<T>,
-    garbage: T,
-}
-
-const MARGIN: usize = 8;
-
-impl<T: Copy + PartialEq + Debug> Lent<T> {
-    fn new(garbage: T, count: usize) -> Lent<T> {
-        let all = vec![garbage; count + 2 * MARGIN];
-        Lent { all, garbage }
-    }
-
-    fn middle(&mut self) -> &mut [T] {
-        let end = self.all.len() - MARGIN;
-        &mut self.all[MARGIN..end]
-    }
-
-    /// Stops unless the middle is what the other loader left and the margins are garbage.
-    fn check(&mut self, name: &str, expected: &[T]) {
-        assert!(self.middle() == expected, "{name}: the buffers differ");
-        let end = self.all.len() - MARGIN;
-        let margins = self.all[..MARGIN].iter().chain(&self.all[end..]);
-        assert!(margins.copied().all(|it| it == self.garbage), "{name}");
-    }
-}
-
 /// A refusal or a number in the form that the library answers.
 fn packed(answer: Result<usize, Refusal>) -> u64 {
     match answer {
@@ -123,15 +98,40 @@ fn number_of<T>(answer: &Result<T, Refusal>) -> usize {
     }
 }
 
-/// Comparisons with one source of garbage, and what they have met.
+pub const SHAPES: [Shape; 2] = [Shape::Rows, Shape::Columns];
+
+/// The shape by the second loader's name.
+fn seconds(shape: Shape) -> second::Shape {
+    match shape {
+        Shape::Rows => second::Shape::Rows,
+        Shape::Columns => second::Shape::Columns,
+    }
+}
+
+/// The words of a table by rows, put into a shape.
+pub fn in_shape(shape: Shape, by_rows: &[u32]) -> Vec<u32> {
+    match shape {
+        Shape::Rows => by_rows.to_vec(),
+        Shape::Columns => in_columns(by_rows),
+    }
+}
+
+/// The second loader's view of words in a shape.
+pub fn seconds_table(shape: Shape, words: &[u32]) -> Table<'_> {
+    Table::new(seconds(shape), words)
+}
+
+/// Comparisons over tables of one shape, with one source of garbage, and what they have met.
 pub struct Sides {
+    pub shape: Shape,
     pub random: Random,
     pub counts: Counts,
 }
 
 impl Sides {
-    pub fn new(seed: u64) -> Sides {
+    pub fn new(shape: Shape, seed: u64) -> Sides {
         Sides {
+            shape,
             random: Random::new(seed),
             counts: Counts::default(),
         }
@@ -141,15 +141,16 @@ impl Sides {
     pub fn load(&mut self, name: &str, file: &[u8], words: usize) -> Option<usize> {
         let mut linked = Lent::new(self.random.number() as u32, words);
         let mut second = vec![self.random.number() as u32; words];
-        let answer = raw::load_rows(file, linked.middle());
-        let expected = second::load(file, &mut second);
+        let answer = raw::load_table(self.shape, file, linked.middle());
+        let expected = second::load_in(seconds(self.shape), file, &mut second);
         let (readers, shared) = expected.map_or((0, 0), |it| (it.readers, it.shared));
         let packed = packed(expected.map(|it| it.rows));
         let expected_numbers = (packed, readers as u32, shared as u32);
         assert_eq!(answer, expected_numbers, "{name}: load with {words} words");
         linked.check(name, &second);
         let rows = expected.map_or(0, |it| it.rows);
-        assert_eq!(broken_branch(linked.middle(), rows), None, "{name}");
+        let table = seconds_table(self.shape, linked.middle());
+        assert_eq!(broken_branch(table, rows), None, "{name}");
         if words == WORDS_PER_ROW * 1024 {
             assert_eq!(raw::load(file), packed, "{name}: the builder's number");
         }
@@ -195,39 +196,37 @@ impl Sides {
 
 /// The four lookups of each row number, and the row behind it and all below it.
 pub fn lookups(sides: &mut Sides, name: &str, file: &[u8], words: &[u32], rows: &[u32]) {
+    let shape = sides.shape;
+    let table = seconds_table(shape, words);
     for &row in rows {
         let number = row as usize;
         let told = format!("{name}: row {row} of {} words", words.len());
 
-        let part = second::part(file, words, number);
-        assert_eq!(
-            raw::part(file, words, row),
-            span(file, part),
-            "part, {told}"
-        );
+        let part = second::part(file, table, number);
+        let answer = raw::part(shape, file, words, row);
+        assert_eq!(answer, span(file, part), "part, {told}");
         sides.counts.count(Part, &part);
 
-        let text = second::text(file, words, number);
-        assert_eq!(
-            raw::text(file, words, row),
-            span(file, text),
-            "text, {told}"
-        );
+        let text = second::text(file, table, number);
+        let answer = raw::text(shape, file, words, row);
+        assert_eq!(answer, span(file, text), "text, {told}");
         sides.counts.count(Text, &text);
 
-        let signed = second::signed(file, words, number);
+        let signed = second::signed(file, table, number);
         let expected = (number_of(&signed) as u32, signed.unwrap_or(0));
-        assert_eq!(raw::signed(file, words, row), expected, "signed, {told}");
+        let answer = raw::signed(shape, file, words, row);
+        assert_eq!(answer, expected, "signed, {told}");
         sides.counts.count(Signed, &signed);
 
-        let time = second::time(file, words, number);
+        let time = second::time(file, table, number);
         let (seconds, ticks) = time.map_or((0, 0), |it| (it.seconds, it.ticks));
         let expected = (number_of(&time) as u32, seconds, ticks);
-        assert_eq!(raw::time(file, words, row), expected, "time, {told}");
+        let answer = raw::time(shape, file, words, row);
+        assert_eq!(answer, expected, "time, {told}");
         sides.counts.count(Time, &time);
 
-        let next = second::next(words, number).unwrap_or(0);
-        assert_eq!(raw::next(words, row) as usize, next, "next, {told}");
+        let next = second::next(table, number).unwrap_or(0);
+        assert_eq!(raw::next(shape, words, row) as usize, next, "next, {told}");
     }
 }
 
@@ -249,7 +248,7 @@ pub fn some_rows(random: &mut Random, words: usize, used: usize) -> Vec<u32> {
     rows
 }
 
-/// Words that do not belong to the file: a table with changed words, or any words.
+/// Words by rows that do not belong to the file: a table with changed words, or any words.
 pub fn other_words(random: &mut Random, file: &[u8], table: &[u32]) -> Vec<u32> {
     let mut words = table.to_vec();
     if words.is_empty() || random.chance(30) {
