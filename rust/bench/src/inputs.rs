@@ -58,22 +58,36 @@ pub fn images() -> Vec<Input> {
     ]
 }
 
+/// A file of one list, in which an element stands so many times.
+fn list_file(
+    group: &'static str,
+    name: &str,
+    readers: &[String],
+    count: usize,
+    element: Value,
+) -> Input {
+    let elements = list(vec![element; count]);
+    input(group, format!("{count} {name}"), alone(readers, elements))
+}
+
+/// A list of pages, five rows each, with about so many rows.
+pub fn pages(rows: usize) -> Input {
+    let readers = [list_of("System.Object"), PAGE.into(), STRING.into()];
+    let title = object(3, text("A title"));
+    let page = page(title, rectangle([0; 4]), reference(0), reference(0));
+    list_file(
+        "small objects",
+        "pages",
+        &readers,
+        rows / 5,
+        object(2, page),
+    )
+}
+
 /// Files of many values, with about so many rows.
 pub fn many_values(rows: usize) -> Vec<Input> {
-    let list_file = |group, name: &str, readers: &[String], count: usize, element: Value| {
-        let elements = list(vec![element; count]);
-        input(group, format!("{count} {name}"), alone(readers, elements))
-    };
     let plain = |target: &str| [list_of(target)];
     let boxes = |reader: &str| [list_of("System.Object"), reader.to_string()];
-    let page = page(
-        object(3, text("A title")),
-        rectangle([0; 4]),
-        reference(0),
-        reference(0),
-    );
-    let mut pages = boxes(PAGE).to_vec();
-    pages.push(STRING.to_string());
     let number = nullable_target("System.Int32");
     vec![
         list_file(
@@ -126,7 +140,7 @@ pub fn many_values(rows: usize) -> Vec<Input> {
             rows / 2,
             something(int32(4)),
         ),
-        list_file("small objects", "pages", &pages, rows / 5, object(2, page)),
+        pages(rows),
         list_file(
             "nesting",
             "lists in lists to depth 32",

@@ -9,17 +9,21 @@ mod marks;
 mod measure;
 mod packs;
 mod salvage;
+mod search;
 
 use inputs::Input;
 use measure::beside;
 use std::hint::black_box;
+use xnb::Shape;
 
-const PARTS: [(&str, fn()); 8] = [
+const PARTS: [(&str, fn()); 11] = [
     ("builder", builder),
     ("load", load),
+    ("load-columns", load_columns),
     ("utf8", utf8),
     ("rewrite", rewrite),
     ("next", branches::measure),
+    ("search", search::measure),
     ("pack-read", packs::read),
     ("pack-find", packs::find),
     ("marks", marks::convert),
@@ -61,12 +65,31 @@ fn builder() {
 fn load() {
     let mut all = all_inputs(1000);
     all.extend(inputs::many_values(60_000));
-    let ours = |lent: &mut Lent| {
-        let loaded = xnb::load(black_box(&lent.file), black_box(&mut lent.words));
+    let others: [(&str, Task); 2] = [("second", second_load), ("memcpy", copy)];
+    table("xnb_load_rows", all, |it| it.rows, load_rows, &others);
+}
+
+/// Loads into columns beside loads into rows, in the same words.
+fn load_columns() {
+    let mut all = all_inputs(1000);
+    all.extend(inputs::many_values(60_000));
+    let ours = |lent: &mut Lent| load_in(Shape::Columns, lent);
+    let second = |lent: &mut Lent| {
+        let (file, words) = (black_box(&lent.file), black_box(&mut lent.words));
+        let loaded = second::load_in(second::Shape::Columns, file, words);
         black_box(loaded).expect("lawful");
     };
-    let others: [(&str, Task); 2] = [("second", second_load), ("memcpy", copy)];
-    table("xnb_load_rows", all, |it| it.rows, ours, &others);
+    let others: [(&str, Task); 2] = [("xnb_load_rows", load_rows), ("second", second)];
+    table("xnb_load_columns", all, |it| it.rows, ours, &others);
+}
+
+fn load_rows(lent: &mut Lent) {
+    load_in(Shape::Rows, lent);
+}
+
+fn load_in(shape: Shape, lent: &mut Lent) {
+    let loaded = shape.load(black_box(&lent.file), black_box(&mut lent.words));
+    black_box(loaded).expect("lawful");
 }
 
 /// A load of one long text beside the standard library's judgement of that text.
