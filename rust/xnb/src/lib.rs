@@ -18,6 +18,7 @@ pub mod raw;
 mod refusal;
 mod row;
 pub mod salvage;
+mod search;
 mod shape;
 mod table;
 

@@ -4,6 +4,7 @@ use crate::calls::{Loaded, Time};
 use crate::kind::Kind;
 use crate::refusal::Refused;
 use crate::row::{full_words, Row, WORDS_PER_ROW};
+use crate::search::places;
 use crate::shape::{room, ByColumns, ByRows, Shaped};
 use std::iter::successors;
 use std::marker::PhantomData;
@@ -202,9 +203,7 @@ impl<W: AsRef<[u32]>> Columns<'_, W> {
 
     /// The numbers of the rows of a kind, found in the column of kinds alone.
     pub fn of_kind(&self, kind: Kind) -> impl Iterator<Item = u32> + '_ {
-        let kinds = (0..).zip(self.kinds());
-        let found = kinds.filter(move |(_, number)| **number == kind.number());
-        found.map(|(row, _)| row)
+        places(self.kinds(), kind.number())
     }
 
     fn column(&self, column: usize) -> &[u32] {
