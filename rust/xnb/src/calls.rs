@@ -54,6 +54,7 @@ impl Shape {
     }
 
     /// The part of the file that a row names.
+    #[inline]
     pub fn part<'f>(self, file: &'f [u8], words: &[u32], row: u32) -> Result<&'f [u8], Refused> {
         let (refusal, first, length) = raw::part(self, file, words, row);
         Refused::check(refusal, row)?;
@@ -61,6 +62,7 @@ impl Shape {
     }
 
     /// The bytes of a text.
+    #[inline]
     pub fn text<'f>(self, file: &'f [u8], words: &[u32], row: u32) -> Result<&'f [u8], Refused> {
         let (refusal, first, length) = raw::text(self, file, words, row);
         Refused::check(refusal, row)?;
@@ -68,6 +70,7 @@ impl Shape {
     }
 
     /// A number of kind SByte, Int16, Int32, Int64 or TimeSpan.
+    #[inline]
     pub fn signed(self, file: &[u8], words: &[u32], row: u32) -> Result<i64, Refused> {
         let (refusal, value) = raw::signed(self, file, words, row);
         Refused::check(refusal, row)?;
@@ -75,6 +78,7 @@ impl Shape {
     }
 
     /// The time of a TimeSpan.
+    #[inline]
     pub fn time(self, file: &[u8], words: &[u32], row: u32) -> Result<Time, Refused> {
         let (refusal, seconds, ticks) = raw::time(self, file, words, row);
         Refused::check(refusal, row)?;
@@ -84,6 +88,7 @@ impl Shape {
     /// The row number behind a row and all below it: that of the next value with the same parent, if there is one.
     ///
     /// There is no answer for a row past the words' room, or whose number of rows is 0 or ends past the room.
+    #[inline]
     pub fn next(self, words: &[u32], row: u32) -> Option<u32> {
         Some(raw::next(self, words, row)).filter(|next| *next > 0)
     }

@@ -182,6 +182,7 @@ fn look_up<A, B>(
 }
 
 /// The refusal or 0, and the first byte and the length of the row's part.
+#[inline]
 pub fn part(shape: Shape, file: &[u8], words: &[u32], row: u32) -> (u32, usize, usize) {
     let entry = match shape {
         Shape::Rows => entries::xnb_part,
@@ -191,6 +192,7 @@ pub fn part(shape: Shape, file: &[u8], words: &[u32], row: u32) -> (u32, usize, 
 }
 
 /// The refusal or 0, and the first byte and the length of the text.
+#[inline]
 pub fn text(shape: Shape, file: &[u8], words: &[u32], row: u32) -> (u32, usize, usize) {
     let entry = match shape {
         Shape::Rows => entries::xnb_text,
@@ -200,6 +202,7 @@ pub fn text(shape: Shape, file: &[u8], words: &[u32], row: u32) -> (u32, usize, 
 }
 
 /// The refusal or 0, and the number.
+#[inline]
 pub fn signed(shape: Shape, file: &[u8], words: &[u32], row: u32) -> (u32, i64) {
     let entry = match shape {
         Shape::Rows => entries::xnb_signed,
@@ -212,6 +215,7 @@ pub fn signed(shape: Shape, file: &[u8], words: &[u32], row: u32) -> (u32, i64) 
 }
 
 /// The refusal or 0, and the seconds and ticks.
+#[inline]
 pub fn time(shape: Shape, file: &[u8], words: &[u32], row: u32) -> (u32, i64, u32) {
     let entry = match shape {
         Shape::Rows => entries::xnb_time,
@@ -221,6 +225,7 @@ pub fn time(shape: Shape, file: &[u8], words: &[u32], row: u32) -> (u32, i64, u3
 }
 
 /// The row number behind the row and all below it, or 0.
+#[inline]
 pub fn next(shape: Shape, words: &[u32], row: u32) -> u32 {
     let entry = match shape {
         Shape::Rows => entries::xnb_next,

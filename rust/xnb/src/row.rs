@@ -36,6 +36,7 @@ pub enum Detail {
 
 impl Row {
     /// The row in these words, or nothing if their kind is unknown.
+    #[inline]
     pub fn of_words(words: [u32; WORDS_PER_ROW]) -> Option<Row> {
         let [kind, first, length, children, parent, detail, rows] = words;
         let kind = Kind::of_number(kind)?;

@@ -24,8 +24,10 @@ pub enum Shape {
     Columns,
 }
 
+// Functions over a shape are inlined, so that nothing asks for the shape where it is known.
 impl Shape {
     /// The words of a row, unless the room ends before it.
+    #[inline]
     pub(crate) fn row(self, words: &[u32], number: usize) -> Option<[u32; WORDS_PER_ROW]> {
         let room = room(words);
         if number >= room {
@@ -52,6 +54,7 @@ impl Shape {
 }
 
 /// The number of rows that words have room for, in either shape.
+#[inline]
 pub(crate) fn room(words: &[u32]) -> usize {
     (words.len() / WORDS_PER_ROW).min(MOST_ROWS)
 }
