@@ -3,8 +3,8 @@
 use crate::random::Random;
 use corpus::writer::WORDS_PER_ROW;
 
-/// A table can name no more rows.
-pub const MOST_ROWS: usize = 65_536;
+/// A table has never room for more rows.
+const MOST_ROWS: usize = 65_536;
 
 /// The same rows in columns: all kinds first, then all first bytes, and so on, each column as long as the room.
 ///
