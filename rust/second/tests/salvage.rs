@@ -77,3 +77,17 @@ fn kept_packs_give_their_answers() {
         assert_eq!(answer, sample.expected(), "{}", sample.name);
     }
 }
+
+/// The kept pack of a padded length, with just enough room and with less.
+#[test]
+fn a_kept_pack_with_just_enough_room() {
+    let packs = corpus::packs::folder::kept_damaged_packs();
+    let found = packs.iter().find(|it| it.name == "salvage-padded-length");
+    let pack = &found.expect("it is kept").bytes;
+    let answer = |bytes, words| salvage(pack, &mut vec![0; bytes], &mut vec![0; words]);
+    let (length, stretches) = (23, 2);
+    assert_eq!(answer(23, 4), Ok(Salvaged { length, stretches }));
+    let refused = |number, place| Err(Refusal { number, place });
+    assert_eq!(answer(23, 3), refused(52, 2));
+    assert_eq!(answer(22, 3), refused(21, 23));
+}

@@ -207,6 +207,19 @@ fn corpus_packs_give_their_answers() {
     }
 }
 
+/// The kept pack of a padded length, with just enough room and with less.
+#[test]
+fn a_kept_pack_with_just_enough_room() {
+    let packs = kept_damaged_packs();
+    let found = packs.iter().find(|it| it.name == "salvage-padded-length");
+    let pack = &found.expect("it is kept").bytes;
+    let answer =
+        |bytes, words| xnb::raw::salvage::salvage(pack, &mut vec![0; bytes], &mut vec![0; words]);
+    assert_eq!(answer(23, 4), (0, 23, 2));
+    assert_eq!(answer(23, 3), (52, 2, 0));
+    assert_eq!(answer(22, 3), (21, 23, 0));
+}
+
 #[test]
 fn refusals_are_told() {
     let pack = b"\0\0\0\0?\xFD\xFE\x01a\x02\0\0\0hi?";

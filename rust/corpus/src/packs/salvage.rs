@@ -117,6 +117,11 @@ pub fn samples() -> Vec<SalvageSample> {
         bytes: vec![0; 3],
         answers: "refused 1 at 0\n".to_string(),
     };
+    let padded_length = SalvageSample {
+        name: "salvage-padded-length".to_string(),
+        bytes: b"\x09\x09\x09\x09\x07\xFD\xFE\x02ab\x01\0\0\0X\xFD\xFD\xFE\x81\0A\0\0\0\0".to_vec(),
+        answers: "skipped 4 1\nkept 5 10\nskipped 15 1\nkept 16 9\n".to_string(),
+    };
     let mut shortened = record("one", "1111");
     shortened.pop();
     let mut swallowed = shortened.clone();
@@ -127,6 +132,7 @@ pub fn samples() -> Vec<SalvageSample> {
     smaller.extend(b"11");
     vec![
         three_bytes,
+        padded_length,
         sample("four-bytes", 7, vec![]),
         sample("whole", 2, vec![one(), two()]),
         sample("wrong-count", 9, vec![one(), two()]),
@@ -165,6 +171,11 @@ pub fn samples() -> Vec<SalvageSample> {
             "marks-before-a-record",
             1,
             vec![skipped(b"\xFD\xFE\xFD\xFE\xFD"), one()],
+        ),
+        sample(
+            "record-in-the-size-of-another",
+            2,
+            vec![skipped(b"\xFD\xFE\x01b"), kept("a", "data"), two()],
         ),
         sample("empty-path", 2, vec![skipped(b"\xFD\xFE\0\0\0\0\0"), one()]),
         sample(
