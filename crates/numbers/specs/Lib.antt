@@ -1,4 +1,5 @@
 pub mod Steps
+pub mod Shortest
+pub mod Padded
 pub mod FiveSteps
 pub mod Bytes
-pub mod Shortest

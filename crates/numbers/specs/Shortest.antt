@@ -75,6 +75,20 @@ pub shortest-form : (n : ℕ) → n < 2 ^ 32 → Seven n (shortest n)
 unfolding shortest
 shortest-form n h = (h, fewest-form 5 n (omega arith) (omega arith))
 
+-- a number of k + 1 groups, the last of which is not 0, has k + 1 bytes
+pub fewest-length : (k m n : ℕ) → k < m → 128 ^ k ≤ n → n < 128 ^ suc k → length (fewest m n) ≡ suc k
+unfolding fewest
+fewest-length k zero n h l u = absurd (omega arith)
+fewest-length zero (suc m) n h l u = rw (lt-ltb n 128 (omega arith))
+fewest-length (suc k) (suc m) n h l u =
+    let a : 128 * 128 ^ k ≤ n = rw (pow-succ' 128 k) at l in
+    let b : n < 128 * 128 ^ suc k = rw (pow-succ' 128 (suc k)) at u in
+    let one : 1 ≤ 128 ^ k = some-power k in
+    rw (le-ltb n 128 (omega arith)) (ap suc (fewest-length k m (n / 128) (omega arith) (omega arith) (omega arith))) where
+      some-power : (k : ℕ) → 1 ≤ 128 ^ k
+      some-power zero = omega arith
+      some-power (suc k) = let i = some-power k in rw (pow-succ' 128 k) (omega arith)
+
 -- writing group by group: what is still to be written, after the first of several groups, and at the last
 pub record Rest (out : List ℕ) (i x : ℕ) (whole : List ℕ) (end : ℕ) : Type 0 where
   pub groups : ℕ

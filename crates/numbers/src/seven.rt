@@ -1,25 +1,33 @@
 // Reading a seven-bit number in five steps, one for each byte that it may have: each is a turn of 000's loop under "7BitEncodedInt" (docs/SEVEN-BIT.md).
 ghost use mathlib.Core.Path.{_≡_};
-ghost use Prim.Native.Nat.{_+_, _*_, _≤_, _<_};
+ghost use Prim.Native.Nat.{_+_, _*_, _-_, _≤_, _<_};
 ghost use lib.Dec.{leb};
 ghost use lib.ListN.{length};
 ghost use Rattle.answers.specs.Told.{told};
 ghost use Rattle.reading.specs.Seven.{sevenAt};
-ghost use Rattle.numbers.specs.Steps.{joined, group, step, lastGroup, lastStep};
+ghost use Rattle.numbers.specs.Steps.{joined, neededBy, group, step, lastGroup, lastStep};
+ghost use Rattle.numbers.specs.Padded.{toldPadded, padded};
 use answers::Number;
 
-// What a step says: the number ends, with its value and the next place; the value so far is handed on; or a refusal and its place.
+// What a step says: the number ends, with its value, the next place and its padding; the value so far is handed on,
+// with how many bytes its shortest form has; or a refusal and its place.
 pub enum Step {
-    Ends(u64, usize),
-    HandsOn(u64),
+    Ends(u64, usize, u32),
+    HandsOn(u64, u32),
     Refuses(u32, usize),
+}
+
+// A seven-bit number with its value, the next place and its padding: how many bytes it has beyond its shortest form; or a refusal's number and place.
+pub enum Padded {
+    Read(u64, usize, u32),
+    Refused(u32, usize),
 }
 
 // Step 1: the first byte ends the number if it is below 80 hex, else hands on its low seven bits, and refuses with 1 if the file ends before it.
 pub fn first(s: &[u8], start: usize) -> Step
-    ensures { λ r. ⌜ r ≡ step 0 (now (s .entry)) start (Step.HandsOn 0) ⌝ }
+    ensures { λ r. ⌜ r ≡ step 0 (now (s .entry)) start (Step.HandsOn 0 1) ⌝ }
 {
-    step_at(s, start, 0, 0, Step::HandsOn(0))
+    step_at(s, start, 0, 0, Step::HandsOn(0, 1))
 }
 
 // Step 2: the second byte joins its low seven bits above the 7 read,
@@ -48,19 +56,19 @@ pub fn fourth(s: &[u8], start: usize, so_far: Step) -> Step
 
 // Step 5: the fifth byte joins its bits above the 28 read and ends the number, as no sixth may follow;
 // it refuses with 8 if it is above 0F hex, and with 1 if the file ends before it.
-pub fn fifth(s: &[u8], start: usize, so_far: Step) -> Number
-    ensures { λ r. ⌜ told r ≡ lastStep (now (s .entry)) start «so_far» ⌝ }
+pub fn fifth(s: &[u8], start: usize, so_far: Step) -> Padded
+    ensures { λ r. ⌜ toldPadded r ≡ lastStep (now (s .entry)) start «so_far» ⌝ }
 {
     match so_far {
-        Step::HandsOn(low) => last_group(s, start, low),
-        Step::Ends(value, next) => Number::Read(value, next),
-        Step::Refuses(number, place) => Number::Refused(number, place),
+        Step::HandsOn(low, needed) => last_group(s, start, low, needed),
+        Step::Ends(value, next, padding) => Padded::Read(value, next, padding),
+        Step::Refuses(number, place) => Padded::Refused(number, place),
     }
 }
 
-// The seven-bit number at a place.
-pub fn seven_at(s: &[u8], start: usize) -> Number
-    ensures { λ r. ⌜ told r ≡ sevenAt (now (s .entry)) start ⌝ }
+// The seven-bit number at a place, with its padding.
+pub fn seven_padded(s: &[u8], start: usize) -> Padded
+    ensures { λ r. ⌜ toldPadded r ≡ padded start (sevenAt (now (s .entry)) start) ⌝ }
 {
     let one = first(s, start);
     let two = second(s, start, one);
@@ -69,45 +77,80 @@ pub fn seven_at(s: &[u8], start: usize) -> Number
     fifth(s, start, four)
 }
 
+// The seven-bit number at a place.
+pub fn seven_at(s: &[u8], start: usize) -> Number
+    ensures { λ r. ⌜ told r ≡ sevenAt (now (s .entry)) start ⌝ }
+{
+    match seven_padded(s, start) {
+        Padded::Read(value, next, _) => Number::Read(value, next),
+        Padded::Refused(number, place) => Number::Refused(number, place),
+    }
+}
+
 // One of the first four steps: what was handed on goes on with the byte with index k; what has ended or was refused stays.
 fn step_at(s: &[u8], start: usize, k: usize, bits_read: u32, so_far: Step) -> Step
     requires { ⌜ (k ≤ 3) × («bits_read» ≡ 7 * k) ⌝ }
     ensures { λ r. ⌜ r ≡ step k (now (s .entry)) start «so_far» ⌝ }
 {
     match so_far {
-        Step::HandsOn(low) => group_at(s, start, k, bits_read, low),
-        Step::Ends(value, next) => Step::Ends(value, next),
+        Step::HandsOn(low, needed) => group_at(s, start, k, bits_read, low, needed),
+        Step::Ends(value, next, padding) => Step::Ends(value, next, padding),
         Step::Refuses(number, place) => Step::Refuses(number, place),
     }
 }
 
-// The byte with index k of the number at `start`, where the bytes before it have the value `low`.
-fn group_at(s: &[u8], start: usize, k: usize, bits_read: u32, low: u64) -> Step
+// The byte with index k of the number at `start`, where the bytes before it have the value `low`, whose shortest form has `needed` bytes.
+fn group_at(s: &[u8], start: usize, k: usize, bits_read: u32, low: u64, needed: u32) -> Step
     requires { ⌜ (k ≤ 3) × («bits_read» ≡ 7 * k) ⌝ }
-    ensures { λ r. ⌜ r ≡ group k (now (s .entry)) start low ⌝ }
+    ensures { λ r. ⌜ r ≡ group k (now (s .entry)) start low needed ⌝ }
 {
     if missing(s, start, k) {
         return Step::Refuses(1, start);
     }
     let byte = s[start + k];
+    let short = needed_by(k, needed, byte);
     if byte < 0x80 {
-        return Step::Ends(join(low, bits_read, byte), start + k + 1);
+        return Step::Ends(join(low, bits_read, byte), start + k + 1, beyond(k, short));
     }
-    Step::HandsOn(join(low, bits_read, byte & 0x7F))
+    Step::HandsOn(join(low, bits_read, byte & 0x7F), short)
 }
 
-// The fifth byte of the number at `start`, where the four before it have the value `low`.
-fn last_group(s: &[u8], start: usize, low: u64) -> Number
-    ensures { λ r. ⌜ told r ≡ lastGroup (now (s .entry)) start low ⌝ }
+// The fifth byte of the number at `start`, where the four before it have the value `low`, whose shortest form has `needed` bytes.
+fn last_group(s: &[u8], start: usize, low: u64, needed: u32) -> Padded
+    ensures { λ r. ⌜ toldPadded r ≡ lastGroup (now (s .entry)) start low needed ⌝ }
 {
     if missing(s, start, 4) {
-        return Number::Refused(1, start);
+        return Padded::Refused(1, start);
     }
     let byte = s[start + 4];
     if byte <= 0x0F {
-        return Number::Read(join(low, 28, byte), start + 5);
+        let short = needed_by(4, needed, byte);
+        return Padded::Read(join(low, 28, byte), start + 5, beyond(4, short));
     }
-    Number::Refused(8, start)
+    Padded::Refused(8, start)
+}
+
+// How many bytes the shortest form of the value so far has: it ends with the last byte whose low seven bits are not all 0.
+fn needed_by(k: usize, needed: u32, byte: u8) -> u32
+    requires { ⌜ k ≤ 4 ⌝ }
+    ensures { λ r. ⌜ r ≡ neededBy k needed byte ⌝ }
+{
+    if byte % 128 == 0 {
+        return needed;
+    }
+    k as u32 + 1
+}
+
+// How many of the bytes with index 0 to k are more than are needed.
+fn beyond(k: usize, needed: u32) -> u32
+    requires { ⌜ k ≤ 4 ⌝ }
+    ensures { λ r. ⌜ r ≡ k + 1 - needed ⌝ }
+{
+    let size = k as u32 + 1;
+    if size < needed {
+        return 0;
+    }
+    size - needed
 }
 
 // Whether the file ends before the byte with index k of the number at `start`.

@@ -1,5 +1,7 @@
-// Shows the steps of each seven-bit number that standard input holds: each step with its byte, the value so far and how it ended.
+// Shows the steps of each seven-bit number that standard input holds: each step with its byte, the value so far and how it ended;
+// where the number ends, with its padding: how many bytes it has beyond its shortest form.
 use answers::Number;
+use numbers::seven::Padded;
 use numbers::seven::Step;
 
 fn print_byte(byte: u8) {
@@ -34,11 +36,13 @@ fn print_taken(s: &[u8], start: usize, k: u8, value: u64) {
 // A step and what it said; a step that refuses leaves the value as it was handed on.
 fn show_said(s: &[u8], start: usize, k: u8, low: u64, said: Step) {
     match said {
-        Step::Ends(value, _) => {
+        Step::Ends(value, _, padding) => {
             print_taken(s, start, k, value);
-            io::write_all(1, b"ends\n");
+            io::write_all(1, b"ends, padding ");
+            io::print_decimal(1, padding as u64);
+            io::write_all(1, b"\n");
         }
-        Step::HandsOn(value) => {
+        Step::HandsOn(value, _) => {
             print_taken(s, start, k, value);
             io::write_all(1, b"hands on\n");
         }
@@ -52,16 +56,16 @@ fn show_said(s: &[u8], start: usize, k: u8, low: u64, said: Step) {
 // The step with index k, if the one before it handed on.
 fn show_step(s: &[u8], start: usize, k: u8, before: Step, said: Step) {
     match before {
-        Step::HandsOn(low) => show_said(s, start, k, low, said),
-        Step::Ends(_, _) => {}
+        Step::HandsOn(low, _) => show_said(s, start, k, low, said),
+        Step::Ends(_, _, _) => {}
         Step::Refuses(_, _) => {}
     }
 }
 
-fn as_step(said: Number) -> Step {
+fn as_step(said: Padded) -> Step {
     match said {
-        Number::Read(value, next) => Step::Ends(value, next),
-        Number::Refused(number, place) => Step::Refuses(number, place),
+        Padded::Read(value, next, padding) => Step::Ends(value, next, padding),
+        Padded::Refused(number, place) => Step::Refuses(number, place),
     }
 }
 
@@ -75,7 +79,7 @@ fn show(s: &[u8], start: usize) {
     io::write_all(1, b"number at ");
     io::print_decimal(1, start as u64);
     io::write_all(1, b"\n");
-    show_step(s, start, 0, Step::HandsOn(0), one);
+    show_step(s, start, 0, Step::HandsOn(0, 1), one);
     show_step(s, start, 1, one, two);
     show_step(s, start, 2, two, three);
     show_step(s, start, 3, three, four);

@@ -41,36 +41,42 @@ shared-slice-read-byte : tie.Need-shared-slice-read-byte
 shared-slice-read-byte c =
     omega (arith, there (c .before))
 
+needed-by-requires : tie.Need-needed-by-requires
+needed-by-requires c κs = search needs
+
 join-requires : tie.Need-join-requires
 join-requires c κs = search needs
 
-add-t13 : tie.Need-add-t13
-add-t13 c =
-    omega (arith, there (c .before .before .before))
+add-t15 : tie.Need-add-t15
+add-t15 c =
+    omega (arith, there (c .before .before .before .before))
 
-add-t14 : tie.Need-add-t14
-add-t14 c =
-    omega (arith, there (c .before .before .before))
+add-t16 : tie.Need-add-t16
+add-t16 c =
+    omega (arith, there (c .before .before .before .before))
+
+beyond-requires : tie.Need-beyond-requires
+beyond-requires c κs = search needs
 
 returns-2 : tie.Need-returns-2
 unfolding group
 returns-2 c =
-    let a = c .before .before .before .before .before .before .args in
-    let t = lt-ltb (getD (a .s .now) (a .start + a .k) 0) 128 (omega (arith, c .before .if2 .taken)) in
-    simp (found (c .before .before .before), t, c .join .ensures, c .before .before .before .before .before .before .pre .1)
+    let a = c .before .before .before .before .before .before .before .before .args in
+    let t = lt-ltb (getD (a .s .now) (a .start + a .k) 0) 128 (omega (arith, c .before .before .if2 .taken)) in
+    simp (found (c .before .before .before .before .before), t, c .before .join .ensures, c .before .before .before .before .before .before .before .before .pre .1, c .beyond .ensures, c .before .before .before .needed-by .ensures)
 
 join-requires-2 : tie.Need-join-requires-2
 join-requires-2 c κs =
-    let a = c .before .before .before .before .before .args in
+    let a = c .before .before .before .before .before .before .args in
     (mask-lt (getD (a .s .now) (a .start + a .k) 0) 7, omega arith)
 
 returns-3 : tie.Need-returns-3
 unfolding group
 returns-3 c =
-    let a = c .before .before .before .before .before .before .args in
+    let a = c .before .before .before .before .before .before .before .args in
     let t = le-ltb (getD (a .s .now) (a .start + a .k) 0) 128 (omega (arith, c .before .if2 .left)) in
     let m = masked (a .low) (a .bits-read) (getD (a .s .now) (a .start + a .k) 0) in
-    simp (found (c .before .before .before), t, c .join2 .ensures ∙ m, c .before .before .before .before .before .before .pre .1)
+    simp (found (c .before .before .before .before), t, c .join2 .ensures ∙ m, c .before .before .before .before .before .before .before .pre .1, c .before .before .needed-by .ensures)
 
 pub group-at-spec : {M : Type 1} → statement M
 group-at-spec =
@@ -80,9 +86,11 @@ group-at-spec =
     returns
     add-byte
     shared-slice-read-byte
+    needed-by-requires
     join-requires
-    add-t13
-    add-t14
+    add-t15
+    add-t16
+    beyond-requires
     returns-2
     join-requires-2
     returns-3)

@@ -33,19 +33,25 @@ shared-slice-read-byte : tie.Need-shared-slice-read-byte
 shared-slice-read-byte c =
     omega (arith, there (c .before))
 
+needed-by-requires : tie.Need-needed-by-requires
+needed-by-requires c κs = search needs
+
 join-requires : tie.Need-join-requires
 join-requires c κs = search needs
 
-add-t11 : tie.Need-add-t11
-add-t11 c =
-    omega (arith, there (c .before .before .before))
+add-t13 : tie.Need-add-t13
+add-t13 c =
+    omega (arith, there (c .before .before .before .before))
+
+beyond-requires : tie.Need-beyond-requires
+beyond-requires c κs = search needs
 
 returns-2 : tie.Need-returns-2
 unfolding lastGroup
 returns-2 c =
-    let a = c .before .before .before .before .before .before .args in
-    let t = le-leb (getD (a .s .now) (a .start + 4) 0) 15 (omega (arith, c .before .if2 .taken)) in
-    simp (found (c .before .before .before), t, c .join .ensures)
+    let a = c .before .before .before .before .before .before .before .before .args in
+    let t = le-leb (getD (a .s .now) (a .start + 4) 0) 15 (omega (arith, c .before .before .before .if2 .taken)) in
+    simp (found (c .before .before .before .before .before), t, c .before .join .ensures, c .beyond .ensures, c .before .before .needed-by .ensures)
 
 returns-3 : tie.Need-returns-3
 unfolding lastGroup
@@ -62,7 +68,9 @@ last-group-spec =
     returns
     add-byte
     shared-slice-read-byte
+    needed-by-requires
     join-requires
-    add-t11
+    add-t13
+    beyond-requires
     returns-2
     returns-3)

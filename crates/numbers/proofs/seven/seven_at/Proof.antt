@@ -1,38 +1,29 @@
-use mathlib.Core.Path.{_∙_, ap}
-use native.Mathlib.Omega.{arith}
+use mathlib.Core.Path.{sym, ap, _∙_}
+use Rattle.reading.specs.Seven.{sevenAt}
+use Rattle.numbers.specs.Padded.{toldPadded, number-read, number-refused}
 use borrow.Author.Needs.{needs}
-use Rattle.numbers.specs.Steps.{step, lastStep}
-use Rattle.numbers.specs.FiveSteps.{five-steps}
 use Rattle.numbers.proofs.seven.seven_at.Statement.{statement}
 use Rattle.numbers.proofs.seven.seven_at.Tie as tie
 
-first-requires : tie.Need-first-requires
-first-requires c κs = search needs
+seven-padded-requires : tie.Need-seven-padded-requires
+seven-padded-requires c κs = search needs
 
-second-requires : tie.Need-second-requires
-second-requires c κs = search needs
+enum-known-value : tie.Need-enum-known-value
+enum-known-value c = search needs
 
-third-requires : tie.Need-third-requires
-third-requires c κs = search needs
-
-fourth-requires : tie.Need-fourth-requires
-fourth-requires c κs = search needs
-
-fifth-requires : tie.Need-fifth-requires
-fifth-requires c κs = search needs
+enum-known-number : tie.Need-enum-known-number
+enum-known-number c = search needs
 
 returns : tie.Need-returns
 returns c =
-    let at = c .before .before .before .before .before in
-    let a = at .before .args in
-    c .fifth .ensures
-    ∙ ap (lastStep (a .s .now) (a .start)) (c .before .fourth .ensures
-    ∙ ap (step 3 (a .s .now) (a .start)) (c .before .before .third .ensures
-    ∙ ap (step 2 (a .s .now) (a .start)) (c .before .before .before .second .ensures
-    ∙ ap (step 1 (a .s .now) (a .start)) (c .before .before .before .before .first .ensures))))
-    ∙ five-steps (a .s .now) (a .start) (λ i l. omega (arith, at .shared-slice-known .given i))
+    let a = c .before .before .before .before .before .args in
+    sym (number-read (a .start) (sevenAt (a .s .now) (a .start)) (sym (ap toldPadded (c .before .value .given .1)) ∙ c .before .before .before .seven-padded .ensures) .0)
+
+returns-2 : tie.Need-returns-2
+returns-2 c =
+    let a = c .before .before .before .before .before .args in
+    sym (number-refused (a .start) (sevenAt (a .s .now) (a .start)) (sym (ap toldPadded (c .before .number .given .1)) ∙ c .before .before .before .seven-padded .ensures))
 
 pub seven-at-spec : {M : Type 1} → statement M
 seven-at-spec =
-    tie.close
-    (tie.spec first-requires second-requires third-requires fourth-requires fifth-requires returns)
+    tie.close (tie.spec seven-padded-requires enum-known-value enum-known-number returns returns-2)
