@@ -1,4 +1,4 @@
--- Where the seven-bit numbers of a whole file start: the reader count, the lengths of names, the shared count, and those of the rows. Assumes nothing.
+-- A file with the seven-bit number at each of its places in its shortest form has its shortest bytes. Assumes nothing.
 use mathlib.Core.Path.{_≡_, refl, sym, ap, _∙_}
 use mathlib.Core.List.{List, [], _∷_, _++_, append-assoc, append-nil}
 use Prim.Native.Nat.{ℕ, zero, suc, _+_, _-_}
@@ -11,36 +11,18 @@ use Rattle.layout.specs.Tree.{count}
 use Rattle.layout.specs.Resource.{Resource}
 use Rattle.layout.specs.Rows.{Row}
 use Rattle.layout.specs.File.{FileTree, sharedOf, header, objectsPlan, Entry, Entries, FileLays, fileRows}
-use Rattle.reading.specs.Answer.{Answer}
 use Rattle.reading.specs.Reads.{seam}
 use Rattle.reading.specs.Seven.{sevenAt}
 use Rattle.reading.specs.Little.{length-little}
 use Rattle.numbers.specs.Shortest.{shortest}
 use Rattle.shortest.specs.Short.{short}
 use Rattle.shortest.specs.File.{shortEntry, shortEntries, shortLists, shortBody}
-use Rattle.shortest.specs.Places.{numberOf, past, rowsPlaces, Shortened, copied, number, joined, number-is, split, lays-shortened}
+use Rattle.numbers.specs.Padded.{numberOf, past}
+use Rattle.places.specs.Places.{behindEntry, rowsPlaces, entriesPlaces, entriesEnd, listsPlaces, filePlaces}
+use Rattle.shortest.specs.Places.{Shortened, copied, number, joined, number-is, split, lays-shortened}
 use Rattle.shortest.specs.Rewrites.{Rewrites, whole-rewrites}
 
--- where a reader ends: its name's length, the name, and four bytes of a version
-unfoldable pub behindEntry : Answer ℕ → (at : ℕ) → ℕ
-behindEntry x at = past x at + numberOf x + 4
-
 module _ (file : List ℕ) where
-  -- the places of the lengths of n names, and where the readers end
-  unfoldable pub entriesPlaces : (n at : ℕ) → List ℕ
-  entriesPlaces zero at = []
-  entriesPlaces (suc n) at = at ∷ entriesPlaces n (behindEntry (sevenAt file at) at)
-
-  unfoldable pub entriesEnd : (n at : ℕ) → ℕ
-  entriesEnd zero at = at
-  entriesEnd (suc n) at = entriesEnd n (behindEntry (sevenAt file at) at)
-
-  -- of a file with so many readers and these rows
-  unfoldable pub filePlaces : (readers : ℕ) → List Row → List ℕ
-  filePlaces readers rows =
-      let first = past (sevenAt file 10) 10 in
-      10 ∷ (entriesPlaces readers first ++ (entriesEnd readers first ∷ rowsPlaces file rows))
-
   module _ (named : List ℕ → Target → Type 0) where
     entry-shortened : (name : List ℕ) (t : Target) (bs others : List ℕ) (at : ℕ) → Entry named name t bs → drop at file ≡ bs ++ others
         → Shortened file at (at + length bs) (at ∷ []) (shortEntry name) × (behindEntry (sevenAt file at) at ≡ at + length bs)
@@ -53,7 +35,7 @@ module _ (file : List ℕ) where
         (joined (number (w .number) (behind ++ others) (c .0) refl (w .numbered)) (copied others (c .1) (c .2)), rw s (omega (arith, c .2)))
 
     entries-shortened : (names : List (List ℕ)) (readers : List Target) (bs others : List ℕ) (at : ℕ) → Entries named names readers bs → drop at file ≡ bs ++ others
-        → Shortened file at (at + length bs) (entriesPlaces (length names) at) (shortEntries names) × (entriesEnd (length names) at ≡ at + length bs)
+        → Shortened file at (at + length bs) (entriesPlaces file (length names) at) (shortEntries names) × (entriesEnd file (length names) at ≡ at + length bs)
     unfolding Entries entriesPlaces entriesEnd shortEntries
     entries-shortened [] [] bs others at w d =
         let l : at + length bs ≡ at = omega (arith, ap length w) in
@@ -64,15 +46,15 @@ module _ (file : List ℕ) where
         let c = split file at bs (w .0) (w .1) others (w .2) d in
         let e = entry-shortened name t (w .0) (w .1 ++ others) at (w .3) (c .0) in
         let r = entries-shortened names readers (w .1) others (at + length (w .0)) (w .4) (c .1) in
-        (rw (e .1, c .2) (joined (e .0) (r .0)), ap (entriesEnd (length names)) (e .1) ∙ r .1 ∙ sym (c .2))
+        (rw (e .1, c .2) (joined (e .0) (r .0)), ap (entriesEnd file (length names)) (e .1) ∙ r .1 ∙ sym (c .2))
 
     module _ (ft : FileTree) (w : FileLays named ft file) where
       abbrev rows : List Row
       rows = fileRows named ft file w
 
       -- all behind the header, with each number in its shortest form
-      body-shortened : Shortened file 10 (length file) (filePlaces (length (ft .names)) rows) (shortBody ft)
-      unfolding filePlaces shortBody shortLists fileRows past header ascii little
+      body-shortened : Shortened file 10 (length file) (filePlaces file (length (ft .names)) rows) (shortBody ft)
+      unfolding filePlaces listsPlaces shortBody shortLists fileRows past header ascii little
       body-shortened =
           let shared = count (sharedOf (ft .objects)) in
           let l = w .lists in
@@ -89,8 +71,10 @@ module _ (file : List ℕ) where
           let s : Shortened file (10 + length (l .number) + length (l .entries)) (10 + length (w .before)) ((10 + length (l .number) + length (l .entries)) ∷ []) (shortest shared)
           = number (l .shared-number) (w .values) (d .1) f (l .shared-numbered) in
           let all = joined a (joined (e .0) (joined s v)) in
-          rw (n, e .1, o, append-assoc (shortest (length (ft .names))) (shortEntries (ft .names) ++ shortest shared) (short (ft .objects)), append-assoc (shortEntries (ft .names)) (shortest shared) (short (ft .objects))) all
+          let first = 10 + length (l .number) in
+          let behind = entriesEnd file (length (ft .names)) first ∷ [] in
+          rw (n, append-assoc (entriesPlaces file (length (ft .names)) first) behind (rowsPlaces file rows), e .1, o, append-assoc (shortest (length (ft .names))) (shortEntries (ft .names) ++ shortest shared) (short (ft .objects)), append-assoc (shortEntries (ft .names)) (shortest shared) (short (ft .objects))) all
 
       -- the file with each of its numbers in its shortest form is its first ten bytes and the shortest bytes of all behind them
-      pub file-rewrites : Rewrites file 0 (filePlaces (length (ft .names)) rows) (take 10 file ++ shortBody ft)
+      pub file-rewrites : Rewrites file 0 (filePlaces file (length (ft .names)) rows) (take 10 file ++ shortBody ft)
       file-rewrites = whole-rewrites file body-shortened 0 (omega arith)

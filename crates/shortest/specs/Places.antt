@@ -1,6 +1,6 @@
--- Where the seven-bit numbers of rows start, and that trees with each of them in its shortest form have their shortest bytes. Assumes nothing.
+-- Trees with the seven-bit number at each place of their rows in its shortest form have their shortest bytes. Assumes nothing.
 use mathlib.Core.Path.{_≡_, refl, ap, _∙_}
-use mathlib.Core.Bool.{true, false, cond}
+use mathlib.Core.Bool.{true, false}
 use mathlib.Core.List.{List, [], _∷_, _++_, append-assoc, append-nil}
 use mathlib.Core.Logic.{_⊎_, inl, inr}
 use Prim.Native.Nat.{ℕ, zero, suc, _+_}
@@ -13,52 +13,26 @@ use Rattle.layout.specs.Tree.{Trees, none, tree, count, size, told}
 use Rattle.layout.specs.Slot.{Slot, raw, object, reference, leaf, Plan, stop, put}
 use Rattle.layout.specs.Layout.{Raw, Value, Lays}
 use Rattle.layout.specs.Rows.{Row, rawRows, valueRows, notedRows, rowsOf}
-use Rattle.reading.specs.Answer.{Answer, refused, read}
+use Rattle.reading.specs.Answer.{read}
 use Rattle.reading.specs.Reads.{seam}
 use Rattle.reading.specs.Seven.{sevenAt, seven-reads}
 use Rattle.reading.specs.Rules.{null-id}
 use Rattle.numbers.specs.Shortest.{shortest}
-use Rattle.shortest.specs.Short.{numbered, idBytes, body, short, Form, plain, text, raw-form, form-numbered, leaf-body, reference-numbered}
-
--- a number that was read, and where it ends if it starts at `at`
-unfoldable pub numberOf : Answer ℕ → ℕ
-numberOf (refused number place) = 0
-numberOf (read n next) = n
-
-unfoldable pub past : Answer ℕ → (at : ℕ) → ℕ
-past (refused number place) at = at
-past (read n next) at = next
+use Rattle.numbers.specs.Padded.{past}
+use Rattle.places.specs.Places.{numbered, idPlaces, rawPlace, countPlaces, rowsPlaces}
+use Rattle.places.specs.Padding.{places-append}
+use Rattle.shortest.specs.Short.{idBytes, body, short, Form, plain, text, raw-form, form-numbered, leaf-body, reference-numbered}
 
 module _ (file : List ℕ) where
-  -- the places of a row's type id or resource id, and of a text's count behind it
-  unfoldable pub idPlaces : (kind first detail : ℕ) → List ℕ
-  idPlaces kind first detail = cond (numbered kind detail) (first ∷ []) []
-
-  unfoldable pub rawPlace : (kind first detail : ℕ) → ℕ
-  rawPlace kind first detail = cond (numbered kind detail) (past (sevenAt file first) first) first
-
-  unfoldable pub countPlaces : (kind at : ℕ) → List ℕ
-  countPlaces kind at = cond (eqb kind 13) (at ∷ []) []
-
-  unfoldable pub rowsPlaces : List Row → List ℕ
-  rowsPlaces [] = []
-  rowsPlaces (r ∷ rows) =
-      idPlaces (r .kind) (r .first) (r .detail) ++ (countPlaces (r .kind) (rawPlace (r .kind) (r .first) (r .detail)) ++ rowsPlaces rows)
-
   -- the file's bytes from `at` to `end` have numbers at these places, and with each in its shortest form they are `bs`
   pub data Shortened : (at end : ℕ) (places bs : List ℕ) → Type 0 where
     copied : {at end : ℕ} {bs : List ℕ} (rest : List ℕ) → drop at file ≡ bs ++ rest → end ≡ at + length bs → Shortened at end [] bs
     number : {at end n : ℕ} (bs rest : List ℕ) → drop at file ≡ bs ++ rest → end ≡ at + length bs → Seven n bs → Shortened at end (at ∷ []) (shortest n)
     joined : {at mid end : ℕ} {p q s t : List ℕ} → Shortened at mid p s → Shortened mid end q t → Shortened at end (p ++ q) (s ++ t)
 
-  none-places : rowsPlaces [] ≡ []
+  none-places : rowsPlaces file [] ≡ []
   unfolding rowsPlaces
   none-places = refl
-
-  places-append : (a b : List Row) → rowsPlaces (a ++ b) ≡ rowsPlaces a ++ rowsPlaces b
-  unfolding rowsPlaces
-  places-append [] b = refl
-  places-append (r ∷ a) b = rw (places-append a b) (simp append-assoc)
 
   pub number-is : (n at : ℕ) (bs rest : List ℕ) → Seven n bs → drop at file ≡ bs ++ rest → sevenAt file at ≡ read n (at + length bs)
   number-is n at bs rest w d = seven-reads file .complete n bs rest at w d
@@ -70,19 +44,19 @@ module _ (file : List ℕ) where
       (e ∙ append-assoc a b rest, seam file at a b rest e, omega (arith, ap length q, length-append a b))
 
   -- a value without an id, and one with an id
-  without-id : (kind at id : ℕ) → numbered kind id ≡ false → (idPlaces kind at id ≡ []) × (rawPlace kind at id ≡ at) × (idBytes kind id ≡ [])
+  without-id : (kind at id : ℕ) → numbered kind id ≡ false → (idPlaces file kind at id ≡ []) × (rawPlace file kind at id ≡ at) × (idBytes kind id ≡ [])
   unfolding idPlaces rawPlace idBytes
   without-id kind at id e = rw e (refl, refl, refl)
 
-  with-id : (kind at id : ℕ) {n end : ℕ} → numbered kind id ≡ true → sevenAt file at ≡ read n end → (idPlaces kind at id ≡ at ∷ []) × (rawPlace kind at id ≡ end) × (idBytes kind id ≡ shortest id)
+  with-id : (kind at id : ℕ) {n end : ℕ} → numbered kind id ≡ true → sevenAt file at ≡ read n end → (idPlaces file kind at id ≡ at ∷ []) × (rawPlace file kind at id ≡ end) × (idBytes kind id ≡ shortest id)
   unfolding idPlaces rawPlace idBytes past
   with-id kind at id e s = rw (e, s) (refl, refl, refl)
 
-  no-count : (kind at : ℕ) → eqb kind 13 ≡ false → countPlaces kind at ≡ []
+  no-count : (kind at : ℕ) → eqb kind 13 ≡ false → countPlaces file kind at ≡ []
   unfolding countPlaces
   no-count kind at e = rw e
 
-  text-places : (at : ℕ) → countPlaces 13 at ≡ (at ∷ []) ++ []
+  text-places : (at : ℕ) → countPlaces file 13 at ≡ (at ∷ []) ++ []
   unfolding countPlaces
   text-places at = refl
 
@@ -91,7 +65,7 @@ module _ (file : List ℕ) where
   text-body own n = refl
 
   form-shortened : {P : List ℕ → Type 0} {kind n : ℕ} {own head : List ℕ} (rest : List ℕ) → Form P kind own n head → (at : ℕ) → drop at file ≡ head ++ rest
-      → Shortened at (at + length head) (countPlaces kind at) (body kind own n)
+      → Shortened at (at + length head) (countPlaces file kind at) (body kind own n)
   form-shortened {kind = kind} {n = n} {own = own} {head = head} rest (plain m q e w) at d =
       let z : Shortened at (at + length head) [] head = copied rest d refl in
       rw (no-count kind at q, ← e) z
@@ -106,7 +80,7 @@ module _ (file : List ℕ) where
 
   -- a value that is an id and nothing more: null, or a shared reference
   bare-shortened : (kind id : ℕ) (bs rest : List ℕ) {at : ℕ} → numbered kind id ≡ true → (kind ≡ 0) ⊎ (kind ≡ 36) → Seven id bs → drop at file ≡ bs ++ rest
-      → Shortened at (at + length bs) (idPlaces kind at id ++ (countPlaces kind (rawPlace kind at id) ++ [])) (idBytes kind id ++ (body kind [] 0 ++ []))
+      → Shortened at (at + length bs) (idPlaces file kind at id ++ (countPlaces file kind (rawPlace file kind at id) ++ [])) (idBytes kind id ++ (body kind [] 0 ++ []))
   bare-shortened kind id bs rest {at} m k w d =
       let b = bare-body kind k in
       let i = with-id kind at id m (number-is id at bs rest w d) in
@@ -116,7 +90,7 @@ module _ (file : List ℕ) where
   -- the children cs, by the rows of their trees
   module _ (readers : List Target) (refers : Target → ℕ → Type 0) (cs : Trees)
       (h : (plan : Plan) (b : List ℕ) (v : Lays readers refers plan cs b) (at n q : ℕ) (rest : List ℕ) → drop at file ≡ b ++ rest
-      → Shortened at (at + length b) (rowsPlaces (rowsOf readers refers plan cs b v at n q)) (short cs)) where
+      → Shortened at (at + length b) (rowsPlaces file (rowsOf readers refers plan cs b v at n q)) (short cs)) where
     abbrev Under : Plan → List ℕ → Type 0
     Under plan b = Lays readers refers plan cs b
 
@@ -124,7 +98,7 @@ module _ (file : List ℕ) where
     below plan b v at n q = rowsOf readers refers plan cs b v at n q
 
     raw-shortened : (t : Target) (kind : ℕ) (own bs : List ℕ) (w : Raw Under t kind own cs bs) (at n : ℕ) (rest : List ℕ) → drop at file ≡ bs ++ rest
-        → Shortened at (at + length bs) (countPlaces kind at ++ rowsPlaces (below (w .plan) (w .children) (w .laid) (at + length (w .head)) (suc n) (suc n))) (body kind own (count cs) ++ short cs)
+        → Shortened at (at + length bs) (countPlaces file kind at ++ rowsPlaces file (below (w .plan) (w .children) (w .laid) (at + length (w .head)) (suc n) (suc n))) (body kind own (count cs) ++ short cs)
     raw-shortened t kind own bs w at n rest d =
         let c = split at bs (w .head) (w .children) rest (w .parts) d in
         let f = form-shortened (w .children ++ rest) (raw-form readers refers cs t kind own bs w) at (c .0) in
@@ -133,14 +107,14 @@ module _ (file : List ℕ) where
 
     -- a value with an id, by what stands behind the id
     id-shortened : (kind id : ℕ) (own nb rest places : List ℕ) {at end : ℕ} → numbered kind id ≡ true → Seven id nb → drop at file ≡ nb ++ rest
-        → ((mid : ℕ) → mid ≡ at + length nb → Shortened mid end (countPlaces kind mid ++ places) (body kind own (count cs) ++ short cs))
-        → Shortened at end (idPlaces kind at id ++ (countPlaces kind (rawPlace kind at id) ++ places)) (idBytes kind id ++ (body kind own (count cs) ++ short cs))
+        → ((mid : ℕ) → mid ≡ at + length nb → Shortened mid end (countPlaces file kind mid ++ places) (body kind own (count cs) ++ short cs))
+        → Shortened at end (idPlaces file kind at id ++ (countPlaces file kind (rawPlace file kind at id) ++ places)) (idBytes kind id ++ (body kind own (count cs) ++ short cs))
     id-shortened kind id own nb rest places {at} {end} m w d f =
         let i = with-id kind at id m (number-is id at nb rest w d) in
         rw (i .0, i .1, i .2) (joined (number nb rest d refl w) (f (at + length nb) refl))
 
     value-shortened : (x : Slot) (kind id : ℕ) (own bs : List ℕ) (w : Value readers refers Under x kind id own cs bs) (at n q : ℕ) (rest : List ℕ) → drop at file ≡ bs ++ rest
-        → Shortened at (at + length bs) (rowsPlaces (valueRows (λ r. r) (λ t r. r) readers refers Under below x kind id own cs bs w at n q)) (idBytes kind id ++ (body kind own (count cs) ++ short cs))
+        → Shortened at (at + length bs) (rowsPlaces file (valueRows (λ r. r) (λ t r. r) readers refers Under below x kind id own cs bs w at n q)) (idBytes kind id ++ (body kind own (count cs) ++ short cs))
     unfolding Value valueRows rawRows rowsPlaces numbered short count
     value-shortened (raw t) kind id own bs w at n q rest d =
         let i = without-id kind at 0 (form-numbered (raw-form readers refers cs t kind own bs (w .1))) in
@@ -151,7 +125,7 @@ module _ (file : List ℕ) where
     value-shortened (object t) kind (suc i) own bs (inr w) at n q rest d =
         let c = split at bs (w .number) (w .value) rest (w .parts) d in
         let r = raw-shortened (w .target) kind own (w .value) (w .laid) (at + length (w .number)) n rest (c .1) in
-        rw (c .2) (id-shortened kind (suc i) own (w .number) (w .value ++ rest) (rowsPlaces (below (w .laid .plan) (w .laid .children) (w .laid .laid) (at + length (w .number) + length (w .laid .head)) (suc n) (suc n))) refl (w .numbered) (c .0) (λ mid e. rw e r))
+        rw (c .2) (id-shortened kind (suc i) own (w .number) (w .value ++ rest) (rowsPlaces file (below (w .laid .plan) (w .laid .children) (w .laid .laid) (at + length (w .number) + length (w .laid .head)) (suc n) (suc n))) refl (w .numbered) (c .0) (λ mid e. rw e r))
     value-shortened (reference t) kind id own bs w at n q rest d =
         rw (w .kind-of, w .empty, w .childless) (bare-shortened 36 id bs rest (reference-numbered id) (inr refl) (w .number) d)
     value-shortened (leaf x) kind id own bs w at n q rest d =
@@ -162,7 +136,7 @@ module _ (file : List ℕ) where
 
   -- trees that stand in the file, with the numbers of their rows in their shortest forms, are their shortest bytes
   pub lays-shortened : (readers : List Target) (refers : Target → ℕ → Type 0) (plan : Plan) (ts : Trees) (bs : List ℕ) (w : Lays readers refers plan ts bs) (at n q : ℕ) (rest : List ℕ)
-      → drop at file ≡ bs ++ rest → Shortened at (at + length bs) (rowsPlaces (rowsOf readers refers plan ts bs w at n q)) (short ts)
+      → drop at file ≡ bs ++ rest → Shortened at (at + length bs) (rowsPlaces file (rowsOf readers refers plan ts bs w at n q)) (short ts)
   unfolding Lays notedRows short
   lays-shortened readers refers stop none bs w at n q rest d = rw none-places (copied rest (rw w at d) (ap (λ (b : List ℕ). at + length b) w))
   lays-shortened readers refers (put x go) none bs w at n q rest d = absurd w

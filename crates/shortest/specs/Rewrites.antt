@@ -5,25 +5,17 @@ use Prim.Native.Nat.{ℕ, _+_, _-_, _<_, _≤_, _^_}
 use native.Mathlib.Omega.{arith}
 use lib.ListN.{length, take, drop, length-append, length-drop}
 use lib.Seq.{drop-drop, take-append-seam, take-add, take-all, length-take-le}
-use Rattle.reading.specs.Answer.{Answer, refused, read}
+use Rattle.reading.specs.Answer.{read}
 use Rattle.reading.specs.Seven.{sevenAt, some-bytes}
 use Rattle.numbers.specs.Shortest.{shortest, shortest-is}
+use Rattle.numbers.specs.Padded.{padOf}
+use Rattle.places.specs.Padding.{padding}
 use Rattle.shortest.specs.Places.{Shortened, copied, number, joined, number-is}
-
--- the bytes of a number that starts at `at` beyond its shortest form
-unfoldable pub padOf : Answer ℕ → (at : ℕ) → ℕ
-padOf (refused refusal place) at = 0
-padOf (read n next) at = next - at - length (shortest n)
 
 module _ (file : List ℕ) where
   -- the file's bytes from `from` up to `at`
   abbrev pub part : (from at : ℕ) → List ℕ
   part from at = take (at - from) (drop from file)
-
-  -- how many bytes the numbers at these places have beyond their shortest forms
-  unfoldable pub padding : List ℕ → ℕ
-  padding [] = 0
-  padding (at ∷ places) = padOf (sevenAt file at) at + padding places
 
   -- `out` is the file from `from` on, with the numbers at these places in their shortest forms
   pub data Rewrites : (from : ℕ) (places out : List ℕ) → Type 0 where
@@ -72,7 +64,7 @@ module _ (file : List ℕ) where
   length-part from at h k = length-take-le (at - from) (drop from file) (omega (arith, length-drop from file))
 
   -- what is saved is the padding
-  pub rewrites-padding : {from : ℕ} {places out : List ℕ} → Rewrites from places out → length file ≡ from + length out + padding places
+  pub rewrites-padding : {from : ℕ} {places out : List ℕ} → Rewrites from places out → length file ≡ from + length out + padding file places
   unfolding padding padOf
   rewrites-padding {from} (rest h) = omega (arith, length-drop from file)
   rewrites-padding {from} (anew {at = at} {n = n} {next = next} {out = out} h s l m b r) =

@@ -1,6 +1,6 @@
 -- The shortest bytes of trees (01, "Seven-bit numbers": the rewriter changes "these numbers, each to its shortest form"). Assumes nothing.
 use mathlib.Core.Path.{_≡_, refl, sym, ap, _∙_}
-use mathlib.Core.Bool.{Bool, true, false, cond, _||_}
+use mathlib.Core.Bool.{true, false, cond, _||_}
 use mathlib.Core.List.{List, [], _∷_, _++_, append-nil}
 use mathlib.Core.Logic.{inl, inr}
 use Prim.Native.Nat.{ℕ, zero, suc, _+_, _*_, _/_, _<_, _≤_, max}
@@ -19,12 +19,9 @@ use Rattle.layout.specs.Layout.{Leafed, Raw, Value, Lays}
 use Rattle.reading.specs.Rules.{null-id}
 use Rattle.reading.specs.References.{slots-count}
 use Rattle.numbers.specs.Shortest.{shortest, Shortens, shortest-is}
+use Rattle.places.specs.Places.{numbered}
 
--- a value of a kind with such an id starts with a type id or a resource id: null, a shared reference, or an object
-unfoldable pub numbered : (kind id : ℕ) → Bool
-numbered kind zero = eqb kind 0 || eqb kind 36
-numbered kind (suc i) = true
-
+-- the id of a value that starts with one
 unfoldable pub idBytes : (kind id : ℕ) → List ℕ
 idBytes kind id = cond (numbered kind id) (shortest id) []
 

@@ -20,8 +20,9 @@ use Rattle.reading.specs.Accepts.{file-complete}
 use Rattle.reading.specs.Theorems.{Fitting, rowsIn, rows-are, accepted-is}
 use Rattle.numbers.specs.Shortest.{Shortens}
 use Rattle.shortest.specs.File.{shortBody, shortFile, length-file, length-header, header-is, file-short}
-use Rattle.shortest.specs.Rewrites.{padding, rewrites-padding}
-use Rattle.shortest.specs.Lists.{filePlaces, file-rewrites}
+use Rattle.places.specs.Padding.{filePadding}
+use Rattle.shortest.specs.Rewrites.{rewrites-padding}
+use Rattle.shortest.specs.Lists.{file-rewrites}
 use Rattle.reading.specs.Output.{refusal, written, fitted}
 use Rattle.shortest.specs.Rewrite.{byLoad, rewriteOf}
 
@@ -54,7 +55,7 @@ module _ (named : List ℕ → Target → Type 0) (nameOf : List ℕ → Named) 
     stays e = least file (f .lays) .same (sym e)
 
     -- "length of the input = length of the output + the padding total"
-    pub padding-is : length file ≡ length (shortFile (f .tree)) + padding file (filePlaces file (length (f .tree .names)) (rowsIn named f))
+    pub padding-is : length file ≡ length (shortFile (f .tree)) + filePadding file (length (f .tree .names)) (rowsIn named f)
     padding-is =
         let r = rewrites-padding file (file-rewrites file named (f .tree) (f .lays)) in
         let ten : length (take 10 file) ≡ 10 = ap length (header-is named (f .tree) file (f .lays)) ∙ length-header (f .tree .platform) (f .tree .flags) (length file) in

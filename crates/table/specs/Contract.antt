@@ -8,8 +8,10 @@ use borrow.Author.Tests.{lt-ltb}
 use Rattle.layout.specs.Rows.{width}
 use Rattle.reading.specs.Answer.{Answer, refused, read}
 use Rattle.reading.specs.Grid.{shapeOf, cell-inside}
-use Rattle.reading.specs.Drafts.{Draft}
+use Rattle.reading.specs.Drafts.{Draft, bare}
 use Rattle.reading.specs.Walk.{Outcome}
+use Rattle.places.specs.Word.{inWord}
+use Rattle.places.specs.Padding.{rowsPadding}
 use Rattle.ids.specs.declared.Grid.{Grid}
 use Rattle.ids.specs.Position.{cellOf}
 use Rattle.table.specs.declared.Reached.{Reached}
@@ -25,22 +27,26 @@ unfoldable pub seen : Outcome → Answer Seen
 seen (refused n p) = refused n p
 seen (read a e) = read (a .0, a .1) e
 
--- values that were read: the rows used and the next byte
-abbrev pub reaching : (used next : ℕ) → Walk
-reaching used next = Done (record { used = used; next = next })
+-- values that were read: the rows used, the padding of the new ones and the next byte
+abbrev pub reaching : (used padding next : ℕ) → Walk
+reaching used padding next = Done (record { used = used; padding = padding; next = next })
 
--- 01's number and place for a refusal, and for a value its end and the rows used
-abbrev pub answerOf : Answer Seen → Walk
-answerOf (refused n p) = Refused n p
-answerOf (read a e) = reaching (a .0) e
+-- how many bytes the numbers of the new rows have beyond their shortest forms, as a word holds it
+abbrev pub padded : (file : List ℕ) → List Draft → ℕ
+padded file rows = inWord (rowsPadding file (bare rows))
+
+-- 01's number and place for a refusal, and for a value its end, the rows used and the padding of its rows
+abbrev pub answerOf : (file : List ℕ) → Answer Seen → Walk
+answerOf file (refused n p) = Refused n p
+answerOf file (read a e) = reaching (a .0) (padded file (a .1)) e
 
 -- the new rows stand in the words from row `used` on; after a refusal the words may be anything
 abbrev pub contentOf : Grid → (exit entry : List ℕ) (used : ℕ) → Answer Seen → List ℕ
 contentOf g exit entry used (refused n p) = exit
 contentOf g exit entry used (read a e) = written g entry used (a .1)
 
-pub record Walked (g : Grid) (entry exit : List ℕ) (used : ℕ) (o : Answer Seen) (r : Walk) : Type 0 where
-  pub answers : r ≡ answerOf o
+pub record Walked (g : Grid) (file entry exit : List ℕ) (used : ℕ) (o : Answer Seen) (r : Walk) : Type 0 where
+  pub answers : r ≡ answerOf file o
   pub writes : exit ≡ contentOf g exit entry used o
 
 -- the words have the room, the row is in it, and its number and the one after it fit

@@ -1,6 +1,6 @@
 -- Values one after the other as a plan says, as a loop reads them: what is known after some of them. Assumes nothing.
 use mathlib.Core.Path.{_≡_, refl, sym, ap, _∙_}
-use mathlib.Core.List.{List, [], _∷_, _++_, append-assoc, append-nil}
+use mathlib.Core.List.{List, [], _∷_, _++_, append-assoc, append-nil, map-append}
 use Prim.Native.Nat.{ℕ, zero, suc, _+_, _<_, _≤_}
 use native.Mathlib.Omega.{arith}
 use lib.ListN.{length, length-append}
@@ -8,62 +8,66 @@ use Rattle.laws.specs.Small.{differ}
 use Rattle.layout.specs.Tree.{Trees, none, tree, count, toldOf}
 use Rattle.layout.specs.Slot.{Slot, Plan, stop, put}
 use Rattle.reading.specs.Answer.{Answer, refused, read, bind}
-use Rattle.reading.specs.Drafts.{Draft}
+use Rattle.reading.specs.Drafts.{Draft, bare}
 use Rattle.reading.specs.Walk.{Taken, Outcome, sequence, before}
 use Rattle.reading.specs.Bounds.{Bounds}
+use Rattle.places.specs.Word.{inWord, word-sum}
+use Rattle.places.specs.Padding.{rowsPadding, no-rows, rows-append}
 use Rattle.ids.specs.declared.Grid.{Grid}
 use Rattle.table.specs.declared.Reached.{Reached}
 use Rattle.table.specs.declared.Walk.{Walk}
 use Rattle.table.specs.declared.Walk.the-variants.{Refused}
 use Rattle.table.specs.Written.{written, written-none, written-append, length-written}
-use Rattle.table.specs.Contract.{Seen, seen, reaching, Walked}
+use Rattle.table.specs.Contract.{Seen, seen, reaching, padded, Walked}
 
 -- what a caller knows of values that were read
-pub record Got (g : Grid) (entry exit : List ℕ) (used : ℕ) (o : Outcome) (next u : ℕ) : Type 0 where
+pub record Got (g : Grid) (file entry exit : List ℕ) (used : ℕ) (o : Outcome) (next u p : ℕ) : Type 0 where
   pub taken : Taken
   pub is : o ≡ read taken next
   pub rows-used : taken .0 ≡ u
+  pub pads : padded file (taken .1) ≡ p
   pub words : exit ≡ written g entry used (taken .1)
 
-got-of : (g : Grid) (o : Outcome) {entry exit : List ℕ} {used next u : ℕ} → Walked g entry exit used (seen o) (reaching u next) → Got g entry exit used o next u
+got-of : (g : Grid) (file : List ℕ) (o : Outcome) {entry exit : List ℕ} {used next u p : ℕ} → Walked g file entry exit used (seen o) (reaching u p next) → Got g file entry exit used o next u p
 unfolding seen
-got-of g (refused n p) {next = next} {u = u} m =
-    let a : reaching u next ≡ Refused n p = m .answers in
+got-of g file (refused n q) {next = next} {u = u} {p = p} m =
+    let a : reaching u p next ≡ Refused n q = m .answers in
     differ cc
-got-of g (read a e) {next = next} {u = u} m =
-    let q : reaching u next ≡ reaching (a .0) e = m .answers in
-    let z : _≡_ {A = Reached} (record { used = u; next = next }) (record { used = a .0; next = e }) = cc in
+got-of g file (read a e) {next = next} {u = u} {p = p} m =
+    let q : reaching u p next ≡ reaching (a .0) (padded file (a .1)) e = m .answers in
+    let z : _≡_ {A = Reached} (record { used = u; padding = p; next = next }) (record { used = a .0; padding = padded file (a .1); next = e }) = cc in
     let e₁ : e ≡ next = sym (ap (λ (r : Reached). r .next) z) in
     let e₂ : a .0 ≡ u = sym (ap (λ (r : Reached). r .used) z) in
-    record { taken = a; is = rw e₁; rows-used = e₂; words = m .writes }
+    let e₃ : padded file (a .1) ≡ p = sym (ap (λ (r : Reached). r .padding) z) in
+    record { taken = a; is = rw e₁; rows-used = e₂; pads = e₃; words = m .writes }
 
-pub got : {g : Grid} {o : Outcome} {entry exit : List ℕ} {used : ℕ} {r : Walk} {next u : ℕ} → Walked g entry exit used (seen o) r → r ≡ reaching u next → Got g entry exit used o next u
-got {g = g} {o = o} m e = got-of g o (record { answers = sym e ∙ m .answers; writes = m .writes })
+pub got : {g : Grid} {file : List ℕ} {o : Outcome} {entry exit : List ℕ} {used : ℕ} {r : Walk} {next u p : ℕ} → Walked g file entry exit used (seen o) r → r ≡ reaching u p next → Got g file entry exit used o next u p
+got {g = g} {file = file} {o = o} m e = got-of g file o (record { answers = sym e ∙ m .answers; writes = m .writes })
 
-lost-of : (g : Grid) (o : Outcome) {entry exit : List ℕ} {used n p : ℕ} → Walked g entry exit used (seen o) (Refused n p) → o ≡ refused n p
+lost-of : (g : Grid) (file : List ℕ) (o : Outcome) {entry exit : List ℕ} {used n p : ℕ} → Walked g file entry exit used (seen o) (Refused n p) → o ≡ refused n p
 unfolding seen
-lost-of g (refused m q) {n = n} {p = p} h =
+lost-of g file (refused m q) {n = n} {p = p} h =
     let a : Refused n p ≡ Refused m q = h .answers in
     let e₁ : m ≡ n = cc in
     let e₂ : q ≡ p = cc in
     rw (e₁, e₂)
-lost-of g (read a e) {n = n} {p = p} h =
-    let q : Refused n p ≡ reaching (a .0) e = h .answers in
+lost-of g file (read a e) {n = n} {p = p} h =
+    let q : Refused n p ≡ reaching (a .0) (padded file (a .1)) e = h .answers in
     differ cc
 
-pub lost : {g : Grid} {o : Outcome} {entry exit : List ℕ} {used : ℕ} {r : Walk} {n p : ℕ} → Walked g entry exit used (seen o) r → r ≡ Refused n p → o ≡ refused n p
-lost {g = g} {o = o} m e = lost-of g o (record { answers = sym e ∙ m .answers; writes = m .writes })
+pub lost : {g : Grid} {file : List ℕ} {o : Outcome} {entry exit : List ℕ} {used : ℕ} {r : Walk} {n p : ℕ} → Walked g file entry exit used (seen o) r → r ≡ Refused n p → o ≡ refused n p
+lost {g = g} {file = file} {o = o} m e = lost-of g file o (record { answers = sym e ∙ m .answers; writes = m .writes })
 
 -- a refusal, whatever the words hold
-pub refusing : {g : Grid} {o : Outcome} {entry exit : List ℕ} {used n p : ℕ} → o ≡ refused n p → Walked g entry exit used (seen o) (Refused n p)
+pub refusing : {g : Grid} {file : List ℕ} {o : Outcome} {entry exit : List ℕ} {used n p : ℕ} → o ≡ refused n p → Walked g file entry exit used (seen o) (Refused n p)
 unfolding seen
 refusing e = rw e (record { answers = refl; writes = refl })
 
 -- values that were read
-pub reading : {g : Grid} {o : Outcome} {entry exit : List ℕ} {used : ℕ} (a : Taken) {next u : ℕ} → o ≡ read a next → u ≡ a .0 → exit ≡ written g entry used (a .1)
-    → Walked g entry exit used (seen o) (reaching u next)
+pub reading : {g : Grid} {file : List ℕ} {o : Outcome} {entry exit : List ℕ} {used : ℕ} (a : Taken) {next u p : ℕ} → o ≡ read a next → u ≡ a .0 → p ≡ padded file (a .1) → exit ≡ written g entry used (a .1)
+    → Walked g file entry exit used (seen o) (reaching u p next)
 unfolding seen
-reading a e c w = rw (e, c) (record { answers = refl; writes = w })
+reading a e c s w = rw (e, c, s) (record { answers = refl; writes = w })
 
 -- what a program has of values below another: the rows used, the new rows and how many values there are
 abbrev pub Counted : Type 0
@@ -111,36 +115,47 @@ counted-refused (refused n p) q = cc
 counted-refused (read a f) q = differ cc
 
 module _ (g : Grid) (file : List ℕ) (step : Slot → ℕ → ℕ → Outcome) (plan₀ : Plan) (w₀ : List ℕ) (at used : ℕ) where
-  -- i values are read, with their rows; `plan` is what is left
-  pub record Reading (w : List ℕ) (plan : Plan) (next row i : ℕ) : Type 0 where
+  -- i values are read, with their rows, whose padding is `sum`; `plan` is what is left
+  pub record Reading (w : List ℕ) (plan : Plan) (next row sum i : ℕ) : Type 0 where
     pub rows : List Draft
     pub whole : prefixed rows i (counted (sequence step plan next row)) ≡ counted (sequence step plan₀ at used)
     pub counts : row ≡ used + length rows
     pub words : w ≡ written g w₀ used rows
+    pub pads : sum ≡ padded file rows
     pub ahead : at ≤ next
     pub inside : at ≤ length file → next ≤ length file
     pub fits : used ≤ g .room → row ≤ g .room
 
-  pub start : Reading w₀ plan₀ at used 0
+  -- the padding of no rows, and of rows and more behind them
+  none-padded : 0 ≡ padded file []
+  unfolding inWord
+  none-padded = sym (ap inWord (no-rows file))
+
+  more-padded : (rows more : List Draft) → inWord (padded file rows + padded file more) ≡ padded file (rows ++ more)
+  more-padded rows more =
+      word-sum (rowsPadding file (bare rows)) (rowsPadding file (bare more)) ∙ ap inWord (sym (rows-append file (bare rows) (bare more)) ∙ ap (rowsPadding file) (sym (map-append _ rows more)))
+
+  pub start : Reading w₀ plan₀ at used 0 0
   start = record {
     rows = [];
     whole = prefixed-none (counted (sequence step plan₀ at used));
     counts = omega arith;
     words = sym (written-none g w₀ used);
+    pads = none-padded;
     ahead = omega arith;
     inside = λ h. h;
     fits = λ h. h;
   }
 
-  pub same : {w : List ℕ} {plan : Plan} {next row i : ℕ} → Reading w plan next row i → length w ≡ length w₀
+  pub same : {w : List ℕ} {plan : Plan} {next row sum i : ℕ} → Reading w plan next row sum i → length w ≡ length w₀
   same r = rw (r .words) (length-written g w₀ used (r .rows))
 
   -- one value: what is left goes by the number that it tells
-  pub turn : {w w′ : List ℕ} {next row i : ℕ} (x : Slot) (go : ℕ → Plan) {a u : ℕ} → Reading w (put x go) next row i
-      → (y : Got g w w′ row (step x next row) a u) → count (y .taken .2) ≡ 1 → Bounds file (g .room) next row (y .taken) a
-      → Reading w′ (go (toldOf (y .taken .2))) a u (i + 1)
+  pub turn : {w w′ : List ℕ} {next row sum i : ℕ} (x : Slot) (go : ℕ → Plan) {a u p : ℕ} → Reading w (put x go) next row sum i
+      → (y : Got g file w w′ row (step x next row) a u p) → count (y .taken .2) ≡ 1 → Bounds file (g .room) next row (y .taken) a
+      → Reading w′ (go (toldOf (y .taken .2))) a u (inWord (sum + p)) (i + 1)
   unfolding sequence bind
-  turn {w} {w′} {next} {row} {i} x go {a} {u} r y h b =
+  turn {w} {w′} {next} {row} {sum} {i} x go {a} {u} {p} r y h b =
       let t = y .taken in
       let more : List Draft = t .1 in
       let plan = go (toldOf (t .2)) in
@@ -155,22 +170,23 @@ module _ (g : Grid) (file : List ℕ) (step : Slot → ℕ → ℕ → Outcome) 
         whole = rw (← q) (sym (prefixed-more (r .rows) more i rest) ∙ ap (prefixed (r .rows) i) (sym one) ∙ r .whole);
         counts = omega arith;
         words = y .words ∙ rw (r .words, k) (written-append g w₀ used (r .rows) more);
+        pads = rw (r .pads, ← y .pads) (more-padded (r .rows) more);
         ahead = omega (arith, b .ahead, r .ahead);
         inside = λ p. b .inside (r .inside p);
         fits = λ p. rw (← q) (b .fits (r .fits p));
       }
 
   -- nothing is left: the rows stand in the words, and there are i values
-  pub ended : {w : List ℕ} {next row i : ℕ} → (r : Reading w stop next row i)
+  pub ended : {w : List ℕ} {next row sum i : ℕ} → (r : Reading w stop next row sum i)
       → (counted (sequence step plan₀ at used) ≡ read (row, r .rows, i) next) × (w ≡ written g w₀ used (r .rows))
   unfolding sequence counted count
-  ended {w} {next} {row} {i} r =
+  ended {w} {next} {row} {sum} {i} r =
       let z : i + 0 ≡ i = omega arith in
       (sym (r .whole) ∙ rw (append-nil (r .rows), z), r .words)
 
-  pub give-up : {w : List ℕ} {next row i : ℕ} (x : Slot) (go : ℕ → Plan) {n p : ℕ} → Reading w (put x go) next row i
+  pub give-up : {w : List ℕ} {next row sum i : ℕ} (x : Slot) (go : ℕ → Plan) {n p : ℕ} → Reading w (put x go) next row sum i
       → step x next row ≡ refused n p → counted (sequence step plan₀ at used) ≡ refused n p
   unfolding sequence bind counted
-  give-up {w} {next} {row} {i} x go {n} {p} r b =
+  give-up {w} {next} {row} {sum} {i} x go {n} {p} r b =
       let one : counted (sequence step (put x go) next row) ≡ refused n p = rw b in
       sym (r .whole) ∙ ap (prefixed (r .rows) i) one

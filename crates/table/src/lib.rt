@@ -4,18 +4,21 @@ use ids::Grid;
 use ids::RowNumber;
 use ids::WIDTH;
 ghost use mathlib.Core.Path.{_≡_};
-ghost use Prim.Native.Nat.{_-_};
+ghost use Prim.Native.Nat.{_+_, _-_};
 ghost use Rattle.table.specs.Written.{putRow};
 ghost use Rattle.table.specs.Cleared.{columnsCleared, clearedBehind};
-ghost use Rattle.table.specs.Leaf.{rowOf, valueRow, inWord, leafAnswer, leafWords};
+ghost use Rattle.table.specs.Leaf.{rowOf, valueRow, leafAnswer, leafWords};
+ghost use Rattle.places.specs.Word.{inWord};
 ghost use Rattle.answers.specs.Told.{told};
 
-// What is known of a value before its bytes are read: its row's number, its first byte, its parent's row number plus 1, and its type id or resource id.
+// What is known of a value before its bytes are read: its row's number, its first byte, its parent's row number plus 1, its type id or resource id,
+// and how many bytes that id has beyond its shortest form.
 pub struct Head {
     pub row: RowNumber,
     pub first: usize,
     pub parent: u32,
     pub detail: u32,
+    pub padding: u32,
 }
 
 // The words of a row.
@@ -29,9 +32,10 @@ pub struct RowWords {
     pub branch: u32,
 }
 
-// What a walk reaches: the rows used so far and the next byte.
+// What a walk reaches: the rows used so far, how many bytes the seven-bit numbers of the new rows have beyond their shortest forms, and the next byte.
 pub struct Reached {
     pub used: u32,
+    pub padding: u32,
     pub next: usize,
 }
 
@@ -104,6 +108,13 @@ pub fn clear_behind(words: &mut [u32], grid: Grid, used: RowNumber)
     fill::clear(words, used.cell(grid, 0));
 }
 
+// The sum of two words, as a word holds it.
+pub fn sum(a: u32, b: u32) -> u32
+    ensures { λ r. ⌜ r ≡ inWord (a + b) ⌝ }
+{
+    std::num::wrapping_add_u32(a, b)
+}
+
 // A number as a word holds it: its remainder by 2 to the 32.
 pub fn word(n: usize) -> u32
     ensures { λ r. ⌜ r ≡ inWord n ⌝ }
@@ -150,7 +161,7 @@ pub fn row_words(h: Head, kind: u32, children: u32, branch: u32, next: usize) ->
 
 // A value without children, once its bytes are read; `mark` is the kind that a reference wants, else 0.
 pub fn leaf(words: &mut [u32], grid: Grid, h: Head, kind: u32, mark: u32, read: Number) -> Walk
-    ensures { λ r. ⌜ r ≡ leafAnswer (h .row .0) (told read) ⌝ }
+    ensures { λ r. ⌜ r ≡ leafAnswer (h .row .0) (h .padding) (told read) ⌝ }
     ensures { λ _. ⌜ now (words .exit) ≡ leafWords grid (now (words .entry)) h kind mark (told read) ⌝ }
 {
     match read {
@@ -160,7 +171,11 @@ pub fn leaf(words: &mut [u32], grid: Grid, h: Head, kind: u32, mark: u32, read: 
             let r = row_words(h, kind, mark, 1, next);
             put_row(words, grid, row, r);
             let used = std::num::wrapping_add_u32(row.0, 1);
-            Walk::Done(Reached { used, next })
+            Walk::Done(Reached {
+                used,
+                padding: h.padding,
+                next,
+            })
         }
     }
 }

@@ -1,7 +1,7 @@
 use mathlib.Core.Path.{refl, ap, _∙_}
 use Rattle.table.specs.Written.{putRow}
 use Rattle.table.specs.Contract.{reaching}
-use Rattle.table.specs.Leaf.{inWord}
+use Rattle.places.specs.Word.{inWord}
 use borrow.Author.Needs.{needs}
 use Rattle.table.proofs.leaf.Statement.{statement}
 use Rattle.table.proofs.leaf.Tie as tie
@@ -33,7 +33,7 @@ returns-2 c =
     let read = c .before .before .before .before .before .before .before .before .read2 .given in
     let a = c .before .before .before .before .before .before .before .before .before .before .before .args in
     rw (read .1) (
-      ap (λ u. reaching u (read .0 .1 .0)) (c .wrapping-add-u32 .ensures),
+      ap (λ u. reaching u (a .h .padding) (read .0 .1 .0)) (c .wrapping-add-u32 .ensures),
       c .before .before .before .put-row .ensures ∙ ap (putRow (a .grid) (a .words .now) (a .h .row .0)) (c .before .before .before .before .before .row-words .ensures),
     )
 

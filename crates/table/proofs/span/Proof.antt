@@ -1,5 +1,5 @@
 use native.Mathlib.Omega.{arith}
-use Rattle.table.specs.Leaf.{inWord}
+use Rattle.places.specs.Word.{inWord}
 use borrow.Author.Needs.{needs}
 use Rattle.table.proofs.span.Statement.{statement}
 use Rattle.table.proofs.span.Tie as tie
