@@ -1,5 +1,5 @@
 -- Values that have no children and need no reader list. Assumes nothing.
-use mathlib.Core.Path.{_≡_, refl, _∙_}
+use mathlib.Core.Path.{_≡_, refl, ap, _∙_}
 use mathlib.Core.Bool.{Bool, true, false, cond}
 use mathlib.Core.List.{List, [], _∷_}
 use Prim.Native.Nat.{ℕ, zero, suc, _*_, _-_, _≤_, _<_, _^_}
@@ -24,7 +24,11 @@ use Rattle.reading.specs.Walk.{Outcome, done, sequence, rawAt, valueAt, walk}
 use Rattle.table.specs.declared.Head.{Head}
 use Rattle.table.specs.Contract.{Seen, seen, Free, Ahead, Walked}
 use Rattle.table.specs.Loop.{refusing}
-use Rattle.table.specs.Leaf.{leafOf, leafAnswer, leafWords, leaf-walked}
+use Rattle.table.specs.Leaf.{leafOf, leafAnswer, leafWords, Pads, leaf-walked}
+use Rattle.numbers.specs.Padded.{padOf}
+use Rattle.places.specs.Word.{inWord, in-word}
+use Rattle.places.specs.Places.{numbered}
+use Rattle.places.specs.Padding.{no-number, id-alone, reference-numbered, sized-plain, pad-few}
 use Rattle.leaves.specs.declared.plain.Plain.{Plain}
 use Rattle.leaves.specs.declared.plain.Plain.the-variants.{Fixed, Char, Level, Reference}
 use Rattle.reading.specs.Drafts.{nothing, resource, drafted}
@@ -56,8 +60,8 @@ pub record Begin (file words : List ℕ) (g : Grid) (at used : ℕ) : Type 0 whe
   pub place : at ≤ length file
   pub short : length file < 2 ^ 32
 
-abbrev pub headOf : (used at parent id : ℕ) → Head
-headOf used at parent id = record { row = record { 0 = used }; first = at; parent = parent; detail = id }
+abbrev pub headOf : (used at parent id padding : ℕ) → Head
+headOf used at parent id padding = record { row = record { 0 = used }; first = at; parent = parent; detail = id; padding = padding }
 
 -- the bytes of the value at a place, and the number that they hold or how many they are
 unfoldable pub plainAt : List ℕ → (shared : ℕ) → Plain → (at : ℕ) → Answer ℕ
@@ -65,6 +69,13 @@ plainAt file shared (Fixed kind size) at = sized (fixedAt file kind size at)
 plainAt file shared Char at = charAt file at
 plainAt file shared (Level size) at = sized (leafAt file (level size) at)
 plainAt file shared (Reference wanted) at = bind (sevenAt file at) (λ id next. check (leb id shared) 16 at (read id next))
+
+-- the padding of its number, which a reference alone has; else that of its id
+unfoldable pub plainPad : List ℕ → Plain → (padding at : ℕ) → ℕ
+plainPad file (Fixed kind size) padding at = padding
+plainPad file Char padding at = padding
+plainPad file (Level size) padding at = padding
+plainPad file (Reference wanted) padding at = padOf (sevenAt file at) at
 
 -- 18, then 19, then the bytes
 unfoldable pub plainValue : List ℕ → (room shared : ℕ) → Plain → (at used depth : ℕ) → Answer ℕ
@@ -74,7 +85,7 @@ plainValue file room shared p at used (suc d) = check (ltb used room) 19 at (pla
 -- a reference's row names its resource
 abbrev pub named : Head → Answer ℕ → Head
 named h (refused n p) = h
-named h (read id next) = headOf (h .row .0) (h .first) (h .parent) id
+named h (read id next) = headOf (h .row .0) (h .first) (h .parent) id (h .padding)
 
 -- the words once its bytes are read, or refused
 abbrev pub plainWords : Grid → List ℕ → Plain → Head → Answer ℕ → List ℕ
@@ -89,7 +100,7 @@ plainLeft g file words shared p h = plainWords g words p h (plainAt file shared 
 
 -- the words once a value with the depth left is read, or refused
 abbrev pub valueLeft : Grid → (file words : List ℕ) (shared : ℕ) → Plain → (at used depth parent : ℕ) → List ℕ
-valueLeft g file words shared p at used depth parent = plainWords g words p (headOf used at parent 0) (plainValue file (g .room) shared p at used depth)
+valueLeft g file words shared p at used depth parent = plainWords g words p (headOf used at parent 0 0) (plainValue file (g .room) shared p at used depth)
 
 pub kept : (g : Grid) (w : List ℕ) (p : Plain) (h : Head) (n q : ℕ) → plainWords g w p h (refused n q) ≡ w
 kept g w (Fixed kind size) h n q = refl
@@ -104,14 +115,27 @@ plainSeen Char h x = leafOf h 12 nothing x
 plainSeen (Level size) h x = leafOf h 35 nothing x
 plainSeen (Reference wanted) h x = leafOf (named h x) 36 (resource wanted) x
 
--- where the words have the row and the numbers fit
-plain-written : (g : Grid) (w : List ℕ) (p : Plain) (h : Head) (x : Answer ℕ) → Free g w (h .row .0) → Ahead (h .first) x
-    → Walked g w (plainWords g w p h x) (h .row .0) (plainSeen p h x) (leafAnswer (h .row .0) x)
-plain-written g w (Fixed kind size) h x f a = leaf-walked g w h kind nothing x f a
-plain-written g w Char h x f a = leaf-walked g w h 12 nothing x f a
-plain-written g w (Level size) h x f a = leaf-walked g w h 35 nothing x f a
-plain-written g w (Reference wanted) h (refused n p) f a = leaf-walked {A = ℕ} g w h 36 (resource wanted) (refused n p) f a
-plain-written g w (Reference wanted) h (read id next) f a = leaf-walked g w (headOf (h .row .0) (h .first) (h .parent) id) 36 (resource wanted) (read id next) f a
+-- a raw value has no number, and a reference has its resource id
+module _ (file : List ℕ) (small : Small file) (used at parent : ℕ) where
+  plain-pads : (kind : ℕ) → numbered kind 0 ≡ false → eqb kind 13 ≡ false → Pads file (headOf used at parent 0 0) kind
+  unfolding inWord
+  plain-pads kind i c next = ap inWord (no-number file (row kind at (next - at) 0 parent 0 1) i c)
+
+  reference-pads : (id : ℕ) → Pads file (headOf used at parent id (padOf (sevenAt file at) at)) 36
+  reference-pads id next =
+      ap inWord (id-alone file (row 36 at (next - at) 0 parent id 1) (reference-numbered id) refl) ∙ in-word (padOf (sevenAt file at) at) (omega (arith, pad-few file small at))
+
+  -- where the words have the row and the numbers fit
+  plain-written : (g : Grid) (w : List ℕ) (p : Plain) → Lawful p → (x : Answer ℕ) → Free g w used → Ahead at x
+      → Walked g file w (plainWords g w p (headOf used at parent 0 0) x) used (plainSeen p (headOf used at parent 0 0) x) (leafAnswer used (plainPad file p 0 at) x)
+  unfolding plainPad numbered
+  plain-written g w (Fixed kind size) l x f a =
+      let s = sized-plain kind (omega (arith, l)) in
+      leaf-walked g file w (headOf used at parent 0 0) kind nothing x f a (plain-pads kind (s .0) (s .1))
+  plain-written g w Char l x f a = leaf-walked g file w (headOf used at parent 0 0) 12 nothing x f a (plain-pads 12 refl refl)
+  plain-written g w (Level size) l x f a = leaf-walked g file w (headOf used at parent 0 0) 35 nothing x f a (plain-pads 35 refl refl)
+  plain-written g w (Reference wanted) l (refused n p) f a = record { answers = refl; writes = refl }
+  plain-written g w (Reference wanted) l (read id next) f a = leaf-walked g file w (headOf used at parent id (padOf (sevenAt file at) at)) 36 (resource wanted) (read id next) f a (reference-pads id)
 
 fixed-none : (k : ℕ) → same (fixed k) spriteFont ≡ false
 unfolding same decided
@@ -143,11 +167,11 @@ Stops below = (next used : ℕ) → below stop next used ≡ done next used [] n
 
 module _ (file : List ℕ) (readers : List Target) (shared room : ℕ) (below : Plan → ℕ → ℕ → Outcome) (stops : Stops below) where
   -- a raw value of a type without children, by what its head answers
-  pub raw-leaf : (t : Target) → same t spriteFont ≡ false → (r : Answer (List ℕ)) (first at used parent id : ℕ) → headAt file t at ≡ whole file r
-      → seen (rawAt file readers shared room below t first at used parent id) ≡ leafOf (headOf used first parent id) (kindOf t) nothing r
+  pub raw-leaf : (t : Target) → same t spriteFont ≡ false → (r : Answer (List ℕ)) (first at used parent id padding : ℕ) → headAt file t at ≡ whole file r
+      → seen (rawAt file readers shared room below t first at used parent id) ≡ leafOf (headOf used first parent id padding) (kindOf t) nothing r
   unfolding rawAt whole bind check seen fontOk fontIf count
-  raw-leaf t f (refused n p) first at used parent id e = rw e
-  raw-leaf t f (read own next) first at used parent id e =
+  raw-leaf t f (refused n p) first at used parent id padding e = rw e
+  raw-leaf t f (read own next) first at used parent id padding e =
       let one : suc used - used ≡ 1 = omega arith in
       rw (e, stops next (suc used), f, one)
 
@@ -159,31 +183,31 @@ module _ (file : List ℕ) (readers : List Target) (shared room : ℕ) (below : 
     go (read c e) = refl
 
   leaf-seen : (r : Answer (List ℕ)) (at used parent : ℕ)
-      → seen (bind r (λ own next. done next (suc used) (drafted (row 35 at (next - at) 0 parent 0 1) ∷ []) (tree 35 0 own none none))) ≡ leafOf (headOf used at parent 0) 35 nothing r
+      → seen (bind r (λ own next. done next (suc used) (drafted (row 35 at (next - at) 0 parent 0 1) ∷ []) (tree 35 0 own none none))) ≡ leafOf (headOf used at parent 0 0) 35 nothing r
   unfolding bind seen
   leaf-seen (refused n p) at used parent = refl
   leaf-seen (read own e) at used parent = refl
 
   reference-seen : (r : Answer ℕ) (wanted at used parent : ℕ)
       → seen (bind r (λ id next. check (leb id shared) 16 at (done next (suc used) (record { row = row 36 at (next - at) 0 parent id 1; wants = resource wanted } ∷ []) (tree 36 id [] none none))))
-      ≡ plainSeen (Reference wanted) (headOf used at parent 0) (bind r (λ id next. check (leb id shared) 16 at (read id next)))
+      ≡ plainSeen (Reference wanted) (headOf used at parent 0 0) (bind r (λ id next. check (leb id shared) 16 at (read id next)))
   unfolding bind seen check
   reference-seen (refused n p) wanted at used parent = refl
   reference-seen (read id e) wanted at used parent = go (leb id shared) where
     go : (t : Bool) → seen (check t 16 at (done e (suc used) (record { row = row 36 at (e - at) 0 parent id 1; wants = resource wanted } ∷ []) (tree 36 id [] none none)))
-        ≡ plainSeen (Reference wanted) (headOf used at parent 0) (check t 16 at (read id e))
+        ≡ plainSeen (Reference wanted) (headOf used at parent 0 0) (check t 16 at (read id e))
     go true = refl
     go false = refl
 
   -- what a value in such a slot answers, whatever the reader list is
   plain-seen : (p : Plain) → Lawful p → (at used parent : ℕ)
-      → seen (valueAt file readers shared room below (plainSlot p) at used parent) ≡ plainSeen p (headOf used at parent 0) (plainAt file shared p at)
+      → seen (valueAt file readers shared room below (plainSlot p) at used parent) ≡ plainSeen p (headOf used at parent 0 0) (plainAt file shared p at)
   unfolding valueAt plainAt kindOf
   plain-seen (Fixed kind size) l at used parent =
-      raw-leaf (fixed kind) (fixed-none kind) (fixedAt file kind size at) at at used parent 0 (fixed-head file kind size l at) ∙ sized-leaf (headOf used at parent 0) kind (fixedAt file kind size at)
+      raw-leaf (fixed kind) (fixed-none kind) (fixedAt file kind size at) at at used parent 0 0 (fixed-head file kind size l at) ∙ sized-leaf (headOf used at parent 0 0) kind (fixedAt file kind size at)
   plain-seen Char l at used parent =
-      raw-leaf char char-none (ownAt file (charAt file) at) at at used parent 0 (char-head file at) ∙ char-own at (headOf used at parent 0) 12
-  plain-seen (Level size) l at used parent = leaf-seen (leafAt file (level size) at) at used parent ∙ sized-leaf (headOf used at parent 0) 35 (leafAt file (level size) at)
+      raw-leaf char char-none (ownAt file (charAt file) at) at at used parent 0 0 (char-head file at) ∙ char-own at (headOf used at parent 0 0) 12
+  plain-seen (Level size) l at used parent = leaf-seen (leafAt file (level size) at) at used parent ∙ sized-leaf (headOf used at parent 0 0) 35 (leafAt file (level size) at)
   plain-seen (Reference wanted) l at used parent = rw l (reference-seen (sevenAt file at) wanted at used parent)
 
 -- what is read from inside a file ends inside it
@@ -246,17 +270,17 @@ module _ (file : List ℕ) (room shared : ℕ) (p : Plain) (at used : ℕ) where
 -- what the walk answers, where the value may begin
 module _ (file : List ℕ) (g : Grid) (shared : ℕ) (p : Plain) (at used : ℕ) (w : List ℕ) (small : Small file) (begin : Begin file w g at used) (l : Lawful p) (readers : List Target) where
   by-room : (d parent : ℕ) (t : Bool) → ltb used (g .room) ≡ t
-      → Walked g w (valueLeft g file w shared p at used (suc d) parent) used (seen (walk file readers shared (g .room) (suc d) (plainSlot p) at used parent)) (leafAnswer used (plainValue file (g .room) shared p at used (suc d)))
+      → Walked g file w (valueLeft g file w shared p at used (suc d) parent) used (seen (walk file readers shared (g .room) (suc d) (plainSlot p) at used parent)) (leafAnswer used (plainPad file p 0 at) (plainValue file (g .room) shared p at used (suc d)))
   unfolding plainValue walk check sequence
   by-room d parent false e = rw e (refusing refl)
   by-room d parent true e =
       let v = plain-seen file readers shared (g .room) (λ plan a u. sequence (λ y b v. walk file readers shared (g .room) d y b v (suc used)) plan a u) (λ next u. refl) p l at used parent in
       let u : used < g .room = ltb-true used (g .room) e in
       let f : Free g w used = record { long = begin .long; there = u; few = omega (arith, begin .few) } in
-      rw (e, v) (plain-written g w p (headOf used at parent 0) (plainAt file shared p at) f (plain-ahead file small shared p l at (begin .place) (begin .short)))
+      rw (e, v) (plain-written file small used at parent g w p l (plainAt file shared p at) f (plain-ahead file small shared p l at (begin .place) (begin .short)))
 
   pub plain-walked : (depth parent : ℕ)
-      → Walked g w (valueLeft g file w shared p at used depth parent) used (seen (walk file readers shared (g .room) depth (plainSlot p) at used parent)) (leafAnswer used (plainValue file (g .room) shared p at used depth))
+      → Walked g file w (valueLeft g file w shared p at used depth parent) used (seen (walk file readers shared (g .room) depth (plainSlot p) at used parent)) (leafAnswer used (plainPad file p 0 at) (plainValue file (g .room) shared p at used depth))
   unfolding plainValue walk
   plain-walked zero parent = refusing refl
   plain-walked (suc d) parent = by-room d parent (ltb used (g .room)) refl

@@ -25,10 +25,11 @@ use Rattle.reading.specs.Bounds.{walk-bounds, walk-single}
 use Rattle.table.specs.declared.Walk.{Walk}
 use Rattle.table.specs.declared.Walk.the-variants.{Done, Refused}
 use Rattle.table.specs.Written.{written}
-use Rattle.table.specs.Contract.{seen, reaching, Walked}
+use Rattle.table.specs.Contract.{seen, reaching, padded, Walked}
 use Rattle.table.specs.Leaf.{leafAnswer}
 use Rattle.table.specs.Loop.{Reading, start, same, turn, ended, give-up, got, lost, refusing, reading, counted-read, counted-refused}
-use Rattle.leaves.specs.Plain.{plainSlot, Lawful, Begin, plainValue, valueLeft, plain-walked}
+use Rattle.leaves.specs.Plain.{plainSlot, Lawful, Begin, plainPad, plainValue, valueLeft, plain-walked}
+use Rattle.places.specs.Word.{inWord}
 use Rattle.ids.specs.declared.Grid.{Grid}
 
 -- the slots that the values stand in
@@ -50,35 +51,35 @@ turnOf (Turns p q n) i = cond (eqb (i % 2) 0) p q
 turnOf (Levels format w h n) i = Level (levelSizeOf format w h i)
 
 -- a value was read, or refused
-abbrev pub onward : Walk → List ℕ → (ℕ → ℕ → List ℕ → Walk × List ℕ) → Walk × List ℕ
+abbrev pub onward : Walk → List ℕ → (ℕ → ℕ → ℕ → List ℕ → Walk × List ℕ) → Walk × List ℕ
 onward (Refused n p) w rest = (Refused n p, w)
-onward (Done r) w rest = rest (r .next) (r .used) w
+onward (Done r) w rest = rest (r .next) (r .used) (r .padding) w
 
 module _ (g : Grid) (file : List ℕ) (shared : ℕ) (run : Run) (depth parent : ℕ) where
-  -- so many values from value i on: the answer, and the words
-  unfoldable pub runFrom : (left i at used : ℕ) → List ℕ → Walk × List ℕ
-  runFrom zero i at used w = (reaching used at, w)
-  runFrom (suc left) i at used w =
-      onward (leafAnswer used (plainValue file (g .room) shared (turnOf run i) at used depth))
+  -- so many values from value i on, where those before have the padding `sum`: the answer, and the words
+  unfoldable pub runFrom : (left i at used sum : ℕ) → List ℕ → Walk × List ℕ
+  runFrom zero i at used sum w = (reaching used sum at, w)
+  runFrom (suc left) i at used sum w =
+      onward (leafAnswer used (plainPad file (turnOf run i) 0 at) (plainValue file (g .room) shared (turnOf run i) at used depth))
       (valueLeft g file w shared (turnOf run i) at used depth parent)
-      (λ a u v. runFrom left (i + 1) a u v)
+      (λ a u p v. runFrom left (i + 1) a u (inWord (sum + p)) v)
 
   -- all of them
   abbrev pub runOf : (at used : ℕ) → List ℕ → Walk × List ℕ
-  runOf at used w = runFrom (length (runSlots run)) 0 at used w
+  runOf at used w = runFrom (length (runSlots run)) 0 at used 0 w
 
   -- value i of n, as it was read
-  pub run-turn : (n i at used : ℕ) (w v : List ℕ) (p : Plain) (o : Walk) → i < n → p ≡ turnOf run i
-      → o ≡ leafAnswer used (plainValue file (g .room) shared p at used depth) → v ≡ valueLeft g file w shared p at used depth parent
-      → runFrom (n - i) i at used w ≡ onward o v (λ a u x. runFrom (n - (i + 1)) (i + 1) a u x)
+  pub run-turn : (n i at used sum : ℕ) (w v : List ℕ) (p : Plain) (o : Walk) → i < n → p ≡ turnOf run i
+      → o ≡ leafAnswer used (plainPad file p 0 at) (plainValue file (g .room) shared p at used depth) → v ≡ valueLeft g file w shared p at used depth parent
+      → runFrom (n - i) i at used sum w ≡ onward o v (λ a u p x. runFrom (n - (i + 1)) (i + 1) a u (inWord (sum + p)) x)
   unfolding runFrom
-  run-turn n i at used w v p o h e q z =
+  run-turn n i at used sum w v p o h e q z =
       let m : n - i ≡ suc (n - (i + 1)) = omega arith in
       rw (m, ← e, ← q, ← z)
 
-  pub run-end : (n i at used : ℕ) (w : List ℕ) → n ≤ i → runFrom (n - i) i at used w ≡ (reaching used at, w)
+  pub run-end : (n i at used sum : ℕ) (w : List ℕ) → n ≤ i → runFrom (n - i) i at used sum w ≡ (reaching used sum at, w)
   unfolding runFrom
-  run-end n i at used w h =
+  run-end n i at used sum w h =
       let m : n - i ≡ 0 = omega arith in
       rw m
 
@@ -137,9 +138,9 @@ turn-of (Turns p q n) l i h = pair-turn p q n i (l .0) (l .1) h (eqb (i % 2) 0) 
 turn-of (Levels f w h n) l i k = level-turn f w h n i l k
 
 -- the next value may begin where the values so far have ended
-pub begin-on : {g : Grid} {file : List ℕ} {step : Slot → ℕ → ℕ → Outcome} {plan₀ plan : Plan} {w₀ : List ℕ} {at used : ℕ} {w : List ℕ} {next row i : ℕ}
-    → Begin file w₀ g at used → Reading g file step plan₀ w₀ at used w plan next row i → Begin file w g next row
-begin-on {g} {file} {step} {plan₀} {plan} {w₀} {at} {used} {w} {next} {row} {i} b r =
+pub begin-on : {g : Grid} {file : List ℕ} {step : Slot → ℕ → ℕ → Outcome} {plan₀ plan : Plan} {w₀ : List ℕ} {at used : ℕ} {w : List ℕ} {next row sum i : ℕ}
+    → Begin file w₀ g at used → Reading g file step plan₀ w₀ at used w plan next row sum i → Begin file w g next row
+begin-on {g} {file} {step} {plan₀} {plan} {w₀} {at} {used} {w} {next} {row} {sum} {i} b r =
     let l : length w ≡ length w₀ = same g file step plan₀ w₀ at used r in
     record { long = omega (arith, b .long); few = b .few; rows = r .fits (b .rows); place = r .inside (b .place); short = b .short }
 
@@ -160,14 +161,15 @@ module _ (g : Grid) (file : List ℕ) (small : Small file) (shared : ℕ) (run :
   abbrev plan : Plan
   plan = each (runSlots run)
 
-  abbrev Read : (w : List ℕ) (next row i : ℕ) → Type 0
-  Read w next row i = Reading g file step plan w₀ at used w (each (drop i (runSlots run))) next row i
+  abbrev Read : (w : List ℕ) (next row sum i : ℕ) → Type 0
+  Read w next row sum i = Reading g file step plan w₀ at used w (each (drop i (runSlots run))) next row sum i
 
   abbrev Whole : Walk × List ℕ → Type 0
-  Whole o = Walked g w₀ (o .1) used (seen (sequence step plan at used)) (o .0)
+  Whole o = Walked g file w₀ (o .1) used (seen (sequence step plan at used)) (o .0)
 
   -- value i, and those behind it
-  module _ (i next row : ℕ) (w : List ℕ) (h : i < length (runSlots run)) (r : Read w next row i) (rest : ℕ → ℕ → List ℕ → Walk × List ℕ) (on : (a u : ℕ) (v : List ℕ) → Read v a u (i + 1) → Whole (rest a u v)) where
+  module _ (i next row sum : ℕ) (w : List ℕ) (h : i < length (runSlots run)) (r : Read w next row sum i) (rest : ℕ → ℕ → ℕ → List ℕ → Walk × List ℕ)
+      (on : (a u p : ℕ) (v : List ℕ) → Read v a u (inWord (sum + p)) (i + 1) → Whole (rest a u p v)) where
     abbrev p : Plain
     p = turnOf run i
 
@@ -180,31 +182,32 @@ module _ (g : Grid) (file : List ℕ) (small : Small file) (shared : ℕ) (run :
     t : Turn run i p
     t = turn-of run l i h
 
-    one : Walked g w words row (seen (step (plainSlot p) next row)) (leafAnswer row value)
+    one : Walked g file w words row (seen (step (plainSlot p) next row)) (leafAnswer row (plainPad file p 0 next) value)
     one = plain-walked file g shared p next row w small (begin-on begin r) (t .lawful) readers depth parent
 
-    here : Reading g file step plan w₀ at used w (put (plainSlot p) (λ n. each (drop (i + 1) (runSlots run)))) next row i
+    here : Reading g file step plan w₀ at used w (put (plainSlot p) (λ n. each (drop (i + 1) (runSlots run)))) next row sum i
     here = rw (next-slot (runSlots run) i (plainSlot p) h (t .stands)) at r
 
-    value-walked : (o : Walk) → leafAnswer row value ≡ o → Whole (onward o words rest)
+    value-walked : (o : Walk) → leafAnswer row (plainPad file p 0 next) value ≡ o → Whole (onward o words rest)
     value-walked (Refused n q) z = refusing (counted-refused _ (give-up g file step plan w₀ at used (plainSlot p) (λ n. each (drop (i + 1) (runSlots run))) here (lost one z)))
     value-walked (Done r) z =
         let y = got one z in
-        on (r .next) (r .used) words (turn g file step plan w₀ at used (plainSlot p) (λ n. each (drop (i + 1) (runSlots run))) here y
+        on (r .next) (r .used) (r .padding) words (turn g file step plan w₀ at used (plainSlot p) (λ n. each (drop (i + 1) (runSlots run))) here y
         (walk-single file readers shared (g .room) small depth (plainSlot p) next row parent (y .taken) (r .next) (y .is))
         (walk-bounds file readers shared (g .room) small depth (plainSlot p) next row parent (y .taken) (r .next) (y .is)))
 
-  ended-walked : (i next row : ℕ) (w : List ℕ) → length (runSlots run) ≤ i → Read w next row i → Whole (reaching row next, w)
-  ended-walked i next row w h r =
+  ended-walked : (i next row sum : ℕ) (w : List ℕ) → length (runSlots run) ≤ i → Read w next row sum i → Whole (reaching row sum next, w)
+  ended-walked i next row sum w h r =
       let e = ended g file step plan w₀ at used (rw (no-slot (runSlots run) i h) at r) in
       let c = counted-read _ (e .0) in
-      reading (c .0) (c .1) (sym (c .2)) (e .1 ∙ ap (written g w₀ used) (sym (c .3)))
+      reading (c .0) (c .1) (sym (c .2)) (e .2 ∙ ap (padded file) (sym (c .3))) (e .1 ∙ ap (written g w₀ used) (sym (c .3)))
 
-  from-walked : (left i next row : ℕ) (w : List ℕ) → left + i ≡ length (runSlots run) → Read w next row i → Whole (runFrom g file shared run depth parent left i next row w)
+  from-walked : (left i next row sum : ℕ) (w : List ℕ) → left + i ≡ length (runSlots run) → Read w next row sum i → Whole (runFrom g file shared run depth parent left i next row sum w)
   unfolding runFrom
-  from-walked zero i next row w e r = ended-walked i next row w (omega arith) r
-  from-walked (suc left) i next row w e r =
-      value-walked i next row w (omega arith) r (λ a u v. runFrom g file shared run depth parent left (i + 1) a u v) (λ a u v r′. from-walked left (i + 1) a u v (omega arith) r′) _ refl
+  from-walked zero i next row sum w e r = ended-walked i next row sum w (omega arith) r
+  from-walked (suc left) i next row sum w e r =
+      value-walked i next row sum w (omega arith) r (λ a u p v. runFrom g file shared run depth parent left (i + 1) a u (inWord (sum + p)) v)
+      (λ a u p v r′. from-walked left (i + 1) a u (inWord (sum + p)) v (omega arith) r′) _ refl
 
   pub run-walked : Whole (runOf g file shared run depth parent at used w₀)
-  run-walked = from-walked (length (runSlots run)) 0 at used w₀ (omega arith) (start g file step plan w₀ at used)
+  run-walked = from-walked (length (runSlots run)) 0 at used 0 w₀ (omega arith) (start g file step plan w₀ at used)

@@ -15,6 +15,7 @@ use Rattle.reading.specs.Little.{littleAt}
 use Rattle.reading.specs.Utf8.{utf8s}
 use Rattle.reading.specs.Fixed.{sized}
 use Rattle.reading.specs.Heads.{Opening, textAt, leafAt}
+use Rattle.numbers.specs.Padded.{padOf, beside}
 
 -- how many own bytes were read, and not which
 unfoldable pub ownSize : Answer Opening → Answer ℕ
@@ -25,24 +26,25 @@ ownSize (read o e) = read (length (o .0)) e
 abbrev pub textBytes : List ℕ → (at n start : ℕ) → Answer Opening
 textBytes file at n start = field file (some file n at) utf8s (λ own. (own, stop)) at start
 
-module _ (file : List ℕ) (at n start : ℕ) where
-  pub text-missing : leb n (length (drop start file)) ≡ false → refused 1 at ≡ ownSize (textBytes file at n start)
+module _ (file : List ℕ) (at n start padding : ℕ) where
+  pub text-missing : leb n (length (drop start file)) ≡ false → refused 1 at ≡ beside padding (ownSize (textBytes file at n start))
   unfolding ownSize field some check bind
   text-missing t = rw t
 
-  pub text-broken : leb n (length (drop start file)) ≡ true → utf8s (take n (drop start file)) ≡ false → refused 15 at ≡ ownSize (textBytes file at n start)
+  pub text-broken : leb n (length (drop start file)) ≡ true → utf8s (take n (drop start file)) ≡ false → refused 15 at ≡ beside padding (ownSize (textBytes file at n start))
   unfolding ownSize field some check bind
   text-broken t u = rw (t, u)
 
-  pub text-there : leb n (length (drop start file)) ≡ true → utf8s (take n (drop start file)) ≡ true → read n (start + n) ≡ ownSize (textBytes file at n start)
+  pub text-there : leb n (length (drop start file)) ≡ true → utf8s (take n (drop start file)) ≡ true → read (n, padding) (start + n) ≡ beside padding (ownSize (textBytes file at n start))
   unfolding ownSize field some check bind
   text-there t u = rw (t, u, length-take-le n (drop start file) (leb-true n (length (drop start file)) t))
 
-pub text-counted : (file : List ℕ) (at : ℕ) {n start : ℕ} → sevenAt file at ≡ read n start → ownSize (textBytes file at n start) ≡ ownSize (textAt file at)
+pub text-counted : (file : List ℕ) (at : ℕ) {n start padding : ℕ} → sevenAt file at ≡ read n start → padding ≡ padOf (sevenAt file at) at
+    → beside padding (ownSize (textBytes file at n start)) ≡ beside (padOf (sevenAt file at) at) (ownSize (textAt file at))
 unfolding textAt bind
-text-counted file at e = rw e
+text-counted file at e q = rw (q, e)
 
-pub text-refused : (file : List ℕ) (at : ℕ) {n p : ℕ} → sevenAt file at ≡ refused n p → refused n p ≡ ownSize (textAt file at)
+pub text-refused : (file : List ℕ) (at : ℕ) {n p : ℕ} → sevenAt file at ≡ refused n p → refused n p ≡ beside (padOf (sevenAt file at) at) (ownSize (textAt file at))
 unfolding textAt bind ownSize
 text-refused file at e = rw e
 

@@ -4,12 +4,13 @@ use ids::Grid;
 use ids::Position;
 use ids::ResourceId;
 use ids::RowNumber;
+use numbers::seven::Padded;
 use table::Head;
 use table::Walk;
 ghost use mathlib.Core.Path.{_≡_};
 ghost use lib.Dec.{ltb};
 ghost use Rattle.table.specs.Leaf.{leafAnswer};
-ghost use Rattle.leaves.specs.Plain.{plainAt, plainValue, plainLeft, valueLeft};
+ghost use Rattle.leaves.specs.Plain.{plainAt, plainPad, plainValue, plainLeft, valueLeft};
 
 // How such a value stands: raw of a kind of fixed size, with the size; a raw character; an image level of a size; a reference that wants a kind.
 pub enum Plain {
@@ -31,13 +32,14 @@ fn beyond(id: ResourceId, shared: u32) -> bool
 
 // A shared reference.
 fn reference(file: &[u8], words: &mut [u32], grid: Grid, shared: u32, wanted: u32, h: Head) -> Walk
-    ensures { λ r. ⌜ r ≡ leafAnswer (h .row .0) (plainAt (now (file .entry)) shared (Plain.Reference wanted) (h .first)) ⌝ }
+    ensures { λ r. ⌜ r ≡ leafAnswer (h .row .0) (plainPad (now (file .entry)) (Plain.Reference wanted) (h .padding) (h .first))
+        (plainAt (now (file .entry)) shared (Plain.Reference wanted) (h .first)) ⌝ }
     ensures { λ _. ⌜ now (words .exit) ≡ plainLeft grid (now (file .entry)) (now (words .entry)) shared (Plain.Reference wanted) h ⌝ }
 {
     let at = h.first;
-    match numbers::seven::seven_at(file, at) {
-        Number::Refused(number, place) => Walk::Refused { number, place },
-        Number::Read(value, next) => {
+    match numbers::seven::seven_padded(file, at) {
+        Padded::Refused(number, place) => Walk::Refused { number, place },
+        Padded::Read(value, next, padding) => {
             let id = value as u32;
             if beyond(ResourceId(id), shared) {
                 return Walk::Refused {
@@ -51,6 +53,7 @@ fn reference(file: &[u8], words: &mut [u32], grid: Grid, shared: u32, wanted: u3
                 first: h.first,
                 parent: h.parent,
                 detail: id,
+                padding,
             };
             table::leaf(words, grid, named, 36, wanted, Number::Read(value, next))
         }
@@ -66,7 +69,8 @@ fn plain_value(
     slot: Plain,
     h: Head,
 ) -> Walk
-    ensures { λ r. ⌜ r ≡ leafAnswer (h .row .0) (plainAt (now (file .entry)) shared slot (h .first)) ⌝ }
+    ensures { λ r. ⌜ r ≡ leafAnswer (h .row .0) (plainPad (now (file .entry)) slot (h .padding) (h .first))
+        (plainAt (now (file .entry)) shared slot (h .first)) ⌝ }
     ensures { λ _. ⌜ now (words .exit) ≡ plainLeft grid (now (file .entry)) (now (words .entry)) shared slot h ⌝ }
 {
     let at = h.first;
@@ -104,7 +108,7 @@ pub fn read_plain(
     depth: u32,
     parent: u32,
 ) -> Walk
-    ensures { λ r. ⌜ r ≡ leafAnswer used (plainValue (now (file .entry)) (grid .room) shared slot at used depth) ⌝ }
+    ensures { λ r. ⌜ r ≡ leafAnswer used (plainPad (now (file .entry)) slot 0 at) (plainValue (now (file .entry)) (grid .room) shared slot at used depth) ⌝ }
     ensures { λ _. ⌜ now (words .exit) ≡ valueLeft grid (now (file .entry)) (now (words .entry)) shared slot at used depth parent ⌝ }
 {
     if depth == 0 {
@@ -124,6 +128,7 @@ pub fn read_plain(
         first: at,
         parent,
         detail: 0,
+        padding: 0,
     };
     plain_value(file, words, grid, shared, slot, h)
 }

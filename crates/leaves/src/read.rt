@@ -1,37 +1,40 @@
 // Reading the bytes of values that have no children.
 use answers::Number;
+use numbers::seven::Padded;
 ghost use mathlib.Core.Path.{_≡_};
 ghost use Prim.Native.Nat.{_≤_};
 ghost use lib.ListN.{length};
 ghost use Rattle.answers.specs.Told.{told};
 ghost use Rattle.layout.specs.Slot.{level};
+ghost use Rattle.numbers.specs.Padded.{padOf, beside, toldPadded};
+ghost use Rattle.reading.specs.Seven.{sevenAt};
 ghost use Rattle.reading.specs.Fixed.{sized};
 ghost use Rattle.reading.specs.Heads.{textAt, leafAt};
 ghost use Rattle.leaves.specs.Text.{ownSize, textBytes};
 
-// A text's bytes from `start` on, which its count at `at` says.
-fn text_bytes(file: &[u8], at: usize, start: usize, count: u64) -> Number
+// A text's bytes from `start` on, which its count at `at` says; the count has this padding.
+fn text_bytes(file: &[u8], at: usize, start: usize, count: u64, padding: u32) -> Padded
     requires { ⌜ start ≤ length (now file) ⌝ }
-    ensures { λ r. ⌜ told r ≡ ownSize (textBytes (now (file .entry)) at count start) ⌝ }
+    ensures { λ r. ⌜ toldPadded r ≡ beside padding (ownSize (textBytes (now (file .entry)) at count start)) ⌝ }
 {
     let n = count as usize;
     if !numbers::little::has_bytes(file, start, n) {
-        return Number::Refused(1, at);
+        return Padded::Refused(1, at);
     }
     let end = start + n;
     if text::is_utf8(&file[start..end]) {
-        return Number::Read(count, end);
+        return Padded::Read(count, end, padding);
     }
-    Number::Refused(15, at)
+    Padded::Refused(15, at)
 }
 
-// A text: its count, then its bytes. The value is the number of its bytes.
-pub fn text_at(file: &[u8], at: usize) -> Number
-    ensures { λ r. ⌜ told r ≡ ownSize (textAt (now (file .entry)) at) ⌝ }
+// A text: its count, then its bytes. The value is the number of its bytes, and the padding its count's.
+pub fn text_at(file: &[u8], at: usize) -> Padded
+    ensures { λ r. ⌜ toldPadded r ≡ beside (padOf (sevenAt (now (file .entry)) at) at) (ownSize (textAt (now (file .entry)) at)) ⌝ }
 {
-    match numbers::seven::seven_at(file, at) {
-        Number::Refused(number, place) => Number::Refused(number, place),
-        Number::Read(count, start) => text_bytes(file, at, start, count),
+    match numbers::seven::seven_padded(file, at) {
+        Padded::Refused(number, place) => Padded::Refused(number, place),
+        Padded::Read(count, start, padding) => text_bytes(file, at, start, count, padding),
     }
 }
 

@@ -66,6 +66,7 @@ pub fn read_run(
     let n = turns(run);
     let mut next = at;
     let mut row = used;
+    let mut padding = 0;
     let mut i = 0;
     while i < n {
         let slot = turn(run, i);
@@ -73,6 +74,7 @@ pub fn read_run(
             Walk::Done(reached) => {
                 next = reached.next;
                 row = reached.used;
+                padding = table::sum(padding, reached.padding);
             }
             Walk::Refused { number, place } => {
                 return Walk::Refused { number, place };
@@ -80,5 +82,9 @@ pub fn read_run(
         }
         i += 1;
     }
-    Walk::Done(Reached { used: row, next })
+    Walk::Done(Reached {
+        used: row,
+        padding,
+        next,
+    })
 }

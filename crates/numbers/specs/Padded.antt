@@ -21,10 +21,14 @@ unfoldable pub padOf : Answer ℕ → (at : ℕ) → ℕ
 padOf (refused number place) at = 0
 padOf (read n next) at = next - at - length (shortest n)
 
+-- a number with a padding beside it
+abbrev pub beside : (padding : ℕ) → Answer ℕ → Answer (ℕ × ℕ)
+beside padding (refused number place) = refused number place
+beside padding (read n next) = read (n, padding) next
+
 -- the number that starts at `at`, with its padding
 abbrev pub padded : (at : ℕ) → Answer ℕ → Answer (ℕ × ℕ)
-padded at (refused number place) = refused number place
-padded at (read n next) = read (n, padOf (read n next) at) next
+padded at x = beside (padOf x at) x
 
 -- what an answer of the code tells: the value and the padding, or 01's number and place
 abbrev pub toldPadded : Padded → Answer (ℕ × ℕ)

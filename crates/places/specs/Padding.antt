@@ -2,11 +2,13 @@
 use mathlib.Core.Path.{_≡_, refl, sym, ap, _∙_}
 use mathlib.Core.Bool.{Bool, true, false, cond}
 use mathlib.Core.List.{List, [], _∷_, _++_, append-assoc}
-use Prim.Native.Nat.{ℕ, zero, suc, _+_, _*_, _-_, _≤_}
+use Prim.Native.Nat.{ℕ, zero, suc, _+_, _*_, _-_, _≤_, _<_}
 use native.Mathlib.Omega.{arith}
 use lib.Dec.{eqb}
-use lib.ListN.{length, length-append}
+use lib.ListN.{length, getD, length-append}
+use borrow.Author.Tests.{ne-eqb}
 use Rattle.layout.specs.Number.{Groups, last, more}
+use Rattle.layout.specs.Fixed.{sizes}
 use Rattle.layout.specs.Rows.{Row}
 use Rattle.reading.specs.Answer.{Answer, refused, read}
 use Rattle.reading.specs.Reads.{Small, next-of}
@@ -84,6 +86,13 @@ module _ (file : List ℕ) where
       let counts = countPlaces file (r .kind) (rawPlace file (r .kind) (r .first) (r .detail)) in
       padding-append ids (counts ++ rowsPlaces file rows) ∙ ap (λ (n : ℕ). padding ids + n) (padding-append counts (rowsPlaces file rows))
 
+  -- a row alone, of a value that is its id and no text, and of one that has no number
+  pub id-alone : (r : Row) → numbered (r .kind) (r .detail) ≡ true → eqb (r .kind) 13 ≡ false → rowsPadding (r ∷ []) ≡ padOf (sevenAt file (r .first)) (r .first)
+  id-alone r i c = omega (arith, row-first r [], with-id (r .kind) (r .first) (r .detail) i .0, without-count (r .kind) (rawPlace file (r .kind) (r .first) (r .detail)) c, no-rows)
+
+  pub no-number : (r : Row) → numbered (r .kind) (r .detail) ≡ false → eqb (r .kind) 13 ≡ false → rowsPadding (r ∷ []) ≡ 0
+  no-number r i c = omega (arith, row-first r [], without-id (r .kind) (r .first) (r .detail) i .0, without-count (r .kind) (rawPlace file (r .kind) (r .first) (r .detail)) c, no-rows)
+
   -- ---- The reader list
 
   -- the length of the next name
@@ -102,6 +111,22 @@ module _ (file : List ℕ) where
   pub file-padding : (readers : ℕ) (rows : List Row) → filePadding readers rows ≡ padding (listsPlaces file readers 10) + rowsPadding rows
   unfolding filePlaces
   file-padding readers rows = padding-append (listsPlaces file readers 10) (rowsPlaces file rows)
+
+-- ---- Which kinds have numbers
+
+pub reference-numbered : (id : ℕ) → numbered 36 id ≡ true
+unfolding numbered
+reference-numbered zero = refl
+reference-numbered (suc i) = refl
+
+-- a kind with a size is none of the kinds that have none
+pub sized-not : (k j : ℕ) → 0 < getD sizes k 0 → getD sizes j 0 ≡ 0 → eqb k j ≡ false
+sized-not k j h q = ne-eqb k j (λ e. let z : getD sizes k 0 ≡ 0 = rw e q in omega arith)
+
+-- so a raw value of a kind with a size has no number
+pub sized-plain : (k : ℕ) → 0 < getD sizes k 0 → (numbered k 0 ≡ false) × (eqb k 13 ≡ false)
+unfolding numbered sizes
+sized-plain k h = (rw (sized-not k 0 h refl, sized-not k 36 h refl), sized-not k 13 h refl)
 
 -- ---- How much it can be
 
@@ -152,5 +177,11 @@ module _ (file : List ℕ) (small : Small file) where
   file-few readers rows =
       let first = past (sevenAt file 10) 10 in
       let end = entriesEnd file readers first in
-      omega (arith, padding-few (filePlaces file readers rows), rows-few rows, entries-few readers first,
-      length-append (listsPlaces file readers 10) (rowsPlaces file rows), length-append (entriesPlaces file readers first) (end ∷ []))
+      omega (
+        arith,
+        padding-few (filePlaces file readers rows),
+        rows-few rows,
+        entries-few readers first,
+        length-append (listsPlaces file readers 10) (rowsPlaces file rows),
+        length-append (entriesPlaces file readers first) (end ∷ []),
+      )

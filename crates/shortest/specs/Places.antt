@@ -20,8 +20,8 @@ use Rattle.reading.specs.Rules.{null-id}
 use Rattle.numbers.specs.Shortest.{shortest}
 use Rattle.numbers.specs.Padded.{past}
 use Rattle.places.specs.Places.{numbered, idPlaces, rawPlace, countPlaces, rowsPlaces}
-use Rattle.places.specs.Padding.{places-append}
-use Rattle.shortest.specs.Short.{idBytes, body, short, Form, plain, text, raw-form, form-numbered, leaf-body, reference-numbered}
+use Rattle.places.specs.Padding.{places-append, reference-numbered}
+use Rattle.shortest.specs.Short.{idBytes, body, short, Form, plain, text, raw-form, form-numbered, leaf-body}
 
 module _ (file : List ℕ) where
   -- the file's bytes from `at` to `end` have numbers at these places, and with each in its shortest form they are `bs`

@@ -6,8 +6,7 @@ use mathlib.Core.Logic.{inl, inr}
 use Prim.Native.Nat.{ℕ, zero, suc, _+_, _*_, _/_, _<_, _≤_, max}
 use native.Mathlib.Omega.{arith}
 use lib.Dec.{eqb}
-use lib.ListN.{length, length-append, getD, replicate, length-replicate}
-use borrow.Author.Tests.{ne-eqb}
+use lib.ListN.{length, length-append, replicate, length-replicate}
 use Rattle.layout.specs.Number.{Seven, little}
 use Rattle.layout.specs.Target.{Target, fixed, char, string, object as anything, texture, texture2D, spriteFont, page, enum, nullable, array, list, dictionary, kindOf}
 use Rattle.layout.specs.Tree.{Trees, none, tree, count, told}
@@ -20,6 +19,7 @@ use Rattle.reading.specs.Rules.{null-id}
 use Rattle.reading.specs.References.{slots-count}
 use Rattle.numbers.specs.Shortest.{shortest, Shortens, shortest-is}
 use Rattle.places.specs.Places.{numbered}
+use Rattle.places.specs.Padding.{reference-numbered, sized-not, sized-plain}
 
 -- the id of a value that starts with one
 unfoldable pub idBytes : (kind id : ℕ) → List ℕ
@@ -76,10 +76,6 @@ unfolding levels
 length-levels f w h zero = refl
 length-levels f w h (suc n) = ap suc (length-levels f (max 1 (w / 2)) (max 1 (h / 2)) n)
 
--- a kind with a size is none of the kinds that have none
-sized-not : (k j : ℕ) → 0 < getD sizes k 0 → getD sizes j 0 ≡ 0 → eqb k j ≡ false
-sized-not k j h q = ne-eqb k j (λ e. let z : getD sizes k 0 ≡ 0 = rw e q in omega arith)
-
 -- the number of children by the plan, where the plan's slots are so many
 abbrev Counts : Plan → ℕ → Type 0
 Counts plan n = (slots : List Slot) → plan ≡ each slots → n ≡ length slots
@@ -88,7 +84,7 @@ pub head-form : (t : Target) (own : List ℕ) (plan : Plan) (bs : List ℕ) → 
 unfolding Head Textual Counted Pictured kindOf body numbered sizes
 head-form (fixed k) own plan bs w n c =
     let z = w .1 .sized in
-    plain (rw (sized-not k 0 z refl, sized-not k 36 z refl)) (sized-not k 13 z refl)
+    plain (sized-plain k z .0) (sized-plain k z .1)
     (w .0 ∙ rw (sized-not k 13 z refl, sized-not k 35 z refl, sized-not k 17 z refl, sized-not k 18 z refl, sized-not k 19 z refl, sized-not k 32 z refl)) w
 head-form char own plan bs w n c = plain refl refl (w .0) w
 head-form string own plan bs w n c = text refl (w .0 .0) (w .0 .1) (w .0 .2) (λ b s. ((b, s, refl, w .0 .3), w .1))
@@ -128,11 +124,6 @@ form-numbered (text q number s e f) = rw q
 pub leaf-body : (x : Leaf) (kind : ℕ) (own bs : List ℕ) → Leafed x kind own bs → (body kind own 0 ≡ bs) × (numbered kind 0 ≡ false) × (eqb kind 13 ≡ false)
 unfolding Leafed body numbered
 leaf-body (level z) kind own bs w = rw (w .0) (ap (λ (k : ℕ). little 4 k ++ own) (w .2) ∙ sym (w .3), refl, refl)
-
-pub reference-numbered : (id : ℕ) → numbered 36 id ≡ true
-unfolding numbered
-reference-numbered zero = refl
-reference-numbered (suc i) = refl
 
 module _ (readers : List Target) (refers : Target → ℕ → Type 0) (cs : Trees) where
   -- what a value's children stand in

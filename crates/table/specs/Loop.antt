@@ -176,13 +176,13 @@ module _ (g : Grid) (file : List ℕ) (step : Slot → ℕ → ℕ → Outcome) 
         fits = λ p. rw (← q) (b .fits (r .fits p));
       }
 
-  -- nothing is left: the rows stand in the words, and there are i values
+  -- nothing is left: the rows stand in the words, with their padding, and there are i values
   pub ended : {w : List ℕ} {next row sum i : ℕ} → (r : Reading w stop next row sum i)
-      → (counted (sequence step plan₀ at used) ≡ read (row, r .rows, i) next) × (w ≡ written g w₀ used (r .rows))
+      → (counted (sequence step plan₀ at used) ≡ read (row, r .rows, i) next) × (w ≡ written g w₀ used (r .rows)) × (sum ≡ padded file (r .rows))
   unfolding sequence counted count
   ended {w} {next} {row} {sum} {i} r =
       let z : i + 0 ≡ i = omega arith in
-      (sym (r .whole) ∙ rw (append-nil (r .rows), z), r .words)
+      (sym (r .whole) ∙ rw (append-nil (r .rows), z), r .words, r .pads)
 
   pub give-up : {w : List ℕ} {next row sum i : ℕ} (x : Slot) (go : ℕ → Plan) {n p : ℕ} → Reading w (put x go) next row sum i
       → step x next row ≡ refused n p → counted (sequence step plan₀ at used) ≡ refused n p

@@ -1,4 +1,4 @@
-use Rattle.leaves.specs.Plain.{plainAt}
+use Rattle.leaves.specs.Plain.{plainAt, plainPad}
 use borrow.Author.Needs.{needs}
 use Rattle.leaves.proofs.plain.plain_value.Statement.{statement}
 use Rattle.leaves.proofs.plain.plain_value.Tie as tie
@@ -40,7 +40,7 @@ same-length : tie.Need-same-length
 same-length c = search needs
 
 returns : tie.Need-returns
-unfolding plainAt
+unfolding plainAt plainPad
 returns c =
     rw (c .before .before .before .before .before .before .slot .given .1, ← c .before .before .before .fixed-at .ensures) (c .before .before .leaf .ensures)
 
@@ -48,7 +48,7 @@ same-length-2 : tie.Need-same-length-2
 same-length-2 c = search needs
 
 returns-2 : tie.Need-returns-2
-unfolding plainAt
+unfolding plainAt plainPad
 returns-2 c =
     rw (c .before .before .before .before .before .enum-told .given .1, ← c .before .before .before .char-at .ensures) (c .before .before .leaf2 .ensures)
 
@@ -56,7 +56,7 @@ same-length-3 : tie.Need-same-length-3
 same-length-3 c = search needs
 
 returns-3 : tie.Need-returns-3
-unfolding plainAt
+unfolding plainAt plainPad
 returns-3 c =
     rw (c .before .before .before .before .before .before .slot2 .given .1, ← c .before .before .before .level-at .ensures) (c .before .before .leaf3 .ensures)
 

@@ -25,7 +25,7 @@ has-bytes-requires c κs = search needs
 returns : tie.Need-returns
 returns c =
     let a = c .before .before .before .args in
-    text-missing (a .file .now) (a .at) (a .count) (a .start) (sym (c .before .has-bytes .ensures) ∙ not-true _ (c .if1 .taken))
+    text-missing (a .file .now) (a .at) (a .count) (a .start) (a .padding) (sym (c .before .has-bytes .ensures) ∙ not-true _ (c .if1 .taken))
 
 add-end : tie.Need-add-end
 add-end c =
@@ -49,14 +49,14 @@ returns-2 c =
     let at = c .before .before .before in
     let a = at .before .before .before .args in
     let e : a .start + a .count - a .start ≡ a .count = omega arith in
-    text-there (a .file .now) (a .at) (a .count) (a .start) (there at) (sym (rw e at (c .before .is-utf8 .ensures)) ∙ c .if2 .taken)
+    text-there (a .file .now) (a .at) (a .count) (a .start) (a .padding) (there at) (sym (rw e at (c .before .is-utf8 .ensures)) ∙ c .if2 .taken)
 
 returns-3 : tie.Need-returns-3
 returns-3 c =
     let at = c .before .before .before in
     let a = at .before .before .before .args in
     let e : a .start + a .count - a .start ≡ a .count = omega arith in
-    text-broken (a .file .now) (a .at) (a .count) (a .start) (there at) (sym (rw e at (c .before .is-utf8 .ensures)) ∙ c .if2 .left)
+    text-broken (a .file .now) (a .at) (a .count) (a .start) (a .padding) (there at) (sym (rw e at (c .before .is-utf8 .ensures)) ∙ c .if2 .left)
 
 pub text-bytes-spec : {M : Type 1} → statement M
 text-bytes-spec =

@@ -8,13 +8,13 @@ use Rattle.leaves.proofs.run.read_run.Statement.{statement}
 use Rattle.leaves.proofs.run.read_run.Tie as tie
 
 abbrev Inv-loop : tie.InvT-loop
-Inv-loop file words₀ grid shared run at used depth parent n next₀ row₀ i₀ words next row i =
+Inv-loop file words₀ grid shared run at used depth parent n next₀ row₀ padding₀ i₀ words next row padding i =
     (n ≡ length (runSlots run))
     × (length words ≡ length words₀)
-    × (runFrom grid file shared run depth parent (n - i) i next row words ≡ runOf grid file shared run depth parent at used words₀)
+    × (runFrom grid file shared run depth parent (n - i) i next row padding words ≡ runOf grid file shared run depth parent at used words₀)
 
 abbrev μ-loop : tie.MeasureT-loop
-μ-loop file words₀ grid shared run at used depth parent n next₀ row₀ i₀ words next row i = n - i
+μ-loop file words₀ grid shared run at used depth parent n next₀ row₀ padding₀ i₀ words next row padding i = n - i
 
 turns-requires : tie.Need-turns-requires Inv-loop μ-loop
 turns-requires c κs = search needs
@@ -36,16 +36,17 @@ enum-known-reached c = search needs
 enum-known-number : tie.Need-enum-known-number Inv-loop μ-loop
 enum-known-number c = search needs
 
+sum-requires : tie.Need-sum-requires Inv-loop μ-loop
+sum-requires c κs = search needs
+
 same-length : tie.Need-same-length Inv-loop μ-loop
 same-length c = search needs
 
 returns : tie.Need-returns Inv-loop μ-loop
 returns c =
-    let at = c .before .before .before .before .before .before .before .before .before in
-    let a = at .before .before .before .before .args in
-    let read = c .before .before .before .before .before .read-plain in
-    let e = run-turn (a .grid) (a .file .now) (a .shared) (a .run) (a .depth) (a .parent) _ _ _ _ _ _ _ _ (c .before .before .before .before .before .before .before .before .loop-test .taken) (c .before .before .before .before .before .before .before .turn .ensures) (sym (c .before .number .given .1) ∙ read .ensures .0) (read .ensures .1) in
-    rw (sym (at .loop .inv .2) ∙ e) (refl, refl)
+    let a = c .before .before .before .before .before .before .before .before .before .before .before .before .before .args in
+    let e = run-turn (a .grid) (a .file .now) (a .shared) (a .run) (a .depth) (a .parent) _ _ _ _ _ _ _ _ _ (c .before .before .before .before .before .before .before .before .loop-test .taken) (c .before .before .before .before .before .before .before .turn .ensures) (sym (c .before .number .given .1) ∙ c .before .before .before .before .before .read-plain .ensures .0) (c .before .before .before .before .before .read-plain .ensures .1) in
+    rw (sym (c .before .before .before .before .before .before .before .before .before .loop .inv .2) ∙ e) (refl, refl)
 
 add-i : tie.Need-add-i Inv-loop μ-loop
 add-i c = search needs
@@ -55,11 +56,9 @@ loop-less c = search needs
 
 loop-again : tie.Need-loop-again Inv-loop μ-loop
 loop-again c =
-    let at = c .before .before .before .before .before .before .before .before .before in
-    let a = at .before .before .before .before .args in
-    let read = c .before .before .before .before .before .read-plain in
-    let e = run-turn (a .grid) (a .file .now) (a .shared) (a .run) (a .depth) (a .parent) _ _ _ _ _ _ _ _ (c .before .before .before .before .before .before .before .before .loop-test .taken) (c .before .before .before .before .before .before .before .turn .ensures) (sym (c .before .reached .given .1) ∙ read .ensures .0) (read .ensures .1) in
-    (at .loop .inv .0, search needs, sym e ∙ at .loop .inv .2)
+    let a = c .before .before .before .before .before .before .before .before .before .before .before .before .before .before .args in
+    let e = run-turn (a .grid) (a .file .now) (a .shared) (a .run) (a .depth) (a .parent) _ _ _ _ _ _ _ _ _ (c .before .before .before .before .before .before .before .before .before .loop-test .taken) (c .before .before .before .before .before .before .before .before .turn .ensures) (sym (c .before .before .reached .given .1) ∙ c .before .before .before .before .before .before .read-plain .ensures .0) (c .before .before .before .before .before .before .read-plain .ensures .1) in
+    (c .before .before .before .before .before .before .before .before .before .before .loop .inv .0, search needs, rw (c .sum .ensures) (sym e ∙ c .before .before .before .before .before .before .before .before .before .before .loop .inv .2))
 
 same-length-2 : tie.Need-same-length-2 Inv-loop μ-loop
 same-length-2 c = search needs
@@ -67,7 +66,7 @@ same-length-2 c = search needs
 returns-2 : tie.Need-returns-2 Inv-loop μ-loop
 returns-2 c =
     let a = c .before .before .before .before .before .args in
-    rw (sym (c .before .loop .inv .2) ∙ run-end (a .grid) (a .file .now) (a .shared) (a .run) (a .depth) (a .parent) _ _ _ _ _ (c .loop-test .left)) (refl, refl)
+    rw (sym (c .before .loop .inv .2) ∙ run-end (a .grid) (a .file .now) (a .shared) (a .run) (a .depth) (a .parent) _ _ _ _ _ _ (c .loop-test .left)) (refl, refl)
 
 pub read-run-spec : {M : Type 1} → statement M
 read-run-spec =
@@ -80,6 +79,7 @@ read-run-spec =
     turn-requires
     read-plain-requires
     enum-known-reached
+    sum-requires
     enum-known-number
     same-length
     returns
