@@ -44,12 +44,12 @@ alone-refused codes (refused m q) {n} {p} e =
     rw (e₁, e₂)
 alone-refused codes (read o e′) e = differ cc
 
-pub alone-read : (codes : List ℕ) (x : Answer Opening) {e : ℕ} → read tt e ≡ mute x → Stopping x → Opens codes x (Head e Nothing)
+pub alone-read : (codes : List ℕ) (x : Answer Opening) (padding : ℕ) {e : ℕ} → read tt e ≡ mute x → Stopping x → Opens codes x (Head e (Nothing padding))
 unfolding mute each
-alone-read codes (refused m q) q′ s = differ cc
-alone-read codes (read o f) {e} q s =
+alone-read codes (refused m q) padding q′ s = differ cc
+alone-read codes (read o f) padding {e} q s =
     let e₁ : e ≡ f = cc in
-    rw e₁ (record { below = Nothing; is = refl; slots = []; plan = s o f refl; stands = refl })
+    rw e₁ (record { below = Nothing padding; is = refl; slots = []; plan = s o f refl; stands = refl })
 
 -- an answer that is known
 pub opens-refused : (codes : List ℕ) (x : Answer Opening) {n p : ℕ} → x ≡ refused n p → Opens codes x (Refused n p)

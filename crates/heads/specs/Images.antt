@@ -18,6 +18,7 @@ use Rattle.reading.specs.Little.{littleAt}
 use Rattle.reading.specs.Utf8.{charAt}
 use Rattle.reading.specs.Fixed.{fixedAt, sized}
 use Rattle.reading.specs.Heads.{Opening, headAt, imageAt, fixedHeadAt, textAt, whole, ownAt}
+use Rattle.numbers.specs.Padded.{beside}
 use Rattle.table.specs.Leaf.{mute}
 use Rattle.leaves.specs.Text.{ownSize}
 use Rattle.leaves.specs.declared.run.Run.the-variants.{Levels}
@@ -140,7 +141,12 @@ module _ (file : List ℕ) where
         stands = (refl, (a, b, c, d, g, omega (arith, chain-bound w h c g)));
       })
 
--- the number of own bytes, or that nothing stands below, matters to no end
+-- the padding of a count, the number of own bytes, or that nothing stands below, matters to no end
+pub beside-mute : (padding : ℕ) (x : Answer ℕ) → mute (beside padding x) ≡ mute x
+unfolding mute
+beside-mute padding (refused n p) = refl
+beside-mute padding (read n e) = refl
+
 own-size-mute : (x : Answer Opening) → mute (ownSize x) ≡ mute x
 unfolding mute ownSize
 own-size-mute (refused n p) = refl

@@ -5,3 +5,4 @@ pub mod Contracts
 pub mod Total
 pub mod Below
 pub mod Images
+pub mod Pads

@@ -47,7 +47,7 @@ SlotsAre codes Font slots = slots ≡ fontSlots
 SlotsAre codes Page slots = slots ≡ pageSlots
 
 abbrev pub BelowIs : List ℕ → Below → List L.Slot → Type 0
-BelowIs codes Nothing slots = slots ≡ []
+BelowIs codes (Nothing padding) slots = slots ≡ []
 BelowIs codes (SimpleRun run) slots = (slots ≡ runSlots run) × LawfulRun run
 BelowIs codes (Nested nest) slots = SlotsAre codes nest slots
 

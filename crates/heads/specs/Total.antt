@@ -7,7 +7,9 @@ use lib.ListN.{length, getD}
 use Rattle.layout.specs.Fixed.{sizes}
 use Rattle.layout.specs.Image.{digits}
 use Rattle.reading.specs.Answer.{Answer, refused, read}
+use Rattle.reading.specs.Seven.{sevenAt}
 use Rattle.reading.specs.Little.{littleAt}
+use Rattle.numbers.specs.Padded.{padOf, beside}
 use Rattle.reading.specs.Utf8.{charAt}
 use Rattle.reading.specs.Fixed.{fixedAt, sized}
 use Rattle.reading.specs.Heads.{textAt}
@@ -50,18 +52,20 @@ pairsAs (Simple p) (Object b) n = Nested (Pairs (Simple p) (Object b) n)
 pairsAs (Raw a) y n = Nested (Pairs (Raw a) y n)
 pairsAs (Object a) y n = Nested (Pairs (Object a) y n)
 
--- a value without children, and its bytes by its kind
-abbrev pub aloneAs : Answer ℕ → Opened
+-- a value without children, and its bytes by its kind, with the padding of a text's count
+abbrev pub aloneAs : Answer (ℕ × ℕ) → Opened
 aloneAs (refused n p) = Refused n p
-aloneAs (read a next) = Head next Nothing
+aloneAs (read a next) = Head next (Nothing (a .1))
 
-unfoldable pub leafAs : (file : List ℕ) (kind at : ℕ) → Answer ℕ
-leafAs file kind at = cond (eqb kind 12) (charAt file at) (cond (eqb kind 13) (ownSize (textAt file at)) (sized (fixedAt file kind (getD sizes kind 0) at)))
+unfoldable pub leafAs : (file : List ℕ) (kind at : ℕ) → Answer (ℕ × ℕ)
+leafAs file kind at =
+    cond (eqb kind 12) (beside 0 (charAt file at))
+    (cond (eqb kind 13) (beside (padOf (sevenAt file at) at) (ownSize (textAt file at))) (beside 0 (sized (fixedAt file kind (getD sizes kind 0) at))))
 
 -- a nullable, by its first byte; a list and a dictionary, by their counts
 abbrev pub flagAs : (codes : List ℕ) (a at : ℕ) → Answer ℕ → Opened
 flagAs codes a at (refused n p) = Refused n p
-flagAs codes a at (read f next) = cond (eqb f 0) (Head next Nothing) (cond (eqb f 1) (Head next (eachAs (rawAs codes a) 1)) (Refused 15 at))
+flagAs codes a at (read f next) = cond (eqb f 0) (Head next (Nothing 0)) (cond (eqb f 1) (Head next (eachAs (rawAs codes a) 1)) (Refused 15 at))
 
 abbrev pub listAs : (codes : List ℕ) (a : ℕ) → Answer ℕ → Opened
 listAs codes a (refused n p) = Refused n p

@@ -19,9 +19,9 @@ pub struct Stage {
     pub count: u64,
 }
 
-// Nothing; values that need no reader list; or values that do.
+// Nothing, and the padding of the value's count, which a text alone has; values that need no reader list; or values that do.
 pub enum Below {
-    Nothing,
+    Nothing(u32),
     Simple(Run),
     Nested(Nest),
 }

@@ -4,11 +4,13 @@ use crate::nest::Nest;
 use crate::slot::Slot;
 use answers::Number;
 use leaves::run::Run;
+use numbers::seven::Padded;
 ghost use mathlib.Core.Path.{_≡_};
 ghost use mathlib.Core.List.{List};
 ghost use Prim.Native.Nat.{ℕ, _≤_, max};
 ghost use lib.ListN.{replicate};
 ghost use Rattle.answers.specs.Told.{told};
+ghost use Rattle.numbers.specs.Padded.{beside, toldPadded};
 ghost use Rattle.layout.specs.Slot as L;
 ghost use Rattle.layout.specs.Slot.{pairs};
 ghost use Rattle.layout.specs.Target.{Target, nullable, list, texture2D, kindOf};
@@ -29,25 +31,35 @@ pub enum Opened {
 }
 
 // A value without children, once its bytes are read.
-fn alone(read: Number) -> Opened
-    ensures { λ r. ⌜ ((codes : List ℕ) (x : Answer Opening) → mute (told read) ≡ mute x → Stopping x → Opens codes x r) ⌝ }
-    ensures { λ r. ⌜ r ≡ aloneAs (told read) ⌝ }
+fn alone(read: Padded) -> Opened
+    ensures { λ r. ⌜ ((codes : List ℕ) (x : Answer Opening) → mute (toldPadded read) ≡ mute x → Stopping x → Opens codes x r) ⌝ }
+    ensures { λ r. ⌜ r ≡ aloneAs (toldPadded read) ⌝ }
 {
     match read {
-        Number::Refused(number, place) => Opened::Refused(number, place),
-        Number::Read(_, next) => Opened::Head(next, Below::Nothing),
+        Padded::Refused(number, place) => Opened::Refused(number, place),
+        Padded::Read(_, next, padding) => Opened::Head(next, Below::Nothing(padding)),
     }
 }
 
-// The bytes of a value of a kind without children.
-fn leaf_at(file: &[u8], kind: u32, at: usize) -> Number
-    ensures { λ r. ⌜ ((t : Target) → Leafy t → kindOf t ≡ kind → mute (told r) ≡ mute (headAt (now (file .entry)) t at)) ⌝ }
-    ensures { λ r. ⌜ told r ≡ leafAs (now (file .entry)) kind at ⌝ }
+// A value that has no count, and so no padding.
+fn unpadded(read: Number) -> Padded
+    ensures { λ r. ⌜ toldPadded r ≡ beside 0 (told read) ⌝ }
+{
+    match read {
+        Number::Refused(number, place) => Padded::Refused(number, place),
+        Number::Read(value, next) => Padded::Read(value, next, 0),
+    }
+}
+
+// The bytes of a value of a kind without children, and the padding of its count.
+fn leaf_at(file: &[u8], kind: u32, at: usize) -> Padded
+    ensures { λ r. ⌜ ((t : Target) → Leafy t → kindOf t ≡ kind → mute (toldPadded r) ≡ mute (headAt (now (file .entry)) t at)) ⌝ }
+    ensures { λ r. ⌜ toldPadded r ≡ leafAs (now (file .entry)) kind at ⌝ }
 {
     match kind {
-        12 => text::char_at(file, at),
+        12 => unpadded(text::char_at(file, at)),
         13 => leaves::read::text_at(file, at),
-        _ => values::fixed_at(file, kind, values::size_of_kind(kind), at),
+        _ => unpadded(values::fixed_at(file, kind, values::size_of_kind(kind), at)),
     }
 }
 
@@ -88,7 +100,7 @@ fn nullable_head(file: &[u8], codes: &[u8], a: usize, at: usize) -> Opened
         Number::Refused(number, place) => Opened::Refused(number, place),
         Number::Read(flag, next) => {
             if flag == 0 {
-                return Opened::Head(next, Below::Nothing);
+                return Opened::Head(next, Below::Nothing(0));
             }
             if flag == 1 {
                 return Opened::Head(next, each_of(crate::slot::raw_of(codes, a), 1));

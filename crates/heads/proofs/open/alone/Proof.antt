@@ -20,7 +20,7 @@ returns c = (
 returns-2 : tie.Need-returns-2
 unfolding mute
 returns-2 c = (
-  λ codes x e st. alone-read codes x (rw (c .before .read2 .given .1) at e) st,
+  λ codes x e st. alone-read codes x (c .before .read2 .given .0 .1 .1 .0) (rw (c .before .read2 .given .1) at e) st,
   rw (c .before .read2 .given .1),
 )
 

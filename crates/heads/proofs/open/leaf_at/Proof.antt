@@ -1,14 +1,18 @@
 use borrow.Author.Tests.{ne-eqb}
+use Rattle.numbers.specs.Padded.{beside}
 use Rattle.heads.specs.Total.{leafAs}
 use mathlib.Core.Path.{ap, _∙_}
 use Rattle.table.specs.Leaf.{mute}
-use Rattle.heads.specs.Images.{char-leaf, text-leaf, fixed-leaf}
+use Rattle.heads.specs.Images.{beside-mute, char-leaf, text-leaf, fixed-leaf}
 use borrow.Author.Needs.{needs}
 use Rattle.heads.proofs.open.leaf_at.Statement.{statement}
 use Rattle.heads.proofs.open.leaf_at.Tie as tie
 
 char-at-requires : tie.Need-char-at-requires
 char-at-requires c κs = search needs
+
+unpadded-requires : tie.Need-unpadded-requires
+unpadded-requires c κs = search needs
 
 text-at-requires : tie.Need-text-at-requires
 text-at-requires c κs = search needs
@@ -19,13 +23,16 @@ size-of-kind-requires c κs = search needs
 fixed-at-requires : tie.Need-fixed-at-requires
 fixed-at-requires c κs = search needs
 
+unpadded-requires-2 : tie.Need-unpadded-requires-2
+unpadded-requires-2 c κs = search needs
+
 returns : tie.Need-returns
 unfolding leafAs
 returns c = (
   λ t l e.
-      let a = c .before .before .before .args in
-      ap mute (c .char-at .ensures) ∙ char-leaf (a .file .now) (a .at) t l (e ∙ c .before .match .keys1),
-  rw (c .before .match .keys1) (c .char-at .ensures),
+      let a = c .before .before .before .before .args in
+      ap mute (c .unpadded .ensures) ∙ beside-mute 0 _ ∙ ap mute (c .before .char-at .ensures) ∙ char-leaf (a .file .now) (a .at) t l (e ∙ c .before .before .match .keys1),
+  rw (c .before .before .match .keys1) (c .unpadded .ensures ∙ ap (beside 0) (c .before .char-at .ensures)),
 )
 
 returns-2 : tie.Need-returns-2
@@ -33,7 +40,7 @@ unfolding leafAs
 returns-2 c = (
   λ t l e.
       let a = c .before .before .before .args in
-      ap mute (c .text-at .ensures) ∙ text-leaf (a .file .now) (a .at) t l (e ∙ c .before .match .keys2),
+      ap mute (c .text-at .ensures) ∙ beside-mute _ _ ∙ text-leaf (a .file .now) (a .at) t l (e ∙ c .before .match .keys2),
   rw (c .before .match .keys2) (c .text-at .ensures),
 )
 
@@ -41,10 +48,10 @@ returns-3 : tie.Need-returns-3
 unfolding leafAs
 returns-3 c = (
   λ t l e.
-      let a = c .before .before .before .before .args in
-      let rest = c .before .before .match .rest in
-      ap mute (c .fixed-at .ensures) ∙ fixed-leaf (a .file .now) (a .at) t _ _ l e (c .before .size-of-kind .ensures) (rest .0 .1) (rest .1),
-  rw (ne-eqb _ 12 (c .before .before .match .rest .0 .1), ne-eqb _ 13 (c .before .before .match .rest .1), ← c .before .size-of-kind .ensures) (c .fixed-at .ensures),
+      let a = c .before .before .before .before .before .args in
+      let rest = c .before .before .before .match .rest in
+      ap mute (c .unpadded2 .ensures) ∙ beside-mute 0 _ ∙ ap mute (c .before .fixed-at .ensures) ∙ fixed-leaf (a .file .now) (a .at) t _ _ l e (c .before .before .size-of-kind .ensures) (rest .0 .1) (rest .1),
+  rw (ne-eqb _ 12 (c .before .before .before .match .rest .0 .1), ne-eqb _ 13 (c .before .before .before .match .rest .1), ← c .before .before .size-of-kind .ensures) (c .unpadded2 .ensures ∙ ap (beside 0) (c .before .fixed-at .ensures)),
 )
 
 pub leaf-at-spec : {M : Type 1} → statement M
@@ -52,9 +59,11 @@ leaf-at-spec =
     tie.close
     (tie.spec
     char-at-requires
+    unpadded-requires
     text-at-requires
     size-of-kind-requires
     fixed-at-requires
+    unpadded-requires-2
     returns
     returns-2
     returns-3)

@@ -19,7 +19,7 @@ enum-known-flag c = search needs
 
 returns : tie.Need-returns
 returns c = (
-  λ t s n. opens-head _ _ [] Nothing (flag-zero _ _ t (sym (c .before .before .before .before .little1 .ensures) ∙ ap told (c .before .before .flag .given .1)) (c .if1 .taken)) refl,
+  λ t s n. opens-head _ _ [] (Nothing 0) (flag-zero _ _ t (sym (c .before .before .before .before .little1 .ensures) ∙ ap told (c .before .before .flag .given .1)) (c .if1 .taken)) refl,
   rw (sym (c .before .before .before .before .little1 .ensures) ∙ ap told (c .before .before .flag .given .1), eq-eqb _ 0 (c .if1 .taken)),
 )
 
