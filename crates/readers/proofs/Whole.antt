@@ -15,7 +15,10 @@ use Rattle.readers.specs.Judged.{judgedName}
 use Rattle.readers.specs.Parts.{upTo}
 use Rattle.readers.proofs.Parts.{up-to-bound}
 use Rattle.readers.specs.Turns.{Ended-at}
-use Rattle.readers.specs.Contract.{Reading, countedAt, listsOf, short-file, ListsRead}
+use Rattle.readers.specs.Contract.{Reading, countedAt, listsOf, short-file, ListsRead, listsTotal, countedTotal}
+use Rattle.readers.specs.Passed.{lists-total}
+use Rattle.numbers.specs.Padded.{past, padOf}
+use Rattle.laws.specs.Small.{differ}
 
 -- behind the reader count
 module _ (file : List ℕ) (n at : ℕ) where
@@ -96,3 +99,19 @@ module _ (file : List ℕ) (at : ℕ) where
     pub lists-counted : {n e : ℕ} → upTo 64 file at ≡ read n e → listsOf file at ≡ countedAt file n e
     unfolding bind behind countedAt
     lists-counted {n} {e} q = lists-are ∙ rw q (by-readers (readersAt judgedName file n e))
+
+    up-to-past : {n e : ℕ} → upTo 64 file at ≡ read n e → e ≡ past (sevenAt file at) at
+    unfolding upTo bind past check
+    up-to-past {n} {e} q = go (sevenAt file at) q where
+      tested : (b : Bool) (m f : ℕ) → check b 9 at (read m f) ≡ read n e → e ≡ f
+      tested true m f q = cc
+      tested false m f q = differ cc
+
+      go : (x : Answer ℕ) → bind x (λ n e. check (leb n 64) 9 at (read n e)) ≡ read n e → e ≡ past x at
+      go (refused k p) q = differ cc
+      go (read m f) q = tested (leb m 64) m f q
+
+    -- the padding of all numbers is that of the reader count and of those behind it
+    pub total-is : {n e own : ℕ} → upTo 64 file at ≡ read n e → own ≡ padOf (sevenAt file at) at → listsTotal file at ≡ countedTotal file e own
+    unfolding listsTotal countedTotal
+    total-is {n} {e} {own} q o = λ i. λ count. sym (lists-total file count at e own (countedTotal file e own count) o (up-to-past q) refl) i

@@ -1,13 +1,17 @@
 -- What reading the reader list and the shared count answers, and what it leaves in the codes. Assumes nothing.
 use mathlib.Core.Path.{_≡_}
 use mathlib.Core.List.{List, []}
-use Prim.Native.Nat.{ℕ, _<_, _≤_}
+use Prim.Native.Nat.{ℕ, _+_, _<_, _≤_}
 use lib.Dec.{leb}
 use lib.ListN.{length, take, drop, getD}
 use borrow.Author.Tests.{le-leb}
 use Rattle.layout.specs.Target.{Target}
 use Rattle.reading.specs.Answer.{Answer, refused, read, bind, check}
+use Rattle.reading.specs.Seven.{sevenAt}
 use Rattle.reading.specs.File.{readersAt, listsAt}
+use Rattle.numbers.specs.Padded.{padOf}
+use Rattle.places.specs.Places.{entriesPlaces, entriesEnd, listsPlaces}
+use Rattle.places.specs.Padding.{padding}
 use Rattle.readers.specs.declared.Readers.{Readers}
 use Rattle.readers.specs.declared.Lists.{Lists}
 use Rattle.readers.specs.declared.Lists.the-variants.{Refused, Read}
@@ -50,18 +54,26 @@ pub record ListsRead (x : Reading) (file codes codes′ targets starts : List �
   pub kept : take 11 codes′ ≡ take 11 codes
   pub named : (i : ℕ) → i < length names → take (length (getD names i [])) (drop (getD starts i 0) file) ≡ getD names i []
 
--- the code answers what reading answers
-abbrev pub ReadsLists : (x : Reading) (file codes codes′ targets starts : List ℕ) → Lists → Type 0
-ReadsLists x file codes codes′ targets starts (Refused n p) = x ≡ refused n p
-ReadsLists x file codes codes′ targets starts (Read count shared next) = ListsRead x file codes codes′ targets starts count shared next
+-- the code answers what reading answers, and the padding of the numbers of so many readers
+abbrev pub ReadsLists : (x : Reading) (total : (count : ℕ) → ℕ) (file codes codes′ targets starts : List ℕ) → Lists → Type 0
+ReadsLists x total file codes codes′ targets starts (Refused n p) = x ≡ refused n p
+ReadsLists x total file codes codes′ targets starts (Read count shared padding next) = ListsRead x file codes codes′ targets starts count shared next × (padding ≡ total count)
 
--- behind the reader count
-abbrev pub ReadsCounted : (file : List ℕ) (n at : ℕ) (codes codes′ targets starts : List ℕ) → Lists → Type 0
-ReadsCounted file n at codes codes′ targets starts r = ReadsLists (countedAt file n at) file codes codes′ targets starts r
+-- the padding of the numbers of so many readers: from the reader count at `at` on, and behind one that has the padding `own`
+unfoldable pub listsTotal : (file : List ℕ) (at : ℕ) → (count : ℕ) → ℕ
+listsTotal file at count = padding file (listsPlaces file count at)
+
+unfoldable pub countedTotal : (file : List ℕ) (at own : ℕ) → (count : ℕ) → ℕ
+countedTotal file at own count = own + padding file (entriesPlaces file count at) + padOf (sevenAt file (entriesEnd file count at)) (entriesEnd file count at)
+
+-- behind the reader count, which has the padding `own`
+abbrev pub ReadsCounted : (file : List ℕ) (n at own : ℕ) (codes codes′ targets starts : List ℕ) → Lists → Type 0
+ReadsCounted file n at own codes codes′ targets starts r =
+    ReadsLists (countedAt file n at) (countedTotal file at own) file codes codes′ targets starts r
 
 -- from the reader count on
 abbrev pub ReadsListsAt : (file : List ℕ) (at : ℕ) (codes codes′ targets starts : List ℕ) → Lists → Type 0
-ReadsListsAt file at codes codes′ targets starts r = ReadsLists (listsOf file at) file codes codes′ targets starts r
+ReadsListsAt file at codes codes′ targets starts r = ReadsLists (listsOf file at) (listsTotal file at) file codes codes′ targets starts r
 
 -- at most 64 readers are read, from a file of 01's size, and the arrays have their sizes
 abbrev pub Sized : (file : List ℕ) (n : ℕ) (codes targets starts : List ℕ) → Type 0

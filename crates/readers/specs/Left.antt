@@ -14,6 +14,7 @@ use Rattle.types.specs.declared.Resolved.{Resolved}
 use Rattle.types.specs.Contract.{told, resolution, content, Resolves}
 use Rattle.reading.specs.Answer.{Answer, refused, read}
 use Rattle.reading.specs.Seven.{sevenAt}
+use Rattle.numbers.specs.Padded.{padOf}
 use Rattle.readers.specs.declared.One.{One}
 use Rattle.readers.specs.declared.One.the-variants.{Refused, Read}
 use Rattle.readers.specs.declared.Many.{Many}
@@ -65,15 +66,15 @@ abbrev pub onward : One → (codes targets starts : List ℕ) → (i used : ℕ)
 onward (Refused n p) c t s i used rest = (Many-refused n p, arrays c t s)
 onward (Read first end next) c t s i used rest = rest end next c (set t i used) (set s i first)
 
--- so many readers from reader i on
-unfoldable pub readersFrom : (file : List ℕ) (left i used next : ℕ) (codes targets starts : List ℕ) → Steps
-readersFrom file zero i used next c t s = (Ended next, arrays c t s)
-readersFrom file (suc left) i used next c t s =
-    onward (readerLeft file c used next .0) (readerLeft file c used next .1) t s i used (λ end after c′ t′ s′. readersFrom file left (i + 1) end after c′ t′ s′)
+-- so many readers from reader i on, where the lengths of the names before have the padding `sum`
+unfoldable pub readersFrom : (file : List ℕ) (left i used next sum : ℕ) (codes targets starts : List ℕ) → Steps
+readersFrom file zero i used next sum c t s = (Ended sum next, arrays c t s)
+readersFrom file (suc left) i used next sum c t s =
+    onward (readerLeft file c used next .0) (readerLeft file c used next .1) t s i used (λ end after c′ t′ s′. readersFrom file left (i + 1) end after (sum + padOf (sevenAt file next) next) c′ t′ s′)
 
 -- n readers
 abbrev pub readersLeft : (file : List ℕ) (n next : ℕ) (codes targets starts : List ℕ) → Steps
-readersLeft file n next c t s = readersFrom file n 0 11 next c t s
+readersLeft file n next c t s = readersFrom file n 0 11 next 0 c t s
 
 -- the arrays when n readers were read, or one was refused
 abbrev pub arraysLeft : (file : List ℕ) (n next : ℕ) (codes targets starts : List ℕ) → Arrays
@@ -125,22 +126,23 @@ module _ (file codes : List ℕ) (used at : ℕ) where
     count-fits z h = rw (e, ne-eqb n 0 z, le-leb n 1024 h)
 
 -- none of n was read yet
-pub readers-start : (file : List ℕ) (n next : ℕ) (c t s : List ℕ) → readersFrom file (n - 0) 0 11 next c t s ≡ readersLeft file n next c t s
+pub readers-start : (file : List ℕ) (n next : ℕ) (c t s : List ℕ) → readersFrom file (n - 0) 0 11 next 0 c t s ≡ readersLeft file n next c t s
 readers-start file n next c t s =
     let m : n - 0 ≡ n = omega arith in
     rw m
 
 -- reader i of n, as it was read
-pub reader-turn : (file : List ℕ) (n i used next : ℕ) (c t s c′ : List ℕ) (o : One) → i < n → o ≡ readerLeft file c used next .0 → c′ ≡ readerLeft file c used next .1
-    → readersFrom file (n - i) i used next c t s ≡ onward o c′ t s i used (λ end after c″ t′ s′. readersFrom file (n - (i + 1)) (i + 1) end after c″ t′ s′)
+pub reader-turn : (file : List ℕ) (n i used next sum : ℕ) (c t s c′ : List ℕ) (o : One) → i < n → o ≡ readerLeft file c used next .0 → c′ ≡ readerLeft file c used next .1
+    → readersFrom file (n - i) i used next sum c t s
+    ≡ onward o c′ t s i used (λ end after c″ t′ s′. readersFrom file (n - (i + 1)) (i + 1) end after (sum + padOf (sevenAt file next) next) c″ t′ s′)
 unfolding readersFrom
-reader-turn file n i used next c t s c′ o h e w =
+reader-turn file n i used next sum c t s c′ o h e w =
     let m : n - i ≡ suc (n - (i + 1)) = omega arith in
     rw (m, ← e, ← w)
 
-pub readers-end : (file : List ℕ) (n i used next : ℕ) (c t s : List ℕ) → n ≤ i → readersFrom file (n - i) i used next c t s ≡ (Ended next, arrays c t s)
+pub readers-end : (file : List ℕ) (n i used next sum : ℕ) (c t s : List ℕ) → n ≤ i → readersFrom file (n - i) i used next sum c t s ≡ (Ended sum next, arrays c t s)
 unfolding readersFrom
-readers-end file n i used next c t s h =
+readers-end file n i used next sum c t s h =
     let m : n - i ≡ 0 = omega arith in
     rw m
 

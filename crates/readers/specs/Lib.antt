@@ -2,6 +2,7 @@
 pub mod Listed
 pub mod Judged
 pub mod Parts
+pub mod Passed
 pub mod Turns
 pub mod Left
 pub mod Contract

@@ -11,6 +11,7 @@ use Rattle.reading.specs.File.{readersAt}
 use Rattle.readers.specs.declared.Many.{Many}
 use Rattle.readers.specs.declared.Many.the-variants.{Refused, Ended}
 use Rattle.readers.specs.Judged.{judgedName}
+use Rattle.readers.specs.Passed.{Passed}
 
 -- a reader in the arrays: its codes stand at `target` and end before `used`, and its name stands in the file at `start`
 pub record Entered (file codes : List ℕ) (used target start : ℕ) (name : List ℕ) (t : Target) : Type 0 where
@@ -45,4 +46,4 @@ pub record Ended-at (file codes codes′ targets starts : List ℕ) (n at next :
 -- what the code answers of n readers
 abbrev pub Ends : (file codes codes′ targets starts : List ℕ) (n at : ℕ) → Many → Type 0
 Ends file codes codes′ targets starts n at (Refused number place) = readersAt judgedName file n at ≡ refused number place
-Ends file codes codes′ targets starts n at (Ended next) = Ended-at file codes codes′ targets starts n at next
+Ends file codes codes′ targets starts n at (Ended sum next) = Ended-at file codes codes′ targets starts n at next × Passed file n at n next sum

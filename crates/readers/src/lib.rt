@@ -1,11 +1,14 @@
 // The reader list of a file: the type of each reader, as a place in an array of codes, and the first byte of its name.
 use answers::Number;
+use numbers::seven::Padded;
 use types::Resolved;
 ghost use mathlib.Core.Path.{_≡_};
 ghost use Prim.Native.Nat.{_+_, _≤_, _<_};
 ghost use lib.ListN.{length};
 ghost use Rattle.answers.specs.Told.{told};
+ghost use Rattle.reading.specs.Seven.{sevenAt};
 ghost use Rattle.reading.specs.File.{readerAt};
+ghost use Rattle.numbers.specs.Padded.{padOf};
 ghost use Rattle.readers.specs.Judged.{judgedName};
 ghost use Rattle.readers.specs.Parts.{upTo, versionAt, endOf, namedAt, Takes};
 ghost use Rattle.readers.specs.Contract.{Sized, ReadsCounted, ReadsListsAt};
@@ -37,6 +40,16 @@ fn up_to(file: &[u8], most: u64, at: usize) -> Number
             }
             Number::Refused(9, at)
         }
+    }
+}
+
+// The padding of the seven-bit number at a place; 0 where there is none.
+fn padding_at(file: &[u8], at: usize) -> u32
+    ensures { λ r. ⌜ r ≡ padOf (sevenAt (now (file .entry)) at) at ⌝ }
+{
+    match numbers::seven::seven_padded(file, at) {
+        Padded::Refused(_, _) => 0,
+        Padded::Read(_, _, padding) => padding,
     }
 }
 
@@ -103,10 +116,10 @@ fn reader_at(file: &[u8], codes: &mut [u8], used: usize, at: usize) -> One
     }
 }
 
-// So many readers were read and end at a place, or a refusal's number and place.
+// So many readers were read, with the padding of their names' lengths, and end at a place; or a refusal's number and place.
 pub enum Many {
     Refused(u32, usize),
-    Ended(usize),
+    Ended(u32, usize),
 }
 
 // The readers in order. The codes of the first stand at place 11, those of each other behind those before it.
@@ -130,6 +143,7 @@ fn readers_at(
     let mut i = 0;
     let mut used: usize = 11;
     let mut next = at;
+    let mut padding = 0;
     while i < n {
         match reader_at(file, codes, used, next) {
             One::Refused(number, place) => {
@@ -139,21 +153,23 @@ fn readers_at(
                 targets[i] = used as u32;
                 starts[i] = first as u32;
                 used = end;
+                padding += padding_at(file, next);
                 next = after;
             }
         }
         i += 1;
     }
-    Many::Ended(next)
+    Many::Ended(padding, next)
 }
 
-// How many readers there are, the shared count and the next place, or a refusal's number and place.
+// How many readers there are, the shared count, the padding of both counts and of the names' lengths, and the next place;
+// or a refusal's number and place.
 pub enum Lists {
     Refused(u32, usize),
-    Read(u32, u32, usize),
+    Read(u32, u32, u32, usize),
 }
 
-// The readers and the shared count, behind the reader count.
+// The readers and the shared count, behind the reader count, which has this padding.
 fn counted(
     file: &[u8],
     codes: &mut [u8],
@@ -161,9 +177,10 @@ fn counted(
     starts: &mut [u32],
     n: usize,
     at: usize,
+    padding: u32,
 ) -> Lists
-    requires { ⌜ Sized (now file) n (now codes) (now targets) (now starts) ⌝ }
-    ensures { λ r. ⌜ ReadsCounted (now (file .entry)) n at (now (codes .entry)) (now (codes .exit)) (now (targets .exit)) (now (starts .exit)) r ⌝ }
+    requires { ⌜ Sized (now file) n (now codes) (now targets) (now starts) × (padding ≤ 4) ⌝ }
+    ensures { λ r. ⌜ ReadsCounted (now (file .entry)) n at padding (now (codes .entry)) (now (codes .exit)) (now (targets .exit)) (now (starts .exit)) r ⌝ }
     ensures { λ _. ⌜ now (codes .exit) ≡ arraysLeft (now (file .entry)) n at (now (codes .entry)) (now (targets .entry)) (now (starts .entry)) .codes ⌝ }
     ensures { λ _. ⌜ now (targets .exit)
         ≡ arraysLeft (now (file .entry)) n at (now (codes .entry)) (now (targets .entry)) (now (starts .entry)) .targets ⌝ }
@@ -172,9 +189,12 @@ fn counted(
 {
     match readers_at(file, codes, targets, starts, n, at) {
         Many::Refused(number, place) => Lists::Refused(number, place),
-        Many::Ended(end) => match up_to(file, 256, end) {
+        Many::Ended(names, end) => match up_to(file, 256, end) {
             Number::Refused(number, place) => Lists::Refused(number, place),
-            Number::Read(shared, next) => Lists::Read(n as u32, shared as u32, next),
+            Number::Read(shared, next) => {
+                let total = padding + names + padding_at(file, end);
+                Lists::Read(n as u32, shared as u32, total, next)
+            }
         },
     }
 }
@@ -199,6 +219,14 @@ pub fn read_lists(
     }
     match up_to(file, 64, at) {
         Number::Refused(number, place) => Lists::Refused(number, place),
-        Number::Read(n, next) => counted(file, codes, targets, starts, n as usize, next),
+        Number::Read(n, next) => counted(
+            file,
+            codes,
+            targets,
+            starts,
+            n as usize,
+            next,
+            padding_at(file, at),
+        ),
     }
 }

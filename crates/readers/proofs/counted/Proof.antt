@@ -2,6 +2,10 @@
 use mathlib.Core.Path.{sym, ap, _∙_}
 use native.Mathlib.Omega.{arith}
 use Rattle.answers.specs.Told.{told}
+use Rattle.reading.specs.Reads.{small-by-index}
+use Rattle.places.specs.Padding.{pad-few}
+use Rattle.readers.specs.Contract.{countedTotal}
+use Rattle.readers.specs.Passed.{Passed, all-passed}
 use Rattle.readers.proofs.Parts.{up-to-bound}
 use Rattle.readers.proofs.Whole.{readers-refused, shared-refused, shared-read}
 use borrow.Author.Needs.{needs}
@@ -14,8 +18,8 @@ readers-at-requires c κs = search needs
 enum-known-number : tie.Need-enum-known-number
 enum-known-number c = search needs
 
-enum-known-end : tie.Need-enum-known-end
-enum-known-end c = search needs
+enum-known-names : tie.Need-enum-known-names
+enum-known-names c = search needs
 
 up-to-requires : tie.Need-up-to-requires
 up-to-requires c κs = search needs
@@ -26,11 +30,27 @@ enum-known-number-2 c = search needs
 enum-known-shared : tie.Need-enum-known-shared
 enum-known-shared c = search needs
 
-cast-t24 : tie.Need-cast-t24
-cast-t24 c = search needs
+-- the readers were read, with the padding of their names' lengths
+passed : (c : tie.After-known-told2) → Passed (c .before .before .before .before .before .before .before .before .before .before .before .before .before .before .before .before .before .args .file .now) (c .before .before .before .before .before .before .before .before .before .before .before .before .before .before .before .before .before .args .n) (c .before .before .before .before .before .before .before .before .before .before .before .before .before .before .before .before .before .args .at) (c .before .before .before .before .before .before .before .before .before .before .before .before .before .before .before .before .before .args .n) (c .before .names .given .0 .1 .0) (c .before .names .given .0 .0)
+passed c = (rw (c .before .names .given .1) at (c .before .before .before .before .before .before .before .before .before .readers-at .ensures .0)) .1
 
-cast-t25 : tie.Need-cast-t25
-cast-t25 c = omega (arith, up-to-bound _ _ _ (sym (c .before .before .before .up-to .ensures) ∙ ap told (c .before .shared .given .1)))
+add-total : tie.Need-add-total
+add-total c = omega (arith, passed (c .before .before .before .before) .few, c .before .before .before .before .before .before .before .before .before .before .before .before .before .before .before .before .before .before .before .before .before .pre .0 .1, c .before .before .before .before .before .before .before .before .before .before .before .before .before .before .before .before .before .before .before .before .before .pre .1)
+
+padding-at-requires : tie.Need-padding-at-requires
+padding-at-requires c κs = search needs
+
+add-total-2 : tie.Need-add-total-2
+add-total-2 c =
+    let file = c .before .before .before .before .before .before .before .before .before .before .before .before .before .before .before .before .before .before .before .before .before .before .args .file .now in
+    let small = small-by-index file (λ i h. omega (arith, c .before .before .before .before .before .before .before .before .before .before .before .before .before .before .before .before .before .before .before .before .before .shared-slice-known .given i)) in
+    omega (arith, passed (c .before .before .before .before .before) .few, c .before .before .before .before .before .before .before .before .before .before .before .before .before .before .before .before .before .before .before .before .before .before .pre .0 .1, c .before .before .before .before .before .before .before .before .before .before .before .before .before .before .before .before .before .before .before .before .before .before .pre .1, c .padding-at .ensures, pad-few file small (c .before .before .before .before .before .before .names .given .0 .1 .0))
+
+cast-t27 : tie.Need-cast-t27
+cast-t27 c = search needs
+
+cast-t28 : tie.Need-cast-t28
+cast-t28 c = omega (arith, up-to-bound _ _ _ (sym (c .before .before .before .before .up-to .ensures) ∙ ap told (c .before .before .shared .given .1)))
 
 same-length : tie.Need-same-length
 same-length c = search needs
@@ -58,7 +78,7 @@ same-length-6 c = search needs
 returns-2 : tie.Need-returns-2
 returns-2 c =
     let e = c .before .before .before .before .before .before .before .before .before .before .before .before .before .readers-at .ensures in
-    (shared-refused _ _ _ (rw (c .before .before .before .before .before .end .given .1) at (e .0)) (sym (c .before .before .before .up-to .ensures) ∙ ap told (c .before .number2 .given .1)), e .1 .1)
+    (shared-refused _ _ _ ((rw (c .before .before .before .before .before .names .given .1) at (e .0)) .0) (sym (c .before .before .before .up-to .ensures) ∙ ap told (c .before .number2 .given .1)), e .1 .1)
 
 same-length-7 : tie.Need-same-length-7
 same-length-7 c = search needs
@@ -70,10 +90,16 @@ same-length-9 : tie.Need-same-length-9
 same-length-9 c = search needs
 
 returns-3 : tie.Need-returns-3
+unfolding countedTotal
 returns-3 c =
-    let p = c .before .before .before .before .before .before .before .before .before .before .before .before .before .before .before .before .before .before .before .before .before .pre in
-    let e = c .before .before .before .before .before .before .before .before .before .before .before .before .before .readers-at .ensures in (
-      shared-read _ _ _ (rw (c .before .before .before .before .before .end .given .1) at (e .0)) (p .1) (c .before .before .before .before .before .before .before .before .before .before .before .before .codes .given ∙ p .2) (c .before .before .before .before .before .before .before .before .before .before .targets .given ∙ p .3) (c .before .before .before .before .before .before .before .before .starts .given ∙ p .4) (sym (c .before .before .before .up-to .ensures) ∙ ap told (c .before .shared .given .1)),
+    let p = c .before .before .before .before .before .before .before .before .before .before .before .before .before .before .before .before .before .before .before .before .before .before .pre .0 in
+    let e = c .before .before .before .before .before .before .before .before .before .before .before .before .before .before .readers-at .ensures in
+    let r = rw (c .before .before .before .before .before .before .names .given .1) at (e .0) in
+    let a = all-passed (c .before .before .before .before .before .before .before .before .before .before .before .before .before .before .before .before .before .before .before .before .before .before .args .file .now) (c .before .before .before .before .before .before .before .before .before .before .before .before .before .before .before .before .before .before .before .before .before .before .args .n) (c .before .before .before .before .before .before .before .before .before .before .before .before .before .before .before .before .before .before .before .before .before .before .args .at) (c .before .before .before .before .before .before .names .given .0 .1 .0) (c .before .before .before .before .before .before .names .given .0 .0) (r .1) in (
+      (
+        shared-read _ _ _ (r .0) (p .1) (c .before .before .before .before .before .before .before .before .before .before .before .before .before .codes .given ∙ p .2) (c .before .before .before .before .before .before .before .before .before .before .before .targets .given ∙ p .3) (c .before .before .before .before .before .before .before .before .before .starts .given ∙ p .4) (sym (c .before .before .before .before .up-to .ensures) ∙ ap told (c .before .before .shared .given .1)),
+        rw (c .padding-at .ensures, a .1, ← a .0),
+      ),
       e .1 .1,
     )
 
@@ -83,12 +109,15 @@ counted-spec =
     (tie.spec
     readers-at-requires
     enum-known-number
-    enum-known-end
+    enum-known-names
     up-to-requires
     enum-known-number-2
     enum-known-shared
-    cast-t24
-    cast-t25
+    add-total
+    padding-at-requires
+    add-total-2
+    cast-t27
+    cast-t28
     same-length
     same-length-2
     same-length-3
