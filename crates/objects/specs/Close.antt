@@ -7,13 +7,13 @@ use native.Mathlib.Omega.{arith}
 use lib.Dec.{eqb}
 use lib.ListN.{length}
 use borrow.Author.Tests.{eqb-true, eqb-false}
-use Rattle.layout.specs.Target.{Target, spriteFont, kindOf}
+use Rattle.layout.specs.Target.{Target, fixed, char, string, object as anything, texture, texture2D, spriteFont, page, enum, nullable, array, list, dictionary, kindOf}
 use Rattle.layout.specs.Tree.{Trees, none, tree, count, size}
 use Rattle.layout.specs.Slot as L
 use Rattle.layout.specs.Slot.{Plan, each, fontSlots}
 use Rattle.layout.specs.Layout.{Lays}
 use Rattle.layout.specs.Resource.{Within}
-use Rattle.layout.specs.Rows.{row, width}
+use Rattle.layout.specs.Rows.{Row, row, width}
 use Rattle.layout.specs.Named.{plain, fixedKind}
 use Rattle.layout.specs.Number.{between}
 use Rattle.reading.specs.Answer.{Answer, refused, read, bind, check}
@@ -23,8 +23,8 @@ use Rattle.reading.specs.Heads.{Opening, headAt}
 use Rattle.reading.specs.Walk.{Taken, Outcome, point, sequence, rawAt, walk}
 use Rattle.reading.specs.Sound.{walks-sound}
 use Rattle.reading.specs.Bounds.{sequence-bounds}
-use Rattle.reading.specs.Drafts.{Draft, drafted}
-use Rattle.types.specs.Code.{Lawful}
+use Rattle.reading.specs.Drafts.{Draft, drafted, bare}
+use Rattle.types.specs.Code.{Lawful, Throughout}
 use Rattle.types.specs.Laws.{of-kind}
 use Rattle.fonts.specs.FontWords.{fontWords}
 use Rattle.fonts.specs.Bridge.{font-judged, other-kind}
@@ -33,11 +33,16 @@ use Rattle.table.specs.declared.Walk.{Walk}
 use Rattle.table.specs.declared.Walk.the-variants.{Done, Refused}
 use Rattle.ids.specs.declared.Grid.{Grid}
 use Rattle.table.specs.Written.{written, putRow, written-under, length-written}
-use Rattle.table.specs.Contract.{seen, reaching, Walked, Free, put-leaf}
+use Rattle.table.specs.Contract.{seen, reaching, atop, padded, Walked, Free, put-leaf}
 use Rattle.table.specs.Leaf.{valueRow, value-row}
 use Rattle.table.specs.Loop.{Got, got, lost, refusing, reading}
+use Rattle.heads.specs.Slots.{fixed-sized}
 use Rattle.heads.specs.Below.{font-head}
-use Rattle.objects.specs.Start.{under}
+use Rattle.places.specs.Word.{inWord, word-more}
+use Rattle.places.specs.Places.{numbered, countPlaces}
+use Rattle.places.specs.Padding.{rowsPadding, row-first, id-of, sized-plain}
+use Rattle.places.specs.Padding.{padding as paddingOf}
+use Rattle.objects.specs.Start.{Ided, under}
 
 -- only a font has a rule over its children
 unfoldable pub keeps : Grid → (file words : List ℕ) (kind number : ℕ) → Bool
@@ -46,7 +51,7 @@ keeps g file words kind number = cond (eqb kind 33) (fontWords g file words numb
 -- a refusal below is the value's; else its rule, then its row
 abbrev pub closeAnswer : Grid → (file w : List ℕ) → Head → (kind at : ℕ) → Walk → Walk
 closeAnswer g file w h kind at (Refused m p) = Refused m p
-closeAnswer g file w h kind at (Done r) = cond (keeps g file w kind (h .row .0)) (Done r) (Refused 22 at)
+closeAnswer g file w h kind at (Done r) = cond (keeps g file w kind (h .row .0)) (Done (atop (h .padding) r)) (Refused 22 at)
 
 abbrev pub closeWords : Grid → (file w : List ℕ) → Head → (kind children : ℕ) → Walk → List ℕ
 closeWords g file w h kind n (Refused m p) = w
@@ -67,6 +72,31 @@ laid-count readers refers (x ∷ slots) (tree k i own cs rest) bs w =
     let r = laid-count readers refers slots rest (w .1) (w .4) in
     (ap suc (r .0), omega (arith, r .1))
 
+-- no type's raw values are null or shared references
+pub unnumbered : (t : Target) → Lawful t → numbered (kindOf t) 0 ≡ false
+unfolding numbered kindOf Throughout
+unnumbered (fixed k) l = sized-plain k (fixed-sized k l) .0
+unnumbered char l = refl
+unnumbered string l = refl
+unnumbered anything l = refl
+unnumbered (enum name) l = refl
+unnumbered (nullable t) l = refl
+unnumbered (array t) l = refl
+unnumbered (list t) l = refl
+unnumbered (dictionary k v) l = refl
+unnumbered texture l = refl
+unnumbered texture2D l = refl
+unnumbered spriteFont l = refl
+unnumbered page l = refl
+
+-- the padding of a value's row and of the rows below it: that of its id, of its count, and theirs
+module _ (file : List ℕ) (t : Target) (lawful : Lawful t) (first at id padding : ℕ) (ided : Ided file first at id padding) where
+  pub row-padding : (r : Row) (rows : List Row) → r .kind ≡ kindOf t → r .first ≡ first → r .detail ≡ id
+      → rowsPadding file (r ∷ rows) ≡ padding + (paddingOf file (countPlaces file (kindOf t) at) + rowsPadding file rows)
+  row-padding r rows k f d =
+      let i = id-of file (kindOf t) first id (unnumbered t lawful) in
+      row-first file r rows ∙ rw (k, f, d, i .0, i .1, ← ided .behind, ← ided .pads)
+
 module _ (g : Grid) (file : List ℕ) (small : Small file) (readers : List Target) (shared below : ℕ) where
   -- children that stand in slots which no child has a say in
   pub slots-counted : (slots : List L.Slot) (at used parent : ℕ) (a : Taken) (e : ℕ) → sequence (λ y b v. walk file readers shared (g .room) below y b v parent) (each slots) at used ≡ read a e
@@ -76,11 +106,12 @@ module _ (g : Grid) (file : List ℕ) (small : Small file) (readers : List Targe
       let c = laid-count readers (Within shared) slots (a .2) (v .bytes) (v .laid) in
       (c .0, omega (arith, c .0, c .1, v .used-is))
 
-  module _ (t : Target) (lawful : Lawful t) (h : Head) (at : ℕ) (w₀ : List ℕ) (long : width * g .room ≤ length w₀) (few : g .room < 2 ^ 32) (free : h .row .0 < g .room) where
+  module _ (t : Target) (lawful : Lawful t) (h : Head) (at : ℕ) (w₀ : List ℕ) (long : width * g .room ≤ length w₀) (few : g .room < 2 ^ 32) (free : h .row .0 < g .room)
+      (ided : Ided file (h .first) at (h .detail) (h .padding)) (uncounted : paddingOf file (countPlaces file (kindOf t) at) ≡ 0) where
     abbrev pub rawOf : Outcome
     rawOf = rawAt file readers shared (g .room) (under file readers shared (g .room) below (h .row .0)) t (h .first) at (h .row .0) (h .parent) (h .detail)
 
-    pub raw-refused : {n p : ℕ} {w : List ℕ} → headAt file t at ≡ refused n p → Walked g w₀ w (h .row .0) (seen rawOf) (Refused n p)
+    pub raw-refused : {n p : ℕ} {w : List ℕ} → headAt file t at ≡ refused n p → Walked g file w₀ w (h .row .0) (seen rawOf) (Refused n p)
     unfolding rawAt bind
     raw-refused e = refusing (rw e)
 
@@ -107,24 +138,31 @@ module _ (g : Grid) (file : List ℕ) (small : Small file) (readers : List Targe
           let q′ : sequence (λ y b v. walk file readers shared (g .room) below y b v (suc (h .row .0))) (each fontSlots) next (suc (h .row .0)) ≡ read a e = rw p q in
           rw s (font-judged g file small readers shared (g .room) below next (h .row .0) a e q′ w₀ w₁ words long few (rows-fit a e q))
 
-      kept : (w₁ : List ℕ) (n e u : ℕ) → Closable h (reaching u e) → (y : Got g w₀ w₁ (suc (h .row .0)) seq e u) → n ≡ count (y .taken .2) → (b : Bool) → fontOk point t (y .taken .2) ≡ b
-          → Walked g w₀ (cond b (putRow g w₁ (h .row .0) (valueRow h (kindOf t) n (u - h .row .0) e)) w₁) (h .row .0) (seen rawOf) (cond b (reaching u e) (Refused 22 at))
+      -- the padding of the value's row and of those below it
+      summed : (r : Row) (rows : List Draft) (p : ℕ) → padded file rows ≡ p → r .kind ≡ kindOf t → r .first ≡ h .first → r .detail ≡ h .detail → inWord (h .padding + p) ≡ padded file (drafted r ∷ rows)
+      summed r rows p e k f d =
+          let s : rowsPadding file (r ∷ bare rows) ≡ h .padding + rowsPadding file (bare rows) = row-padding file t lawful (h .first) at (h .detail) (h .padding) ided r (bare rows) k f d ∙ omega (arith, uncounted) in
+          rw (← e) (word-more (h .padding) (rowsPadding file (bare rows)) ∙ ap inWord (sym s))
+
+      kept : (w₁ : List ℕ) (n e u p : ℕ) → Closable h (reaching u p e) → (y : Got g file w₀ w₁ (suc (h .row .0)) seq e u p) → n ≡ count (y .taken .2) → (b : Bool) → fontOk point t (y .taken .2) ≡ b
+          → Walked g file w₀ (cond b (putRow g w₁ (h .row .0) (valueRow h (kindOf t) n (u - h .row .0) e)) w₁) (h .row .0) (seen rawOf) (cond b (reaching u (inWord (h .padding + p)) e) (Refused 22 at))
       unfolding rawAt bind check
-      kept w₁ n e u c y z false f = refusing (rw (opened, planned, y .is, f))
-      kept w₁ n e u c y z true f =
+      kept w₁ n e u p c y z false f = refusing (rw (opened, planned, y .is, f))
+      kept w₁ n e u p c y z true f =
           let a = y .taken in
-          let x : Draft = drafted (row (kindOf t) (h .first) (e - h .first) n (h .parent) (h .detail) (u - h .row .0)) in
+          let r : Row = row (kindOf t) (h .first) (e - h .first) n (h .parent) (h .detail) (u - h .row .0) in
+          let x : Draft = drafted r in
           let l : length w₁ ≡ length w₀ = ap length (y .words) ∙ length-written g w₀ (suc (h .row .0)) (a .1) in
           let there : Free g w₁ (h .row .0) = record { long = omega arith; there = free; few = omega arith } in
           let words = ap (putRow g w₁ (h .row .0)) (value-row h (kindOf t) n (u - h .row .0) e (c .0) (c .1)) ∙ put-leaf g w₁ (h .row .0) x there ∙ ap (λ w. written g w (h .row .0) (x ∷ [])) (y .words)
           ∙ written-under g w₀ (h .row .0) x (a .1) (rows-fit a e (y .is)) in
-          reading (a .0, x ∷ a .1, tree (kindOf t) (h .detail) (o .0) (a .2) none) (rw (opened, planned, y .is, f, z, y .rows-used)) (sym (y .rows-used)) words
+          reading (a .0, x ∷ a .1, tree (kindOf t) (h .detail) (o .0) (a .2) none) (rw (opened, planned, y .is, f, z, y .rows-used)) (sym (y .rows-used)) (summed r (a .1) p (y .pads) refl refl refl) words
 
       -- the children were walked and the value ended, with their number
-      pub raw-closed : (w₁ : List ℕ) (n : ℕ) (walked : Walk) → Closable h walked → ((a : Taken) (e : ℕ) → seq ≡ read a e → n ≡ count (a .2)) → Walked g w₀ w₁ (suc (h .row .0)) (seen seq) walked
-          → Walked g w₀ (closeWords g file w₁ h (kindOf t) n walked) (h .row .0) (seen rawOf) (closeAnswer g file w₁ h (kindOf t) at walked)
+      pub raw-closed : (w₁ : List ℕ) (n : ℕ) (walked : Walk) → Closable h walked → ((a : Taken) (e : ℕ) → seq ≡ read a e → n ≡ count (a .2)) → Walked g file w₀ w₁ (suc (h .row .0)) (seen seq) walked
+          → Walked g file w₀ (closeWords g file w₁ h (kindOf t) n walked) (h .row .0) (seen rawOf) (closeAnswer g file w₁ h (kindOf t) at walked)
       unfolding rawAt bind keeps
       raw-closed w₁ n (Refused m p) c z d = refusing (rw (opened, planned, lost d refl))
       raw-closed w₁ n (Done r) c z d =
           let y = got d refl in
-          kept w₁ n (r .next) (r .used) c y (z (y .taken) (r .next) (y .is)) (keeps g file w₁ (kindOf t) (h .row .0)) (rule (y .taken) (r .next) w₁ (y .is) (y .words) (eqb (kindOf t) 33) refl)
+          kept w₁ n (r .next) (r .used) (r .padding) c y (z (y .taken) (r .next) (y .is)) (keeps g file w₁ (kindOf t) (h .row .0)) (rule (y .taken) (r .next) w₁ (y .is) (y .words) (eqb (kindOf t) 33) refl)

@@ -18,6 +18,8 @@ use Rattle.layout.specs.Number.{between}
 use Rattle.reading.specs.Answer.{Answer, refused, read, bind, check}
 use Rattle.reading.specs.Seven.{sevenAt, seven-next}
 use Rattle.reading.specs.Reads.{Small}
+use Rattle.numbers.specs.Padded.{past, padOf}
+use Rattle.places.specs.Padding.{idEnd, idPad}
 use Rattle.ids.specs.Position.{positionOf, typeId}
 use Rattle.ids.specs.declared.Position.the-variants.{Null as Null-position, At}
 use Rattle.reading.specs.Rules.{missing, found, invoked, reader, serves, serves-complete, serves-sound}
@@ -217,15 +219,22 @@ at-id {id = suc j} {i = i} e = let q : i ≡ j = cc in ap suc (sym q)
 abbrev pub nulled : (at next used parent : ℕ) → Outcome
 nulled at next used parent = done next (suc used) (drafted (row 0 at (next - at) 0 parent 0 1) ∷ []) (tree 0 0 [] none none)
 
+-- a value's id, where it ends and its padding
+pub record Ided (file : List ℕ) (first from id padding : ℕ) : Type 0 where
+  pub behind : from ≡ idEnd file first id
+  pub pads : padding ≡ idPad file first id
+
 -- what stands after an object's type id
-pub record Invokes (file codes : List ℕ) (readers : List Target) (x : L.Slot) (at place from id : ℕ) : Type 0 where
+pub record Invokes (file codes : List ℕ) (readers : List Target) (x : L.Slot) (at place from id padding : ℕ) : Type 0 where
   pub type : Target
   pub stands : Invoked codes place type
+  pub ided : Ided file at from id padding
   pub ahead : at ≤ from
   pub inside : from ≤ length file
   pub is : (shared room : ℕ) (below : Plan → ℕ → ℕ → Outcome) (used parent : ℕ) → valueAt file readers shared room below x at used parent ≡ rawAt file readers shared room below type at from used parent id
 
-pub record IsNull (file : List ℕ) (readers : List Target) (x : L.Slot) (at next : ℕ) : Type 0 where
+pub record IsNull (file : List ℕ) (readers : List Target) (x : L.Slot) (at next padding : ℕ) : Type 0 where
+  pub pads : padding ≡ padOf (sevenAt file at) at
   pub ahead : at ≤ next
   pub inside : next ≤ length file
   pub is : (shared room : ℕ) (below : Plan → ℕ → ℕ → Outcome) (used parent : ℕ) → valueAt file readers shared room below x at used parent ≡ nulled at next used parent
@@ -233,20 +242,29 @@ pub record IsNull (file : List ℕ) (readers : List Target) (x : L.Slot) (at nex
 abbrev pub ObjectStarts : (file codes : List ℕ) → List Target → L.Slot → (at : ℕ) → Started → Type 0
 ObjectStarts file codes readers x at (RefusedValue n p) = (shared room : ℕ) (below : Plan → ℕ → ℕ → Outcome) (used parent : ℕ) → valueAt file readers shared room below x at used parent ≡ refused n p
 ObjectStarts file codes readers x at (Plain p) = ⊥
-ObjectStarts file codes readers x at (NullValue next) = IsNull file readers x at next
-ObjectStarts file codes readers x at (Raw place from id) = Invokes file codes readers x at place from (id .0)
+ObjectStarts file codes readers x at (NullValue next padding) = IsNull file readers x at next padding
+ObjectStarts file codes readers x at (Raw place from id padding) = Invokes file codes readers x at place from (id .0) padding
 
 module _ (file codes : List ℕ) (readers : List Target) (d : Target) (at : ℕ) where
   pub no-number : {n p : ℕ} → sevenAt file at ≡ refused n p → ObjectStarts file codes readers (object d) at (RefusedValue n p)
   unfolding valueAt bind
   no-number e shared room below used parent = rw e
 
-  module _ (small : Small file) {id next : ℕ} (e : sevenAt file at ≡ read id next) where
-    pub null-starts : id ≡ 0 → ObjectStarts file codes readers (object d) at (NullValue next)
+  module _ (small : Small file) {id next padding : ℕ} (e : sevenAt file at ≡ read id next) (q : padding ≡ padOf (sevenAt file at) at) where
+    id-ends : (id : ℕ) → 0 < id → Ided file at (past (sevenAt file at) at) id padding
+    unfolding idEnd idPad
+    id-ends zero h = absurd (omega arith)
+    id-ends (suc i) h = record { behind = refl; pads = q }
+
+    past-is : past (sevenAt file at) at ≡ next
+    unfolding past
+    past-is = rw e
+
+    pub null-starts : id ≡ 0 → ObjectStarts file codes readers (object d) at (NullValue next padding)
     unfolding valueAt bind objectAt
     null-starts z =
         let b = seven-next file small at e in
-        record { ahead = omega (arith, b .0); inside = b .1; is = λ shared room below used parent. rw (e, z) }
+        record { pads = q; ahead = omega (arith, b .0); inside = b .1; is = λ shared room below used parent. rw (e, z) }
 
     by-id : (id : ℕ) → 0 < id → (shared room : ℕ) (below : Plan → ℕ → ℕ → Outcome) (used parent : ℕ)
         → objectAt file readers shared room below d id at next used parent ≡ byReader file readers shared room (reader readers id) below d id at next used parent
@@ -259,13 +277,14 @@ module _ (file codes : List ℕ) (readers : List Target) (d : Target) (at : ℕ)
     unread (inl w) shared room below used parent = rw (e, by-id id (w .1) shared room below used parent, w .2, w .0)
     unread (inr w) shared room below used parent = rw (e, by-id id (w .1) shared room below used parent, w .2 .1, w .2 .2, w .0)
 
-    pub read-starts : {place : ℕ} → (0 < id) × ReadBy codes readers d id place → ObjectStarts file codes readers (object d) at (Raw place next (typeId id))
+    pub read-starts : {place : ℕ} → (0 < id) × ReadBy codes readers d id place → ObjectStarts file codes readers (object d) at (Raw place next (typeId id) padding)
     unfolding valueAt bind byReader check
     read-starts w =
         let b = seven-next file small at e in
         record {
           type = w .1 .type;
           stands = w .1 .at;
+          ided = subst (λ f. Ided file at f id padding) past-is (id-ends id (w .0));
           ahead = omega (arith, b .0);
           inside = b .1;
           is = λ shared room below used parent. rw (e, by-id id (w .0) shared room below used parent, w .1 .named, w .1 .serving);
@@ -276,16 +295,18 @@ abbrev pub under : (file : List ℕ) → List Target → (shared room below used
 under file readers shared room below used = λ plan a u. sequence (λ y b v. walk file readers shared room below y b v (suc used)) plan a u
 
 -- what a value begins with, where it may have a row
-pub record Begins (file codes : List ℕ) (readers : List Target) (room depth : ℕ) (x : L.Slot) (at used place from id : ℕ) : Type 0 where
+pub record Begins (file codes : List ℕ) (readers : List Target) (room depth : ℕ) (x : L.Slot) (at used place from id padding : ℕ) : Type 0 where
   pub type : Target
   pub stands : Invoked codes place type
+  pub ided : Ided file at from id padding
   pub ahead : at ≤ from
   pub inside : from ≤ length file
   pub free : used < room
   pub deep : 0 < depth
   pub is : (shared below parent : ℕ) → depth ≡ suc below → walk file readers shared room depth x at used parent ≡ rawAt file readers shared room (under file readers shared room below used) type at from used parent id
 
-pub record BeginsNull (file : List ℕ) (readers : List Target) (room depth : ℕ) (x : L.Slot) (at used next : ℕ) : Type 0 where
+pub record BeginsNull (file : List ℕ) (readers : List Target) (room depth : ℕ) (x : L.Slot) (at used next padding : ℕ) : Type 0 where
+  pub pads : padding ≡ padOf (sevenAt file at) at
   pub ahead : at ≤ next
   pub inside : next ≤ length file
   pub free : used < room
@@ -294,8 +315,8 @@ pub record BeginsNull (file : List ℕ) (readers : List Target) (room depth : �
 abbrev pub Starts : (file codes : List ℕ) → List Target → (room depth : ℕ) → L.Slot → (at used : ℕ) → Started → Type 0
 Starts file codes readers room depth x at used (RefusedValue n p) = (shared parent : ℕ) → walk file readers shared room depth x at used parent ≡ refused n p
 Starts file codes readers room depth x at used (Plain p) = (x ≡ plainSlot p) × Lawful p
-Starts file codes readers room depth x at used (NullValue next) = BeginsNull file readers room depth x at used next
-Starts file codes readers room depth x at used (Raw place from id) = Begins file codes readers room depth x at used place from (id .0)
+Starts file codes readers room depth x at used (NullValue next padding) = BeginsNull file readers room depth x at used next padding
+Starts file codes readers room depth x at used (Raw place from id padding) = Begins file codes readers room depth x at used place from (id .0) padding
 
 module _ (file codes : List ℕ) (readers : List Target) (room : ℕ) (x : L.Slot) (at used : ℕ) where
   pub too-deep : {depth : ℕ} → depth ≡ 0 → Starts file codes readers room depth x at used (RefusedValue 18 at)
@@ -320,13 +341,14 @@ module _ (file codes : List ℕ) (readers : List Target) (room : ℕ) (x : L.Slo
   some-depth (suc d) z = (d, refl)
 
   -- a slot of raw values
-  pub raw-starts : {depth place : ℕ} → (depth ≡ 0 → ⊥) → used < room → at ≤ length file → (t : Target) → x ≡ raw t → Invoked codes place t → Starts file codes readers room depth x at used (Raw place at (typeId 0))
-  unfolding valueAt
+  pub raw-starts : {depth place : ℕ} → (depth ≡ 0 → ⊥) → used < room → at ≤ length file → (t : Target) → x ≡ raw t → Invoked codes place t → Starts file codes readers room depth x at used (Raw place at (typeId 0) 0)
+  unfolding valueAt idEnd idPad
   raw-starts {depth} z h p t e i =
       let d = some-depth depth z in
       record {
         type = t;
         stands = i;
+        ided = record { behind = refl; pads = refl };
         ahead = omega arith;
         inside = p;
         free = h;
@@ -340,19 +362,21 @@ module _ (file codes : List ℕ) (readers : List Target) (room : ℕ) (x : L.Slo
       let d = some-depth depth z in
       λ shared parent. walked shared depth (d .0) parent (d .1) h ∙ s shared room (under file readers shared room (d .0) used) used parent
   object-starts z h (Plain p) s = absurd s
-  object-starts {depth} z h (NullValue next) s =
+  object-starts {depth} z h (NullValue next padding) s =
       let d = some-depth depth z in
       record {
+        pads = s .pads;
         ahead = s .ahead;
         inside = s .inside;
         free = h;
         is = λ shared parent. walked shared depth (d .0) parent (d .1) h ∙ s .is shared room (under file readers shared room (d .0) used) used parent;
       }
-  object-starts {depth} z h (Raw place from id) s =
+  object-starts {depth} z h (Raw place from id padding) s =
       let d = some-depth depth z in
       record {
         type = s .type;
         stands = s .stands;
+        ided = s .ided;
         ahead = s .ahead;
         inside = s .inside;
         free = h;

@@ -8,6 +8,7 @@ use Rattle.ids.specs.declared.Position.the-variants.{Null as Null-position, At}
 use Rattle.ids.specs.Position.{positionOf, typeId}
 use Rattle.reading.specs.Answer.{Answer, refused, read}
 use Rattle.reading.specs.Seven.{sevenAt}
+use Rattle.numbers.specs.Padded.{padOf}
 use Rattle.types.specs.Place.{kindAt, fitsAt}
 use Rattle.heads.specs.declared.slot.Slot.{Slot}
 use Rattle.heads.specs.declared.slot.Slot.the-variants.{Simple, Object}
@@ -32,19 +33,19 @@ abbrev pub identifyAs : (codes : List ℕ) (count target declared : ℕ) → Pos
 identifyAs codes count target declared Null-position = Null
 identifyAs codes count target declared (At i) = readerAs codes count target declared i
 
--- an object, by its type id
-abbrev pub idAs : (at next id : ℕ) → Identified → Started
-idAs at next id Null = NullValue next
-idAs at next id (Reader place) = Raw place next (typeId id)
-idAs at next id (Refused n) = RefusedValue n at
+-- an object, by its type id, which has this padding
+abbrev pub idAs : (at next id padding : ℕ) → Identified → Started
+idAs at next id padding Null = NullValue next padding
+idAs at next id padding (Reader place) = Raw place next (typeId id) padding
+idAs at next id padding (Refused n) = RefusedValue n at
 
 abbrev pub objectAs : (codes : List ℕ) (count target declared at : ℕ) → Answer ℕ → Started
 objectAs codes count target declared at (refused n p) = RefusedValue n p
-objectAs codes count target declared at (read id next) = idAs at next id (identifyAs codes count target declared (positionOf id))
+objectAs codes count target declared at (read id next) = idAs at next id (padOf (read id next) at) (identifyAs codes count target declared (positionOf id))
 
 -- the value in a slot: 18, then 19, then its type id if it is an object
 abbrev pub startAs : (file codes : List ℕ) (count target room : ℕ) → Slot → (at used depth : ℕ) → Started
 startAs file codes count target room (Simple p) at used depth = Plain p
-startAs file codes count target room (RawSlot place) at used depth = cond (eqb depth 0) (RefusedValue 18 at) (cond (leb room used) (RefusedValue 19 at) (Raw place at (typeId 0)))
+startAs file codes count target room (RawSlot place) at used depth = cond (eqb depth 0) (RefusedValue 18 at) (cond (leb room used) (RefusedValue 19 at) (Raw place at (typeId 0) 0))
 startAs file codes count target room (Object d) at used depth =
     cond (eqb depth 0) (RefusedValue 18 at) (cond (leb room used) (RefusedValue 19 at) (objectAs codes count target d at (sevenAt file at)))

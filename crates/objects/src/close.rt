@@ -2,6 +2,7 @@
 use ids::Grid;
 use ids::RowNumber;
 use table::Head;
+use table::Reached;
 use table::Walk;
 ghost use mathlib.Core.Path.{_≡_};
 ghost use Rattle.objects.specs.Close.{keeps, closeAnswer, closeWords};
@@ -38,7 +39,11 @@ pub fn close(
                 let branch = table::rows_from(row, reached.used);
                 let r = table::row_words(h, kind, children, branch, reached.next);
                 table::put_row(words, grid, row, r);
-                return Walk::Done(reached);
+                return Walk::Done(Reached {
+                    used: reached.used,
+                    padding: table::sum(h.padding, reached.padding),
+                    next: reached.next,
+                });
             }
             Walk::Refused {
                 number: 22,

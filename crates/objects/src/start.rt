@@ -4,6 +4,7 @@ use heads::slot::Slot;
 use ids::Position;
 use ids::TypeId;
 use leaves::plain::Plain;
+use numbers::seven::Padded;
 ghost use mathlib.Core.Path.{_≡_};
 ghost use Prim.Native.Nat.{suc};
 ghost use Rattle.ids.specs.Position.{positionOf};
@@ -19,13 +20,13 @@ pub enum Identified {
     Refused(u32),
 }
 
-// A refusal; a value without children that needs no reader list; null, and where it ends;
-// or a raw value: its type, its first byte and its type id.
+// A refusal; a value without children that needs no reader list; null, where it ends and the padding of its type id;
+// or a raw value: its type, its first byte, its type id and the padding of that.
 pub enum Started {
     Refused(u32, usize),
     Plain(Plain),
-    Null(usize),
-    Raw(usize, usize, TypeId),
+    Null(usize, u32),
+    Raw(usize, usize, TypeId, u32),
 }
 
 // The position in a list of 64 readers that a type id names; 0 for null.
@@ -102,13 +103,13 @@ fn object_start(
     ensures { λ r. ⌜ ObjectStartsAs (now (file .entry)) (now (codes .entry)) count target declared at r ⌝ }
     ensures { λ r. ⌜ r ≡ objectAs (now (codes .entry)) count target declared at (sevenAt (now (file .entry)) at) ⌝ }
 {
-    match numbers::seven::seven_at(file, at) {
-        Number::Refused(number, place) => Started::Refused(number, place),
-        Number::Read(value, next) => {
+    match numbers::seven::seven_padded(file, at) {
+        Padded::Refused(number, place) => Started::Refused(number, place),
+        Padded::Read(value, next, padding) => {
             let id = value as u32;
             match identify(codes, count, target, declared, TypeId(id)) {
-                Identified::Null => Started::Null(next),
-                Identified::Reader(place) => Started::Raw(place, next, TypeId(id)),
+                Identified::Null => Started::Null(next, padding),
+                Identified::Reader(place) => Started::Raw(place, next, TypeId(id), padding),
                 Identified::Refused(number) => Started::Refused(number, at),
             }
         }
@@ -140,7 +141,7 @@ pub fn start(
             if room <= used {
                 return Started::Refused(19, at);
             }
-            Started::Raw(place, at, TypeId(0))
+            Started::Raw(place, at, TypeId(0), 0)
         }
         Slot::Object(declared) => {
             if depth == 0 {

@@ -67,6 +67,20 @@ module _ (file : List ℕ) where
   unfolding idPlaces rawPlace
   with-id kind first detail e = rw e (one-padding first, refl)
 
+  -- of a value of a kind that has no number without an id: where its id ends, and the id's padding
+  unfoldable pub idEnd : (first id : ℕ) → ℕ
+  idEnd first zero = first
+  idEnd first (suc i) = past (sevenAt file first) first
+
+  unfoldable pub idPad : (first id : ℕ) → ℕ
+  idPad first zero = 0
+  idPad first (suc i) = padOf (sevenAt file first) first
+
+  pub id-of : (kind first id : ℕ) → numbered kind 0 ≡ false → (padding (idPlaces file kind first id) ≡ idPad first id) × (rawPlace file kind first id ≡ idEnd first id)
+  unfolding idEnd idPad numbered
+  id-of kind first zero e = without-id kind first 0 e
+  id-of kind first (suc i) e = with-id kind first (suc i) refl
+
   -- a value without a count, and a text
   pub without-count : (kind at : ℕ) → eqb kind 13 ≡ false → padding (countPlaces file kind at) ≡ 0
   unfolding countPlaces padding

@@ -15,3 +15,7 @@ in-word n h = omega arith
 pub word-sum : (a b : ℕ) → inWord (inWord a + inWord b) ≡ inWord (a + b)
 unfolding inWord
 word-sum a b = omega arith
+
+pub word-more : (a b : ℕ) → inWord (a + inWord b) ≡ inWord (a + b)
+unfolding inWord
+word-more a b = omega arith

@@ -31,6 +31,10 @@ seen (read a e) = read (a .0, a .1) e
 abbrev pub reaching : (used padding next : ℕ) → Walk
 reaching used padding next = Done (record { used = used; padding = padding; next = next })
 
+-- what was reached below a value whose own numbers have this padding
+abbrev pub atop : (padding : ℕ) → Reached → Reached
+atop padding r = record { used = r .used; padding = inWord (padding + r .padding); next = r .next }
+
 -- how many bytes the numbers of the new rows have beyond their shortest forms, as a word holds it
 abbrev pub padded : (file : List ℕ) → List Draft → ℕ
 padded file rows = inWord (rowsPadding file (bare rows))

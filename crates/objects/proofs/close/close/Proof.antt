@@ -21,13 +21,16 @@ row-words-requires c κs = search needs
 put-row-requires : tie.Need-put-row-requires
 put-row-requires c κs = search needs
 
+sum-requires : tie.Need-sum-requires
+sum-requires c κs = search needs
+
 same-length : tie.Need-same-length
 same-length c = search needs
 
 returns : tie.Need-returns
 returns c =
-    let k = sym (c .before .before .before .before .before .before .before .keeps-rule .ensures) ∙ c .before .before .before .before .before .before .if1 .taken in
-    rw (c .before .before .before .before .before .before .before .before .before .before .before .walked2 .given .1, k, ← c .before .before .before .before .before .rows-from .ensures, ← c .before .before .before .before .row-words .ensures) (refl, c .before .before .put-row .ensures)
+    let k = sym (c .before .before .before .before .before .before .before .before .keeps-rule .ensures) ∙ c .before .before .before .before .before .before .before .if1 .taken in
+    rw (c .before .before .before .before .before .before .before .before .before .before .before .before .walked2 .given .1, k, ← c .before .before .before .before .before .before .rows-from .ensures, ← c .before .before .before .before .before .row-words .ensures, ← c .sum .ensures) (refl, c .before .before .before .put-row .ensures)
 
 returns-2 : tie.Need-returns-2
 returns-2 c = rw (c .before .walked .given .1) (refl, refl)
@@ -50,6 +53,7 @@ close-spec =
     rows-from-requires
     row-words-requires
     put-row-requires
+    sum-requires
     same-length
     returns
     returns-2

@@ -1,15 +1,24 @@
-use mathlib.Core.Path.{sym, ap, _∙_}
+use mathlib.Core.Path.{_≡_, sym, ap, _∙_}
 use native.Mathlib.Omega.{arith}
-use Rattle.answers.specs.Told.{told}
-use Rattle.reading.specs.Reads.{small-by-index}
-use Rattle.reading.specs.Seven.{seven-next}
+use Rattle.reading.specs.Answer.{read}
+use Rattle.reading.specs.Reads.{Small, small-by-index}
+use Rattle.reading.specs.Seven.{sevenAt, seven-next}
+use Rattle.numbers.specs.Padded.{padOf, toldPadded, number-read, number-refused}
 use Rattle.objects.specs.Start.{no-number, null-starts, read-starts, unread}
 use borrow.Author.Needs.{needs}
 use Rattle.objects.proofs.start.object_start.Statement.{statement}
 use Rattle.objects.proofs.start.object_start.Tie as tie
 
-seven-at-requires : tie.Need-seven-at-requires
-seven-at-requires c κs = search needs
+-- the type id was read, with its padding
+number : (c : tie.After-known-told2)
+    → (sevenAt (c .before .before .before .before .before .before .args .file .now) (c .before .before .before .before .before .before .args .at) ≡ read (c .before .value .given .0 .0) (c .before .value .given .0 .1 .0)) × (c .before .value .given .0 .1 .1 .0 ≡ padOf (sevenAt (c .before .before .before .before .before .before .args .file .now) (c .before .before .before .before .before .before .args .at)) (c .before .before .before .before .before .before .args .at))
+number c = number-read (c .before .before .before .before .before .before .args .at) (sevenAt (c .before .before .before .before .before .before .args .file .now) (c .before .before .before .before .before .before .args .at)) (sym (ap toldPadded (c .before .value .given .1)) ∙ c .before .before .before .seven-padded .ensures)
+
+small : (c : tie.After-known-told2) → Small (c .before .before .before .before .before .before .args .file .now)
+small c = small-by-index (c .before .before .before .before .before .before .args .file .now) (λ i h. omega (arith, c .before .before .before .before .before .shared-slice-known .given i))
+
+seven-padded-requires : tie.Need-seven-padded-requires
+seven-padded-requires c κs = search needs
 
 enum-known-number : tie.Need-enum-known-number
 enum-known-number c = search needs
@@ -18,9 +27,7 @@ enum-known-value : tie.Need-enum-known-value
 enum-known-value c = search needs
 
 cast-id : tie.Need-cast-id
-cast-id c =
-    let s = c .before .before .before .before .before .before .args .file .now in
-    omega (arith, seven-next s (small-by-index s (λ i h. omega (arith, c .before .before .before .before .before .shared-slice-known .given i))) _ (sym (c .before .before .before .seven-at .ensures) ∙ ap told (c .before .value .given .1)) .2)
+cast-id c = omega (arith, seven-next (c .before .before .before .before .before .before .args .file .now) (small c) _ (number c .0) .2)
 
 identify-requires : tie.Need-identify-requires
 identify-requires c κs = search needs
@@ -35,40 +42,40 @@ enum-known-number-2 : tie.Need-enum-known-number-2
 enum-known-number-2 c = search needs
 
 returns : tie.Need-returns
-returns c = (
-  λ rd readers d h l s n. no-number _ (c .before .before .before .before .before .before .args .codes .now) readers d _ (sym (c .before .before .before .seven-at .ensures) ∙ ap told (c .before .number .given .1)),
-  rw (sym (c .before .before .before .seven-at .ensures) ∙ ap told (c .before .number .given .1)),
-)
+returns c =
+    let a = c .before .before .before .before .before .before .args in
+    let e = number-refused (a .at) (sevenAt (a .file .now) (a .at)) (sym (ap toldPadded (c .before .number .given .1)) ∙ c .before .before .before .seven-padded .ensures) in
+    (λ rd readers d h l s n. no-number _ (a .codes .now) readers d _ e, rw e)
 
 returns-2 : tie.Need-returns-2
-returns-2 c = (
-  let s = c .before .before .before .before .before .before .before .before .before .args .file .now in
-      let e = sym (c .before .before .before .before .before .before .seven-at .ensures) ∙ ap told (c .before .before .before .before .value .given .1) in
-      λ rd readers d h l p n. null-starts s (c .before .before .before .before .before .before .before .before .before .args .codes .now) readers d _ (small-by-index s (λ i h. omega (arith, c .before .before .before .before .before .before .before .before .shared-slice-known .given i))) e (rw (c .enum-told .given .1) at (c .before .before .identify .ensures .0 rd readers d (rw e at h) l p n)),
-  rw (sym (c .before .before .before .before .before .before .seven-at .ensures) ∙ ap told (c .before .before .before .before .value .given .1), sym (c .before .before .identify .ensures .1) ∙ c .enum-told .given .1),
-)
+returns-2 c =
+    let a = c .before .before .before .before .before .before .before .before .before .args in
+    let n = number (c .before .before .before) in (
+      λ rd readers d h l p y. null-starts (a .file .now) (a .codes .now) readers d _ (small (c .before .before .before)) (n .0) (n .1) (rw (c .enum-told .given .1) at (c .before .before .identify .ensures .0 rd readers d (rw (n .0) at h) l p y)),
+      rw (n .1, n .0, sym (c .before .before .identify .ensures .1) ∙ c .enum-told .given .1),
+    )
 
 returns-3 : tie.Need-returns-3
-returns-3 c = (
-  let s = c .before .before .before .before .before .before .before .before .before .before .args .file .now in
-      let e = sym (c .before .before .before .before .before .before .before .seven-at .ensures) ∙ ap told (c .before .before .before .before .before .value .given .1) in
-      λ rd readers d h l p n. read-starts s (c .before .before .before .before .before .before .before .before .before .before .args .codes .now) readers d _ (small-by-index s (λ i h. omega (arith, c .before .before .before .before .before .before .before .before .before .shared-slice-known .given i))) e (rw (c .before .place .given .1) at (c .before .before .before .identify .ensures .0 rd readers d (rw e at h) l p n)),
-  rw (sym (c .before .before .before .before .before .before .before .seven-at .ensures) ∙ ap told (c .before .before .before .before .before .value .given .1), sym (c .before .before .before .identify .ensures .1) ∙ c .before .place .given .1),
-)
+returns-3 c =
+    let a = c .before .before .before .before .before .before .before .before .before .before .args in
+    let n = number (c .before .before .before .before) in (
+      λ rd readers d h l p y. read-starts (a .file .now) (a .codes .now) readers d _ (small (c .before .before .before .before)) (n .0) (n .1) (rw (c .before .place .given .1) at (c .before .before .before .identify .ensures .0 rd readers d (rw (n .0) at h) l p y)),
+      rw (n .1, n .0, sym (c .before .before .before .identify .ensures .1) ∙ c .before .place .given .1),
+    )
 
 returns-4 : tie.Need-returns-4
-returns-4 c = (
-  let s = c .before .before .before .before .before .before .before .before .before .before .args .file .now in
-      let e = sym (c .before .before .before .before .before .before .before .seven-at .ensures) ∙ ap told (c .before .before .before .before .before .value .given .1) in
-      λ rd readers d h l p n. unread s (c .before .before .before .before .before .before .before .before .before .before .args .codes .now) readers d _ (small-by-index s (λ i h. omega (arith, c .before .before .before .before .before .before .before .before .before .shared-slice-known .given i))) e (rw (c .before .number2 .given .1) at (c .before .before .before .identify .ensures .0 rd readers d (rw e at h) l p n)),
-  rw (sym (c .before .before .before .before .before .before .before .seven-at .ensures) ∙ ap told (c .before .before .before .before .before .value .given .1), sym (c .before .before .before .identify .ensures .1) ∙ c .before .number2 .given .1),
-)
+returns-4 c =
+    let a = c .before .before .before .before .before .before .before .before .before .before .args in
+    let n = number (c .before .before .before .before) in (
+      λ rd readers d h l p y. unread (a .file .now) (a .codes .now) readers d _ (small (c .before .before .before .before)) (n .0) (n .1) (rw (c .before .number2 .given .1) at (c .before .before .before .identify .ensures .0 rd readers d (rw (n .0) at h) l p y)),
+      rw (n .0, sym (c .before .before .before .identify .ensures .1) ∙ c .before .number2 .given .1),
+    )
 
 pub object-start-spec : {M : Type 1} → statement M
 object-start-spec =
     tie.close
     (tie.spec
-    seven-at-requires
+    seven-padded-requires
     enum-known-number
     enum-known-value
     cast-id
