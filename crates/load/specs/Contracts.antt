@@ -1,12 +1,11 @@
 -- What the contracts of loading state. Assumes nothing.
 use mathlib.Core.Path.{_≡_}
 use mathlib.Core.List.{List}
-use Prim.Native.Nat.{ℕ}
+use Prim.Native.Nat.{ℕ, _+_}
 use lib.ListN.{length}
 use Rattle.layout.specs.Target.{Target, kindOf}
 use Rattle.layout.specs.Slot as L
 use Rattle.reading.specs.Answer.{bind}
-use Rattle.reading.specs.Heads.{headAt}
 use Rattle.reading.specs.Walk.{Taken}
 use Rattle.reading.specs.File.{finished, objectsAt, fileAt}
 use Rattle.readers.specs.Judged.{judgedName}
@@ -30,12 +29,16 @@ use Rattle.load.specs.declared.walk.Children.{Children}
 use Rattle.load.specs.Walks.{OpenedAs}
 use Rattle.load.specs.Turns.{Counts, whole}
 use Rattle.load.specs.Steps.{RawSteps, Steps, rawOf}
-use Rattle.load.specs.Loads.{Loads, behindHeader}
+use Rattle.load.specs.Loads.{Total, fileTotal, Loads, behindHeader}
+use Rattle.layout.specs.Rows.{Row}
+use Rattle.reading.specs.Drafts.{bare}
+use Rattle.places.specs.Word.{inWord}
+use Rattle.places.specs.Padding.{rowsPadding}
 
 -- a raw value of a kind, whose head was read up to `next`, is walked, or its children are left
 abbrev pub FlatSteps : Grid → (file : List ℕ) (shared kind place : ℕ) → Head → (at depth next : ℕ) → Below → (entry exit : List ℕ) → Stepped → Type 0
 FlatSteps g file shared kind place h at depth next below entry exit r =
-    (codes : List ℕ) (readers : List Target) (t : Target) → Invoked codes place t → kind ≡ kindOf t → OpenedAs codes (headAt file t at) next below → RawSteps g file codes readers shared depth t place h at entry exit r
+    (codes : List ℕ) (readers : List Target) (t : Target) → Invoked codes place t → kind ≡ kindOf t → OpenedAs file codes t at next below → RawSteps g file codes readers shared depth t place h at entry exit r
 
 -- a raw value of the type at a place is walked, or its children are left
 abbrev pub PlacedSteps : Grid → (file codes : List ℕ) (shared place : ℕ) → Head → (at depth : ℕ) → (entry exit : List ℕ) → Stepped → Type 0
@@ -50,28 +53,30 @@ ValueSteps g file codes entry exit r count target shared slot at used depth pare
 -- a raw value of the type at a place, whose head was read up to `next`, is walked with its children
 abbrev pub RawWalks : Grid → (file codes : List ℕ) → Readers → (shared place : ℕ) → Head → (at next : ℕ) → Nest → (depth : ℕ) → (entry exit : List ℕ) → Walk → Type 0
 RawWalks g file codes rd shared place h at next nest depth entry exit r =
-    (readers : List Target) (t : Target) → Listed codes rd readers → Invoked codes place t → OpenedAs codes (headAt file t at) next (Nested nest) → Walked g entry exit (h .row .0) (seen (rawOf file readers shared (g .room) depth t h at)) r
+    (readers : List Target) (t : Target) → Listed codes rd readers → Invoked codes place t → OpenedAs file codes t at next (Nested nest) → Walked g file entry exit (h .row .0) (seen (rawOf file readers shared (g .room) depth t h at)) r
 
 -- the values of a nest are walked one after the other
 abbrev pub NestWalks : Grid → (file codes : List ℕ) → Readers → (shared : ℕ) → Nest → (at used depth : ℕ) → (entry exit : List ℕ) → Children → Type 0
 NestWalks g file codes rd shared nest at used depth entry exit r =
-    (readers : List Target) (plan : L.Plan) → Listed codes rd readers → NestIs codes nest plan → Counts g entry exit used (whole g file codes readers shared depth plan entry at used) r
+    (readers : List Target) (plan : L.Plan) → Listed codes rd readers → NestIs codes nest plan → Counts g file entry exit used (whole g file codes readers shared depth plan entry at used) r
 
--- a file whose rows stand in the words as drafts is loaded as far as its end says
-abbrev pub Finishes : Grid → (file : List ℕ) (readers shared next used : ℕ) → (entry exit : List ℕ) → Loading → Type 0
-Finishes g file readers shared next used entry exit r =
-    (platform flags : ℕ) (names : List (List ℕ)) (a : Taken) (w : List ℕ) → Drafted g entry used (a .1) w → Loads g (finished file platform flags names readers shared a next) entry exit r
+-- a file whose rows stand in the words as drafts is loaded as far as its end says, with this padding
+abbrev pub Finishes : Grid → (file : List ℕ) (readers shared padding next used : ℕ) → (entry exit : List ℕ) → Loading → Type 0
+Finishes g file readers shared padding next used entry exit r =
+    (total : Total) (platform flags : ℕ) (names : List (List ℕ)) (a : Taken) (w : List ℕ) → Drafted g entry used (a .1) w → padding ≡ total readers (bare (a .1))
+    → Loads g total (finished file platform flags names readers shared a next) entry exit r
 
--- the objects of a file with this reader list are loaded
-abbrev pub ObjectsLoad : Grid → (file codes : List ℕ) → Readers → (shared at : ℕ) → (entry exit : List ℕ) → Loading → Type 0
-ObjectsLoad g file codes rd shared at entry exit r =
-    (platform flags : ℕ) (names : List (List ℕ)) (readers : List Target) → Listed codes rd readers
-    → Loads g (bind (objectsAt file (g .room) readers shared at) (λ a e. finished file platform flags names (length readers) shared a e)) entry exit r
+-- the objects of a file with this reader list are loaded, behind numbers of this padding
+abbrev pub ObjectsLoad : Grid → (file codes : List ℕ) → Readers → (shared padding at : ℕ) → (entry exit : List ℕ) → Loading → Type 0
+ObjectsLoad g file codes rd shared padding at entry exit r =
+    (total : Total) (platform flags : ℕ) (names : List (List ℕ)) (readers : List Target) → Listed codes rd readers
+    → ((rows : List Row) → inWord (padding + rowsPadding file rows) ≡ total (length readers) rows)
+    → Loads g total (bind (objectsAt file (g .room) readers shared at) (λ a e. finished file platform flags names (length readers) shared a e)) entry exit r
 
 -- what stands behind the header is loaded
 abbrev pub ListsLoad : Grid → (file : List ℕ) (at : ℕ) → (entry exit : List ℕ) → Loading → Type 0
-ListsLoad g file at entry exit r = (platform flags : ℕ) → Loads g (behindHeader file (g .room) platform flags at) entry exit r
+ListsLoad g file at entry exit r = (platform flags : ℕ) → Loads g (fileTotal file) (behindHeader file (g .room) platform flags at) entry exit r
 
 -- the file is loaded
 abbrev pub FileLoads : Grid → (file entry exit : List ℕ) → Loading → Type 0
-FileLoads g file entry exit r = Loads g (fileAt judgedName file (g .room)) entry exit r
+FileLoads g file entry exit r = Loads g (fileTotal file) (fileAt judgedName file (g .room)) entry exit r

@@ -12,7 +12,7 @@ use Rattle.heads.specs.declared.slot.Slot.{Slot}
 use Rattle.heads.specs.declared.nest.Nest.{Nest}
 use Rattle.heads.specs.Slots.{SlotIs}
 use Rattle.heads.specs.Nests.{Prelude, NestIs}
-use Rattle.objects.specs.Start.{Has, positionOfSlot}
+use Rattle.objects.specs.Start.{Has, Ided, positionOfSlot}
 use Rattle.ids.specs.declared.Grid.{Grid}
 
 -- the codes hold the types of some readers and those that fonts and pages declare
@@ -36,7 +36,7 @@ pub record KnownNest (codes : List ℕ) (nest : Nest) : Type 0 where
   pub plan : L.Plan
   pub is : NestIs codes nest plan
 
--- a raw value has its row, and all numbers fit
+-- a raw value has its row and stands behind its id, and all numbers fit
 pub record Ready (file words : List ℕ) (g : Grid) (h : Head) (at : ℕ) : Type 0 where
   pub long : width * g .room ≤ length words
   pub few : g .room < 2 ^ 32
@@ -44,3 +44,4 @@ pub record Ready (file words : List ℕ) (g : Grid) (h : Head) (at : ℕ) : Type
   pub begun : h .first ≤ at
   pub place : at ≤ length file
   pub short : length file < 2 ^ 32
+  pub ided : Ided file (h .first) at (h .detail) (h .padding)

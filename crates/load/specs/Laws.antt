@@ -22,7 +22,7 @@ use Rattle.reading.specs.References.{length-flat}
 use Rattle.reading.specs.Walk.{Taken, sequence, walk}
 use Rattle.reading.specs.Grid.{shapeOf, cell, writtenRows}
 use Rattle.reading.specs.Drafts.{bare, length-bare}
-use Rattle.reading.specs.File.{Loaded as FileLoaded, rootKinds, headerAt, listsAt, objectsAt, finished, fileAt, toLoad, loadOf, tableOf, roomOf}
+use Rattle.reading.specs.File.{Loaded as FileLoaded, accepted, rootKinds, headerAt, listsAt, objectsAt, finished, fileAt, toLoad, loadOf, tableOf, roomOf}
 use Rattle.reading.specs.Front.{header-sound, lists-reads}
 use Rattle.ids.specs.declared.Grid.{Grid}
 use Rattle.ids.specs.Position.{cellOf}
@@ -49,8 +49,13 @@ use Rattle.load.specs.declared.Loading.the-variants.{Refused, Loaded}
 use Rattle.load.specs.declared.walk.Children.{Children}
 use Rattle.load.specs.declared.walk.Children.the-variants.{Done as Children-done, Refused as Children-refused}
 use Rattle.load.specs.Turns.{Counts, whole as whole-nest, counts-walked, counts-refused}
-use Rattle.load.specs.Loads.{Loads, behindHeader, answerOf}
+use Rattle.load.specs.Loads.{Total, fileTotal, Loads, behindHeader, answerOf}
 use Rattle.readers.specs.Judged.{judgedName, judges}
+use Rattle.readers.specs.Contract.{listsTotal}
+use Rattle.reading.specs.Theorems.{accepted-is, rows-fit}
+use Rattle.table.specs.Contract.{padded}
+use Rattle.places.specs.Word.{inWord, in-word, word-more}
+use Rattle.places.specs.Padding.{rowsPadding, filePadding, file-padding, file-few}
 
 module _ (file : List ℕ) (platform flags : ℕ) (names : List (List ℕ)) (readers shared : ℕ) (a : Taken) (next : ℕ) where
   -- 01: "20 after the last object"
@@ -97,23 +102,23 @@ module _ (file : List ℕ) (platform flags : ℕ) (names : List (List ℕ)) (rea
     rows-left-in g w rows fits long true e = behind-columns g _ (length rows) e ∙ settled-columns g w rows e fits long
 
     -- all is well: the rows, and zeros elsewhere
-    pub all-well : {g : Grid} {used : ℕ} {entry mid exit w : List ℕ} → Drafted g entry used (a .1) w → Fine ≡ settledOf (drop 1 (rootKinds (a .1))) (a .1) → mid ≡ rows-settled g w (a .1)
-        → exit ≡ clearedBehind g mid used → Loads g (finished file platform flags names readers shared a next) entry exit (Loaded used readers shared)
+    pub all-well : (total : Total) {g : Grid} {used padding : ℕ} {entry mid exit w : List ℕ} → Drafted g entry used (a .1) w → padding ≡ total readers (bare (a .1)) → Fine ≡ settledOf (drop 1 (rootKinds (a .1))) (a .1) → mid ≡ rows-settled g w (a .1)
+        → exit ≡ clearedBehind g mid used → Loads g total (finished file platform flags names readers shared a next) entry exit (Loaded used readers shared padding)
     unfolding rows-settled
-    all-well {g} {used} {entry} {mid} {exit} {w} d s m c =
+    all-well total {g} {used} {padding} {entry} {mid} {exit} {w} d q s m c =
         let n : used ≡ length (a .1) = d .count in
         let b : length (bare (a .1)) ≡ length (a .1) = length-bare (a .1) in
         let e : length entry ≡ length w = ap length (d .stand) ∙ length-written g w 0 (a .1) in
-        rw (settled Fine (sym s), e) (rw n refl, c ∙ rw (m, n, ← b) (rows-left-in g w (bare (a .1)) (omega (arith, d .fits)) (d .long) (g .columns) refl))
+        rw (settled Fine (sym s), e) (rw (n, q) refl, c ∙ rw (m, n, ← b) (rows-left-in g w (bare (a .1)) (omega (arith, d .fits)) (d .long) (g .columns) refl))
 
 -- only the words' length counts
-same-size : (g : Grid) (w w′ exit : List ℕ) (r : Loading) → length w′ ≡ length w → (x : Answer FileLoaded) → Loads g x w′ exit r → Loads g x w exit r
-same-size g w w′ exit r l (refused n p) c = c
-same-size g w w′ exit r l (read a e) c = rw (← l) c
+same-size : (g : Grid) (total : Total) (w w′ exit : List ℕ) (r : Loading) → length w′ ≡ length w → (x : Answer FileLoaded) → Loads g total x w′ exit r → Loads g total x w exit r
+same-size g total w w′ exit r l (refused n p) c = c
+same-size g total w w′ exit r l (read a e) c = rw (← l) c
 
 -- a refusal
-pub loads-refused : (g : Grid) (x : Answer FileLoaded) (entry exit : List ℕ) {n p : ℕ} → x ≡ refused n p → Loads g x entry exit (Refused n p)
-loads-refused g x entry exit e = rw e refl
+pub loads-refused : (g : Grid) (total : Total) (x : Answer FileLoaded) (entry exit : List ℕ) {n p : ℕ} → x ≡ refused n p → Loads g total x entry exit (Refused n p)
+loads-refused g total x entry exit e = rw e refl
 
 module _ (g : Grid) (file : List ℕ) (small : Small file) (codes : List ℕ) (shared at : ℕ) (few : shared ≤ 256) where
   -- the slots of the primary and the shared objects
@@ -134,26 +139,32 @@ module _ (g : Grid) (file : List ℕ) (small : Small file) (codes : List ℕ) (s
     abbrev roots-walked : Answer Counted
     roots-walked = whole-nest g file codes readers shared 32 (each roots) [] at 0
 
-    pub objects-lost : {w w′ : List ℕ} {n p : ℕ} {r : Children} → Counts g w w′ 0 roots-walked r → r ≡ Children-refused n p → whole ≡ refused n p
+    pub objects-lost : {w w′ : List ℕ} {n p : ℕ} {r : Children} → Counts g file w w′ 0 roots-walked r → r ≡ Children-refused n p → whole ≡ refused n p
     unfolding bind
     objects-lost c e = rw (sym (objects-are readers) ∙ counts-refused (sequence (λ y b v. walk file readers shared (g .room) 32 y b v 0) (each roots) at 0) (record { answers = sym e ∙ c .answers; writes = c .writes }))
 
     -- the objects were read, and their rows stand in the words
-    pub record Rooted (w w′ : List ℕ) (next used : ℕ) : Type 0 where
+    pub record Rooted (w w′ : List ℕ) (next used sum : ℕ) : Type 0 where
       pub taken : Taken
+      pub pads : padded file (taken .1) ≡ sum
       pub is : objectsAt file (g .room) readers shared at ≡ read taken next
       pub drafted : Drafted g w′ used (taken .1) w
 
-    pub objects-got : {w w′ : List ℕ} {n : ℕ} {reached : Reached} {r : Children} → width * g .room ≤ length w → Counts g w w′ 0 roots-walked r → r ≡ Children-done n reached → Rooted w w′ (reached .next) (reached .used)
+    pub objects-got : {w w′ : List ℕ} {n : ℕ} {reached : Reached} {r : Children} → width * g .room ≤ length w → Counts g file w w′ 0 roots-walked r → r ≡ Children-done n reached → Rooted w w′ (reached .next) (reached .used) (reached .padding)
     objects-got {w} {w′} {n} {reached} long c e =
         let y = got (counts-walked (sequence (λ y b v. walk file readers shared (g .room) 32 y b v 0) (each roots) at 0) (record { answers = sym e ∙ c .answers; writes = c .writes }) .0) refl in
         let q = sym (objects-are readers) ∙ y .is in
         let d = objects-drafted g file readers shared small few w at (y .taken) (reached .next) q long in
-        record { taken = y .taken; is = q; drafted = subst (λ x. Drafted g x (reached .used) (y .taken .1) w) (sym (y .words)) (subst (λ m. Drafted g (written g w 0 (y .taken .1)) m (y .taken .1) w) (y .rows-used) d) }
+        record { taken = y .taken; pads = y .pads; is = q; drafted = subst (λ x. Drafted g x (reached .used) (y .taken .1) w) (sym (y .words)) (subst (λ m. Drafted g (written g w 0 (y .taken .1)) m (y .taken .1) w) (y .rows-used) d) }
 
-    pub objects-loaded : (w w′ exit : List ℕ) {next used : ℕ} (r : Loading) (o : Rooted w w′ next used) → length w′ ≡ length w → Loads g (finished file platform flags names (length readers) shared (o .taken) next) w′ exit r → Loads g whole w exit r
+    pub objects-loaded : (total : Total) (w w′ exit : List ℕ) {next used sum : ℕ} (r : Loading) (o : Rooted w w′ next used sum) → length w′ ≡ length w → Loads g total (finished file platform flags names (length readers) shared (o .taken) next) w′ exit r → Loads g total whole w exit r
     unfolding bind
-    objects-loaded w w′ exit {next} {used} r o l c = rw (o .is) (same-size g w w′ exit r l (finished file platform flags names (length readers) shared (o .taken) next) c)
+    objects-loaded total w w′ exit {next} {used} {sum} r o l c = rw (o .is) (same-size g total w w′ exit r l (finished file platform flags names (length readers) shared (o .taken) next) c)
+
+    -- the padding of the objects' rows is added to that of the numbers before them
+    pub objects-padded : (total : Total) (padding : ℕ) {w w′ : List ℕ} {next used sum : ℕ} (o : Rooted w w′ next used sum)
+        → ((rows : List Row) → inWord (padding + rowsPadding file rows) ≡ total (length readers) rows) → inWord (padding + sum) ≡ total (length readers) (bare (o .taken .1))
+    objects-padded total padding o t = rw (← o .pads) (word-more padding (rowsPadding file (bare (o .taken .1)))) ∙ t (bare (o .taken .1))
 
 -- the codes keep the types that fonts and pages declare
 pub kept-prelude : (codes : List ℕ) → take 11 codes ≡ prelude → Prelude codes
@@ -173,6 +184,7 @@ pub record HeaderRead (file : List ℕ) (at : ℕ) : Type 0 where
   pub is : headerAt file ≡ read h at
   pub short : length file ≤ 16777216
   pub inside : at ≤ length file
+  pub ten : at ≡ 10
 
 pub header-read : (file : List ℕ) → Small file → {v at : ℕ} → Header-read v at ≡ headerOf file → HeaderRead file at
 header-read file s {v} {at} e = go (headerAt file) refl e where
@@ -181,7 +193,7 @@ header-read file s {v} {at} e = go (headerAt file) refl e where
   go (read h f) q e =
       let v = header-sound file s .got q in
       let z : f ≡ at = cc in
-      record { h = h; is = q ∙ ap (read h) z; short = v .1 .short; inside = omega (arith, z, v .0, ap length (v .1 .parts) ∙ length-append (header (h .0) (h .1) (length file)) (drop 10 file), header-length (h .0) (h .1) (length file)) }
+      record { h = h; is = q ∙ ap (read h) z; short = v .1 .short; ten = sym z ∙ v .0; inside = omega (arith, z, v .0, ap length (v .1 .parts) ∙ length-append (header (h .0) (h .1) (length file)) (drop 10 file), header-length (h .0) (h .1) (length file)) }
 
 -- the file, by its header
 pub header-refused : (file : List ℕ) (room : ℕ) {n p : ℕ} → Header-refused n p ≡ headerOf file → fileAt judgedName file room ≡ refused n p
@@ -229,25 +241,45 @@ none-kept : (mid : List ℕ) (n : ℕ) → length mid ≡ n → cleared mid 0 �
 unfolding cleared
 none-kept mid n e = let z : length mid - 0 ≡ n = omega (arith, e) in rw z
 
+-- the padding of the lists and of the rows is the file's
+pub lists-padded : (file : List ℕ) (count at padding : ℕ) (readers : List Target) → at ≡ 10 → count ≡ length readers → padding ≡ listsTotal file at count
+    → (rows : List Row) → inWord (padding + rowsPadding file rows) ≡ fileTotal file (length readers) rows
+unfolding listsTotal
+lists-padded file count at padding readers t c p rows = ap inWord (rw (p, t, c) (sym (file-padding file (length readers) rows)))
+
+-- a file that is accepted has few numbers, so its padding fits a word
+total-fits : (file : List ℕ) (words : ℕ) → Small file → (rows : List Row) (readers shared : ℕ) → loadOf judgedName file words ≡ accepted rows readers shared → inWord (filePadding file readers rows) ≡ filePadding file readers rows
+unfolding roomOf
+total-fits file words small rows readers shared e =
+    let a = accepted-is named judgedName judges file words small rows readers shared e in
+    let f = a .0 in
+    let n : length rows ≤ 65536 = omega (arith, ap length (a .1), rows-fit named judgedName judges file words f .0, f .room) in
+    in-word (filePadding file readers rows) (omega (arith, file-few file small readers rows, a .2, f .lays .lists .not-many))
+
 -- the whole: what is answered, and what the words hold at the end
 module _ (file entry : List ℕ) (columns : Bool) where
   abbrev loads : (exit : List ℕ) → Loading → Type 0
-  loads exit r = Loads (gridOf (length entry) columns) (fileAt judgedName file (roomOf (length entry))) entry exit r
+  loads exit r = Loads (gridOf (length entry) columns) (fileTotal file) (fileAt judgedName file (roomOf (length entry))) entry exit r
 
   pub load-refused : (mid : List ℕ) {exit : List ℕ} {n p : ℕ} → loads mid (Refused n p) → length mid ≡ length entry → exit ≡ cleared mid 0
-      → (Refused n p ≡ answerOf (loadOf judgedName file (length entry))) × (exit ≡ tableIn columns (loadOf judgedName file (length entry)) (length entry))
+      → (Refused n p ≡ answerOf file (loadOf judgedName file (length entry))) × (exit ≡ tableIn columns (loadOf judgedName file (length entry)) (length entry))
   unfolding loadOf toLoad tableOf columnsTableOf cleared
   load-refused mid {exit} {n} {p} l m e = go columns (fileAt judgedName file (roomOf (length entry))) l where
-    go : (b : Bool) (x : Answer FileLoaded) → Loads (gridOf (length entry) b) x entry mid (Refused n p) → (Refused n p ≡ answerOf (toLoad x)) × (exit ≡ tableIn b (toLoad x) (length entry))
+    go : (b : Bool) (x : Answer FileLoaded) → Loads (gridOf (length entry) b) (fileTotal file) x entry mid (Refused n p) → (Refused n p ≡ answerOf file (toLoad x)) × (exit ≡ tableIn b (toLoad x) (length entry))
     go false (refused a b) l = (l, e ∙ none-kept mid (length entry) m)
     go true (refused a b) l = (l, e ∙ none-kept mid (length entry) m)
-    go b (read a f) l = absurd (let q : Refused n p ≡ Loaded (length (a .rows)) (a .readers) (a .shared) = l .0 in differ cc)
+    go b (read a f) l = absurd (let q : Refused n p ≡ Loaded (length (a .rows)) (a .readers) (a .shared) (fileTotal file (a .readers) (bare (a .rows))) = l .0 in differ cc)
 
-  pub load-loaded : {exit : List ℕ} {rows readers shared : ℕ} → loads exit (Loaded rows readers shared)
-      → (Loaded rows readers shared ≡ answerOf (loadOf judgedName file (length entry))) × (exit ≡ tableIn columns (loadOf judgedName file (length entry)) (length entry))
+  pub load-loaded : Small file → {exit : List ℕ} {rows readers shared padding : ℕ} → loads exit (Loaded rows readers shared padding)
+      → (Loaded rows readers shared padding ≡ answerOf file (loadOf judgedName file (length entry))) × (exit ≡ tableIn columns (loadOf judgedName file (length entry)) (length entry))
   unfolding loadOf toLoad tableOf columnsTableOf
-  load-loaded {exit} {rows} {readers} {shared} l = go columns (fileAt judgedName file (roomOf (length entry))) l where
-    go : (b : Bool) (x : Answer FileLoaded) → Loads (gridOf (length entry) b) x entry exit (Loaded rows readers shared) → (Loaded rows readers shared ≡ answerOf (toLoad x)) × (exit ≡ tableIn b (toLoad x) (length entry))
-    go b (refused c d) l = differ cc
-    go false (read a f) l = (l .0 ∙ rw (length-bare (a .rows)), l .1)
-    go true (read a f) l = (l .0 ∙ rw (length-bare (a .rows)), l .1)
+  load-loaded small {exit} {rows} {readers} {shared} {padding} l = go columns (fileAt judgedName file (roomOf (length entry))) refl l where
+    go : (b : Bool) (x : Answer FileLoaded) → fileAt judgedName file (roomOf (length entry)) ≡ x → Loads (gridOf (length entry) b) (fileTotal file) x entry exit (Loaded rows readers shared padding)
+        → (Loaded rows readers shared padding ≡ answerOf file (toLoad x)) × (exit ≡ tableIn b (toLoad x) (length entry))
+    go b (refused c d) q l = differ cc
+    go false (read a f) q l =
+        let t = total-fits file (length entry) small (bare (a .rows)) (a .readers) (a .shared) (ap toLoad q) in
+        (l .0 ∙ rw (length-bare (a .rows), t), l .1)
+    go true (read a f) q l =
+        let t = total-fits file (length entry) small (bare (a .rows)) (a .readers) (a .shared) (ap toLoad q) in
+        (l .0 ∙ rw (length-bare (a .rows), t), l .1)

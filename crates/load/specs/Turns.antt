@@ -15,7 +15,8 @@ use Rattle.reading.specs.Bounds.{walk-bounds, walk-single}
 use Rattle.ids.specs.declared.Grid.{Grid}
 use Rattle.table.specs.declared.Reached.{Reached}
 use Rattle.table.specs.Written.{written}
-use Rattle.table.specs.Contract.{seen, reaching, Walked}
+use Rattle.table.specs.Contract.{seen, reaching, padded, Walked}
+use Rattle.places.specs.Word.{inWord}
 use Rattle.table.specs.Loop.{Counted, counted, Got, Reading, start, turn, ended, give-up}
 use Rattle.leaves.specs.Plain.{Begin}
 use Rattle.leaves.specs.Run.{begin-on}
@@ -27,32 +28,32 @@ use Rattle.load.specs.declared.walk.Children.{Children}
 use Rattle.load.specs.declared.walk.Children.the-variants.{Done, Refused}
 use Rattle.load.specs.Walks.{walk-takes}
 
--- 01's number and place for a refusal; for children their number, their end and the rows used
-abbrev pub childrenOf : Answer Counted → Children
-childrenOf (refused n p) = Refused n p
-childrenOf (read a e) = Done (a .2) (record { used = a .0; next = e })
+-- 01's number and place for a refusal; for children their number, their end, the rows used and their padding
+abbrev pub childrenOf : (file : List ℕ) → Answer Counted → Children
+childrenOf file (refused n p) = Refused n p
+childrenOf file (read a e) = Done (a .2) (record { used = a .0; padding = padded file (a .1); next = e })
 
 -- the new rows stand in the words; after a refusal the words may be anything
 abbrev pub countedWords : Grid → (exit entry : List ℕ) (used : ℕ) → Answer Counted → List ℕ
 countedWords g exit entry used (refused n p) = exit
 countedWords g exit entry used (read a e) = written g entry used (a .1)
 
-pub record Counts (g : Grid) (entry exit : List ℕ) (used : ℕ) (o : Answer Counted) (r : Children) : Type 0 where
-  pub answers : r ≡ childrenOf o
+pub record Counts (g : Grid) (file entry exit : List ℕ) (used : ℕ) (o : Answer Counted) (r : Children) : Type 0 where
+  pub answers : r ≡ childrenOf file o
   pub writes : exit ≡ countedWords g exit entry used o
 
 -- the children that were counted were walked
-pub counts-walked : {g : Grid} {entry exit : List ℕ} {used n : ℕ} {r : Reached} (o : Outcome) → Counts g entry exit used (counted o) (Done n r)
-    → Walked g entry exit used (seen o) (reaching (r .used) (r .next)) × ((a : Taken) (f : ℕ) → o ≡ read a f → n ≡ count (a .2))
+pub counts-walked : {g : Grid} {file entry exit : List ℕ} {used n : ℕ} {r : Reached} (o : Outcome) → Counts g file entry exit used (counted o) (Done n r)
+    → Walked g file entry exit used (seen o) (reaching (r .used) (r .padding) (r .next)) × ((a : Taken) (f : ℕ) → o ≡ read a f → n ≡ count (a .2))
 unfolding seen counted
 counts-walked (refused m p) c = absurd (let q = c .answers in differ cc)
-counts-walked {g} {entry} {exit} {used} {n} {r} (read a f) c =
-    let q : Done n r ≡ Done (count (a .2)) (record { used = a .0; next = f }) = c .answers in
+counts-walked {g} {file} {entry} {exit} {used} {n} {r} (read a f) c =
+    let q : Done n r ≡ Done (count (a .2)) (record { used = a .0; padding = padded file (a .1); next = f }) = c .answers in
     let k : n ≡ count (a .2) = cc in
-    let z : _≡_ {A = Reached} r (record { used = a .0; next = f }) = cc in
-    (record { answers = ap (λ (x : Reached). reaching (x .used) (x .next)) z; writes = c .writes }, λ b m e. let y : a ≡ b = cc in k ∙ ap (λ (t : Taken). count (t .2)) y)
+    let z : _≡_ {A = Reached} r (record { used = a .0; padding = padded file (a .1); next = f }) = cc in
+    (record { answers = ap (λ (x : Reached). reaching (x .used) (x .padding) (x .next)) z; writes = c .writes }, λ b m e. let y : a ≡ b = cc in k ∙ ap (λ (t : Taken). count (t .2)) y)
 
-pub counts-refused : {g : Grid} {entry exit : List ℕ} {used n p : ℕ} (o : Outcome) → Counts g entry exit used (counted o) (Refused n p) → o ≡ refused n p
+pub counts-refused : {g : Grid} {file entry exit : List ℕ} {used n p : ℕ} (o : Outcome) → Counts g file entry exit used (counted o) (Refused n p) → o ≡ refused n p
 unfolding counted
 counts-refused {n = n} {p = p} (refused m q) c =
     let z : Refused n p ≡ Refused m q = c .answers in
@@ -70,51 +71,52 @@ module _ (g : Grid) (file codes : List ℕ) (readers : List Target) (shared dept
 
   module _ (nest : Nest) where
     -- the values before the stage's next are walked
-    pub record Standing (w : List ℕ) (stage : Stage) (next row : ℕ) : Type 0 where
+    pub record Standing (w : List ℕ) (stage : Stage) (next row sum : ℕ) : Type 0 where
       pub plan : Plan
       pub is : StageIs codes nest stage plan
-      pub read-so : Reading g file step plan₀ w₀ at used w plan next row (stage .next)
+      pub read-so : Reading g file step plan₀ w₀ at used w plan next row sum (stage .next)
       pub ahead : used + stage .next ≤ row
 
-    pub standing : NestIs codes nest plan₀ → Standing w₀ (beginOf nest) at used
+    pub standing : NestIs codes nest plan₀ → Standing w₀ (beginOf nest) at used 0
     standing w = record { plan = plan₀; is = w; read-so = start g file step plan₀ w₀ at used; ahead = omega arith }
 
-    pub standing-begin : {w : List ℕ} {stage : Stage} {next row : ℕ} → Begin file w₀ g at used → Standing w stage next row → Begin file w g next row
+    pub standing-begin : {w : List ℕ} {stage : Stage} {next row sum : ℕ} → Begin file w₀ g at used → Standing w stage next row sum → Begin file w g next row
     standing-begin b s = begin-on b (s .read-so)
 
     -- a value stands next
-    pub record Next (w : List ℕ) (stage : Stage) (next row : ℕ) : Type 0 where
+    pub record Next (w : List ℕ) (stage : Stage) (next row sum : ℕ) : Type 0 where
       pub x : L.Slot
       pub go : ℕ → Plan
       pub is : SlotIs codes (slotAt nest (stage .next)) x
       pub left : stage .next + 1 < 2 ^ 32 → (n : ℕ) → StageIs codes nest (afterOf stage) (go n)
-      pub read-so : Reading g file step plan₀ w₀ at used w (put x go) next row (stage .next)
+      pub read-so : Reading g file step plan₀ w₀ at used w (put x go) next row sum (stage .next)
       pub ahead : used + stage .next ≤ row
 
-    pub value-next : {w : List ℕ} {stage : Stage} {next row : ℕ} → Prelude codes → Standing w stage next row → stage .next < stage .count → Next w stage next row
-    value-next {w} {stage} {next} {row} p s h =
+    pub value-next : {w : List ℕ} {stage : Stage} {next row sum : ℕ} → Prelude codes → Standing w stage next row sum → stage .next < stage .count → Next w stage next row sum
+    value-next {w} {stage} {next} {row} {sum} p s h =
         let q = goes codes nest stage (s .plan) (s .is) p h in
-        record { x = q .x; go = q .go; is = q .is; left = q .left; read-so = subst (λ y. Reading g file step plan₀ w₀ at used w y next row (stage .next)) (q .puts) (s .read-so); ahead = s .ahead }
+        record { x = q .x; go = q .go; is = q .is; left = q .left; read-so = subst (λ y. Reading g file step plan₀ w₀ at used w y next row sum (stage .next)) (q .puts) (s .read-so); ahead = s .ahead }
 
     -- nothing stands next: all values are walked
-    pub nothing-next : {w : List ℕ} {stage : Stage} {next row : ℕ} → Standing w stage next row → stage .count ≤ stage .next → Counts g w₀ w used whole (Done (stage .next) (record { used = row; next = next }))
-    nothing-next {w} {stage} {next} {row} s h =
-        let r : Reading g file step plan₀ w₀ at used w stop next row (stage .next) = subst (λ y. Reading g file step plan₀ w₀ at used w y next row (stage .next)) (ends codes nest stage (s .plan) (s .is) h) (s .read-so) in
+    pub nothing-next : {w : List ℕ} {stage : Stage} {next row sum : ℕ} → Standing w stage next row sum → stage .count ≤ stage .next
+        → Counts g file w₀ w used whole (Done (stage .next) (record { used = row; padding = sum; next = next }))
+    nothing-next {w} {stage} {next} {row} {sum} s h =
+        let r : Reading g file step plan₀ w₀ at used w stop next row sum (stage .next) = subst (λ y. Reading g file step plan₀ w₀ at used w y next row sum (stage .next)) (ends codes nest stage (s .plan) (s .is) h) (s .read-so) in
         let c = ended g file step plan₀ w₀ at used r in
-        rw (c .0) (record { answers = refl; writes = c .1 })
+        rw (c .0, c .2) (record { answers = refl; writes = c .1 })
 
     -- the value is refused
-    pub next-lost : {w w′ : List ℕ} {stage : Stage} {next row n p : ℕ} (v : Next w stage next row) → step (v .x) next row ≡ refused n p → Counts g w₀ w′ used whole (Refused n p)
+    pub next-lost : {w w′ : List ℕ} {stage : Stage} {next row sum n p : ℕ} (v : Next w stage next row sum) → step (v .x) next row ≡ refused n p → Counts g file w₀ w′ used whole (Refused n p)
     next-lost v e = rw (give-up g file step plan₀ w₀ at used (v .x) (v .go) (v .read-so) e) (record { answers = refl; writes = refl })
 
     -- the value is walked
-    pub next-walked : {w w′ : List ℕ} {stage : Stage} {next row a u : ℕ} → Small file → Begin file w₀ g at used → (v : Next w stage next row) → Got g w w′ row (step (v .x) next row) a u
-        → Standing w′ (afterOf stage) a u × (row < u) × (u ≤ g .room)
-    next-walked {w′ = w′} {stage} {next} {row} {a} {u} small b v y =
+    pub next-walked : {w w′ : List ℕ} {stage : Stage} {next row sum a u p : ℕ} → Small file → Begin file w₀ g at used → (v : Next w stage next row sum) → Got g file w w′ row (step (v .x) next row) a u p
+        → Standing w′ (afterOf stage) a u (inWord (sum + p)) × (row < u) × (u ≤ g .room)
+    next-walked {w′ = w′} {stage} {next} {row} {sum} {a} {u} {p} small b v y =
         let t = walk-takes file readers shared (g .room) small depth (v .x) next row used (y .taken) a (y .is) in
         let s : row < u = omega (arith, t, y .rows-used) in
         let plan = v .go (toldOf (y .taken .2)) in
-        let r : Reading g file step plan₀ w₀ at used w′ plan a u (stage .next + 1) =
+        let r : Reading g file step plan₀ w₀ at used w′ plan a u (inWord (sum + p)) (stage .next + 1) =
         turn g file step plan₀ w₀ at used (v .x) (v .go) (v .read-so) y (walk-single file readers shared (g .room) small depth (v .x) next row used (y .taken) a (y .is)) (walk-bounds file readers shared (g .room) small depth (v .x) next row used (y .taken) a (y .is)) in
         let f : u ≤ g .room = r .fits (b .rows) in
         let k : stage .next + 1 < 2 ^ 32 = omega (arith, s, f, v .ahead, b .few) in
@@ -122,7 +124,7 @@ module _ (g : Grid) (file codes : List ℕ) (readers : List Target) (shared dept
           record {
             plan = plan;
             is = v .left k (toldOf (y .taken .2));
-            read-so = subst (λ i. Reading g file step plan₀ w₀ at used w′ plan a u i) z r;
+            read-so = subst (λ i. Reading g file step plan₀ w₀ at used w′ plan a u (inWord (sum + p)) i) z r;
             ahead = omega (arith, v .ahead, s, z);
           },
           s,

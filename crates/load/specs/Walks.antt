@@ -5,7 +5,7 @@ use Prim.Native.Nat.{ℕ, _+_, _≤_, _<_}
 use native.Mathlib.Omega.{arith}
 use lib.ListN.{length}
 use Rattle.laws.specs.Small.{differ}
-use Rattle.layout.specs.Target.{Target}
+use Rattle.layout.specs.Target.{Target, kindOf}
 use Rattle.layout.specs.Slot as L
 use Rattle.layout.specs.Slot.{each}
 use Rattle.reading.specs.Answer.{Answer, refused, read}
@@ -25,25 +25,32 @@ use Rattle.heads.specs.declared.open.Opened.{Opened}
 use Rattle.heads.specs.declared.open.Opened.the-variants.{Head as Opened-head, Refused as Opened-refused}
 use Rattle.heads.specs.Opens.{Opens}
 use Rattle.heads.specs.Nests.{BelowIs}
+use Rattle.heads.specs.Pads.{belowPad}
+use Rattle.places.specs.Places.{countPlaces}
+use Rattle.places.specs.Padding.{padding}
 use Rattle.objects.specs.Close.{Closable}
 use Rattle.load.specs.Known.{Ready}
 use Rattle.ids.specs.declared.Grid.{Grid}
 
--- a head that was read
-pub record OpenedAs (codes : List ℕ) (x : Answer Opening) (next : ℕ) (below : Below) : Type 0 where
+-- a head that was read, with the padding of its count
+pub record OpenedAs (file codes : List ℕ) (t : Target) (at next : ℕ) (below : Below) : Type 0 where
   pub o : Opening
-  pub is : x ≡ read o next
+  pub is : headAt file t at ≡ read o next
   pub slots : List L.Slot
   pub plan : o .1 ≡ each slots
   pub stands : BelowIs codes below slots
+  pub pads : belowPad below ≡ padding file (countPlaces file (kindOf t) at)
 
-pub opened-as : {codes : List ℕ} {next : ℕ} {below : Below} {r : Opened} (x : Answer Opening) → Opens codes x r → r ≡ Opened-head next below → OpenedAs codes x next below
-opened-as (refused n p) w e = differ cc
-opened-as {codes} {next} {below} {r} (read o f) w e =
-    let q : Opened-head f (w .below) ≡ Opened-head next below = sym (w .is) ∙ e in
-    let e₁ : f ≡ next = cc in
-    let e₂ : w .below ≡ below = cc in
-    record { o = o; is = ap (read o) e₁; slots = w .slots; plan = w .plan; stands = subst (λ b. BelowIs codes b (w .slots)) e₂ (w .stands) }
+pub opened-as : (file codes : List ℕ) (t : Target) (at : ℕ) {next : ℕ} {below : Below} {r : Opened} → Opens codes (headAt file t at) r → r ≡ Opened-head next below
+    → belowPad below ≡ padding file (countPlaces file (kindOf t) at) → OpenedAs file codes t at next below
+opened-as file codes t at {next} {below} {r} w e p = go (headAt file t at) refl w where
+  go : (x : Answer Opening) → headAt file t at ≡ x → Opens codes x r → OpenedAs file codes t at next below
+  go (refused n q) h w = differ cc
+  go (read o f) h w =
+      let q : Opened-head f (w .below) ≡ Opened-head next below = sym (w .is) ∙ e in
+      let e₁ : f ≡ next = cc in
+      let e₂ : w .below ≡ below = cc in
+      record { o = o; is = h ∙ ap (read o) e₁; slots = w .slots; plan = w .plan; stands = subst (λ b. BelowIs codes b (w .slots)) e₂ (w .stands); pads = p }
 
 pub refused-as : (codes : List ℕ) {n p : ℕ} {r : Opened} (x : Answer Opening) → Opens codes x r → r ≡ Opened-refused n p → x ≡ refused n p
 refused-as codes {n} {p} (refused m q) w e =
@@ -64,7 +71,7 @@ begin-below {file} {words} {g} {h} {at} {next} t s r e =
 -- the value that ends has a length that fits
 pub close-ready : {file words w₁ : List ℕ} {g : Grid} {h : Head} {at next : ℕ} (t : Target) {o : Opening} (readers : List Target) (shared depth : ℕ) (plan : L.Plan) (walked : Walk)
     → Small file → Ready file words g h at → headAt file t at ≡ read o next
-    → Walked g words w₁ (h .row .0 + 1) (seen (sequence (λ y b v. walk file readers shared (g .room) depth y b v (h .row .0 + 1)) plan next (h .row .0 + 1))) walked
+    → Walked g file words w₁ (h .row .0 + 1) (seen (sequence (λ y b v. walk file readers shared (g .room) depth y b v (h .row .0 + 1)) plan next (h .row .0 + 1))) walked
     → Closable h walked
 close-ready t readers shared depth plan (Refused m p) s r e c = tt
 close-ready {file} {words} {w₁} {g} {h} {at} {next} t readers shared depth plan (Done f) s r e c =

@@ -23,7 +23,8 @@ ghost use Rattle.load.specs.Known.{Known};
 ghost use Rattle.load.specs.Loads.{answerOf};
 ghost use Rattle.load.specs.Contracts.{Finishes, ObjectsLoad, ListsLoad, FileLoads};
 
-// A refusal's number and place; or the number of rows used, the number of readers and the shared count.
+// A refusal's number and place; or the number of rows used, the number of readers, the shared count,
+// and how many bytes the seven-bit numbers of the file have beyond their shortest forms.
 pub enum Loading {
     Refused {
         number: u32,
@@ -33,6 +34,7 @@ pub enum Loading {
         rows: u32,
         readers: u32,
         shared: u32,
+        padding: u32,
     },
 }
 
@@ -43,10 +45,11 @@ fn finish(
     grid: Grid,
     readers: u32,
     shared: u32,
+    padding: u32,
     next: usize,
     used: u32,
 ) -> Loading
-    ensures { λ r. ⌜ Finishes grid (now (file .entry)) readers shared next used (now (words .entry)) (now (words .exit)) r ⌝ }
+    ensures { λ r. ⌜ Finishes grid (now (file .entry)) readers shared padding next used (now (words .entry)) (now (words .exit)) r ⌝ }
 {
     if next != file.len() {
         return Loading::Refused {
@@ -65,12 +68,13 @@ fn finish(
                 rows: used,
                 readers,
                 shared,
+                padding,
             }
         }
     }
 }
 
-// The primary and the shared objects, and the end of the file.
+// The primary and the shared objects, and the end of the file; the numbers before them have this padding.
 fn objects(
     file: &[u8],
     codes: &[u8],
@@ -78,10 +82,11 @@ fn objects(
     words: &mut [u32],
     grid: Grid,
     shared: u32,
+    padding: u32,
     at: usize,
 ) -> Loading
     requires { ⌜ Begin (now file) (now words) grid at 0 × Known (now codes) rd × (shared ≤ 256) ⌝ }
-    ensures { λ r. ⌜ ObjectsLoad grid (now (file .entry)) (now (codes .entry)) rd shared at (now (words .entry)) (now (words .exit)) r ⌝ }
+    ensures { λ r. ⌜ ObjectsLoad grid (now (file .entry)) (now (codes .entry)) rd shared padding at (now (words .entry)) (now (words .exit)) r ⌝ }
 {
     let n = shared + 1;
     let nest = Nest::Each(Slot::Object(10), n);
@@ -93,6 +98,7 @@ fn objects(
             grid,
             rd.count,
             shared,
+            table::sum(padding, reached.padding),
             reached.next,
             reached.used,
         ),
@@ -119,7 +125,7 @@ fn put_prelude(codes: &mut [u8])
 
 // What stands behind the header.
 fn lists(file: &[u8], words: &mut [u32], grid: Grid, at: usize) -> Loading
-    requires { ⌜ (length (now file) ≤ 16777216) × (at ≤ length (now file)) × (width * grid .room ≤ length (now words)) ⌝ }
+    requires { ⌜ (length (now file) ≤ 16777216) × (at ≤ length (now file)) × (width * grid .room ≤ length (now words)) × (at ≡ 10) ⌝ }
     ensures { λ r. ⌜ ListsLoad grid (now (file .entry)) at (now (words .entry)) (now (words .exit)) r ⌝ }
 {
     let mut codes = [0u8; 7168];
@@ -128,13 +134,13 @@ fn lists(file: &[u8], words: &mut [u32], grid: Grid, at: usize) -> Loading
     put_prelude(&mut codes);
     match readers::read_lists(file, &mut codes, &mut targets, &mut starts, at) {
         Lists::Refused(number, place) => Loading::Refused { number, place },
-        Lists::Read(count, shared, next) => {
+        Lists::Read(count, shared, padding, next) => {
             let rd = Readers {
                 targets,
                 starts,
                 count,
             };
-            objects(file, &codes, rd, words, grid, shared, next)
+            objects(file, &codes, rd, words, grid, shared, padding, next)
         }
     }
 }
@@ -152,7 +158,7 @@ fn load_rows(file: &[u8], words: &mut [u32], grid: Grid) -> Loading
 
 // Loads a file into the words, by rows or in columns: its rows, and zeros elsewhere; only zeros after a refusal.
 pub fn load_in(file: &[u8], words: &mut [u32], columns: bool) -> Loading
-    ensures { λ r. ⌜ r ≡ answerOf (loadOf judgedName (now (file .entry)) (length (now (words .entry)))) ⌝ }
+    ensures { λ r. ⌜ r ≡ answerOf (now (file .entry)) (loadOf judgedName (now (file .entry)) (length (now (words .entry)))) ⌝ }
     ensures { λ _. ⌜ now (words .exit)
         ≡ tableIn columns (loadOf judgedName (now (file .entry)) (length (now (words .entry)))) (length (now (words .entry))) ⌝ }
 {
@@ -166,17 +172,19 @@ pub fn load_in(file: &[u8], words: &mut [u32], columns: bool) -> Loading
             rows,
             readers,
             shared,
+            padding,
         } => Loading::Loaded {
             rows,
             readers,
             shared,
+            padding,
         },
     }
 }
 
 // Loads a file into the words: its rows, then zeros; only zeros after a refusal.
 pub fn load(file: &[u8], words: &mut [u32]) -> Loading
-    ensures { λ r. ⌜ r ≡ answerOf (loadOf judgedName (now (file .entry)) (length (now (words .entry)))) ⌝ }
+    ensures { λ r. ⌜ r ≡ answerOf (now (file .entry)) (loadOf judgedName (now (file .entry)) (length (now (words .entry)))) ⌝ }
     ensures { λ _. ⌜ now (words .exit) ≡ tableOf (loadOf judgedName (now (file .entry)) (length (now (words .entry)))) (length (now (words .entry))) ⌝ }
 {
     load_in(file, words, false)
@@ -184,7 +192,7 @@ pub fn load(file: &[u8], words: &mut [u32]) -> Loading
 
 // Loads a file into the words in columns: all kinds, then all first bytes, and so on; only zeros after a refusal.
 pub fn load_columns(file: &[u8], words: &mut [u32]) -> Loading
-    ensures { λ r. ⌜ r ≡ answerOf (loadOf judgedName (now (file .entry)) (length (now (words .entry)))) ⌝ }
+    ensures { λ r. ⌜ r ≡ answerOf (now (file .entry)) (loadOf judgedName (now (file .entry)) (length (now (words .entry)))) ⌝ }
     ensures { λ _. ⌜ now (words .exit)
         ≡ columnsTableOf (loadOf judgedName (now (file .entry)) (length (now (words .entry)))) (length (now (words .entry))) ⌝ }
 {

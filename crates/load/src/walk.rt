@@ -15,11 +15,11 @@ use table::Walk;
 ghost use mathlib.Core.Path.{_≡_};
 ghost use Rattle.leaves.specs.Plain.{Begin};
 ghost use Rattle.load.specs.Known.{Known, KnownSlot, KnownNest, KnownTarget, Ready};
-ghost use Rattle.load.specs.Steps.{KnownRaw, NoRule, stepOf, plainWords};
+ghost use Rattle.load.specs.Steps.{KnownRaw, NoRule, stepOf, topped, plainWords};
 ghost use Rattle.load.specs.Contracts.{FlatSteps, PlacedSteps, ValueSteps, RawWalks, NestWalks};
 
 // A value that needs no reader list, walked; or a raw value whose children need it:
-// its type id, its first byte, the place of its type, where its head ends, and its children.
+// its type id and the padding of that, its first byte, the place of its type, where its head ends, and its children.
 pub enum Stepped {
     Done(Reached),
     Refused {
@@ -28,6 +28,7 @@ pub enum Stepped {
     },
     Nested {
         id: TypeId,
+        padding: u32,
         from: usize,
         place: usize,
         next: usize,
@@ -51,7 +52,7 @@ fn walked_step(walked: Walk) -> Stepped
     }
 }
 
-// A value of a kind without a rule, once its children are walked: its row.
+// A value of a kind without a rule and without a count, once its children are walked: its row.
 fn close_plain(
     words: &mut [u32],
     grid: Grid,
@@ -60,7 +61,7 @@ fn close_plain(
     children: u32,
     walked: Walk,
 ) -> Stepped
-    ensures { λ r. ⌜ r ≡ stepOf walked ⌝ }
+    ensures { λ r. ⌜ r ≡ stepOf (topped (h .padding) walked) ⌝ }
     ensures { λ _. ⌜ now (words .exit) ≡ plainWords grid (now (words .entry)) h kind children walked ⌝ }
 {
     match walked {
@@ -70,13 +71,17 @@ fn close_plain(
             let branch = table::rows_from(row, reached.used);
             let r = table::row_words(h, kind, children, branch, reached.next);
             table::put_row(words, grid, row, r);
-            Stepped::Done(reached)
+            Stepped::Done(Reached {
+                used: reached.used,
+                padding: table::sum(h.padding, reached.padding),
+                next: reached.next,
+            })
         }
     }
 }
 
 // A raw value of a kind, once its head is read: walked, unless its children need the reader list.
-// Only a font has a rule, and its children need the reader list.
+// Only a font has a rule, and its children need the reader list; only a text has a count that is a seven-bit number, and it has no children.
 fn close_flat(
     file: &[u8],
     words: &mut [u32],
@@ -95,14 +100,17 @@ fn close_flat(
 {
     let first = h.row.0 + 1;
     match below {
-        Below::Nothing => close_plain(
-            words,
-            grid,
-            kind,
-            h,
-            0,
-            Walk::Done(Reached { used: first, next }),
-        ),
+        Below::Nothing(count) => {
+            let row = h.row;
+            let whole = Head {
+                row,
+                first: h.first,
+                parent: h.parent,
+                detail: h.detail,
+                padding: table::sum(h.padding, count),
+            };
+            walked_step(table::leaf(words, grid, whole, kind, 0, Number::Read(0, next)))
+        }
         Below::Simple(run) => {
             let n = table::word(leaves::run::turns(run));
             let walked = leaves::run::read_run(
@@ -120,6 +128,7 @@ fn close_flat(
         }
         Below::Nested(nest) => Stepped::Nested {
             id: TypeId(h.detail),
+            padding: h.padding,
             from: at,
             place,
             next,
@@ -201,21 +210,23 @@ fn value(
             depth,
             parent,
         )),
-        Started::Null(next) => {
+        Started::Null(next, padding) => {
             let h = Head {
                 row: RowNumber(used),
                 first: at,
                 parent,
                 detail: 0,
+                padding,
             };
             walked_step(table::leaf(words, grid, h, 0, 0, Number::Read(0, next)))
         }
-        Started::Raw(place, from, id) => {
+        Started::Raw(place, from, id, padding) => {
             let h = Head {
                 row: RowNumber(used),
                 first: at,
                 parent,
                 detail: id.0,
+                padding,
             };
             raw_step(file, codes, words, grid, shared, place, h, from, depth - 1)
         }
@@ -282,6 +293,7 @@ pub(crate) fn nested(
     let mut stage = heads::nest::begin(nest);
     let mut next = at;
     let mut row = used;
+    let mut sum = 0;
     while (stage.next as u64) < stage.count {
         let slot = heads::nest::slot_at(nest, stage.next);
         let position = objects::start::reader_position(file, slot, next);
@@ -303,12 +315,14 @@ pub(crate) fn nested(
             Stepped::Done(reached) => {
                 next = reached.next;
                 row = reached.used;
+                sum = table::sum(sum, reached.padding);
             }
             Stepped::Refused { number, place } => {
                 return Children::Refused { number, place };
             }
             Stepped::Nested {
                 id,
+                padding,
                 from,
                 place,
                 next: below,
@@ -319,6 +333,7 @@ pub(crate) fn nested(
                     first: next,
                     parent: used,
                     detail: id.0,
+                    padding,
                 };
                 match raw(
                     file,
@@ -337,6 +352,7 @@ pub(crate) fn nested(
                     Walk::Done(reached) => {
                         next = reached.next;
                         row = reached.used;
+                        sum = table::sum(sum, reached.padding);
                     }
                     Walk::Refused { number, place: q } => {
                         return Children::Refused { number, place: q };
@@ -348,6 +364,10 @@ pub(crate) fn nested(
     }
     Children::Done {
         count: stage.next,
-        reached: Reached { used: row, next },
+        reached: Reached {
+            used: row,
+            padding: sum,
+            next,
+        },
     }
 }

@@ -111,10 +111,6 @@ module _ (g : Grid) (file : List ℕ) (small : Small file) (readers : List Targe
     abbrev pub rawOf : Outcome
     rawOf = rawAt file readers shared (g .room) (under file readers shared (g .room) below (h .row .0)) t (h .first) at (h .row .0) (h .parent) (h .detail)
 
-    pub raw-refused : {n p : ℕ} {w : List ℕ} → headAt file t at ≡ refused n p → Walked g file w₀ w (h .row .0) (seen rawOf) (Refused n p)
-    unfolding rawAt bind
-    raw-refused e = refusing (rw e)
-
     module _ {o : Opening} {next : ℕ} (opened : headAt file t at ≡ read o next) (plan : Plan) (planned : o .1 ≡ plan) where
       abbrev seq : Outcome
       seq = sequence (λ y b v. walk file readers shared (g .room) below y b v (suc (h .row .0))) plan next (suc (h .row .0))

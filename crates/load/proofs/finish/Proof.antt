@@ -6,7 +6,7 @@ use Rattle.load.proofs.finish.Tie as tie
 
 returns : tie.Need-returns
 returns c =
-    λ platform flags names a w d. loads-refused _ _ ((c .before .before .before .args) .words .now) _ (not-the-end _ platform flags names _ _ a _ ((c .if1) .taken))
+    λ total platform flags names a w d q. loads-refused _ total _ (c .before .before .before .args .words .now) _ (not-the-end _ platform flags names _ _ a _ (c .if1 .taken))
 
 settle-requires : tie.Need-settle-requires
 settle-requires c κs = search needs
@@ -14,8 +14,8 @@ settle-requires c κs = search needs
 enum-known-first : tie.Need-enum-known-first
 enum-known-first c = search needs
 
-cast-t15 : tie.Need-cast-t15
-cast-t15 c = search needs
+cast-t16 : tie.Need-cast-t16
+cast-t16 c = search needs
 
 enum-told : tie.Need-enum-told
 enum-told c = search needs
@@ -28,18 +28,18 @@ same-length c = search needs
 
 returns-2 : tie.Need-returns-2
 returns-2 c =
-    λ platform flags names a w d.
-    let s = (c .before .before .before .before .before .settle) .ensures .0 (a .1) w d in
-    loads-refused _ _ ((c .before .before .before .before .before .before .before .before .before .before .args) .words .now) _ (wrong-resource _ platform flags names _ _ a _ ((c .before .before .before .before .before .before .before .if1) .left) (sym (s .answers) ∙ (c .before .first) .given .1))
+    λ total platform flags names a w d q.
+    let s = c .before .before .before .before .before .settle .ensures .0 (a .1) w d in
+    loads-refused _ total _ (c .before .before .before .before .before .before .before .before .before .before .args .words .now) _ (wrong-resource _ platform flags names _ _ a _ (c .before .before .before .before .before .before .before .if1 .left) (sym (s .answers) ∙ c .before .first .given .1))
 
 same-length-2 : tie.Need-same-length-2
 same-length-2 c = search needs
 
 returns-3 : tie.Need-returns-3
 returns-3 c =
-    λ platform flags names a w d.
-    let s = rw ((c .before .before .before .before .enum-told) .given .1) at ((c .before .before .before .before .before .before .before .before .settle) .ensures .0 (a .1) w d) in
-    all-well _ platform flags names _ _ a _ ((c .before .before .before .before .before .before .before .before .before .before .if1) .left) d (s .answers) (s .leaves) ((c .before .before .clear-behind) .ensures)
+    λ total platform flags names a w d q.
+    let s = rw (c .before .before .before .before .enum-told .given .1) at (c .before .before .before .before .before .before .before .before .settle .ensures .0 (a .1) w d) in
+    all-well _ platform flags names _ _ a _ (c .before .before .before .before .before .before .before .before .before .before .if1 .left) total d q (s .answers) (s .leaves) (c .before .before .clear-behind .ensures)
 
 pub finish-spec : {M : Type 1} → statement M
-finish-spec = tie.close (tie.spec returns settle-requires enum-known-first cast-t15 enum-told clear-behind-requires same-length returns-2 same-length-2 returns-3)
+finish-spec = tie.close (tie.spec returns settle-requires enum-known-first cast-t16 enum-told clear-behind-requires same-length returns-2 same-length-2 returns-3)

@@ -2,7 +2,8 @@ use mathlib.Core.Path.{sym, _∙_}
 use native.Mathlib.Omega.{arith}
 use Rattle.reading.specs.Reads.{small-by-index}
 use Rattle.readers.specs.Contract.{short-file}
-use Rattle.load.specs.Laws.{kept-prelude, lists-inside, lists-refused, behind-lists, loads-refused}
+use Rattle.load.specs.Loads.{fileTotal}
+use Rattle.load.specs.Laws.{kept-prelude, lists-inside, lists-refused, behind-lists, lists-padded, loads-refused}
 use borrow.Author.Needs.{needs}
 use Rattle.load.proofs.lists.Statement.{statement}
 use Rattle.load.proofs.lists.Tie as tie
@@ -24,7 +25,7 @@ enum-known-count c = search needs
 
 slice-aggregate-objects : tie.Need-slice-aggregate-objects
 slice-aggregate-objects c =
-    let l = rw (c .before .before .count .given .1) at (c .before .before .before .before .read-lists .ensures .0) in
+    let l = (rw (c .before .before .count .given .1) at (c .before .before .before .before .read-lists .ensures .0)) .0 in
     sym (l .codes-size)
 
 objects-requires : tie.Need-objects-requires
@@ -32,7 +33,7 @@ objects-requires c κs =
     let a = c .before .before .before .before .before .before .before .before .before .before .before .before .before .before .args in
     let file = a .file .now in
     let small = small-by-index file (λ i h. omega (arith, c .before .before .before .before .before .before .before .before .before .before .before .before .before .shared-slice-known .given i)) in
-    let l = rw (c .before .before .before .count .given .1) at (c .before .before .before .before .before .read-lists .ensures .0) in
+    let l = (rw (c .before .before .before .count .given .1) at (c .before .before .before .before .before .read-lists .ensures .0)) .0 in
     let q = sym (short-file file (a .at) (c .before .before .before .before .before .before .before .before .before .before .before .before .before .before .pre .0)) ∙ l .answer in
     (record { long = c .before .before .before .before .before .before .before .before .before .before .before .before .before .before .pre .2; few = omega arith; rows = omega arith; place = lists-inside file small (a .at) (c .before .before .before .before .before .before .before .before .before .before .before .before .before .before .pre .1) q; short = omega (arith, c .before .before .before .before .before .before .before .before .before .before .before .before .before .before .pre .0) }, record { readers = l .readers; listed = l .listed; prelude = kept-prelude _ (l .kept ∙ c .before .before .before .before .before .before .before .before .before .before .put-prelude .ensures) }, l .shared-few)
 
@@ -42,7 +43,7 @@ returns c =
     let a = c .before .before .before .before .before .before .before .before .before .before .before .before .args in
     let file = a .file .now in
     let l = rw (c .before .number .given .1) at (c .before .before .before .read-lists .ensures .0) in
-    loads-refused _ _ (a .words .now) _ (lists-refused file (a .grid .room) platform flags (a .at) (sym (short-file file (a .at) (c .before .before .before .before .before .before .before .before .before .before .before .before .pre .0)) ∙ l))
+    loads-refused _ _ _ (a .words .now) _ (lists-refused file (a .grid .room) platform flags (a .at) (sym (short-file file (a .at) (c .before .before .before .before .before .before .before .before .before .before .before .before .pre .0)) ∙ l))
 
 same-length : tie.Need-same-length
 same-length c = search needs
@@ -52,8 +53,9 @@ returns-2 c =
     λ platform flags.
     let a = c .before .before .before .before .before .before .before .before .before .before .before .before .before .before .before .before .before .args in
     let file = a .file .now in
-    let l = rw (c .before .before .before .before .before .before .count .given .1) at (c .before .before .before .before .before .before .before .before .read-lists .ensures .0) in
-    rw (behind-lists file (a .grid .room) platform flags (a .at) (sym (short-file file (a .at) (c .before .before .before .before .before .before .before .before .before .before .before .before .before .before .before .before .before .pre .0)) ∙ l .answer)) (c .before .before .objects .ensures platform flags (l .names) (l .readers) (l .listed))
+    let v = rw (c .before .before .before .before .before .before .count .given .1) at (c .before .before .before .before .before .before .before .before .read-lists .ensures .0) in
+    let l = v .0 in
+    rw (behind-lists file (a .grid .room) platform flags (a .at) (sym (short-file file (a .at) (c .before .before .before .before .before .before .before .before .before .before .before .before .before .before .before .before .before .pre .0)) ∙ l .answer)) (c .before .before .objects .ensures (fileTotal file) platform flags (l .names) (l .readers) (l .listed) (lists-padded file _ (a .at) _ (l .readers) (c .before .before .before .before .before .before .before .before .before .before .before .before .before .before .before .before .before .pre .3) (l .listed .counts) (v .1)))
 
 pub lists-spec : {M : Type 1} → statement M
 lists-spec =

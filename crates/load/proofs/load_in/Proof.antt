@@ -2,6 +2,7 @@ use mathlib.Core.Path.{refl, ap}
 use native.Mathlib.Omega.{arith}
 use Rattle.ids.specs.declared.Grid.{Grid}
 use Rattle.reading.specs.File.{roomOf}
+use Rattle.reading.specs.Reads.{small-by-index}
 use Rattle.load.specs.Laws.{load-refused, load-loaded}
 use borrow.Author.Needs.{needs}
 use Rattle.load.proofs.load_in.Statement.{statement}
@@ -38,7 +39,8 @@ same-length-2 c = search needs
 returns-2 : tie.Need-returns-2
 returns-2 c =
     let l = (rw (c .before .before .before .before .before .before .before .shaped .ensures, c .before .rows .given .1) at (c .before .before .before .before .before .load-rows .ensures)) in
-    load-loaded (c .before .before .before .before .before .before .before .before .before .before .args .file .now) (c .before .before .before .before .before .before .before .before .before .before .args .words .now) (c .before .before .before .before .before .before .before .before .before .before .args .columns) l
+    let small = small-by-index (c .before .before .before .before .before .before .before .before .before .before .args .file .now) (λ i h. omega (arith, c .before .before .before .before .before .before .before .before .before .shared-slice-known .given i)) in
+    load-loaded (c .before .before .before .before .before .before .before .before .before .before .args .file .now) (c .before .before .before .before .before .before .before .before .before .before .args .words .now) (c .before .before .before .before .before .before .before .before .before .before .args .columns) small l
 
 pub load-in-spec : {M : Type 1} → statement M
 load-in-spec =

@@ -19,12 +19,12 @@ lists-requires c κs =
     let file = c .before .before .before .before .before .before .before .args .file .now in
     let small = small-by-index file (λ i h. omega (arith, c .before .before .before .before .before .before .shared-slice-known .given i)) in
     let h = header-read file small (rw (c .before .before .at .given .1) at (c .before .before .before .before .header .ensures)) in
-    (h .short, h .inside, c .before .before .before .before .before .before .before .pre)
+    (h .short, h .inside, c .before .before .before .before .before .before .before .pre, h .ten)
 
 returns : tie.Need-returns
 returns c =
     let file = c .before .before .before .before .before .before .args .file .now in
-    loads-refused _ _ (c .before .before .before .before .before .before .args .words .now) _ (header-refused file (c .before .before .before .before .before .before .args .grid .room) (rw (c .before .number .given .1) at (c .before .before .before .header .ensures)))
+    loads-refused _ _ _ (c .before .before .before .before .before .before .args .words .now) _ (header-refused file (c .before .before .before .before .before .before .args .grid .room) (rw (c .before .number .given .1) at (c .before .before .before .header .ensures)))
 
 same-length : tie.Need-same-length
 same-length c = search needs

@@ -1,7 +1,9 @@
+use mathlib.Core.Path.{sym, ap, _∙_}
 use native.Mathlib.Omega.{arith}
+use Rattle.reading.specs.Drafts.{bare}
 use Rattle.layout.specs.Slot.{each}
 use Rattle.reading.specs.Reads.{small-by-index}
-use Rattle.load.specs.Laws.{roots, roots-are, objects-lost, objects-got, objects-loaded, loads-refused}
+use Rattle.load.specs.Laws.{roots, roots-are, objects-lost, objects-got, objects-loaded, objects-padded, loads-refused}
 use borrow.Author.Needs.{needs}
 use Rattle.load.proofs.objects.Statement.{statement}
 use Rattle.load.proofs.objects.Tie as tie
@@ -11,15 +13,18 @@ add-n c = search needs
 
 nested-requires : tie.Need-nested-requires
 nested-requires c κs =
-    let a = (c .before .before .before .before .args) in
-    let small = small-by-index (a .file .now) (λ i h. omega (arith, (c .before .before .before .shared-slice-known) .given i)) in
-    ((c .before .before .before .before .pre) .0, (c .before .before .before .before .pre) .1, record { plan = each (roots (a .grid) (a .file .now) small (a .codes .now) (a .shared) (a .at) ((c .before .before .before .before .pre) .2)); is = roots-are (a .grid) (a .file .now) small (a .codes .now) (a .shared) (a .at) ((c .before .before .before .before .pre) .2) ((c .before .before .before .before .pre) .1 .prelude) })
+    let a = c .before .before .before .before .args in
+    let small = small-by-index (a .file .now) (λ i h. omega (arith, c .before .before .before .shared-slice-known .given i)) in
+    (c .before .before .before .before .pre .0, c .before .before .before .before .pre .1, record { plan = each (roots (a .grid) (a .file .now) small (a .codes .now) (a .shared) (a .at) (c .before .before .before .before .pre .2)); is = roots-are (a .grid) (a .file .now) small (a .codes .now) (a .shared) (a .at) (c .before .before .before .before .pre .2) (c .before .before .before .before .pre .1 .prelude) })
 
 enum-known-number : tie.Need-enum-known-number
 enum-known-number c = search needs
 
 enum-known-reached : tie.Need-enum-known-reached
 enum-known-reached c = search needs
+
+sum-requires : tie.Need-sum-requires
+sum-requires c κs = search needs
 
 finish-requires : tie.Need-finish-requires
 finish-requires c κs = search needs
@@ -29,23 +34,23 @@ same-length c = search needs
 
 returns : tie.Need-returns
 returns c =
-    λ platform flags names readers l.
-    let a = (c .before .before .before .before .before .before .before .before .before .before .args) in
-    let small = small-by-index (a .file .now) (λ i h. omega (arith, (c .before .before .before .before .before .before .before .before .before .shared-slice-known) .given i)) in
-    let w = (c .before .before .before .before .before .nested) .ensures readers (each (roots (a .grid) (a .file .now) small (a .codes .now) (a .shared) (a .at) ((c .before .before .before .before .before .before .before .before .before .before .pre) .2))) l (roots-are (a .grid) (a .file .now) small (a .codes .now) (a .shared) (a .at) ((c .before .before .before .before .before .before .before .before .before .before .pre) .2) ((c .before .before .before .before .before .before .before .before .before .before .pre) .1 .prelude)) in
-    loads-refused _ _ (a .words .now) _ (objects-lost (a .grid) (a .file .now) small (a .codes .now) (a .shared) (a .at) ((c .before .before .before .before .before .before .before .before .before .before .pre) .2) platform flags names readers w ((c .before .number) .given .1))
+    λ total platform flags names readers l q.
+    let a = c .before .before .before .before .before .before .before .before .before .before .args in
+    let small = small-by-index (a .file .now) (λ i h. omega (arith, c .before .before .before .before .before .before .before .before .before .shared-slice-known .given i)) in
+    let w = c .before .before .before .before .before .nested .ensures readers (each (roots (a .grid) (a .file .now) small (a .codes .now) (a .shared) (a .at) (c .before .before .before .before .before .before .before .before .before .before .pre .2))) l (roots-are (a .grid) (a .file .now) small (a .codes .now) (a .shared) (a .at) (c .before .before .before .before .before .before .before .before .before .before .pre .2) (c .before .before .before .before .before .before .before .before .before .before .pre .1 .prelude)) in
+    loads-refused _ total _ (a .words .now) _ (objects-lost (a .grid) (a .file .now) small (a .codes .now) (a .shared) (a .at) (c .before .before .before .before .before .before .before .before .before .before .pre .2) platform flags names readers w (c .before .number .given .1))
 
 same-length-2 : tie.Need-same-length-2
 same-length-2 c = search needs
 
 returns-2 : tie.Need-returns-2
 returns-2 c =
-    λ platform flags names readers l.
-    let a = (c .before .before .before .before .before .before .before .before .before .before .before .before .before .before .args) in
-    let small = small-by-index (a .file .now) (λ i h. omega (arith, (c .before .before .before .before .before .before .before .before .before .before .before .before .before .shared-slice-known) .given i)) in
-    let w = (c .before .before .before .before .before .before .before .before .before .nested) .ensures readers (each (roots (a .grid) (a .file .now) small (a .codes .now) (a .shared) (a .at) ((c .before .before .before .before .before .before .before .before .before .before .before .before .before .before .pre) .2))) l (roots-are (a .grid) (a .file .now) small (a .codes .now) (a .shared) (a .at) ((c .before .before .before .before .before .before .before .before .before .before .before .before .before .before .pre) .2) ((c .before .before .before .before .before .before .before .before .before .before .before .before .before .before .pre) .1 .prelude)) in
-    let o = objects-got (a .grid) (a .file .now) small (a .codes .now) (a .shared) (a .at) ((c .before .before .before .before .before .before .before .before .before .before .before .before .before .before .pre) .2) platform flags names readers ((c .before .before .before .before .before .before .before .before .before .before .before .before .before .before .pre) .0 .long) w ((c .before .before .before .before .before .reached) .given .1) in
-    objects-loaded (a .grid) (a .file .now) small (a .codes .now) (a .shared) (a .at) ((c .before .before .before .before .before .before .before .before .before .before .before .before .before .before .pre) .2) platform flags names readers (a .words .now) _ _ _ o (search needs) (rw (l .counts) at ((c .before .before .finish) .ensures platform flags names (o .taken) _ (o .drafted)))
+    λ total platform flags names readers l q.
+    let a = c .before .before .before .before .before .before .before .before .before .before .before .before .before .before .before .args in
+    let small = small-by-index (a .file .now) (λ i h. omega (arith, c .before .before .before .before .before .before .before .before .before .before .before .before .before .before .shared-slice-known .given i)) in
+    let w = c .before .before .before .before .before .before .before .before .before .before .nested .ensures readers (each (roots (a .grid) (a .file .now) small (a .codes .now) (a .shared) (a .at) (c .before .before .before .before .before .before .before .before .before .before .before .before .before .before .before .pre .2))) l (roots-are (a .grid) (a .file .now) small (a .codes .now) (a .shared) (a .at) (c .before .before .before .before .before .before .before .before .before .before .before .before .before .before .before .pre .2) (c .before .before .before .before .before .before .before .before .before .before .before .before .before .before .before .pre .1 .prelude)) in
+    let o = objects-got (a .grid) (a .file .now) small (a .codes .now) (a .shared) (a .at) (c .before .before .before .before .before .before .before .before .before .before .before .before .before .before .before .pre .2) platform flags names readers (c .before .before .before .before .before .before .before .before .before .before .before .before .before .before .before .pre .0 .long) w (c .before .before .before .before .before .before .reached .given .1) in
+    objects-loaded (a .grid) (a .file .now) small (a .codes .now) (a .shared) (a .at) (c .before .before .before .before .before .before .before .before .before .before .before .before .before .before .before .pre .2) platform flags names readers total (a .words .now) _ _ _ o (search needs) (rw (l .counts) at (c .before .before .finish .ensures total platform flags names (o .taken) _ (o .drafted) (c .before .before .before .sum .ensures ∙ objects-padded (a .grid) (a .file .now) small (a .codes .now) (a .shared) (a .at) (c .before .before .before .before .before .before .before .before .before .before .before .before .before .before .before .pre .2) platform flags names readers total (a .padding) o q ∙ ap (λ n. total n (bare (o .taken .1))) (sym (l .counts)))))
 
 pub objects-spec : {M : Type 1} → statement M
-objects-spec = tie.close (tie.spec add-n nested-requires enum-known-number enum-known-reached finish-requires same-length returns same-length-2 returns-2)
+objects-spec = tie.close (tie.spec add-n nested-requires enum-known-number enum-known-reached sum-requires finish-requires same-length returns same-length-2 returns-2)

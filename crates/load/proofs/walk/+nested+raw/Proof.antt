@@ -1,4 +1,4 @@
-use mathlib.Core.Path.{refl, sym, ap, subst, _∙_}
+use mathlib.Core.Path.{_≡_, refl, sym, ap, subst, _∙_}
 use mathlib.Core.List.{List}
 use mathlib.Core.Logic.{⊎-elim}
 use native.Mathlib.Omega.{arith}
@@ -10,6 +10,7 @@ use Rattle.layout.specs.Slot as L
 use Rattle.reading.specs.Reads.{small-by-index}
 use Rattle.reading.specs.Walk.{walk}
 use Rattle.types.specs.Laws.{kind-is}
+use Rattle.places.specs.Word.{inWord}
 use Rattle.table.specs.Loop.{same, Got, got, lost}
 use Rattle.readers.specs.Listed.{Listed}
 use Rattle.heads.specs.Nests.{NestIs, begins, afterOf}
@@ -32,15 +33,18 @@ use Rattle.heads.proofs.nest.slot_at.Reads as slot-at-reads
 use Rattle.load.proofs.walk.value.Reads as value-reads
 use Rattle.objects.proofs.close.close.Reads as close-reads
 use Rattle.objects.proofs.start.reader_position.Reads as reader-position-reads
+use Rattle.table.proofs.sum.Reads as sum-reads
 use Rattle.types.proofs.kind_at.Reads as kind-at-reads
 use Rattle.load.proofs.walk.+nested+raw.{statement}
 use Rattle.load.proofs.walk.+nested+raw.Tie.{close}
 
 abbrev μ-nested : Measures 3 nested-kinds.ps ℕ
-μ-nested κs a = 2 * (a .1 .1 .1 .1 .1 .1 .1 .1 .1 .0)
+μ-nested κs a =
+    2 * (a .1 .1 .1 .1 .1 .1 .1 .1 .1 .0)
 
 abbrev μ-raw : Measures 3 raw-kinds.ps ℕ
-μ-raw κs a = 2 * (a .1 .1 .1 .1 .1 .1 .1 .1 .1 .1 .1 .0) + 1
+μ-raw κs a =
+    2 * (a .1 .1 .1 .1 .1 .1 .1 .1 .1 .1 .1 .0) + 1
 
 abbrev nested-at : ℕ → In 3 nested-kinds.ps
 nested-at t = and 3 nested-kinds.ps (is 3 nested-kinds.ps μ-nested t) nested.Pre
@@ -55,11 +59,12 @@ abbrev raw-below : ℕ → In 3 raw-kinds.ps
 raw-below t = and 3 raw-kinds.ps (falls 3 raw-kinds.ps _<_ μ-raw t) raw.Pre
 
 abbrev nested-Inv-loop : nested-lts.InvT-loop
-nested-Inv-loop file codes words₀ grid shared nest at used depth rd stage₀ next₀ row₀ words stage next row =
-    (readers : List Target) (plan₀ : L.Plan) → Listed codes rd readers → NestIs codes nest plan₀ → Standing grid file codes readers shared depth plan₀ words₀ at used nest words stage next row
+nested-Inv-loop file codes words₀ grid shared nest at used depth rd stage₀ next₀ row₀ sum₀ words stage next row sum =
+    (readers : List Target) (plan₀ : L.Plan) → Listed codes rd readers → NestIs codes nest plan₀ → Standing grid file codes readers shared depth plan₀ words₀ at used nest words stage next row sum
 
 abbrev nested-μ-loop : nested-lts.MeasureT-loop
-nested-μ-loop file codes words₀ grid shared nest at used depth rd stage₀ next₀ row₀ words stage next row = grid .room - row
+nested-μ-loop file codes words₀ grid shared nest at used depth rd stage₀ next₀ row₀ sum₀ words stage next row sum =
+    grid .room - row
 
 nested-begin-requires : (t : ℕ) → nested-lts.Need-begin-requires (
   begin-reads.Asked,
@@ -70,6 +75,8 @@ nested-begin-requires : (t : ℕ) → nested-lts.Need-begin-requires (
   reader-position-reads.Learnt,
   value-reads.Asked,
   value-reads.Learnt,
+  sum-reads.Asked,
+  sum-reads.Learnt,
   raw-below t,
   raw.Post,
   after-reads.Asked,
@@ -86,12 +93,15 @@ nested-loop-holds : (t : ℕ) → nested-lts.Need-loop-holds (
   reader-position-reads.Learnt,
   value-reads.Asked,
   value-reads.Learnt,
+  sum-reads.Asked,
+  sum-reads.Learnt,
   raw-below t,
   raw.Post,
   after-reads.Asked,
   after-reads.Learnt,
 ) (nested-at t) nested.Post nested-Inv-loop nested-μ-loop
-nested-loop-holds t c = λ readers plan l w. rw ((c .begin) .ensures) (standing _ _ _ _ _ _ _ _ _ _ _ w)
+nested-loop-holds t c =
+    λ readers plan l w. rw ((c .begin) .ensures) (standing _ _ _ _ _ _ _ _ _ _ _ w)
 
 nested-cast-if1 : (t : ℕ) → nested-lts.Need-cast-if1 (
   begin-reads.Asked,
@@ -102,6 +112,8 @@ nested-cast-if1 : (t : ℕ) → nested-lts.Need-cast-if1 (
   reader-position-reads.Learnt,
   value-reads.Asked,
   value-reads.Learnt,
+  sum-reads.Asked,
+  sum-reads.Learnt,
   raw-below t,
   raw.Post,
   after-reads.Asked,
@@ -118,6 +130,8 @@ nested-slot-at-requires : (t : ℕ) → nested-lts.Need-slot-at-requires (
   reader-position-reads.Learnt,
   value-reads.Asked,
   value-reads.Learnt,
+  sum-reads.Asked,
+  sum-reads.Learnt,
   raw-below t,
   raw.Post,
   after-reads.Asked,
@@ -134,6 +148,8 @@ nested-reader-position-requires : (t : ℕ) → nested-lts.Need-reader-position-
   reader-position-reads.Learnt,
   value-reads.Asked,
   value-reads.Learnt,
+  sum-reads.Asked,
+  sum-reads.Learnt,
   raw-below t,
   raw.Post,
   after-reads.Asked,
@@ -150,6 +166,8 @@ nested-mul-target : (t : ℕ) → nested-lts.Need-mul-target (
   reader-position-reads.Learnt,
   value-reads.Asked,
   value-reads.Learnt,
+  sum-reads.Asked,
+  sum-reads.Learnt,
   raw-below t,
   raw.Post,
   after-reads.Asked,
@@ -168,6 +186,8 @@ nested-element-copy-out-target : (t : ℕ) → nested-lts.Need-element-copy-out-
   reader-position-reads.Learnt,
   value-reads.Asked,
   value-reads.Learnt,
+  sum-reads.Asked,
+  sum-reads.Learnt,
   raw-below t,
   raw.Post,
   after-reads.Asked,
@@ -186,6 +206,8 @@ nested-value-requires : (t : ℕ) → nested-lts.Need-value-requires (
   reader-position-reads.Learnt,
   value-reads.Asked,
   value-reads.Learnt,
+  sum-reads.Asked,
+  sum-reads.Learnt,
   raw-below t,
   raw.Post,
   after-reads.Asked,
@@ -206,12 +228,32 @@ nested-enum-known-reached : (t : ℕ) → nested-lts.Need-enum-known-reached (
   reader-position-reads.Learnt,
   value-reads.Asked,
   value-reads.Learnt,
+  sum-reads.Asked,
+  sum-reads.Learnt,
   raw-below t,
   raw.Post,
   after-reads.Asked,
   after-reads.Learnt,
 ) (nested-at t) nested.Post nested-Inv-loop nested-μ-loop
 nested-enum-known-reached t c = search needs
+
+nested-sum-requires : (t : ℕ) → nested-lts.Need-sum-requires (
+  begin-reads.Asked,
+  begin-reads.Learnt,
+  slot-at-reads.Asked,
+  slot-at-reads.Learnt,
+  reader-position-reads.Asked,
+  reader-position-reads.Learnt,
+  value-reads.Asked,
+  value-reads.Learnt,
+  sum-reads.Asked,
+  sum-reads.Learnt,
+  raw-below t,
+  raw.Post,
+  after-reads.Asked,
+  after-reads.Learnt,
+) (nested-at t) nested.Post nested-Inv-loop nested-μ-loop
+nested-sum-requires t c κs = search needs
 
 nested-enum-known-number : (t : ℕ) → nested-lts.Need-enum-known-number (
   begin-reads.Asked,
@@ -222,6 +264,8 @@ nested-enum-known-number : (t : ℕ) → nested-lts.Need-enum-known-number (
   reader-position-reads.Learnt,
   value-reads.Asked,
   value-reads.Learnt,
+  sum-reads.Asked,
+  sum-reads.Learnt,
   raw-below t,
   raw.Post,
   after-reads.Asked,
@@ -238,6 +282,8 @@ nested-same-length : (t : ℕ) → nested-lts.Need-same-length (
   reader-position-reads.Learnt,
   value-reads.Asked,
   value-reads.Learnt,
+  sum-reads.Asked,
+  sum-reads.Learnt,
   raw-below t,
   raw.Post,
   after-reads.Asked,
@@ -257,6 +303,8 @@ nested-returns : (t : ℕ) → nested-lts.Need-returns (
   reader-position-reads.Learnt,
   value-reads.Asked,
   value-reads.Learnt,
+  sum-reads.Asked,
+  sum-reads.Learnt,
   raw-below t,
   raw.Post,
   after-reads.Asked,
@@ -278,6 +326,8 @@ nested-enum-known-id : (t : ℕ) → nested-lts.Need-enum-known-id (
   reader-position-reads.Learnt,
   value-reads.Asked,
   value-reads.Learnt,
+  sum-reads.Asked,
+  sum-reads.Learnt,
   raw-below t,
   raw.Post,
   after-reads.Asked,
@@ -294,6 +344,8 @@ nested-sub-raw : (t : ℕ) → nested-lts.Need-sub-raw (
   reader-position-reads.Learnt,
   value-reads.Asked,
   value-reads.Learnt,
+  sum-reads.Asked,
+  sum-reads.Learnt,
   raw-below t,
   raw.Post,
   after-reads.Asked,
@@ -315,6 +367,8 @@ nested-raw-requires : (t : ℕ) → nested-lts.Need-raw-requires (
   reader-position-reads.Learnt,
   value-reads.Asked,
   value-reads.Learnt,
+  sum-reads.Asked,
+  sum-reads.Learnt,
   raw-below t,
   raw.Post,
   after-reads.Asked,
@@ -326,7 +380,7 @@ nested-raw-requires t c κs =
     let v = value-next _ _ _ _ _ _ _ _ _ _ _ (k .prelude) inv ((c .before .before .before .before .before .before .before .before .before .before .before .if1) .taken) in
     let s = rw ((c .before .before .id) .given .1) at ((c .before .before .before .before .before .before .value) .ensures ((c .before .before .before .before .before .before .before .before .before .before .before .before .before .before .before .before .before .before .before .args) .t3) (k .readers) (v .x) (record { counts = refl; at = ap (λ p. getD ((c .before .before .before .before .before .before .before .before .before .before .before .before .before .before .before .before .before .before .before .args) .t3 .targets) p 0) (sym ((c .before .before .before .before .before .before .before .before .before .reader-position) .ensures)) }) (k .listed) (rw ((c .before .before .before .before .before .before .before .before .before .before .slot-at) .ensures) (v .is))) in
     let b = standing-begin _ _ _ _ _ _ _ _ _ _ _ ((c .before .before .before .before .before .before .before .before .before .before .before .before .before .before .before .before .before .before .before .pre) .1 .0) inv in
-    (omega (arith, (c .before .before .before .before .before .before .before .before .before .before .before .before .before .before .before .before .before .before .before .pre) .0, s .begins .deep), (record { long = omega (arith, b .long, ap length (s .same)); few = b .few; free = s .begins .free; begun = s .begins .ahead; place = s .begins .inside; short = b .short }, k, record { type = s .begins .type; is = s .begins .stands; opened = s .opened }))
+    (omega (arith, (c .before .before .before .before .before .before .before .before .before .before .before .before .before .before .before .before .before .before .before .pre) .0, s .begins .deep), (record { long = omega (arith, b .long, ap length (s .same)); few = b .few; free = s .begins .free; begun = s .begins .ahead; place = s .begins .inside; short = b .short; ided = s .begins .ided }, k, record { type = s .begins .type; is = s .begins .stands; opened = s .opened }))
 
 nested-enum-known-reached-2 : (t : ℕ) → nested-lts.Need-enum-known-reached-2 (
   begin-reads.Asked,
@@ -337,12 +391,32 @@ nested-enum-known-reached-2 : (t : ℕ) → nested-lts.Need-enum-known-reached-2
   reader-position-reads.Learnt,
   value-reads.Asked,
   value-reads.Learnt,
+  sum-reads.Asked,
+  sum-reads.Learnt,
   raw-below t,
   raw.Post,
   after-reads.Asked,
   after-reads.Learnt,
 ) (nested-at t) nested.Post nested-Inv-loop nested-μ-loop
 nested-enum-known-reached-2 t c = search needs
+
+nested-sum-requires-2 : (t : ℕ) → nested-lts.Need-sum-requires-2 (
+  begin-reads.Asked,
+  begin-reads.Learnt,
+  slot-at-reads.Asked,
+  slot-at-reads.Learnt,
+  reader-position-reads.Asked,
+  reader-position-reads.Learnt,
+  value-reads.Asked,
+  value-reads.Learnt,
+  sum-reads.Asked,
+  sum-reads.Learnt,
+  raw-below t,
+  raw.Post,
+  after-reads.Asked,
+  after-reads.Learnt,
+) (nested-at t) nested.Post nested-Inv-loop nested-μ-loop
+nested-sum-requires-2 t c κs = search needs
 
 nested-enum-known-number-2 : (t : ℕ) → nested-lts.Need-enum-known-number-2 (
   begin-reads.Asked,
@@ -353,6 +427,8 @@ nested-enum-known-number-2 : (t : ℕ) → nested-lts.Need-enum-known-number-2 (
   reader-position-reads.Learnt,
   value-reads.Asked,
   value-reads.Learnt,
+  sum-reads.Asked,
+  sum-reads.Learnt,
   raw-below t,
   raw.Post,
   after-reads.Asked,
@@ -369,6 +445,8 @@ nested-same-length-2 : (t : ℕ) → nested-lts.Need-same-length-2 (
   reader-position-reads.Learnt,
   value-reads.Asked,
   value-reads.Learnt,
+  sum-reads.Asked,
+  sum-reads.Learnt,
   raw-below t,
   raw.Post,
   after-reads.Asked,
@@ -388,6 +466,8 @@ nested-returns-2 : (t : ℕ) → nested-lts.Need-returns-2 (
   reader-position-reads.Learnt,
   value-reads.Asked,
   value-reads.Learnt,
+  sum-reads.Asked,
+  sum-reads.Learnt,
   raw-below t,
   raw.Post,
   after-reads.Asked,
@@ -410,6 +490,8 @@ nested-after-requires : (t : ℕ) → nested-lts.Need-after-requires (
   reader-position-reads.Learnt,
   value-reads.Asked,
   value-reads.Learnt,
+  sum-reads.Asked,
+  sum-reads.Learnt,
   raw-below t,
   raw.Post,
   after-reads.Asked,
@@ -417,7 +499,7 @@ nested-after-requires : (t : ℕ) → nested-lts.Need-after-requires (
 ) (nested-at t) nested.Post nested-Inv-loop nested-μ-loop
 nested-after-requires t c κs = search needs
 
--- a value is walked
+-- a value is walked, and its padding added
 nested-walked : (t : ℕ) (c : nested-lts.After-after (
   begin-reads.Asked,
   begin-reads.Learnt,
@@ -427,12 +509,14 @@ nested-walked : (t : ℕ) (c : nested-lts.After-after (
   reader-position-reads.Learnt,
   value-reads.Asked,
   value-reads.Learnt,
+  sum-reads.Asked,
+  sum-reads.Learnt,
   raw-below t,
   raw.Post,
   after-reads.Asked,
   after-reads.Learnt,
 ) (nested-at t) nested.Post nested-Inv-loop nested-μ-loop) (readers : List Target) (plan : L.Plan) → Listed ((c .before .before .before .before .before .before .before .before .before .before .before .before .before .before .before .before .before .args) .codes .now) ((c .before .before .before .before .before .before .before .before .before .before .before .before .before .before .before .before .before .args) .t3) readers → NestIs ((c .before .before .before .before .before .before .before .before .before .before .before .before .before .before .before .before .before .args) .codes .now) ((c .before .before .before .before .before .before .before .before .before .before .before .before .before .before .before .before .before .args) .nest) plan
-    → Standing ((c .before .before .before .before .before .before .before .before .before .before .before .before .before .before .before .before .before .args) .grid) ((c .before .before .before .before .before .before .before .before .before .before .before .before .before .before .before .before .before .args) .file .now) ((c .before .before .before .before .before .before .before .before .before .before .before .before .before .before .before .before .before .args) .codes .now) readers ((c .before .before .before .before .before .before .before .before .before .before .before .before .before .before .before .before .before .args) .shared) ((c .before .before .before .before .before .before .before .before .before .before .before .before .before .before .before .before .before .args) .depth) plan ((c .before .before .before .before .before .before .before .before .before .before .before .before .before .before .before .before .before .args) .words .now) ((c .before .before .before .before .before .before .before .before .before .before .before .before .before .before .before .before .before .args) .at) ((c .before .before .before .before .before .before .before .before .before .before .before .before .before .before .before .before .before .args) .used) ((c .before .before .before .before .before .before .before .before .before .before .before .before .before .before .before .before .before .args) .nest) ((c .before .match) .words) (afterOf ((c .before .before .before .before .before .before .before .before .before .before .before .before .loop) .stage)) ((c .before .match) .next) ((c .before .match) .row) × ((c .before .before .before .before .before .before .before .before .before .before .before .before .loop) .row < (c .before .match) .row) × ((c .before .match) .row ≤ (c .before .before .before .before .before .before .before .before .before .before .before .before .before .before .before .before .before .args) .grid .room)
+    → Standing ((c .before .before .before .before .before .before .before .before .before .before .before .before .before .before .before .before .before .args) .grid) ((c .before .before .before .before .before .before .before .before .before .before .before .before .before .before .before .before .before .args) .file .now) ((c .before .before .before .before .before .before .before .before .before .before .before .before .before .before .before .before .before .args) .codes .now) readers ((c .before .before .before .before .before .before .before .before .before .before .before .before .before .before .before .before .before .args) .shared) ((c .before .before .before .before .before .before .before .before .before .before .before .before .before .before .before .before .before .args) .depth) plan ((c .before .before .before .before .before .before .before .before .before .before .before .before .before .before .before .before .before .args) .words .now) ((c .before .before .before .before .before .before .before .before .before .before .before .before .before .before .before .before .before .args) .at) ((c .before .before .before .before .before .before .before .before .before .before .before .before .before .before .before .before .before .args) .used) ((c .before .before .before .before .before .before .before .before .before .before .before .before .before .before .before .before .before .args) .nest) ((c .before .match) .words) (afterOf ((c .before .before .before .before .before .before .before .before .before .before .before .before .loop) .stage)) ((c .before .match) .next) ((c .before .match) .row) ((c .before .match) .sum) × ((c .before .before .before .before .before .before .before .before .before .before .before .before .loop) .row < (c .before .match) .row) × ((c .before .match) .row ≤ (c .before .before .before .before .before .before .before .before .before .before .before .before .before .before .before .before .before .args) .grid .room)
 nested-walked t c readers plan l n =
     let a = (c .before .before .before .before .before .before .before .before .before .before .before .before .before .before .before .before .before .args) in
     let file = a .file .now in
@@ -440,12 +524,12 @@ nested-walked t c readers plan l n =
     let inv = (c .before .before .before .before .before .before .before .before .before .before .before .before .loop) .inv readers plan l n in
     let v = value-next _ _ _ _ _ _ _ _ _ _ _ ((c .before .before .before .before .before .before .before .before .before .before .before .before .before .before .before .before .before .pre) .1 .1 .prelude) inv ((c .before .before .before .before .before .before .before .before .before .if1) .taken) in
     let s = (c .before .before .before .before .value) .ensures (a .t3) readers (v .x) (record { counts = refl; at = ap (λ p. getD (a .t3 .targets) p 0) (sym ((c .before .before .before .before .before .before .before .reader-position) .ensures)) }) l (rw ((c .before .before .before .before .before .before .before .before .slot-at) .ensures) (v .is)) in
-    let y : Got (a .grid) ((c .before .before .before .before .before .before .before .before .before .before .before .before .loop) .words) ((c .before .match) .words) ((c .before .before .before .before .before .before .before .before .before .before .before .before .loop) .row) (walk file readers (a .shared) (a .grid .room) (a .depth) (v .x) ((c .before .before .before .before .before .before .before .before .before .before .before .before .loop) .next) ((c .before .before .before .before .before .before .before .before .before .before .before .before .loop) .row) (a .used)) ((c .before .match) .next) ((c .before .match) .row) =
+    let y : (p : ℕ) × Got (a .grid) file ((c .before .before .before .before .before .before .before .before .before .before .before .before .loop) .words) ((c .before .match) .words) ((c .before .before .before .before .before .before .before .before .before .before .before .before .loop) .row) (walk file readers (a .shared) (a .grid .room) (a .depth) (v .x) ((c .before .before .before .before .before .before .before .before .before .before .before .before .loop) .next) ((c .before .before .before .before .before .before .before .before .before .before .before .before .loop) .row) (a .used)) ((c .before .match) .next) ((c .before .match) .row) p × ((c .before .match) .sum ≡ inWord ((c .before .before .before .before .before .before .before .before .before .before .before .before .loop) .sum + p)) =
     ⊎-elim
-    (λ w. got-as (got (rw (w .1 .given .1) at s) refl) (w .3) (w .4) (w .5))
-    (λ w. let q = rw (w .1 .given .1) at s in got-as (got (left-walked (a .grid) (a .shared) (a .depth - 1) (a .used) (omega (arith, q .begins .deep)) q (w .4 .ensures readers (q .begins .type) l (q .begins .stands) (q .opened))) (w .8 .given .1)) (w .10) (w .11) (w .12))
+    (λ w. (_, got-as (got (rw (w .1 .given .1) at s) refl) (w .4) (w .5) (w .6) refl, w .7 ∙ w .3 .ensures))
+    (λ w. let q = rw (w .1 .given .1) at s in (_, got-as (got (left-walked (a .grid) (a .shared) (a .depth - 1) (a .used) (omega (arith, q .begins .deep)) q (w .4 .ensures readers (q .begins .type) l (q .begins .stands) (q .opened))) (w .8 .given .1)) (w .11) (w .12) (w .13) refl, w .14 ∙ w .10 .ensures))
     ((c .before .match) .came) in
-    next-walked _ _ _ _ _ _ _ _ _ _ _ small ((c .before .before .before .before .before .before .before .before .before .before .before .before .before .before .before .before .before .pre) .1 .0) v y
+    rw (y .2) (next-walked _ _ _ _ _ _ _ _ _ _ _ small ((c .before .before .before .before .before .before .before .before .before .before .before .before .before .before .before .before .before .pre) .1 .0) v (y .1))
 
 nested-loop-less : (t : ℕ) → nested-lts.Need-loop-less (
   begin-reads.Asked,
@@ -456,6 +540,8 @@ nested-loop-less : (t : ℕ) → nested-lts.Need-loop-less (
   reader-position-reads.Learnt,
   value-reads.Asked,
   value-reads.Learnt,
+  sum-reads.Asked,
+  sum-reads.Learnt,
   raw-below t,
   raw.Post,
   after-reads.Asked,
@@ -475,12 +561,15 @@ nested-loop-again : (t : ℕ) → nested-lts.Need-loop-again (
   reader-position-reads.Learnt,
   value-reads.Asked,
   value-reads.Learnt,
+  sum-reads.Asked,
+  sum-reads.Learnt,
   raw-below t,
   raw.Post,
   after-reads.Asked,
   after-reads.Learnt,
 ) (nested-at t) nested.Post nested-Inv-loop nested-μ-loop
-nested-loop-again t c = λ readers plan l n. rw ((c .after) .ensures) (nested-walked t c readers plan l n .0)
+nested-loop-again t c =
+    λ readers plan l n. rw ((c .after) .ensures) (nested-walked t c readers plan l n .0)
 
 nested-same-length-3 : (t : ℕ) → nested-lts.Need-same-length-3 (
   begin-reads.Asked,
@@ -491,6 +580,8 @@ nested-same-length-3 : (t : ℕ) → nested-lts.Need-same-length-3 (
   reader-position-reads.Learnt,
   value-reads.Asked,
   value-reads.Learnt,
+  sum-reads.Asked,
+  sum-reads.Learnt,
   raw-below t,
   raw.Post,
   after-reads.Asked,
@@ -510,6 +601,8 @@ nested-returns-3 : (t : ℕ) → nested-lts.Need-returns-3 (
   reader-position-reads.Learnt,
   value-reads.Asked,
   value-reads.Learnt,
+  sum-reads.Asked,
+  sum-reads.Learnt,
   raw-below t,
   raw.Post,
   after-reads.Asked,
@@ -526,7 +619,8 @@ raw-add-first : (t : ℕ) → raw-lts.Need-add-first (
   close-reads.Asked,
   close-reads.Learnt,
 ) (raw-at t) raw.Post
-raw-add-first t c = omega (arith, (c .before .before .before .before .pre) .1 .0 .free)
+raw-add-first t c =
+    omega (arith, (c .before .before .before .before .pre) .1 .0 .free)
 
 raw-nested-requires : (t : ℕ) → raw-lts.Need-nested-requires (
   nested-below t,
@@ -638,7 +732,7 @@ raw-returns-2 t c =
     let small = small-by-index (a .file .now) (λ j h. omega (arith, (c .before .before .before .before .before .before .before .before .before .before .before .before .before .before .before .shared-slice-known) .given j)) in
     let e = (c .before .before .close) .ensures in
     let x = counts-walked _ (rw ((c .before .before .before .before .before .before .count) .given .1) at ((c .before .before .before .before .before .before .before .before .before .before .nested) .ensures readers _ l (begins _ _ _ (o .stands)))) in
-    rw (e .0, e .1) (raw-ends (a .grid) (a .file .now) (a .h) (a .at) t readers (a .shared) (a .depth) _ _ _ small ((c .before .before .before .before .before .before .before .before .before .before .before .before .before .before .before .before .pre) .1 .0) (i .stands .lawful) o (x .1) ((c .before .before .before .before .kind-at) .ensures ∙ kind-is (i .stands)) (x .0))
+    rw (e .0, e .1) (raw-ends (a .grid) (a .file .now) (a .h) (a .at) t readers (a .shared) (a .depth) _ _ _ small ((c .before .before .before .before .before .before .before .before .before .before .before .before .before .before .before .before .pre) .1 .0) (i .stands .lawful) o refl (x .1) ((c .before .before .before .before .kind-at) .ensures ∙ kind-is (i .stands)) (x .0))
 
 pub +nested+raw-spec : {M : Type 1} → statement M
 +nested+raw-spec = close μ-nested μ-raw (λ t. nested-lts.spec (
@@ -650,6 +744,8 @@ pub +nested+raw-spec : {M : Type 1} → statement M
   reader-position-reads.Learnt,
   value-reads.Asked,
   value-reads.Learnt,
+  sum-reads.Asked,
+  sum-reads.Learnt,
   raw-below t,
   raw.Post,
   after-reads.Asked,
@@ -668,6 +764,7 @@ pub +nested+raw-spec : {M : Type 1} → statement M
     (nested-element-copy-out-target t)
     (nested-value-requires t)
     (nested-enum-known-reached t)
+    (nested-sum-requires t)
     (nested-enum-known-number t)
     (nested-same-length t)
     (nested-returns t)
@@ -675,6 +772,7 @@ pub +nested+raw-spec : {M : Type 1} → statement M
     (nested-sub-raw t)
     (nested-raw-requires t)
     (nested-enum-known-reached-2 t)
+    (nested-sum-requires-2 t)
     (nested-enum-known-number-2 t)
     (nested-same-length-2 t)
     (nested-returns-2 t)

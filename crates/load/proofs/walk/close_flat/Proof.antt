@@ -1,13 +1,12 @@
-use mathlib.Core.Path.{refl, sym, ap, subst, _∙_}
+use mathlib.Core.Path.{_≡_, refl, sym, ap, subst, _∙_}
 use Prim.Native.Nat.{_+_}
 use native.Mathlib.Omega.{arith}
 use lib.ListN.{length}
 use Rattle.reading.specs.Reads.{small-by-index}
-use Rattle.reading.specs.Heads.{headAt}
-use Rattle.table.specs.Leaf.{inWord}
+use Rattle.places.specs.Word.{inWord}
 use Rattle.leaves.specs.Run.{run-walked}
 use Rattle.load.specs.Walks.{OpenedAs, begin-below}
-use Rattle.load.specs.Steps.{raw-told, plain-ends, nothing-below, slots-are}
+use Rattle.load.specs.Steps.{raw-told, plain-ends, head-ends, slots-are}
 use borrow.Author.Needs.{needs}
 use Rattle.load.proofs.walk.close_flat.Statement.{statement}
 use Rattle.load.proofs.walk.close_flat.Tie as tie
@@ -15,14 +14,20 @@ use Rattle.load.proofs.walk.close_flat.Tie as tie
 add-first : tie.Need-add-first
 add-first c = omega (arith, c .before .before .before .pre .0 .free)
 
-enum-told : tie.Need-enum-told
-enum-told c = search needs
-
-close-plain-requires : tie.Need-close-plain-requires
-close-plain-requires c κs = search needs
-
 enum-known-below : tie.Need-enum-known-below
 enum-known-below c = search needs
+
+sum-requires : tie.Need-sum-requires
+sum-requires c κs = search needs
+
+leaf-requires : tie.Need-leaf-requires
+leaf-requires c κs = search needs
+
+walked-step-requires : tie.Need-walked-step-requires
+walked-step-requires c κs = search needs
+
+enum-known-below-2 : tie.Need-enum-known-below-2
+enum-known-below-2 c = search needs
 
 turns-requires : tie.Need-turns-requires
 turns-requires c κs = search needs
@@ -33,26 +38,25 @@ word-requires c κs = search needs
 read-run-requires : tie.Need-read-run-requires
 read-run-requires c κs = search needs
 
-close-plain-requires-2 : tie.Need-close-plain-requires-2
-close-plain-requires-2 c κs = search needs
+close-plain-requires : tie.Need-close-plain-requires
+close-plain-requires c κs = search needs
 
-enum-known-below-2 : tie.Need-enum-known-below-2
-enum-known-below-2 c = search needs
+enum-known-below-3 : tie.Need-enum-known-below-3
+enum-known-below-3 c = search needs
 
 same-length : tie.Need-same-length
 same-length c = search needs
 
 returns : tie.Need-returns
-unfolding inWord
 returns c = λ codes readers t i k o.
-    let a = c .before .before .before .before .before .before .before .before .before .args in
-    let r = c .before .before .before .before .before .before .before .before .before .pre .0 in
-    let small = small-by-index (a .file .now) (λ j h. omega (arith, c .before .before .before .before .before .before .before .before .shared-slice-known .given j)) in
-    let v = rw (c .before .before .before .before .enum-told .given .1) at (o .stands) in
-    let x = rw (c .before .before .before .before .enum-told .given .1) at (c .before .before .before .before .before .before .before .before .before .pre .1) in
-    let e = c .before .before .close-plain .ensures in
-    let n = slots-are (a .grid) (a .file .now) small readers (a .shared) (a .depth) (o .slots) (a .next) (a .h .row .0 + 1) 0 (omega (arith, r .free)) (r .few) (rw v refl) in
-    rw (e .0, e .1) (raw-told (a .grid) (a .file .now) codes readers (a .shared) (a .depth) t (a .place) (a .h) (a .at) _ (plain-ends (a .grid) (a .file .now) (a .h) (a .at) t readers (a .shared) (a .depth) 0 (a .kind) _ x small r (i .stands .lawful) o n k (nothing-below (a .grid) _ (o .slots) (a .words .now) (a .next) (a .h .row .0 + 1) v)))
+    let a = c .before .before .before .before .before .before .before .before .before .before .before .before .before .args in
+    let r = c .before .before .before .before .before .before .before .before .before .before .before .before .before .pre .0 in
+    let small = small-by-index (a .file .now) (λ j h. omega (arith, c .before .before .before .before .before .before .before .before .before .before .before .before .shared-slice-known .given j)) in
+    let v = subst (λ b. OpenedAs (a .file .now) codes t (a .at) (a .next) b) (c .before .before .before .before .before .before .before .before .below .given .1) o in
+    let x = rw (c .before .before .before .before .before .before .before .before .below .given .1) at (c .before .before .before .before .before .before .before .before .before .before .before .before .before .pre .1) in
+    let e = c .before .before .before .leaf .ensures in
+    rw (c .walked-step .ensures, e .0, e .1, c .before .before .before .before .before .sum .ensures)
+    (raw-told (a .grid) (a .file .now) codes readers (a .shared) (a .depth) t (a .place) (a .h) (a .at) _ (head-ends (a .grid) (a .file .now) (a .h) (a .at) t readers (a .shared) (a .depth) (λ q. x (k ∙ q)) small r (i .stands .lawful) v (a .kind) k))
 
 same-length-2 : tie.Need-same-length-2
 same-length-2 c = search needs
@@ -62,32 +66,35 @@ returns-2 c = λ codes readers t i k o.
     let a = c .before .before .before .before .before .before .before .before .before .before .before .before .before .before .before .before .args in
     let r = c .before .before .before .before .before .before .before .before .before .before .before .before .before .before .before .before .pre .0 in
     let small = small-by-index (a .file .now) (λ j h. omega (arith, c .before .before .before .before .before .before .before .before .before .before .before .before .before .before .before .shared-slice-known .given j)) in
-    let v = rw (c .before .before .before .before .before .before .before .before .before .before .before .below .given .1) at (o .stands) in
-    let x = rw (c .before .before .before .before .before .before .before .before .before .before .before .below .given .1) at (c .before .before .before .before .before .before .before .before .before .before .before .before .before .before .before .before .pre .1) in
+    let w = subst (λ b. OpenedAs (a .file .now) codes t (a .at) (a .next) b) (c .before .before .before .before .before .before .before .before .before .before .before .below2 .given .1) o in
+    let v = w .stands in
+    let x = rw (c .before .before .before .before .before .before .before .before .before .before .before .below2 .given .1) at (c .before .before .before .before .before .before .before .before .before .before .before .before .before .before .before .before .pre .1) in
     let run = c .before .before .before .before .before .before .read-run .ensures in
-    let e = c .before .before .close-plain2 .ensures in
-    let below = run-walked (a .grid) (a .file .now) small (a .shared) _ (v .1) readers (a .depth) (a .h .row .0 + 1) (a .words .now) (a .next) (a .h .row .0 + 1) (begin-below t small r (o .is)) in
-    let n = slots-are (a .grid) (a .file .now) small readers (a .shared) (a .depth) (o .slots) (a .next) (a .h .row .0 + 1) (c .before .before .before .before .before .before .before .before .word .result) (omega (arith, r .free)) (r .few) (c .before .before .before .before .before .before .before .before .word .ensures ∙ ap inWord (c .before .before .before .before .before .before .before .before .before .turns .ensures ∙ sym (ap length (v .0)))) in
-    rw (e .0, e .1) (raw-told (a .grid) (a .file .now) codes readers (a .shared) (a .depth) t (a .place) (a .h) (a .at) _ (plain-ends (a .grid) (a .file .now) {w₁ = c .before .before .before .before .before .before .read-run .last .1 .0} (a .h) (a .at) t readers (a .shared) (a .depth) (c .before .before .before .before .before .before .before .before .word .result) (a .kind) (c .before .before .before .before .before .before .read-run .result) x small r (i .stands .lawful) o n k (rw (v .0, run .0, run .1) below)))
+    let e = c .before .before .close-plain .ensures in
+    let below = run-walked (a .grid) (a .file .now) small (a .shared) _ (v .1) readers (a .depth) (a .h .row .0 + 1) (a .words .now) (a .next) (a .h .row .0 + 1) (begin-below t small r (w .is)) in
+    let n = slots-are (a .grid) (a .file .now) small readers (a .shared) (a .depth) (w .slots) (a .next) (a .h .row .0 + 1) (c .before .before .before .before .before .before .before .before .word .result) (omega (arith, r .free)) (r .few) (c .before .before .before .before .before .before .before .before .word .ensures ∙ ap inWord (c .before .before .before .before .before .before .before .before .before .turns .ensures ∙ sym (ap length (v .0)))) in
+    rw (e .0, e .1) (raw-told (a .grid) (a .file .now) codes readers (a .shared) (a .depth) t (a .place) (a .h) (a .at) _ (plain-ends (a .grid) (a .file .now) {w₁ = c .before .before .before .before .before .before .read-run .last .1 .0} (a .h) (a .at) t readers (a .shared) (a .depth) (c .before .before .before .before .before .before .before .before .word .result) (a .kind) (c .before .before .before .before .before .before .read-run .result) x small r (i .stands .lawful) w refl n k (rw (v .0, run .0, run .1) below)))
 
 returns-3 : tie.Need-returns-3
 returns-3 c = λ codes readers t i k o.
     let a = c .before .before .before .before .before .before .args in
-    record { same = refl; id-is = refl; from-is = refl; place-is = refl; opened = subst (λ b. OpenedAs codes (headAt (a .file .now) t (a .at)) (a .next) b) (c .before .below2 .given .1) o }
+    record { same = refl; id-is = refl; padding-is = refl; from-is = refl; place-is = refl; opened = subst (λ b. OpenedAs (a .file .now) codes t (a .at) (a .next) b) (c .before .below3 .given .1) o }
 
 pub close-flat-spec : {M : Type 1} → statement M
 close-flat-spec =
     tie.close
     (tie.spec
     add-first
-    enum-told
-    close-plain-requires
     enum-known-below
+    sum-requires
+    leaf-requires
+    walked-step-requires
+    enum-known-below-2
     turns-requires
     word-requires
     read-run-requires
-    close-plain-requires-2
-    enum-known-below-2
+    close-plain-requires
+    enum-known-below-3
     same-length
     returns
     same-length-2

@@ -18,6 +18,9 @@ row-words-requires c κs = search needs
 put-row-requires : tie.Need-put-row-requires
 put-row-requires c κs = search needs
 
+sum-requires : tie.Need-sum-requires
+sum-requires c κs = search needs
+
 returns : tie.Need-returns
 returns c = rw (c .before .walked .given .1) (refl, refl)
 
@@ -26,7 +29,7 @@ same-length c = search needs
 
 returns-2 : tie.Need-returns-2
 returns-2 c =
-    rw (c .before .before .before .before .before .before .before .before .walked2 .given .1, ← c .before .before .before .before .before .rows-from .ensures, ← c .before .before .before .before .row-words .ensures) (refl, c .before .before .put-row .ensures)
+    rw (c .before .before .before .before .before .before .before .before .before .walked2 .given .1, ← c .before .before .before .before .before .before .rows-from .ensures, ← c .before .before .before .before .before .row-words .ensures, ← c .sum .ensures) (refl, c .before .before .before .put-row .ensures)
 
 pub close-plain-spec : {M : Type 1} → statement M
 close-plain-spec =
@@ -37,6 +40,7 @@ close-plain-spec =
     rows-from-requires
     row-words-requires
     put-row-requires
+    sum-requires
     returns
     same-length
     returns-2)

@@ -1,11 +1,13 @@
-use mathlib.Core.Path.{sym, _∙_}
+use mathlib.Core.Path.{sym, ap, _∙_}
 use native.Mathlib.Omega.{arith}
 use Rattle.reading.specs.Reads.{small-by-index}
 use Rattle.reading.specs.Heads.{headAt}
 use Rattle.types.specs.Laws.{kind-is}
-use Rattle.objects.specs.Close.{raw-refused}
+use Rattle.heads.specs.Pads.{open-pads}
+use Rattle.places.specs.Places.{countPlaces}
+use Rattle.places.specs.Padding.{padding}
 use Rattle.load.specs.Walks.{opened-as, refused-as}
-use Rattle.load.specs.Steps.{no-rule}
+use Rattle.load.specs.Steps.{no-rule, refusing-head}
 use borrow.Author.Needs.{needs}
 use Rattle.load.proofs.walk.raw_step.Statement.{statement}
 use Rattle.load.proofs.walk.raw_step.Tie as tie
@@ -35,7 +37,7 @@ returns c = λ readers t i.
     let a = c .before .before .before .before .before .before .before .args in
     let r = c .before .before .before .before .before .before .before .pre in
     let small = small-by-index (a .file .now) (λ j h. omega (arith, c .before .before .before .before .before .before .shared-slice-known .given j)) in
-    raw-refused (a .grid) (a .file .now) small readers (a .shared) (a .depth) t (i .stands .lawful) (a .h) (a .at) _ (r .long) (r .few) (r .free) (refused-as (a .codes .now) (headAt (a .file .now) t (a .at)) (c .before .before .before .«open» .ensures .0 t (i .stands) (i .plain)) (c .before .number .given .1))
+    refusing-head (a .grid) (a .file .now) readers (a .shared) (a .depth) t (a .h) (a .at) (refused-as (a .codes .now) (headAt (a .file .now) t (a .at)) (c .before .before .before .«open» .ensures .0 t (i .stands) (i .plain)) (c .before .number .given .1))
 
 same-length : tie.Need-same-length
 same-length c = search needs
@@ -43,7 +45,10 @@ same-length c = search needs
 returns-2 : tie.Need-returns-2
 returns-2 c = λ readers t i.
     let a = c .before .before .before .before .before .before .before .before .before .before .before .before .args in
-    c .before .before .close-flat .ensures (a .codes .now) readers t i (c .before .before .before .before .kind-at .ensures ∙ kind-is (i .stands)) (opened-as (headAt (a .file .now) t (a .at)) (c .before .before .before .before .before .before .before .before .«open» .ensures .0 t (i .stands) (i .plain)) (c .before .before .before .before .before .before .next .given .1))
+    let w = c .before .before .before .before .before .before .next .given .1 in
+    let k = kind-is (i .stands) in
+    let p = open-pads (a .file .now) (a .codes .now) (a .place) (a .at) (sym (c .before .before .before .before .before .before .before .before .«open» .ensures .1) ∙ w) ∙ ap (λ n. padding (a .file .now) (countPlaces (a .file .now) n (a .at))) k in
+    c .before .before .close-flat .ensures (a .codes .now) readers t i (c .before .before .before .before .kind-at .ensures ∙ k) (opened-as (a .file .now) (a .codes .now) t (a .at) (c .before .before .before .before .before .before .before .before .«open» .ensures .0 t (i .stands) (i .plain)) w p)
 
 pub raw-step-spec : {M : Type 1} → statement M
 raw-step-spec =

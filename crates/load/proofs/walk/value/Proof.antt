@@ -7,7 +7,7 @@ use Rattle.table.specs.Contract.{seen, Free}
 use Rattle.table.specs.Loop.{refusing}
 use Rattle.table.specs.Leaf.{leaf-walked}
 use Rattle.leaves.specs.Plain.{headOf, plain-walked}
-use Rattle.load.specs.Steps.{value-told, raw-steps}
+use Rattle.load.specs.Steps.{null-pads, value-told, raw-steps}
 use borrow.Author.Needs.{needs}
 use Rattle.load.proofs.walk.value.Statement.{statement}
 use Rattle.load.proofs.walk.value.Tie as tie
@@ -47,7 +47,7 @@ sub-raw-step c = let p = c .before .before .before .before .before .before .befo
 raw-step-requires : tie.Need-raw-step-requires
 raw-step-requires c κs = let p = c .before .before .before .before .before .before .before .before .pre in
     let s = rw (c .before .before .place .given .1) at (c .before .before .before .before .start .ensures .0 (p .1 .rd) (p .1 .readers) (p .2 .x) (p .1 .has) (p .1 .listed) (p .2 .is) (p .0 .place)) in
-    record { long = p .0 .long; few = p .0 .few; free = s .free; begun = s .ahead; place = s .inside; short = p .0 .short }
+    record { long = p .0 .long; few = p .0 .few; free = s .free; begun = s .ahead; place = s .inside; short = p .0 .short; ided = s .ided }
 
 returns : tie.Need-returns
 returns c = λ rd readers x h l s.
@@ -73,10 +73,11 @@ unfolding seen
 returns-3 c = λ rd readers x h l s.
     let a = c .before .before .before .before .before .before .before .before .before .before .before .before .args in
     let p = c .before .before .before .before .before .before .before .before .before .before .before .before .pre .0 in
+    let small = small-by-index (a .file .now) (λ i h. omega (arith, c .before .before .before .before .before .before .before .before .before .before .before .shared-slice-known .given i)) in
     let b = rw (c .before .before .before .before .before .before .next .given .1) at (c .before .before .before .before .before .before .before .before .start .ensures .0 rd readers x h l s (p .place)) in
     let e = c .before .before .before .leaf .ensures in
     let free : Free (a .grid) (a .words .now) (a .used) = record { long = p .long; there = b .free; few = omega (arith, b .free, p .few) } in
-    rw (c .walked-step2 .ensures, e .0, e .1, b .is (a .shared) (a .parent)) (leaf-walked {A = ℕ} (a .grid) (a .words .now) (headOf (a .used) (a .at) (a .parent) 0) 0 nothing (read 0 _) free (b .ahead, omega (arith, b .inside, p .short)))
+    rw (c .walked-step2 .ensures, e .0, e .1, b .is (a .shared) (a .parent)) (leaf-walked {A = ℕ} (a .grid) (a .file .now) (a .words .now) (headOf (a .used) (a .at) (a .parent) 0 (c .before .before .before .before .before .before .next .given .0 .1 .0)) 0 nothing (read 0 _) free (b .ahead, omega (arith, b .inside, p .short)) (null-pads (a .file .now) small (a .used) (a .at) (a .parent) (b .pads)))
 
 same-length-3 : tie.Need-same-length-3
 same-length-3 c = search needs
@@ -85,7 +86,7 @@ returns-4 : tie.Need-returns-4
 returns-4 c = λ rd readers x h l s.
     let a = c .before .before .before .before .before .before .before .before .before .before .before .args in
     let b = rw (c .before .before .before .before .before .place .given .1) at (c .before .before .before .before .before .before .before .start .ensures .0 rd readers x h l s (c .before .before .before .before .before .before .before .before .before .before .before .pre .0 .place)) in
-    raw-steps (a .grid) (a .file .now) (a .codes .now) readers (a .shared) (a .depth) (a .depth - 1) x (a .at) (a .used) (a .parent) _ _ _ (a .words .now) (c .before .before .raw-step .last .1 .1 .0) (c .before .before .raw-step .result) (omega (arith, b .deep)) b (c .before .before .raw-step .ensures readers (b .type) (b .stands))
+    raw-steps (a .grid) (a .file .now) (a .codes .now) readers (a .shared) (a .depth) (a .depth - 1) x (a .at) (a .used) (a .parent) _ _ _ _ (a .words .now) (c .before .before .raw-step .last .1 .1 .0) (c .before .before .raw-step .result) (omega (arith, b .deep)) b (c .before .before .raw-step .ensures readers (b .type) (b .stands))
 
 pub value-spec : {M : Type 1} → statement M
 value-spec =
