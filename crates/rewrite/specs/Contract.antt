@@ -8,17 +8,15 @@ use lib.Dec.{leb}
 use borrow.Author.Tests.{le-leb, lt-leb}
 use lib.ListN.{length, take, drop, length-append}
 use Rattle.layout.specs.File.{FileTree, header}
-use Rattle.reading.specs.Seven.{sevenAt}
 use Rattle.shortest.specs.File.{shortBody, shortFile, length-file, length-header}
-use Rattle.shortest.specs.Places.{past}
-use Rattle.shortest.specs.Lists.{entriesPlaces, entriesEnd}
-use Rattle.shortest.specs.Rewrites.{Rewrites, rewrites-padding}
+use Rattle.shortest.specs.Rewrites.{Rewrites}
+use Rattle.places.specs.Places.{listsPlaces}
 use Rattle.fill.specs.Fill.{cleared}
 use Rattle.reading.specs.Output.{Rewritten, refusal, written, fitted, outputOf}
 use Rattle.shortest.specs.Rewrite.{wordsOf}
 use Rattle.rewrite.specs.declared.Rewriting.{Rewriting}
 use Rattle.rewrite.specs.declared.Rewriting.the-variants.{Refused, Rewritten as Length}
-use Rattle.padding.specs.Table.{tablePlaces, placesOf, paddingIn, not-too-long}
+use Rattle.rewrite.specs.Table.{tablePlaces, placesOf}
 use Rattle.rewrite.specs.Pending.{Pending, LengthPut}
 
 -- 01: "its length is the answer"
@@ -26,37 +24,36 @@ abbrev pub answerOf : Rewritten → Rewriting
 answerOf (refusal number place) = Refused number place
 answerOf (written bytes) = Length (length bytes)
 
--- a file whose rows stand in the table: its tree, and that its numbers made shortest give the tree's shortest bytes
-pub record Ready (file table : List ℕ) (readers rows : ℕ) : Type 0 where
+-- a file of this padding whose rows stand in the table: its tree, and that its numbers made shortest give the tree's shortest bytes
+pub record Ready (file table : List ℕ) (readers rows padding : ℕ) : Type 0 where
   pub tree : FileTree
   pub small : length file ≤ 16777216
+  pub pads : length file ≡ length (shortFile tree) + padding
   pub headed : take 10 file ≡ header (tree .platform) (tree .flags) (length file)
   pub rewrites : Rewrites file 0 (placesOf file table readers rows) (take 10 file ++ shortBody tree)
 
 -- what is answered, and what output and words then hold
-pub record Fits (file entry exit out end : List ℕ) (readers rows : ℕ) (r : Rewriting) : Type 0 where
-  pub holds : (w : Ready file entry readers rows)
+pub record Fits (file entry exit out end : List ℕ) (readers rows padding : ℕ) (r : Rewriting) : Type 0 where
+  pub holds : (w : Ready file entry readers rows padding)
       → (r ≡ answerOf (fitted (shortFile (w .tree)) (length out)))
       × (end ≡ outputOf (fitted (shortFile (w .tree)) (length out)) out)
       × (exit ≡ wordsOf (fitted (shortFile (w .tree)) (length out)) entry)
 
 -- ---- Laws of writing a whole file
 
-module _ (file table : List ℕ) (readers rows : ℕ) (w : Ready file table readers rows) where
+module _ (file table : List ℕ) (readers rows padding : ℕ) (w : Ready file table readers rows padding) where
   -- what the file becomes before the header's length is set
   abbrev pub copy : List ℕ
   copy = take 10 file ++ shortBody (w .tree)
 
-  copy-length : length copy ≡ length (shortFile (w .tree))
+  pub copy-length : length copy ≡ length (shortFile (w .tree))
   copy-length =
       omega (arith, length-file (w .tree), length-append (take 10 file) (shortBody (w .tree)), ap length (w .headed) ∙ length-header (w .tree .platform) (w .tree .flags) (length file))
 
   -- at the start nothing is written
-  pub start : (base : List ℕ) (needed first : ℕ) → needed ≡ length (shortFile (w .tree)) → needed ≤ length base → first ≡ past (sevenAt file 10) 10
-      → Pending file base base 0 0 (10 ∷ (entriesPlaces file readers first ++ (entriesEnd file readers first ∷ tablePlaces file table rows 0))) copy
+  pub start : (base : List ℕ) → length (shortFile (w .tree)) ≤ length base → Pending file base base 0 0 (listsPlaces file readers 10 ++ tablePlaces file table rows 0) copy
   unfolding placesOf
-  start base needed first n h f =
-      record { done = []; left = copy; long = refl; stands = refl; rewrites = rw f (w .rewrites); makes = refl; room = omega (arith, copy-length) }
+  start base h = record { done = []; left = copy; long = refl; stands = refl; rewrites = w .rewrites; makes = refl; room = omega (arith, copy-length) }
 
   -- at the end the header's length is set
   pub finish : (base mid exit : List ℕ) (needed : ℕ) → needed ≡ length (shortFile (w .tree)) → mid ≡ copy ++ drop (length copy) base → LengthPut needed mid exit → exit ≡ shortFile (w .tree) ++ drop needed base
@@ -71,17 +68,14 @@ module _ (file table : List ℕ) (readers rows : ℕ) (w : Ready file table read
       l (w .tree .platform) (w .tree .flags) (length file) (body ++ behind) e
       ∙ rw (c, k) (sym (append-assoc (header (w .tree .platform) (w .tree .flags) (10 + length body)) body (drop (10 + length body) base)))
 
-  -- the bytes needed are those of the file less the padding
-  pub needed-is : length file ≡ length (shortFile (w .tree)) + paddingIn file table readers rows
-  needed-is = omega (arith, rewrites-padding file (w .rewrites), copy-length, not-too-long file table readers rows (w .small))
-
-  module _ (out : List ℕ) (padded : ℕ) (p : padded ≡ paddingIn file table readers rows) where
-    long : length file - padded ≡ length (shortFile (w .tree))
-    long = omega (arith, needed-is)
+  module _ (out : List ℕ) where
+    -- the bytes needed are those of the file less the padding
+    long : length file - padding ≡ length (shortFile (w .tree))
+    long = omega (arith, w .pads)
 
     -- there is no room: nothing is written, and the words are cleared
-    pub too-small : {exit : List ℕ} → length out < length file - padded → exit ≡ cleared table 0
-        → (Refused 21 (length file - padded) ≡ answerOf (fitted (shortFile (w .tree)) (length out)))
+    pub too-small : {exit : List ℕ} → length out < length file - padding → exit ≡ cleared table 0
+        → (Refused 21 (length file - padding) ≡ answerOf (fitted (shortFile (w .tree)) (length out)))
         × (out ≡ outputOf (fitted (shortFile (w .tree)) (length out)) out)
         × (exit ≡ wordsOf (fitted (shortFile (w .tree)) (length out)) table)
     unfolding fitted outputOf wordsOf cleared
@@ -91,9 +85,9 @@ module _ (file table : List ℕ) (readers rows : ℕ) (w : Ready file table read
         rw (t, long) (refl, refl, e ∙ rw z)
 
     -- there is room
-    pub fits-in : {end : List ℕ} → length file - padded ≤ length out
-        → ((v : Ready file table readers rows) → length file - padded ≡ length (shortFile (v .tree)) → length file - padded ≤ length out → end ≡ shortFile (v .tree) ++ drop (length file - padded) out)
-        → (Length (length file - padded) ≡ answerOf (fitted (shortFile (w .tree)) (length out)))
+    pub fits-in : {end : List ℕ} → length file - padding ≤ length out
+        → ((v : Ready file table readers rows padding) → length file - padding ≡ length (shortFile (v .tree)) → length file - padding ≤ length out → end ≡ shortFile (v .tree) ++ drop (length file - padding) out)
+        → (Length (length file - padding) ≡ answerOf (fitted (shortFile (w .tree)) (length out)))
         × (end ≡ outputOf (fitted (shortFile (w .tree)) (length out)) out)
         × (table ≡ wordsOf (fitted (shortFile (w .tree)) (length out)) table)
     unfolding fitted outputOf wordsOf

@@ -1,4 +1,7 @@
 -- What the rewriter's functions promise.
+pub mod Table
+pub mod Steps
+pub mod Measured
 pub mod Pending
 pub mod Contract
 pub mod Loaded

@@ -1,7 +1,7 @@
 -- A file that was loaded is ready to be rewritten, by what load answered and left. Assumes nothing.
 use mathlib.Core.Path.{_≡_, refl, sym, ap, _∙_}
 use mathlib.Core.List.{List, _++_}
-use Prim.Native.Nat.{ℕ, _*_, _-_}
+use Prim.Native.Nat.{ℕ, _+_, _*_, _-_}
 use lib.ListN.{length, replicate, length-replicate}
 use Rattle.laws.specs.Small.{differ}
 use Rattle.layout.specs.Rows.{Row, flat, width}
@@ -13,25 +13,27 @@ use Rattle.reading.specs.Theorems.{rowsIn, accepted-is}
 use Rattle.load.specs.declared.Loading.the-variants.{Refused, Loaded}
 use Rattle.load.specs.Loads as load
 use Rattle.shortest.specs.File.{shortFile, header-is}
-use Rattle.shortest.specs.Lists.{filePlaces, file-rewrites}
+use Rattle.places.specs.Places.{filePlaces}
+use Rattle.places.specs.Padding.{filePadding}
+use Rattle.shortest.specs.Lists.{file-rewrites}
 use Rattle.reading.specs.Output.{fitted, outputOf}
 use Rattle.shortest.specs.Rewrite.{byLoad, rewriteOf, wordsOf}
-use Rattle.shortest.specs.Theorems.{rewrite-is}
+use Rattle.shortest.specs.Theorems.{rewrite-is, padding-is}
 use Rattle.rewrite.specs.declared.Rewriting.{Rewriting}
 use Rattle.rewrite.specs.declared.Rewriting.the-variants as rewriting
-use Rattle.padding.specs.Table.{placesOf, table-places}
+use Rattle.rewrite.specs.Table.{placesOf, table-places}
 use Rattle.rewrite.specs.Contract.{answerOf, Ready, Fits}
 use Rattle.readers.specs.Judged.{judgedName, judges}
 
 module _ (file : List ℕ) (words : ℕ) where
   -- a refusal is handed on, and the words are all zero
-  pub load-refused : {n p : ℕ} (out : List ℕ) → Refused n p ≡ load.answerOf (loadOf judgedName file words)
+  pub load-refused : {n p : ℕ} (out : List ℕ) → Refused n p ≡ load.answerOf file (loadOf judgedName file words)
       → (rewriting.Refused n p ≡ answerOf (rewriteOf judgedName file words (length out)))
       × (out ≡ outputOf (rewriteOf judgedName file words (length out)) out)
       × (tableOf (loadOf judgedName file words) words ≡ wordsOf (rewriteOf judgedName file words (length out)) (tableOf (loadOf judgedName file words) words))
   unfolding loadOf rewriteOf toLoad byLoad tableOf outputOf wordsOf
   load-refused {n} {p} out e = go (fileAt judgedName file (roomOf words)) e where
-    go : (x : Answer FileLoaded) → Refused n p ≡ load.answerOf (toLoad x)
+    go : (x : Answer FileLoaded) → Refused n p ≡ load.answerOf file (toLoad x)
         → (rewriting.Refused n p ≡ answerOf (byLoad x (length out))) × (out ≡ outputOf (byLoad x (length out)) out)
         × (tableOf (toLoad x) words ≡ wordsOf (byLoad x (length out)) (tableOf (toLoad x) words))
     go (refused m q) e =
@@ -45,17 +47,18 @@ module _ (file : List ℕ) (words : ℕ) where
   accepted-table rs rd sh = refl
 
   -- the file is ready, and rewriting it answers what its tree's shortest bytes say
-  pub record Good (readers rows : ℕ) : Type 0 where
-    pub ready : Ready file (tableOf (loadOf judgedName file words) words) readers rows
+  pub record Good (readers rows padding : ℕ) : Type 0 where
+    pub ready : Ready file (tableOf (loadOf judgedName file words) words) readers rows padding
     pub rewrites-to : (out : ℕ) → rewriteOf judgedName file words out ≡ fitted (shortFile (ready .tree)) out
 
-  pub loaded : {rows readers shared : ℕ} → Small file → Loaded rows readers shared ≡ load.answerOf (loadOf judgedName file words) → Good readers rows
-  loaded {rows} {readers} {shared} small e = go (loadOf judgedName file words) refl e where
-    go : (x : Load) → loadOf judgedName file words ≡ x → Loaded rows readers shared ≡ load.answerOf x → Good readers rows
+  pub loaded : {rows readers shared padding : ℕ} → Small file → Loaded rows readers shared padding ≡ load.answerOf file (loadOf judgedName file words) → Good readers rows padding
+  loaded {rows} {readers} {shared} {padding} small e = go (loadOf judgedName file words) refl e where
+    go : (x : Load) → loadOf judgedName file words ≡ x → Loaded rows readers shared padding ≡ load.answerOf file x → Good readers rows padding
     go (refusal n p) q e = differ cc
     go (accepted rs rd sh) q e =
         let e₁ : rows ≡ length rs = cc in
         let e₂ : readers ≡ rd = cc in
+        let e₃ : padding ≡ filePadding file rd rs = cc in
         let a = accepted-is named judgedName judges file words small rs rd sh q in
         let f = a .0 in
         let rest : List ℕ = replicate (words - width * length rs) 0 in
@@ -67,6 +70,7 @@ module _ (file : List ℕ) (words : ℕ) where
           ready = record {
             tree = f .tree;
             small = f .lays .short;
+            pads = padding-is named judgedName judges file words f ∙ ap (λ (k : ℕ). length (shortFile (f .tree)) + k) (sym (e₃ ∙ ap (λ (k : ℕ). filePadding file k rs) (a .2) ∙ ap (filePadding file (length (f .tree .names))) (a .1)));
             headed = header-is named (f .tree) file (f .lays);
             rewrites = rw p (file-rewrites file named (f .tree) (f .lays));
           };
@@ -74,11 +78,11 @@ module _ (file : List ℕ) (words : ℕ) where
         }
 
   -- what fitting the loaded file answers and leaves is what rewriting does
-  pub fitted-is : {readers rows : ℕ} {r : Rewriting} → Good readers rows → (out entry exit : List ℕ) {end : List ℕ}
-      → entry ≡ tableOf (loadOf judgedName file words) words → Fits file entry exit out end readers rows r
+  pub fitted-is : {readers rows padding : ℕ} {r : Rewriting} → Good readers rows padding → (out entry exit : List ℕ) {end : List ℕ}
+      → entry ≡ tableOf (loadOf judgedName file words) words → Fits file entry exit out end readers rows padding r
       → (r ≡ answerOf (rewriteOf judgedName file words (length out)))
       × (end ≡ outputOf (rewriteOf judgedName file words (length out)) out)
       × (exit ≡ wordsOf (rewriteOf judgedName file words (length out)) (tableOf (loadOf judgedName file words) words))
-  fitted-is {readers} {rows} {r} g out entry exit {end} e f =
-      let f₁ : Fits file (tableOf (loadOf judgedName file words) words) exit out end readers rows r = rw e at f in
+  fitted-is {readers} {rows} {padding} {r} g out entry exit {end} e f =
+      let f₁ : Fits file (tableOf (loadOf judgedName file words) words) exit out end readers rows padding r = rw e at f in
       rw (g .rewrites-to (length out)) (f₁ .holds (g .ready))

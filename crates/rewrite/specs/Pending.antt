@@ -19,8 +19,10 @@ use Rattle.numbers.specs.declared.shortest.Placed.{Placed}
 use Rattle.numbers.specs.declared.shortest.Placed.the-variants.{Next, NoRoom}
 use Rattle.fill.specs.Fill.{inside, pasted, copied}
 use Rattle.shortest.specs.File.{length-header}
-use Rattle.shortest.specs.Places.{numberOf, past}
-use Rattle.shortest.specs.Rewrites.{Rewrites, rest, anew}
+use Rattle.numbers.specs.Padded.{numberOf, past, padOf}
+use Rattle.reading.specs.Reads.{Small}
+use Rattle.places.specs.Padding.{padding}
+use Rattle.shortest.specs.Rewrites.{Rewrites, rest, anew, rewrites-padding, unpadded, none-padded}
 
 -- The output, which was `base`, has its first `to` bytes written; the file is taken up to `from`. With the numbers at these places in their shortest forms it becomes `whole`, for which there is room.
 pub record Pending (file base out : List ℕ) (from to : ℕ) (places whole : List ℕ) : Type 0 where
@@ -143,6 +145,19 @@ module _ (file base out : List ℕ) (from to : ℕ) (whole : List ℕ) where
         let all : length whole ≡ to + n = omega (arith, ap length m, p .long, length-append d (drop from file), length-drop from file) in
         let c = copy-puts base d to (p .long) file from n (omega (arith, p .room)) (omega arith) in
         (h, rw (p .stands, c .1, t, m, all))
+
+-- a number that has no padding is left to be copied with what stands around it
+pub passed-over : (file base out : List ℕ) (from to : ℕ) (places whole : List ℕ) {at : ℕ} → Small file → padOf (sevenAt file at) at ≡ 0 → Pending file base out from to (at ∷ places) whole → Pending file base out from to places whole
+passed-over file base out from to places whole small z p =
+    record { done = p .done; left = p .left; long = p .long; stands = p .stands; rewrites = unpadded file small z (p .rewrites); makes = p .makes; room = p .room }
+
+-- all bytes are saved that can be: the numbers that are left have no padding
+pub all-saved : (file base out : List ℕ) (from to total : ℕ) (places whole : List ℕ) → Small file → length file ≡ length whole + total → to + total ≤ from
+    → Pending file base out from to places whole → Pending file base out from to [] whole
+all-saved file base out from to total places whole small n t p =
+    let l : length whole ≡ to + length (p .left) = omega (arith, ap length (p .makes), length-append (p .done) (p .left), p .long) in
+    let z : padding file places ≡ 0 = omega (arith, rewrites-padding file (p .rewrites)) in
+    record { done = p .done; left = p .left; long = p .long; stands = p .stands; rewrites = none-padded file small places z (p .rewrites); makes = p .makes; room = p .room }
 
 -- a copy that was made had its ranges inside
 pub copy-inside : (out : List ℕ) (to : ℕ) (file : List ℕ) (from n : ℕ) → true ≡ inside out to file from n → to + n ≤ length out

@@ -1,15 +1,20 @@
 // Rewriting a file with each seven-bit number in its shortest form (01, "Seven-bit numbers").
 use ids::RowNumber;
 use load::Loading;
+use numbers::seven::Padded;
 use numbers::shortest::Placed;
 ghost use mathlib.Core.Path.{_≡_};
-ghost use Prim.Native.Nat.{_≤_, _^_};
+ghost use Prim.Native.Nat.{_+_, _≤_, _^_};
+ghost use lib.Dec.{leb};
 ghost use lib.ListN.{length};
-ghost use Rattle.shortest.specs.Places.{countPlaces};
-ghost use Rattle.padding.specs.Table.{placesIn, tablePlaces};
+ghost use Rattle.reading.specs.Seven.{sevenAt};
+ghost use Rattle.places.specs.Places.{countPlaces};
+ghost use Rattle.places.specs.Places.{numbered as startsWithId};
+ghost use Rattle.rewrite.specs.Table.{placesIn, tablePlaces};
+ghost use Rattle.rewrite.specs.Measured.{measureOf};
 ghost use Rattle.rewrite.specs.Pending.{LengthPut};
 ghost use Rattle.rewrite.specs.Contract.{answerOf, Ready, Fits};
-ghost use Rattle.rewrite.specs.Writes.{Writes, WritesNumber, WritesLast, WritesEntries, WritesRest, WritesFile};
+ghost use Rattle.rewrite.specs.Writes.{Writes, WritesNumber, PassesNumber, WritesLast, WritesEntries, WritesLists, WritesRest, WritesFile};
 ghost use Rattle.rewrite.specs.Whole.{rewritten, outputLeft, wordsLeft};
 
 // A refusal's number and place, or the length of the rewritten file.
@@ -22,6 +27,57 @@ pub enum Rewriting {
 struct Cursor {
     from: usize,
     to: usize,
+}
+
+// Whether so many bytes are saved so far.
+fn saved(c: Cursor, padding: usize) -> bool
+    ensures { λ r. ⌜ r ≡ leb (c .to + padding) (c .from) ⌝ }
+{
+    if c.from < c.to {
+        return false;
+    }
+    padding <= c.from - c.to
+}
+
+// A seven-bit number: its value, how many bytes it has beyond its shortest form, and where it ends.
+struct Measured {
+    value: u32,
+    padding: u32,
+    next: usize,
+}
+
+// The number at a place; where there is none, 0 that ends where it starts.
+fn measure(file: &[u8], at: usize) -> Measured
+    ensures { λ r. ⌜ r ≡ measureOf (sevenAt (now (file .entry)) at) at ⌝ }
+{
+    match numbers::seven::seven_padded(file, at) {
+        Padded::Refused(_, _) => Measured {
+            value: 0,
+            padding: 0,
+            next: at,
+        },
+        Padded::Read(n, next, padding) => {
+            let value = n as u32;
+            Measured {
+                value,
+                padding,
+                next,
+            }
+        }
+    }
+}
+
+// Whether a value of a kind and a detail starts with a type id or a resource id.
+fn numbered(kind: u32, detail: u32) -> bool
+    ensures { λ r. ⌜ r ≡ startsWithId kind detail ⌝ }
+{
+    if detail != 0 {
+        return true;
+    }
+    if kind == 0 {
+        return true;
+    }
+    kind == 36
 }
 
 // Copies the file up to the number at a place, and writes the number, of this value and end, in its shortest form.
@@ -56,42 +112,60 @@ fn write_number(
     Cursor { from, to }
 }
 
+// The number at a place, as it was measured: written anew if it is padded, else left to be copied with what stands around it.
+fn pass(file: &[u8], out: &mut [u8], c: Cursor, at: usize, number: Measured) -> Cursor
+    ensures { λ r. ⌜ PassesNumber (now (file .entry)) (now (out .entry)) (now (out .exit)) c at number r ⌝ }
+{
+    if number.padding == 0 {
+        return c;
+    }
+    write_number(file, out, c, at, number.value, number.next)
+}
+
 // The same for a text's count, which stands at a place; other kinds have none.
-fn write_count(file: &[u8], out: &mut [u8], c: Cursor, kind: u32, at: usize) -> Cursor
+fn pass_count(file: &[u8], out: &mut [u8], c: Cursor, kind: u32, at: usize) -> Cursor
     ensures { λ r. ⌜ Writes (now (file .entry)) (now (out .entry)) (now (out .exit)) c (countPlaces (now (file .entry)) kind at) r ⌝ }
 {
     if kind == 13 {
-        let count = padding::measure(file, at);
-        return write_number(file, out, c, at, count.value, count.next);
+        return pass(file, out, c, at, measure(file, at));
     }
     c
 }
 
 // The same for a row's numbers.
-fn write_row(file: &[u8], words: &[u32], out: &mut [u8], c: Cursor, row: u32) -> Cursor
+fn pass_row(file: &[u8], words: &[u32], out: &mut [u8], c: Cursor, row: u32) -> Cursor
     ensures { λ r. ⌜ Writes (now (file .entry)) (now (out .entry)) (now (out .exit)) c (placesIn (now (file .entry)) (now (words .entry)) row) r ⌝ }
 {
     let grid = words::grid(words.len());
     let kind = words::word_of(words, grid, RowNumber(row), 0);
     let first = words::word_of(words, grid, RowNumber(row), 1) as usize;
-    if padding::numbered(kind, words::word_of(words, grid, RowNumber(row), 5)) {
-        let id = padding::measure(file, first);
-        let next = id.next;
-        let behind = write_number(file, out, c, first, id.value, next);
-        return write_count(file, out, behind, kind, next);
+    if numbered(kind, words::word_of(words, grid, RowNumber(row), 5)) {
+        let id = measure(file, first);
+        let behind = pass(file, out, c, first, id);
+        return pass_count(file, out, behind, kind, id.next);
     }
-    write_count(file, out, c, kind, first)
+    pass_count(file, out, c, kind, first)
 }
 
-// The same for the numbers of the first rows.
-fn write_rows(file: &[u8], words: &[u32], out: &mut [u8], c: Cursor, rows: u32) -> Cursor
+// The same for the numbers of the first rows, until as many bytes are saved as the file's padding has.
+fn pass_rows(
+    file: &[u8],
+    words: &[u32],
+    out: &mut [u8],
+    c: Cursor,
+    rows: u32,
+    padding: usize,
+) -> Cursor
     ensures { λ r. ⌜ WritesLast (now (file .entry)) (now (out .entry)) (now (out .exit))
-        c (tablePlaces (now (file .entry)) (now (words .entry)) rows 0) r ⌝ }
+        c (tablePlaces (now (file .entry)) (now (words .entry)) rows 0) padding r ⌝ }
 {
     let mut done = c;
     let mut i = 0;
     while i < rows {
-        done = write_row(file, words, out, done, i);
+        if saved(done, padding) {
+            return done;
+        }
+        done = pass_row(file, words, out, done, i);
         i += 1;
     }
     done
@@ -105,7 +179,7 @@ struct Behind {
 }
 
 // The same for the lengths of so many names, the first of which stands at a place.
-fn write_entries(file: &[u8], out: &mut [u8], c: Cursor, readers: u32, at: usize) -> Behind
+fn pass_entries(file: &[u8], out: &mut [u8], c: Cursor, readers: u32, at: usize) -> Behind
     requires { ⌜ (length (now file) ≤ 16777216) × (at ≤ 2 ^ 33) ⌝ }
     ensures { λ r. ⌜ WritesEntries (now (file .entry)) (now (out .entry)) (now (out .exit)) c readers at r ⌝ }
 {
@@ -113,11 +187,9 @@ fn write_entries(file: &[u8], out: &mut [u8], c: Cursor, readers: u32, at: usize
     let mut place = at;
     let mut left = readers;
     while 0 < left {
-        let n = padding::measure(file, place);
-        let next = n.next;
-        let value = n.value;
-        done = write_number(file, out, done, place, value, next);
-        place = next + value as usize + 4;
+        let n = measure(file, place);
+        done = pass(file, out, done, place, n);
+        place = n.next + n.value as usize + 4;
         left -= 1;
     }
     Behind {
@@ -125,6 +197,22 @@ fn write_entries(file: &[u8], out: &mut [u8], c: Cursor, readers: u32, at: usize
         to: done.to,
         at: place,
     }
+}
+
+// The same for the reader count, the lengths of so many names and the shared count.
+fn pass_lists(file: &[u8], out: &mut [u8], readers: u32) -> Cursor
+    requires { ⌜ length (now file) ≤ 16777216 ⌝ }
+    ensures { λ r. ⌜ WritesLists (now (file .entry)) (now (out .entry)) (now (out .exit)) readers r ⌝ }
+{
+    let count = measure(file, 10);
+    let start = pass(file, out, Cursor { from: 0, to: 0 }, 10, count);
+    let behind = pass_entries(file, out, start, readers, count.next);
+    let read = Cursor {
+        from: behind.from,
+        to: behind.to,
+    };
+    let place = behind.at;
+    pass(file, out, read, place, measure(file, place))
 }
 
 // Copies what is left of the file.
@@ -153,34 +241,30 @@ fn put_length(out: &mut [u8], size: usize)
     out[9] = (size / 16777216 % 256) as u8;
 }
 
-// Writes the whole file, which has the length needed.
-fn write(file: &[u8], words: &[u32], out: &mut [u8], rows: u32, readers: u32, needed: usize)
-    requires { ⌜ length (now file) ≤ 16777216 ⌝ }
-    ensures { λ _. ⌜ WritesFile (now (file .entry)) (now (words .entry)) (now (out .entry)) (now (out .exit)) readers rows needed ⌝ }
+// Writes the whole file, which has this padding.
+fn write(file: &[u8], words: &[u32], out: &mut [u8], rows: u32, readers: u32, padding: usize)
+    requires { ⌜ (length (now file) ≤ 16777216) × (padding ≤ length (now file)) ⌝ }
+    ensures { λ _. ⌜ WritesFile (now (file .entry)) (now (words .entry)) (now (out .entry)) (now (out .exit)) readers rows padding ⌝ }
 {
-    let count = padding::measure(file, 10);
-    let first = count.next;
-    let start = write_number(file, out, Cursor { from: 0, to: 0 }, 10, count.value, first);
-    let behind = write_entries(file, out, start, readers, first);
-    let place = behind.at;
-    let shared = padding::measure(file, place);
-    let read = Cursor {
-        from: behind.from,
-        to: behind.to,
-    };
-    let lists = write_number(file, out, read, place, shared.value, shared.next);
-    let objects = write_rows(file, words, out, lists, rows);
+    let lists = pass_lists(file, out, readers);
+    let objects = pass_rows(file, words, out, lists, rows, padding);
     write_rest(file, out, objects);
-    put_length(out, needed);
+    put_length(out, file.len() - padding);
 }
 
-// A file that was loaded: measures it, and writes it if there is room.
-fn fit(file: &[u8], words: &mut [u32], out: &mut [u8], rows: u32, readers: u32) -> Rewriting
-    requires { ⌜ Ready (now file) (now words) readers rows ⌝ }
-    ensures { λ r. ⌜ Fits (now (file .entry)) (now (words .entry)) (now (words .exit)) (now (out .entry)) (now (out .exit)) readers rows r ⌝ }
+// A file of this padding that was loaded: writes it if there is room.
+fn fit(
+    file: &[u8],
+    words: &mut [u32],
+    out: &mut [u8],
+    rows: u32,
+    readers: u32,
+    padding: usize,
+) -> Rewriting
+    requires { ⌜ Ready (now file) (now words) readers rows padding ⌝ }
+    ensures { λ r. ⌜ Fits (now (file .entry)) (now (words .entry)) (now (words .exit)) (now (out .entry)) (now (out .exit)) readers rows padding r ⌝ }
 {
-    let padded = padding::padding(file, words, rows, readers);
-    let needed = file.len() - padded;
+    let needed = file.len() - padding;
     if out.len() < needed {
         fill::clear(words, 0);
         return Rewriting::Refused {
@@ -188,7 +272,7 @@ fn fit(file: &[u8], words: &mut [u32], out: &mut [u8], rows: u32, readers: u32) 
             place: needed,
         };
     }
-    write(file, words, out, rows, readers, needed);
+    write(file, words, out, rows, readers, padding);
     Rewriting::Rewritten { length: needed }
 }
 
@@ -204,6 +288,7 @@ pub fn rewrite(file: &[u8], words: &mut [u32], out: &mut [u8]) -> Rewriting
             rows,
             readers,
             shared: _,
-        } => fit(file, words, out, rows, readers),
+            padding,
+        } => fit(file, words, out, rows, readers, padding as usize),
     }
 }

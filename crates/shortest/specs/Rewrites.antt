@@ -6,7 +6,8 @@ use native.Mathlib.Omega.{arith}
 use lib.ListN.{length, take, drop, length-append, length-drop}
 use lib.Seq.{drop-drop, take-append-seam, take-add, take-all, length-take-le}
 use Rattle.reading.specs.Answer.{read}
-use Rattle.reading.specs.Seven.{sevenAt, some-bytes}
+use Rattle.reading.specs.Reads.{Small}
+use Rattle.reading.specs.Seven.{sevenAt, seven-reads, some-bytes}
 use Rattle.numbers.specs.Shortest.{shortest, shortest-is}
 use Rattle.numbers.specs.Padded.{padOf}
 use Rattle.places.specs.Padding.{padding}
@@ -69,3 +70,31 @@ module _ (file : List ℕ) where
   rewrites-padding {from} (rest h) = omega (arith, length-drop from file)
   rewrites-padding {from} (anew {at = at} {n = n} {next = next} {out = out} h s l m b r) =
       rw s (omega (arith, rewrites-padding r, length-append (part from at) (shortest n ++ out), length-append (shortest n) out, length-part from at h (omega arith)))
+
+  -- ---- Numbers that have no padding
+
+  -- what stands before is copied too
+  extended : {from next : ℕ} {places out : List ℕ} → from ≤ next → Rewrites next places out → Rewrites from places (part from next ++ out)
+  extended {from} {next} h (rest k) =
+      let n : length (drop from file) ≤ length file - from = omega (arith, length-drop from file) in
+      let a : part from next ++ drop next file ≡ drop from file
+      = ap (λ (b : List ℕ). part from next ++ b) (sym (take-all (length file - next) (drop next file) (omega (arith, length-drop next file)))) ∙ sym (part-join from next (length file) h k) ∙ take-all (length file - from) (drop from file) n in
+      rw a (rest {from = from} (omega arith))
+  extended {from} {next} h (anew {at = at} {n = n} {out = out} k s l m b r) =
+      rw (← append-assoc (part from next) (part next at) (shortest n ++ out), ← part-join from next at h k) (anew {from = from} {at = at} (omega arith) s l m b r)
+
+  -- a number without padding stands in its shortest form, and is copied with what stands around it
+  pub unpadded : Small file → {from at : ℕ} {places out : List ℕ} → padOf (sevenAt file at) at ≡ 0 → Rewrites from (at ∷ places) out → Rewrites from places out
+  unfolding padOf
+  unpadded small {from} {at} z (anew {n = n} {next = next} {out = out} h s l m b r) =
+      let v = seven-reads file .sound small at .got s in
+      let none : next - at - length (shortest n) ≡ 0 = rw s at z in
+      let same : shortest n ≡ v .0 = shortest-is n (v .0) (v .1) .same (omega (arith, v .3)) in
+      let there : part at next ≡ v .0 = part-is at next (v .0) (drop next file) (v .2) (v .3) in
+      rw (same, ← there, ← append-assoc (part from at) (part at next) out, ← part-join from at next h (omega arith)) (extended (omega arith) r)
+
+  -- where no number has padding, all is copied
+  pub none-padded : Small file → {from : ℕ} (places : List ℕ) {out : List ℕ} → padding file places ≡ 0 → Rewrites from places out → Rewrites from [] out
+  unfolding padding
+  none-padded small [] z r = r
+  none-padded small (at ∷ places) z r = none-padded small places (omega arith) (unpadded small (omega arith) r)

@@ -16,6 +16,9 @@ enum-known-number c = search needs
 enum-known-rows : tie.Need-enum-known-rows
 enum-known-rows c = search needs
 
+cast-fit : tie.Need-cast-fit
+cast-fit c = search needs
+
 fit-requires : tie.Need-fit-requires
 fit-requires c κs =
     let s = c .before .before .before .before .before .before .before .before .before .before .before .before .args .file .now in
@@ -50,6 +53,7 @@ rewrite-spec =
     load-requires
     enum-known-number
     enum-known-rows
+    cast-fit
     fit-requires
     same-length
     returns

@@ -11,10 +11,9 @@ use Rattle.ids.specs.declared.Grid.{Grid}
 use Rattle.ids.specs.Position.{cellOf}
 use Rattle.words.specs.Grids.{rowsGrid}
 use Rattle.reading.specs.Seven.{sevenAt}
-use Rattle.shortest.specs.Short.{numbered}
-use Rattle.shortest.specs.Places.{numberOf, past, idPlaces, rawPlace, countPlaces}
-use Rattle.shortest.specs.Lists.{behindEntry, entriesPlaces, entriesEnd}
-use Rattle.padding.specs.Table.{rowPlaces, placesIn, tablePlaces}
+use Rattle.numbers.specs.Padded.{numberOf, past}
+use Rattle.places.specs.Places.{numbered, idPlaces, rawPlace, countPlaces, behindEntry, entriesPlaces, entriesEnd}
+use Rattle.rewrite.specs.Table.{rowPlaces, placesIn, tablePlaces}
 
 module _ (file : List ℕ) where
   pub count-there : (kind at : ℕ) → kind ≡ 13 → countPlaces file kind at ≡ at ∷ []

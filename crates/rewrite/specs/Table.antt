@@ -1,20 +1,14 @@
 -- Where the seven-bit numbers of a loaded file start, by the words of its table. Assumes nothing.
 use mathlib.Core.Path.{_≡_, refl, sym, ap, _∙_}
-use mathlib.Core.Bool.{cond}
 use mathlib.Core.List.{List, [], _∷_, _++_, append-assoc}
-use Prim.Native.Nat.{ℕ, zero, suc, _+_, _*_, _<_, _≤_}
+use Prim.Native.Nat.{ℕ, zero, suc, _+_, _*_}
 use native.Mathlib.Omega.{arith}
-use lib.Dec.{leb}
-use borrow.Author.Tests.{le-leb, lt-leb}
 use lib.ListN.{length, getD, length-append}
 use Rattle.layout.specs.Rows.{Row, words, width, flat}
 use Rattle.reading.specs.Grid.{cell}
-use Rattle.reading.specs.Seven.{sevenAt}
 use Rattle.ids.specs.Position.{cellOf}
 use Rattle.words.specs.Grids.{rowsGrid}
-use Rattle.shortest.specs.Places.{past, idPlaces, rawPlace, countPlaces, rowsPlaces}
-use Rattle.shortest.specs.Rewrites.{padding}
-use Rattle.shortest.specs.Lists.{entriesPlaces, entriesEnd, filePlaces}
+use Rattle.places.specs.Places.{idPlaces, rawPlace, countPlaces, rowsPlaces, listsPlaces, filePlaces}
 
 module _ (file : List ℕ) where
   -- of a row, by three of its words
@@ -37,12 +31,7 @@ module _ (file : List ℕ) where
 
     -- of a file with so many readers and rows
     unfoldable pub placesOf : (readers rows : ℕ) → List ℕ
-    placesOf readers rows =
-        10 ∷ (entriesPlaces file readers (past (sevenAt file 10) 10) ++ (entriesEnd file readers (past (sevenAt file 10) 10) ∷ tablePlaces rows 0))
-
--- the bytes that the numbers of a file have beyond their shortest forms; of a file of more than 16,777,216 bytes, which load refuses, 0
-unfoldable pub paddingIn : (file table : List ℕ) (readers rows : ℕ) → ℕ
-paddingIn file table readers rows = cond (leb (length file) 16777216) (padding file (placesOf file table readers rows)) 0
+    placesOf readers rows = listsPlaces file readers 10 ++ tablePlaces rows 0
 
 -- a word of the row behind some words
 getD-behind : (before l : List ℕ) (k : ℕ) → getD (before ++ l) (length before + k) 0 ≡ getD l k 0
@@ -73,12 +62,3 @@ module _ (file : List ℕ) where
   pub table-places : (rows : List Row) (rest : List ℕ) (readers : ℕ) → placesOf file (flat rows ++ rest) readers (length rows) ≡ filePlaces file readers rows
   unfolding placesOf filePlaces
   table-places rows rest readers = rw (places-from [] 0 rows rest refl)
-
--- both cases of the code
-pub too-long : (file table : List ℕ) (readers rows : ℕ) → 16777216 < length file → 0 ≡ paddingIn file table readers rows
-unfolding paddingIn
-too-long file table readers rows h = rw (lt-leb (length file) 16777216 h)
-
-pub not-too-long : (file table : List ℕ) (readers rows : ℕ) → length file ≤ 16777216 → padding file (placesOf file table readers rows) ≡ paddingIn file table readers rows
-unfolding paddingIn
-not-too-long file table readers rows h = rw (le-leb (length file) 16777216 h)

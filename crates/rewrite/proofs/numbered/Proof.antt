@@ -1,6 +1,6 @@
-use Rattle.padding.specs.Steps.{has-detail, kind-null, kind-reference}
-use Rattle.padding.proofs.numbered.Statement.{statement}
-use Rattle.padding.proofs.numbered.Tie as tie
+use Rattle.rewrite.specs.Steps.{has-detail, kind-null, kind-reference}
+use Rattle.rewrite.proofs.numbered.Statement.{statement}
+use Rattle.rewrite.proofs.numbered.Tie as tie
 
 returns : tie.Need-returns
 returns c = has-detail (c .before .args .kind) (c .before .args .detail) (c .if1 .taken)

@@ -1,0 +1,82 @@
+use mathlib.Core.Path.{sym, _∙_}
+use mathlib.Core.List.{_++_}
+use native.Mathlib.Omega.{arith}
+use Rattle.reading.specs.Reads.{small-by-index}
+use Rattle.reading.specs.Seven.{sevenAt}
+use Rattle.numbers.specs.Padded.{past}
+use Rattle.places.specs.Places.{countPlaces}
+use Rattle.rewrite.specs.Steps.{with-id, without-id}
+use Rattle.rewrite.specs.Measured.{found}
+use borrow.Author.Needs.{needs}
+use Rattle.rewrite.proofs.pass_row.Statement.{statement}
+use Rattle.rewrite.proofs.pass_row.Tie as tie
+
+grid-requires : tie.Need-grid-requires
+grid-requires c κs = search needs
+
+word-of-requires : tie.Need-word-of-requires
+word-of-requires c κs = search needs
+
+word-of-requires-2 : tie.Need-word-of-requires-2
+word-of-requires-2 c κs = search needs
+
+cast-first : tie.Need-cast-first
+cast-first c = search needs
+
+word-of-requires-3 : tie.Need-word-of-requires-3
+word-of-requires-3 c κs = search needs
+
+numbered-requires : tie.Need-numbered-requires
+numbered-requires c κs = search needs
+
+measure-requires : tie.Need-measure-requires
+measure-requires c κs = search needs
+
+pass-requires : tie.Need-pass-requires
+pass-requires c κs = search needs
+
+pass-count-requires : tie.Need-pass-count-requires
+pass-count-requires c κs = search needs
+
+same-length : tie.Need-same-length
+same-length c = search needs
+
+returns : tie.Need-returns
+returns c = λ base places whole p.
+    let a = c .before .before .before .before .before .before .before .before .before .before .before .before .before .before .before .before .before .before .args in
+    let s = a .file .now in
+    let f = found s (small-by-index s (λ i h. omega (arith, c .before .before .before .before .before .before .before .before .before .before .before .before .before .before .before .before .before .shared-slice-known .given i))) (c .before .before .before .before .before .before .before .before .before .before .before .before .word-of2 .result) (c .before .before .before .before .before .before .before .before .measure .result) (c .before .before .before .before .before .before .before .before .measure .ensures) in
+    let e = with-id s (a .words .now) (c .before .before .before .before .before .before .before .before .before .before .before .before .before .before .grid .result) (a .row) (c .before .before .before .before .before .before .before .before .before .before .before .before .before .word-of .result) (c .before .before .before .before .before .before .before .before .before .before .before .before .word-of2 .result) (c .before .before .before .before .before .before .before .before .before .before .before .word-of3 .result) (c .before .before .before .before .before .before .before .before .before .before .before .before .before .before .grid .ensures) (c .before .before .before .before .before .before .before .before .before .before .before .before .before .word-of .ensures) (c .before .before .before .before .before .before .before .before .before .before .before .before .word-of2 .ensures) (c .before .before .before .before .before .before .before .before .before .before .before .word-of3 .ensures) (sym (c .before .before .before .before .before .before .before .before .before .if1 .taken) ∙ c .before .before .before .before .before .before .before .before .before .before .numbered .ensures) in
+    let q = c .before .before .before .before .before .before .pass .ensures base (countPlaces s (c .before .before .before .before .before .before .before .before .before .before .before .before .before .word-of .result) (past (sevenAt s (c .before .before .before .before .before .before .before .before .before .before .before .before .word-of2 .result)) (c .before .before .before .before .before .before .before .before .before .before .before .before .word-of2 .result)) ++ places) whole (c .before .before .before .before .before .before .before .before .measure .ensures) (rw e at p) in
+    c .before .before .pass-count .ensures base places whole (rw (← f .next-is) at q)
+
+pass-count-requires-2 : tie.Need-pass-count-requires-2
+pass-count-requires-2 c κs = search needs
+
+same-length-2 : tie.Need-same-length-2
+same-length-2 c = search needs
+
+returns-2 : tie.Need-returns-2
+returns-2 c = λ base places whole p.
+    let a = c .before .before .before .before .before .before .before .before .before .before .before .before .before .args in
+    let e = without-id (a .file .now) (a .words .now) (c .before .before .before .before .before .before .before .before .before .grid .result) (a .row) (c .before .before .before .before .before .before .before .before .word-of .result) (c .before .before .before .before .before .before .before .word-of2 .result) (c .before .before .before .before .before .before .word-of3 .result) (c .before .before .before .before .before .before .before .before .before .grid .ensures) (c .before .before .before .before .before .before .before .before .word-of .ensures) (c .before .before .before .before .before .before .before .word-of2 .ensures) (c .before .before .before .before .before .before .word-of3 .ensures) (sym (c .before .before .before .before .if1 .left) ∙ c .before .before .before .before .before .numbered .ensures) in
+    c .before .before .pass-count2 .ensures base places whole (rw e at p)
+
+pub pass-row-spec : {M : Type 1} → statement M
+pass-row-spec =
+    tie.close
+    (tie.spec
+    grid-requires
+    word-of-requires
+    word-of-requires-2
+    cast-first
+    word-of-requires-3
+    numbered-requires
+    measure-requires
+    pass-requires
+    pass-count-requires
+    same-length
+    returns
+    pass-count-requires-2
+    same-length-2
+    returns-2)
