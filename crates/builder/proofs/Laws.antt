@@ -10,6 +10,7 @@ use mir.Syntax.{w64}
 use mir.Facts.{toZ-ofZ}
 use Rattle.laws.specs.Small.{differ}
 use Rattle.layout.specs.Named.{named}
+use Rattle.places.specs.Padding.{filePadding}
 use Rattle.reading.specs.Reads.{Small}
 use Rattle.reading.specs.File.{Load, refusal, accepted, loadOf}
 use Rattle.reading.specs.Refusals.{refusal-place}
@@ -33,28 +34,29 @@ use Rattle.builder.specs.Told.{loadTold, spanTold, signedTold, timeTold}
 use Rattle.readers.specs.Judged.{judgedName, judges, ten-or-eleven}
 
 -- an answer that refuses is a refusal
-refusal-of : (x : Load) {n p : ℕ} → Refused n p ≡ answerOf x → x ≡ refusal n p
-refusal-of (refusal m q) {n} {p} e =
+refusal-of : (file : List ℕ) (x : Load) {n p : ℕ} → Refused n p ≡ answerOf file x → x ≡ refusal n p
+refusal-of file (refusal m q) {n} {p} e =
     let e₁ : m ≡ n = cc in
     let e₂ : q ≡ p = cc in
     rw (e₁, e₂)
-refusal-of (accepted rows readers shared) e = differ cc
+refusal-of file (accepted rows readers shared) e = differ cc
 
-pub load-place : (file : List ℕ) (words : ℕ) {n p : ℕ} → Refused n p ≡ answerOf (loadOf judgedName file words) → p < 4294967296
-load-place file words {n} {p} e = omega (arith, refusal-place judgedName ten-or-eleven file words n p (refusal-of (loadOf judgedName file words) e) .1)
+pub load-place : (file : List ℕ) (words : ℕ) {n p : ℕ} → Refused n p ≡ answerOf file (loadOf judgedName file words) → p < 4294967296
+load-place file words {n} {p} e = omega (arith, refusal-place judgedName ten-or-eleven file words n p (refusal-of file (loadOf judgedName file words) e) .1)
 
-pub load-refused : (x : Load) {n p c : ℕ} → Refused n p ≡ answerOf x → c ≡ code n p → _≡_ {A = ℕ × ℕ × ℕ} (c, 0, 0) (loadTold x)
+pub load-refused : (file : List ℕ) (x : Load) {n p c : ℕ} → Refused n p ≡ answerOf file x → c ≡ code n p → _≡_ {A = ℕ × ℕ × ℕ × ℕ} (c, 0, 0, 0) (loadTold file x)
 unfolding loadTold packed
-load-refused x e q = rw (refusal-of x e, q)
+load-refused file x e q = rw (refusal-of file x e, q)
 
-pub load-accepted : (x : Load) {n r s : ℕ} → Loaded n r s ≡ answerOf x → _≡_ {A = ℕ × ℕ × ℕ} (n, r, s) (loadTold x)
+pub load-accepted : (file : List ℕ) (x : Load) {n r s p : ℕ} → Loaded n r s p ≡ answerOf file x → _≡_ {A = ℕ × ℕ × ℕ × ℕ} (n, r, s, p) (loadTold file x)
 unfolding loadTold packed
-load-accepted (refusal m q) e = differ cc
-load-accepted (accepted rows readers shared) {n} {r} {s} e =
+load-accepted file (refusal m q) e = differ cc
+load-accepted file (accepted rows readers shared) {n} {r} {s} {p} e =
     let e₁ : n ≡ length rows = cc in
     let e₂ : r ≡ readers = cc in
     let e₃ : s ≡ shared = cc in
-    rw (e₁, e₂, e₃)
+    let e₄ : p ≡ filePadding file readers rows = cc in
+    rw (e₄, e₁, e₂, e₃)
 
 -- the same of a rewrite
 rewritten-of : (x : Rewritten) {n p : ℕ} → rewriting.Refused n p ≡ rewrite.answerOf x → x ≡ rewritten.refusal n p
@@ -78,10 +80,10 @@ rewrite-length (rewritten.refusal m q) e = differ cc
 rewrite-length (rewritten.written bytes) {n} e = let q : n ≡ length bytes = cc in q
 
 -- the answer of both entries that load is the packed one
-pub load-packed : (x : Load) → loadTold x .0 ≡ packed x
+pub load-packed : (file : List ℕ) (x : Load) → loadTold file x .0 ≡ packed x
 unfolding loadTold
-load-packed (refusal number place) = refl
-load-packed (accepted rows readers shared) = refl
+load-packed file (refusal number place) = refl
+load-packed file (accepted rows readers shared) = refl
 
 pub span-refused : {x : Span} {n r : ℕ} → x ≡ span.Refused n r → _≡_ {A = ℕ × ℕ × ℕ} (n, 0, 0) (spanTold x)
 unfolding spanTold

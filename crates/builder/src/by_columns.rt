@@ -19,12 +19,14 @@ pub extern "C" fn xnb_load_columns(
     words: &mut [u32],
     readers: &mut u32,
     shared: &mut u32,
+    padding: &mut u32,
 ) -> u64
-    ensures { λ r. ⌜ (r, now (readers .exit), now (shared .exit)) ≡ loadTold (loadOf judgedName (now (file .entry)) (length (now (words .entry)))) ⌝ }
+    ensures { λ r. ⌜ (r, now (readers .exit), now (shared .exit), now (padding .exit))
+        ≡ loadTold (now (file .entry)) (loadOf judgedName (now (file .entry)) (length (now (words .entry)))) ⌝ }
     ensures { λ _. ⌜ now (words .exit)
         ≡ columnsTableOf (loadOf judgedName (now (file .entry)) (length (now (words .entry)))) (length (now (words .entry))) ⌝ }
 {
-    crate::load_told(file, words, true, readers, shared)
+    crate::load_told(file, words, true, readers, shared, padding)
 }
 
 // The number of the row behind a row and all below it, 0 where there is none in the room.

@@ -41,18 +41,22 @@ pub extern "C" fn xnb_load(file: &[u8]) -> u64
     let mut words = [0u32; 1024 * WIDTH as usize];
     let mut readers = 0u32;
     let mut shared = 0u32;
-    xnb_load_rows(file, &mut words, &mut readers, &mut shared)
+    let mut padding = 0u32;
+    xnb_load_rows(file, &mut words, &mut readers, &mut shared, &mut padding)
 }
 
-// Loads a file into the words, by rows or in columns: the answer is packed as above, and the number of readers and the shared count are 0 on a refusal.
+// Loads a file into the words, by rows or in columns: the answer is packed as above, and the number of readers, the shared count
+// and the padding of the file's seven-bit numbers are 0 on a refusal.
 pub(crate) fn load_told(
     file: &[u8],
     words: &mut [u32],
     columns: bool,
     readers: &mut u32,
     shared: &mut u32,
+    padding: &mut u32,
 ) -> u64
-    ensures { λ r. ⌜ (r, now (readers .exit), now (shared .exit)) ≡ loadTold (loadOf judgedName (now (file .entry)) (length (now (words .entry)))) ⌝ }
+    ensures { λ r. ⌜ (r, now (readers .exit), now (shared .exit), now (padding .exit))
+        ≡ loadTold (now (file .entry)) (loadOf judgedName (now (file .entry)) (length (now (words .entry)))) ⌝ }
     ensures { λ _. ⌜ now (words .exit)
         ≡ tableIn columns (loadOf judgedName (now (file .entry)) (length (now (words .entry)))) (length (now (words .entry))) ⌝ }
 {
@@ -60,15 +64,18 @@ pub(crate) fn load_told(
         Loading::Refused { number, place } => {
             *readers = 0;
             *shared = 0;
+            *padding = 0;
             refused(number, place)
         }
         Loading::Loaded {
             rows,
             readers: readers_count,
             shared: shared_count,
+            padding: total,
         } => {
             *readers = readers_count;
             *shared = shared_count;
+            *padding = total;
             rows as u64
         }
     }
@@ -81,11 +88,13 @@ pub extern "C" fn xnb_load_rows(
     words: &mut [u32],
     readers: &mut u32,
     shared: &mut u32,
+    padding: &mut u32,
 ) -> u64
-    ensures { λ r. ⌜ (r, now (readers .exit), now (shared .exit)) ≡ loadTold (loadOf judgedName (now (file .entry)) (length (now (words .entry)))) ⌝ }
+    ensures { λ r. ⌜ (r, now (readers .exit), now (shared .exit), now (padding .exit))
+        ≡ loadTold (now (file .entry)) (loadOf judgedName (now (file .entry)) (length (now (words .entry)))) ⌝ }
     ensures { λ _. ⌜ now (words .exit) ≡ tableOf (loadOf judgedName (now (file .entry)) (length (now (words .entry)))) (length (now (words .entry))) ⌝ }
 {
-    load_told(file, words, false, readers, shared)
+    load_told(file, words, false, readers, shared, padding)
 }
 
 // Rewrites a file into the output: a refusal is packed as above, else the answer is the length of the rewritten file.

@@ -7,6 +7,7 @@ use lib.ListN.{length, take, drop}
 use Rattle.laws.specs.Small.{differ}
 use Rattle.fill.specs.Fill.{cleared}
 use Rattle.reading.specs.File.{Load, refusal, accepted, loadOf, tableOf}
+use Rattle.places.specs.Padding.{filePadding}
 use Rattle.readers.specs.Judged.{judgedName}
 use Rattle.load.specs.declared.Loading.the-variants as load
 use Rattle.load.specs.Loads.{answerOf}
@@ -28,27 +29,28 @@ told-absent file entry absent q = let z : length entry - 0 ≡ length entry = om
 told-absent file entry (found first count) q = differ cc
 
 -- the loader's answer, by its cases
-pub as-refused : (x : Load) {number place : ℕ} → load.Refused number place ≡ answerOf x → Refused number place ≡ loadedAs x
-as-refused (refusal n p) {number} {place} q =
+pub as-refused : (bytes : List ℕ) (x : Load) {number place : ℕ} → load.Refused number place ≡ answerOf bytes x → Refused number place ≡ loadedAs bytes x
+as-refused bytes (refusal n p) {number} {place} q =
     let a : number ≡ n = cc in
     let b : place ≡ p = cc in
     rw (a, b)
-as-refused (accepted rows readers shared) q = differ cc
+as-refused bytes (accepted rows readers shared) q = differ cc
 
-pub as-loaded : (x : Load) {rows readers shared : ℕ} → load.Loaded rows readers shared ≡ answerOf x → Loaded rows readers shared ≡ loadedAs x
-as-loaded (refusal n p) q = differ cc
-as-loaded (accepted r d s) {rows} {readers} {shared} q =
+pub as-loaded : (bytes : List ℕ) (x : Load) {rows readers shared padding : ℕ} → load.Loaded rows readers shared padding ≡ answerOf bytes x → Loaded rows readers shared padding ≡ loadedAs bytes x
+as-loaded bytes (refusal n p) q = differ cc
+as-loaded bytes (accepted r d s) {rows} {readers} {shared} {padding} q =
     let a : rows ≡ length r = cc in
     let b : readers ≡ d = cc in
     let c : shared ≡ s = cc in
-    rw (a, b, c)
+    let e : padding ≡ filePadding bytes d r = cc in
+    rw (e, a, b, c)
 
 -- the part of the pack from `first` to `first + count`
 abbrev pub part : (file : List ℕ) (first count : ℕ) → List ℕ
 part file first count = take (first + count - first) (drop first file)
 
 pub told-found : (file : List ℕ) (words : ℕ) (x : Found) {first count : ℕ} (r : Opened) (exit : List ℕ) → lookup.At first count ≡ foundAs x
-    → r ≡ loadedAs (loadOf judgedName (part file first count) words) → exit ≡ tableOf (loadOf judgedName (part file first count) words) words → Told file words x r exit
+    → r ≡ loadedAs (part file first count) (loadOf judgedName (part file first count) words) → exit ≡ tableOf (loadOf judgedName (part file first count) words) words → Told file words x r exit
 told-found file words absent r exit q a l = differ cc
 told-found file words (found f n) {first} {count} r exit q a l =
     let p : first ≡ f = cc in

@@ -3,20 +3,21 @@ use mathlib.Core.List.{List}
 use Prim.Native.Nat.{ℕ}
 use lib.ListN.{length, replicate, take, drop}
 use Rattle.reading.specs.File.{Load, refusal, accepted, loadOf, tableOf}
+use Rattle.places.specs.Padding.{filePadding}
 use Rattle.readers.specs.Judged.{judgedName}
 use Rattle.pack_reading.specs.Lookup.{Found, absent, found, findOf}
 use Rattle.pack_load.specs.declared.Opened as code
 use Rattle.pack_load.specs.declared.Opened.the-variants.{Absent, Refused, Loaded}
 
 -- what the loader answers for the data
-abbrev pub loadedAs : Load → code.Opened
-loadedAs (refusal number place) = Refused number place
-loadedAs (accepted rows readers shared) = Loaded (length rows) readers shared
+abbrev pub loadedAs : (bytes : List ℕ) → Load → code.Opened
+loadedAs bytes (refusal number place) = Refused number place
+loadedAs bytes (accepted rows readers shared) = Loaded (length rows) readers shared (filePadding bytes readers rows)
 
 -- absent, or what the loader answers for the data that a lookup names
 abbrev pub opening : (file : List ℕ) (words : ℕ) → Found → code.Opened
 opening file words absent = Absent
-opening file words (found first count) = loadedAs (loadOf judgedName (take count (drop first file)) words)
+opening file words (found first count) = loadedAs (take count (drop first file)) (loadOf judgedName (take count (drop first file)) words)
 
 abbrev pub openedOf : (file table path : List ℕ) (words : ℕ) → code.Opened
 openedOf file table path words = opening file words (findOf file table path)

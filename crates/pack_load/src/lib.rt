@@ -6,7 +6,7 @@ ghost use lib.ListN.{length};
 ghost use Rattle.pack_load.specs.Opened.{openedOf, rowsOf};
 
 // Nothing of that path; or a refusal's number and place, counted from the start of the file's data;
-// or the number of rows used, the number of readers and the shared count.
+// or the number of rows used, the number of readers, the shared count and the padding of the data's seven-bit numbers.
 pub enum Opened {
     Absent,
     Refused {
@@ -17,6 +17,7 @@ pub enum Opened {
         rows: u32,
         readers: u32,
         shared: u32,
+        padding: u32,
     },
 }
 
@@ -38,10 +39,12 @@ pub fn load_found(pack: &[u8], table: &[u64], path: &[u8], words: &mut [u32]) ->
                     rows,
                     readers,
                     shared,
+                    padding,
                 } => Opened::Loaded {
                     rows,
                     readers,
                     shared,
+                    padding,
                 },
             }
         }

@@ -24,13 +24,13 @@ same-length : tie.Need-same-length
 same-length c = search needs
 
 returns : tie.Need-returns
-returns c = (load-refused _ (sym (c .before .before .number .given .1) ∙ c .before .before .before .before .before .before .load-in .ensures .0) (c .refused .ensures), c .before .before .before .before .before .before .load-in .ensures .1)
+returns c = (load-refused _ _ (sym (c .before .before .number .given .1) ∙ c .before .before .before .before .before .before .load-in .ensures .0) (c .refused .ensures), c .before .before .before .before .before .before .load-in .ensures .1)
 
 same-length-2 : tie.Need-same-length-2
 same-length-2 c = search needs
 
 returns-2 : tie.Need-returns-2
-returns-2 c = (load-accepted _ (sym (c .before .rows .given .1) ∙ c .before .before .before .before .before .load-in .ensures .0), c .before .before .before .before .before .load-in .ensures .1)
+returns-2 c = (load-accepted _ _ (sym (c .before .rows .given .1) ∙ c .before .before .before .before .before .load-in .ensures .0), c .before .before .before .before .before .load-in .ensures .1)
 
 pub load-told-spec : {M : Type 1} → statement M
 load-told-spec =

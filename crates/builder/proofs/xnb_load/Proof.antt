@@ -18,7 +18,7 @@ xnb-load-rows-requires c κs = search needs
 
 returns : tie.Need-returns
 returns c =
-    ap (λ (t : ℕ × ℕ × ℕ). t .0) (c .before .xnb-load-rows .ensures .0) ∙ load-packed _ ∙ ap (λ n. packed (loadOf judgedName (c .before .before .before .before .before .before .args .file .now) n)) (length-replicate {A = ℕ} (1024 * width) 0)
+    ap (λ (t : ℕ × ℕ × ℕ × ℕ). t .0) (c .before .xnb-load-rows .ensures .0) ∙ load-packed _ _ ∙ ap (λ n. packed (loadOf judgedName (c .before .before .before .before .before .before .before .args .file .now) n)) (length-replicate {A = ℕ} (1024 * width) 0)
 
 pub xnb-load-spec : {M : Type 1} → statement M
 xnb-load-spec = tie.close (tie.spec slice-aggregate-xnb-load-rows xnb-load-rows-requires returns)

@@ -63,8 +63,9 @@ returns-2 : tie.Need-returns-2
 returns-2 c =
     let a = c .before .before .before .before .before .before .before .before .before .before .before .before .before .before .before .before .args in
     let x = findOf (a .pack .now) (a .table .now) (a .path .now) in
-    let y = loadOf judgedName (part (a .pack .now) (c .before .before .before .before .before .before .before .before .before .first .given .0 .0) (c .before .before .before .before .before .before .before .before .before .first .given .0 .1 .0)) (length (a .words .now)) in
-    let t = told-found (a .pack .now) (length (a .words .now)) x _ _ (sym (c .before .before .before .before .before .before .before .before .before .first .given .1) ∙ c .before .before .before .before .before .before .before .before .before .before .before .find .ensures) (as-refused y (sym (c .before .number .given .1) ∙ c .before .before .before .before .before .load .ensures .0)) (c .before .before .before .before .before .load .ensures .1) in
+    let bytes = part (a .pack .now) (c .before .before .before .before .before .before .before .before .before .first .given .0 .0) (c .before .before .before .before .before .before .before .before .before .first .given .0 .1 .0) in
+    let y = loadOf judgedName bytes (length (a .words .now)) in
+    let t = told-found (a .pack .now) (length (a .words .now)) x _ _ (sym (c .before .before .before .before .before .before .before .before .before .first .given .1) ∙ c .before .before .before .before .before .before .before .before .before .before .before .find .ensures) (as-refused bytes y (sym (c .before .number .given .1) ∙ c .before .before .before .before .before .load .ensures .0)) (c .before .before .before .before .before .load .ensures .1) in
     (t .answers, t .leaves)
 
 same-length-3 : tie.Need-same-length-3
@@ -74,8 +75,9 @@ returns-3 : tie.Need-returns-3
 returns-3 c =
     let a = c .before .before .before .before .before .before .before .before .before .before .before .before .before .before .before .before .args in
     let x = findOf (a .pack .now) (a .table .now) (a .path .now) in
-    let y = loadOf judgedName (part (a .pack .now) (c .before .before .before .before .before .before .before .before .before .first .given .0 .0) (c .before .before .before .before .before .before .before .before .before .first .given .0 .1 .0)) (length (a .words .now)) in
-    let t = told-found (a .pack .now) (length (a .words .now)) x _ _ (sym (c .before .before .before .before .before .before .before .before .before .first .given .1) ∙ c .before .before .before .before .before .before .before .before .before .before .before .find .ensures) (as-loaded y (sym (c .before .rows .given .1) ∙ c .before .before .before .before .before .load .ensures .0)) (c .before .before .before .before .before .load .ensures .1) in
+    let bytes = part (a .pack .now) (c .before .before .before .before .before .before .before .before .before .first .given .0 .0) (c .before .before .before .before .before .before .before .before .before .first .given .0 .1 .0) in
+    let y = loadOf judgedName bytes (length (a .words .now)) in
+    let t = told-found (a .pack .now) (length (a .words .now)) x _ _ (sym (c .before .before .before .before .before .before .before .before .before .first .given .1) ∙ c .before .before .before .before .before .before .before .before .before .before .before .find .ensures) (as-loaded bytes y (sym (c .before .rows .given .1) ∙ c .before .before .before .before .before .load .ensures .0)) (c .before .before .before .before .before .load .ensures .1) in
     (t .answers, t .leaves)
 
 pub load-found-spec : {M : Type 1} → statement M
