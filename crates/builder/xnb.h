@@ -21,10 +21,11 @@ uint64_t xnb_load(const uint8_t *file, size_t file_length);
 
 /* Loads an XNB file into the words: seven make a row, and every word not in a used row is zero. A row is kind, first byte,
    number of bytes, number of children, the parent's row number plus 1 or 0, type id or resource id, and the number of rows
-   that the value has with all below it, itself included. Writes the number of readers and the shared count, or 0 on a
-   refusal. The answer is packed. */
+   that the value has with all below it, itself included. Writes the number of readers, the shared count and the padding:
+   how many bytes the seven-bit numbers of the file have beyond their shortest forms, which is the file's length less that of
+   the rewritten file. All three are 0 on a refusal. The answer is packed. */
 uint64_t xnb_load_rows(const uint8_t *file, size_t file_length, uint32_t *words, size_t words_length,
-                       uint32_t *readers, uint32_t *shared);
+                       uint32_t *readers, uint32_t *shared, uint32_t *padding);
 
 /* Writes the file, with each seven-bit number in its shortest form and the header's length set, to the start of `out`, and
    leaves in the words what loading the file leaves. The answer is packed, with the length of the rewritten file in place of
@@ -66,7 +67,7 @@ uint32_t xnb_next(const uint32_t *words, size_t words_length, uint32_t row);
    number. Every word of a row that is not used is zero, and so is every word in excess of the seven columns; on a refusal
    all words are zero. */
 uint64_t xnb_load_columns(const uint8_t *file, size_t file_length, uint32_t *words, size_t words_length,
-                          uint32_t *readers, uint32_t *shared);
+                          uint32_t *readers, uint32_t *shared, uint32_t *padding);
 
 /* As xnb_part, in words that xnb_load_columns left. */
 uint32_t xnb_columns_part(const uint8_t *file, size_t file_length, const uint32_t *words, size_t words_length,

@@ -68,6 +68,7 @@ fn print_file(file: &[u8], out: &mut [u8]) {
             rows,
             readers,
             shared,
+            padding: _,
         } => {
             let at = put_counts(out, rows, readers, shared);
             print_rows(out, at, &words, rows);

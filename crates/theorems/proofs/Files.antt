@@ -82,17 +82,17 @@ find-exact pack table path answers =
 small-part : (a n : ℕ) (l : List ℕ) → Small l → Small (take n (drop a l))
 small-part a n l s = small-left (take n (drop a l)) (drop n (drop a l)) (rw (take-append-drop n (drop a l)) (small-drop a l s))
 
-loaded-as : (x : reading.Load) → loadedAs x ≡ openedAs (load.answerOf x)
-loaded-as (reading.refusal number place) = refl
-loaded-as (reading.accepted rows readers shared) = refl
+loaded-as : (bytes : List ℕ) (x : reading.Load) → loadedAs bytes x ≡ openedAs (load.answerOf bytes x)
+loaded-as bytes (reading.refusal number place) = refl
+loaded-as bytes (reading.accepted rows readers shared) = refl
 
-not-absent : (x : reading.Load) → loadedAs x ≡ opened.Absent → ⊥
-not-absent (reading.refusal number place) q = differ cc
-not-absent (reading.accepted rows readers shared) q = differ cc
+not-absent : (bytes : List ℕ) (x : reading.Load) → loadedAs bytes x ≡ opened.Absent → ⊥
+not-absent bytes (reading.refusal number place) q = differ cc
+not-absent bytes (reading.accepted rows readers shared) q = differ cc
 
 is-absent : (pack : List ℕ) (words : ℕ) (x : Found) → opening pack words x ≡ opened.Absent → x ≡ absent
 is-absent pack words absent q = refl
-is-absent pack words (found a n) q = absurd (not-absent (loadOf judgedName (take n (drop a pack)) words) q)
+is-absent pack words (found a n) q = absurd (not-absent (take n (drop a pack)) (loadOf judgedName (take n (drop a pack)) words) q)
 
 pub open-exact : (pack table path : List ℕ) (words : ℕ) {left : List ℕ} {r : Opened} → Small pack → r ≡ openedOf pack table path words → left ≡ rowsOf pack table path words
     → Opens pack table path words left r
@@ -107,7 +107,7 @@ open-exact pack table path words small answers leaves =
           let e = first-exactly pack path (wholes table) a n m in
           let y = loadOf judgedName (take n (drop a pack)) words in
           let left-is = leaves ∙ ap (leaving pack words) e in
-          (load.answerOf y, answers ∙ ap (opening pack words) e ∙ loaded-as y, load-exact (take n (drop a pack)) words false (small-part a n pack small) refl left-is);
+          (load.answerOf (take n (drop a pack)) y, answers ∙ ap (opening pack words) e ∙ loaded-as (take n (drop a pack)) y, load-exact (take n (drop a pack)) words false (small-part a n pack small) refl left-is);
     }
 
 -- ---- Finding in the table that reading left

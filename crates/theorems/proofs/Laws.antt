@@ -13,6 +13,7 @@ use Rattle.layout.specs.Tree.{count}
 use Rattle.layout.specs.Rows.{width}
 use Rattle.layout.specs.File.{sharedOf}
 use Rattle.layout.specs.Named.{named}
+use Rattle.places.specs.Padding.{filePadding}
 use Rattle.reading.specs.Answer.{Answer, refused, read}
 use Rattle.reading.specs.Reads.{Small}
 use Rattle.reading.specs.File as reading
@@ -72,38 +73,45 @@ table-skips file words f true e = rw e (file-skips named byColumns (roomOf words
 
 -- ---- Loading
 
+-- what a load answers where a file tree fits
+pub loads : (file : List ℕ) (words : ℕ) (f : Fitting named file words)
+    → answerOf file (loadOf judgedName file words) ≡ Loaded (length (rowsIn named f)) (length (f .tree .names)) (count (sharedOf (f .tree .objects))) (length file - length (shortFile (f .tree)))
+loads file words f =
+    let p : filePadding file (length (f .tree .names)) (rowsIn named f) ≡ length file - length (shortFile (f .tree)) = omega (arith, S.padding-is named judgedName judges file words f) in
+    rw (T.rows-are named judgedName judges file words f, p)
+
 module _ (file : List ℕ) (words : ℕ) (columns : Bool) {left : List ℕ} {r : Loading} (small : Small file)
-    (answers : r ≡ answerOf (loadOf judgedName file words))
+    (answers : r ≡ answerOf file (loadOf judgedName file words))
     (leaves : left ≡ tableIn columns (loadOf judgedName file words) words) where
   loaded : (f : Fitting named file words)
-      → (r ≡ Loaded (length (rowsIn named f)) (length (f .tree .names)) (count (sharedOf (f .tree .objects)))) × (left ≡ table columns (rowsIn named f) words)
+      → (r ≡ Loaded (length (rowsIn named f)) (length (f .tree .names)) (count (sharedOf (f .tree .objects))) (length file - length (shortFile (f .tree)))) × (left ≡ table columns (rowsIn named f) words)
   loaded f =
-      (answers ∙ ap answerOf (T.rows-are named judgedName judges file words f), leaves ∙ table-in file words f columns)
+      (answers ∙ loads file words f, leaves ∙ table-in file words f columns)
 
   only : Ends file words → Accepted r → Fitting named file words
   only (fits f) a = f
-  only (refuses m q e i) a = absurd (rw (answers ∙ ap answerOf e) at a)
+  only (refuses m q e i) a = absurd (rw (answers ∙ ap (answerOf file) e) at a)
 
   refused-as : Ends file words → (Fitting named file words → ⊥)
       → (number : ℕ) × (place : ℕ) × (r ≡ Refused number place) × (left ≡ replicate words 0)
   refused-as (fits f) none = absurd (none f)
-  refused-as (refuses m q e i) none = (m, q, answers ∙ ap answerOf e, leaves ∙ cleared-in file words m q e columns)
+  refused-as (refuses m q e i) none = (m, q, answers ∙ ap (answerOf file) e, leaves ∙ cleared-in file words m q e columns)
 
   placed : Ends file words → (number place : ℕ) → r ≡ Refused number place → (1 ≤ number) × (number ≤ 22) × (place ≤ length file)
   placed (fits f) number place e =
       let l = loaded f .0 in
       differ cc
   placed (refuses m q g i) number place e =
-      let h : Refused number place ≡ Refused m q = sym e ∙ answers ∙ ap answerOf g in
+      let h : Refused number place ≡ Refused m q = sym e ∙ answers ∙ ap (answerOf file) g in
       let e₁ : number ≡ m = cc in
       let e₂ : place ≡ q = cc in
       rw (e₁, e₂) i
 
-  skipped : Ends file words → (used readers shared : ℕ) → r ≡ Loaded used readers shared → TableSkips (shapeOf columns) (roomOf words) left used
-  skipped (refuses m q g i) used readers shared e =
-      let h : r ≡ Refused m q = answers ∙ ap answerOf g in
+  skipped : Ends file words → (used readers shared padding : ℕ) → r ≡ Loaded used readers shared padding → TableSkips (shapeOf columns) (roomOf words) left used
+  skipped (refuses m q g i) used readers shared padding e =
+      let h : r ≡ Refused m q = answers ∙ ap (answerOf file) g in
       differ cc
-  skipped (fits f) used readers shared e =
+  skipped (fits f) used readers shared padding e =
       let l = loaded f in
       let k : length (rowsIn named f) ≡ used = cc in
       rw k at (table-skips file words f columns (l .1))
@@ -116,7 +124,7 @@ module _ (file : List ℕ) (words : ℕ) (columns : Bool) {left : List ℕ} {r :
 -- ---- Rewriting
 
 -- a load that refuses is handed on
-handed-on : (file : List ℕ) (words out n p : ℕ) → loadOf judgedName file words ≡ refusal n p → rewriteOf judgedName file words out ≡ output.refusal n p
+pub handed-on : (file : List ℕ) (words out n p : ℕ) → loadOf judgedName file words ≡ refusal n p → rewriteOf judgedName file words out ≡ output.refusal n p
 unfolding loadOf toLoad rewriteOf byLoad
 handed-on file words out n p e = go (fileAt judgedName file (roomOf words)) e where
   go : (x : Answer reading.Loaded) → toLoad x ≡ refusal n p → byLoad x out ≡ output.refusal n p
@@ -240,7 +248,8 @@ module _ {file : List ℕ} {words : ℕ} {left out end : List ℕ} {r : Rewritin
         let p = first-wrote e f h in
         let z : Exact false (shortFile (f .tree)) words left₂ r₂ = rw (l, p) at y in
         let a = z .rows g in
-        (g, refl, a .0, a .1);
+        let none : length (shortFile (f .tree)) - length (shortFile (g .tree)) ≡ 0 = omega arith in
+        (g, refl, rw none at (a .0), a .1);
   }
 
   pub not-rewritten-again : {number place : ℕ} {second end₂ : List ℕ} {r₂ : Rewriting} → r ≡ rewriting.Refused number place → R.Twice file words (length out) second end₂ r₂

@@ -1,4 +1,4 @@
--- Demand 3 for the whole format: unique reading of the layout, and what is demanded of the code of `load` and `load_columns`, which is the contract of `load_exact` and `load_columns_exact`. The layout states which bytes a tree may have; reader names are stated by writing them. Assumes nothing.
+-- Demand 3 for the whole format: unique reading of the layout, and what is demanded of the code of `load` and `load_columns`, which is the contract of `load_exact` and `load_columns_exact`. The layout states which bytes a tree may have; reader names are stated by writing them; `shortFile` goes from a file tree to its shortest bytes, with no file in it. Assumes nothing.
 use mathlib.Core.Path.{_≡_}
 use mathlib.Core.Bool.{Bool, true, false}
 use mathlib.Core.List.{List, [], _∷_, _++_}
@@ -19,6 +19,7 @@ use Rattle.columns.specs.Columns.{columnsOf}
 use Rattle.branches.specs.Table.{TableSkips}
 use Rattle.reading.specs.Theorems as T
 use Rattle.reading.specs.Theorems.{Fitting, rowsIn}
+use Rattle.shortest.specs.File.{shortFile}
 use Rattle.load.specs.declared.Loading.{Loading}
 use Rattle.load.specs.declared.Loading.the-variants.{Refused, Loaded}
 use Rattle.readers.specs.Judged.{judgedName, judges}
@@ -44,7 +45,7 @@ one-file-tree file f₁ f₂ w₁ w₂ = T.one-file-tree named judgedName judges
 -- the answer is no refusal
 abbrev pub Accepted : Loading → Type 0
 Accepted (Refused number place) = ⊥
-Accepted (Loaded rows readers shared) = Unit {0}
+Accepted (Loaded rows readers shared padding) = Unit {0}
 
 -- so many words that begin with the rows, or are the rows in columns (02, Req 08); 01: "Every word not in a used row is zero"
 abbrev pub table : (columns : Bool) → List Row → (words : ℕ) → List ℕ
@@ -55,12 +56,12 @@ table true rows words = columnsOf (roomOf words) rows ++ replicate (words - widt
 pub record Exact (columns : Bool) (file : List ℕ) (words : ℕ) (left : List ℕ) (r : Loading) : Type 0 where
   -- "the loader accepts the file exactly when some file tree, as 01 has it, may have it as its bytes and the table has room for a row for each value in that tree": it is loaded if, and only if
   pub accepts : Accepted r ↔ Fitting named file words
-  -- then "the rows are exactly those of its values as they stand in the file", every other word is zero, and the answer is the number of rows, of readers and of shared objects
+  -- then "the rows are exactly those of its values as they stand in the file", every other word is zero, and the answer is the number of rows, of readers and of shared objects, and (02, Req 06) "the file's total": by how many bytes the file is longer than the shortest bytes of the tree
   pub rows : (f : Fitting named file words)
-      → (r ≡ Loaded (length (rowsIn named f)) (length (f .tree .names)) (count (sharedOf (f .tree .objects)))) × (left ≡ table columns (rowsIn named f) words)
+      → (r ≡ Loaded (length (rowsIn named f)) (length (f .tree .names)) (count (sharedOf (f .tree .objects))) (length file - length (shortFile (f .tree)))) × (left ≡ table columns (rowsIn named f) words)
   -- where none fits, the answer is one refusal's number and place, and every word is zero
   pub refuses : (Fitting named file words → ⊥) → (number : ℕ) × (place : ℕ) × (r ≡ Refused number place) × (left ≡ replicate words 0)
   -- 02, Req 09: "It must hold of every table we leave, in rows or columns": the rule of the seventh word
-  pub skips : (used readers shared : ℕ) → r ≡ Loaded used readers shared → TableSkips (shapeOf columns) (roomOf words) left used
+  pub skips : (used readers shared padding : ℕ) → r ≡ Loaded used readers shared padding → TableSkips (shapeOf columns) (roomOf words) left used
   -- a refusal's number is one of 01's for a load, and its place is in the file
   pub inside : (number place : ℕ) → r ≡ Refused number place → (1 ≤ number) × (number ≤ 22) × (place ≤ length file)

@@ -1,5 +1,6 @@
 pub mod Exact
 pub mod Rewriting
+pub mod Padding
 pub mod Columns
 pub mod Packs
 pub mod Marks

@@ -59,7 +59,7 @@ pub record Finds (pack table path : List ℕ) (r : Found) : Type 0 where
 -- what the loader answers for the data, in the answers of a file of a pack
 abbrev pub openedAs : Loading → Opened
 openedAs (load.Refused number place) = opened.Refused number place
-openedAs (load.Loaded rows readers shared) = opened.Loaded rows readers shared
+openedAs (load.Loaded rows readers shared padding) = opened.Loaded rows readers shared padding
 
 pub record Opens (pack table path : List ℕ) (words : ℕ) (left : List ℕ) (r : Opened) : Type 0 where
   pub absent : (r ≡ opened.Absent) ↔ NoMatch pack path (wholes table)

@@ -15,8 +15,7 @@ use Rattle.load.specs.declared.Loading.{Loading}
 use Rattle.load.specs.declared.Loading.the-variants.{Loaded}
 use Rattle.numbers.specs.Shortest.{Shortens}
 use Rattle.shortest.specs.File.{shortFile}
-use Rattle.shortest.specs.Rewrites.{padding}
-use Rattle.shortest.specs.Lists.{filePlaces}
+use Rattle.places.specs.Padding.{filePadding}
 use Rattle.rewrite.specs.declared.Rewriting.{Rewriting}
 use Rattle.rewrite.specs.declared.Rewriting.the-variants.{Refused, Rewritten}
 use Rattle.theorems.specs.Exact.{table}
@@ -30,7 +29,7 @@ pub record Written {file : List ℕ} {words : ℕ} (f : Fitting named file words
   -- "a file already shortest comes out byte for byte"
   pub stays : length file ≡ length new → new ≡ file
   -- "length of the input = length of the output + the padding total": over every number in the file, its bytes beyond its shortest form
-  pub padding-is : length file ≡ length new + padding file (filePlaces file (length (f .tree .names)) (rowsIn named f))
+  pub padding-is : length file ≡ length new + filePadding file (length (f .tree .names)) (rowsIn named f)
 
 -- For a file, the number of words lent, the words as they are left, the output as it was lent and as it is left, and the answer. No reading is in it, but that the padding total takes the numbers as they are read in the file.
 pub record Exact (file : List ℕ) (words : ℕ) (left out end : List ℕ) (r : Rewriting) : Type 0 where
@@ -52,10 +51,10 @@ pub record Exact (file : List ℕ) (words : ℕ) (left out end : List ℕ) (r : 
 
 -- For a file that is rewritten and then loaded: the number of words lent, the words as they are left, the number of bytes lent for the output, and the answer.
 pub record Again (file : List ℕ) (words : ℕ) (left : List ℕ) (out : ℕ) (r : Loading) : Type 0 where
-  -- "reading it gives those objects again": the answer and the rows are those of the same file tree, as its values stand in the rewritten file
+  -- "reading it gives those objects again": the answer and the rows are those of the same file tree, as its values stand in the rewritten file, which has no padding
   pub reads : (f : Fitting named file words) → length (shortFile (f .tree)) ≤ out
       → (g : Fitting named (shortFile (f .tree)) words) × (g .tree ≡ f .tree)
-      × (r ≡ Loaded (length (rowsIn named g)) (length (g .tree .names)) (count (sharedOf (g .tree .objects)))) × (left ≡ table false (rowsIn named g) words)
+      × (r ≡ Loaded (length (rowsIn named g)) (length (g .tree .names)) (count (sharedOf (g .tree .objects))) 0) × (left ≡ table false (rowsIn named g) words)
 
 -- For a file that is rewritten and then rewritten again: the number of words lent, the number of bytes lent for the first output, the second as it was lent and as it is left, and the second answer.
 pub record Twice (file : List ℕ) (words out : ℕ) (second end : List ℕ) (r : Rewriting) : Type 0 where

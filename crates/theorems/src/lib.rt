@@ -1,9 +1,11 @@
 // What is demanded of loading and rewriting, as contracts: each function calls the code, and is here for what it ensures
-// (specs/Exact.antt and specs/Rewriting.antt, from top to bottom; of columns, columned.rt and specs/Columns.antt;
+// (specs/Exact.antt and specs/Rewriting.antt, from top to bottom; of padding, padded.rt and specs/Padding.antt;
+// of columns, columned.rt and specs/Columns.antt;
 // of packs, packed.rt and specs/Packs.antt, converted.rt and specs/Marks.antt, salvaged.rt and specs/Salvage.antt).
 mod columned;
 mod converted;
 mod packed;
+mod padded;
 mod salvaged;
 
 use load::Loading;

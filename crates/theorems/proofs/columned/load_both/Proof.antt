@@ -29,7 +29,7 @@ returns c = λ room.
     let small = small-by-index file (λ i h. omega (arith, c .before .before .before .before .before .before .before .before .before .before .shared-slice-known .given i)) in
     let by-rows = c .before .before .before .before .before .before .load .ensures in
     let by-columns = c .before .before .load-columns .ensures in
-    (by-rows .0 ∙ ap answerOf (same-load file n m room) ∙ sym (by-columns .0), same-rows file n m small room (by-rows .1) (by-columns .1))
+    (by-rows .0 ∙ ap (answerOf file) (same-load file n m room) ∙ sym (by-columns .0), same-rows file n m small room (by-rows .1) (by-columns .1))
 
 pub load-both-spec : {M : Type 1} → statement M
 load-both-spec = tie.close (tie.spec load-requires load-columns-requires same-length same-length-2 returns)

@@ -1,0 +1,34 @@
+use native.Mathlib.Omega.{arith}
+use Rattle.reading.specs.Reads.{small-by-index}
+use Rattle.theorems.proofs.Laws.{rewrite-exact}
+use Rattle.theorems.proofs.Padding.{total, needed, none, refused}
+use borrow.Author.Needs.{needs}
+use Rattle.theorems.proofs.padded.load_and_rewrite.Statement.{statement}
+use Rattle.theorems.proofs.padded.load_and_rewrite.Tie as tie
+
+load-in-requires : tie.Need-load-in-requires
+load-in-requires c κs = search needs
+
+rewrite-requires : tie.Need-rewrite-requires
+rewrite-requires c κs = search needs
+
+same-length : tie.Need-same-length
+same-length c = search needs
+
+same-length-2 : tie.Need-same-length-2
+same-length-2 c = search needs
+
+returns : tie.Need-returns
+returns c =
+    let a = c .before .before .before .before .before .before .before .before .before .before .before .before .before .before .args in
+    let file = a .file .now in
+    let small = small-by-index file (λ i h. omega (arith, c .before .before .before .before .before .before .before .before .before .before .before .before .before .shared-slice-known .given i)) in
+    let n = c .before .before .before .before .before .before .before .before .words .given in
+    let l = rw (← n) at (c .before .before .before .before .before .before .before .before .before .load-in .ensures .0) in
+    let e = c .before .before .before .before .rewrite .ensures in
+    let x = rewrite-exact file _ (a .out .now) small (e .0) (e .1 .0) (e .1 .1) in
+    rw (← n) (record { total = total file _ small l x (e .0); needed = needed file _ small l x (e .0); none = none file _ small l x (e .0); refused = refused file _ small l x (e .0) })
+
+pub load-and-rewrite-spec : {M : Type 1} → statement M
+load-and-rewrite-spec =
+    tie.close (tie.spec load-in-requires rewrite-requires same-length same-length-2 returns)
