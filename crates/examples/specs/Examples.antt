@@ -31,7 +31,8 @@ use Rattle.reading.specs.File.{isPlatform, headerAt, judge, rootKind, rootKinds
 use Rattle.names.specs.Parse.{span, starts, tailSize, tailOf, closed, opening, onOnly, onSecond, onFirst, afterHead, headed, nameIn, whole, nameOf}
 use Rattle.readers.specs.Judged.{typedName, readName, judgedName}
 use Rattle.numbers.specs.Shortest.{fewest, shortest}
-use Rattle.shortest.specs.Short.{numbered, idBytes, body, short}
+use Rattle.places.specs.Places.{numbered}
+use Rattle.shortest.specs.Short.{idBytes, body, short}
 use Rattle.shortest.specs.File.{shortEntry, shortEntries, shortLists, shortBody, shortFile}
 use Rattle.reading.specs.Output.{Rewritten, written, fitted, outputOf}
 use Rattle.shortest.specs.Rewrite.{byLoad, rewriteOf}
