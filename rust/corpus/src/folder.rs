@@ -13,7 +13,7 @@ pub fn folder() -> PathBuf {
     root().join("corpus")
 }
 
-/// Every file of the corpus folder, with what `rows` must print for it.
+/// Every file of the corpus folder, with what `rows` must print for it and its padding.
 pub fn kept_files() -> Vec<Sample> {
     let mut files = Vec::new();
     for entry in std::fs::read_dir(folder()).expect("the corpus is there") {
@@ -24,6 +24,7 @@ pub fn kept_files() -> Vec<Sample> {
                 name: stem.to_string_lossy().into_owned(),
                 bytes: std::fs::read(&path).expect("a sample"),
                 rows: std::fs::read_to_string(path.with_extension("rows")).expect("its rows"),
+                padding: kept_padding(&path.with_extension("padding")),
                 kept: true,
             });
         }
@@ -33,12 +34,42 @@ pub fn kept_files() -> Vec<Sample> {
     files
 }
 
+/// The number in the file that keeps a sample's padding, 0 without that file.
+fn kept_padding(path: &Path) -> usize {
+    match std::fs::read_to_string(path) {
+        Ok(line) => line.trim_end().parse().expect("a number"),
+        Err(_) => 0,
+    }
+}
+
 /// The kept files that have padded numbers, and the kept file that each is without them.
-const PADDED: [(&str, &str); 13] = [
+const PADDED: &[(&str, &str)] = &[
     ("ok-every-number-in-2-bytes", "ok-every-number-in-1-byte"),
     ("ok-every-number-in-3-bytes", "ok-every-number-in-1-byte"),
     ("ok-every-number-in-4-bytes", "ok-every-number-in-1-byte"),
     ("ok-every-number-in-5-bytes", "ok-every-number-in-1-byte"),
+    ("ok-padded-reader-count-of-0", "ok-kind-00-null"),
+    ("ok-padded-reader-count-of-1", "ok-kind-13-string"),
+    ("ok-padded-name-length", "ok-kind-13-string"),
+    ("ok-padded-second-name-length", "ok-argument-string"),
+    ("ok-padded-name-length-of-1024", "ok-name-of-1024-bytes"),
+    ("ok-padded-shared-count-of-0", "ok-kind-00-null"),
+    ("ok-padded-shared-count-of-1", "ok-resource-id-1-of-1"),
+    ("ok-padded-type-id-of-an-element", "ok-argument-string"),
+    ("ok-padded-null-as-an-element", "ok-argument-string"),
+    ("ok-padded-null-as-a-field", "ok-resource-id-1-of-1"),
+    ("ok-padded-null-as-a-shared-object", "ok-resource-id-1-of-1"),
+    (
+        "ok-padded-type-id-of-a-shared-object",
+        "ok-page-reference-to-page",
+    ),
+    ("ok-padded-picture-reference", "ok-resource-id-1-of-1"),
+    ("ok-padded-page-reference", "ok-resource-id-1-of-1"),
+    ("ok-padded-null-reference", "ok-page-reference-to-page"),
+    ("ok-padded-text-count", "ok-kind-13-string"),
+    ("ok-padded-text-count-of-128", "ok-text-of-128-bytes"),
+    ("ok-padded-text-count-of-0", "ok-text-of-0-bytes"),
+    ("ok-padded-reader-count-and-text-count", "ok-kind-13-string"),
     ("ok-text-count-in-2-bytes", "ok-kind-13-string"),
     ("ok-type-id-0-in-2-bytes", "ok-kind-00-null"),
     ("ok-type-id-0-in-3-bytes", "ok-kind-00-null"),

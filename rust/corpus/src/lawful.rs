@@ -625,14 +625,7 @@ fn padded_file(width: usize) -> File {
 
 /// Writes every seven-bit number of a file in so many bytes.
 pub fn pad_file(width: usize, file: &mut File) {
-    pad_parts(width, &mut file.reader_count);
-    for reader in &mut file.readers {
-        pad_parts(width, reader);
-    }
-    pad_parts(width, &mut file.shared_count);
-    for object in &mut file.objects {
-        pad_parts(width, &mut object.parts);
-    }
+    file.each_seven(&mut |_, seven| seven.width = width);
 }
 
 fn reader_lists() -> Vec<Sample> {

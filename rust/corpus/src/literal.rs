@@ -2,14 +2,16 @@
 //!
 //! Each stands in a text of `literal/` as document 000 or 01 says it; no code and no table made it.
 //! A text has blocks between empty lines. `#` starts a comment, often the rule that the blocks below it show.
-//! The first line of a block is the sample's name, lines behind `=` are what `rows` must print, and the others are its bytes:
-//! two hexadecimal digits for a byte, `AA*60` for sixty of them, and characters in quotation marks.
+//! The first line of a block is the sample's name, lines behind `=` are what `rows` must print, a line behind `padding`
+//! is the padding that must be told of it (0 without such a line), and the others are its bytes: two hexadecimal digits
+//! for a byte, `AA*60` for sixty of them, and characters in quotation marks.
 
 use crate::sample::Sample;
 
-const TEXTS: [&str; 7] = [
+const TEXTS: &[&str] = &[
     include_str!("../literal/header.txt"),
     include_str!("../literal/numbers.txt"),
+    include_str!("../literal/padding.txt"),
     include_str!("../literal/names.txt"),
     include_str!("../literal/kinds.txt"),
     include_str!("../literal/arguments.txt"),
@@ -29,10 +31,14 @@ fn sample(block: &str) -> Option<Sample> {
     let name = lines.next()?.to_string();
     let mut bytes = Vec::new();
     let mut rows = String::new();
+    let mut padding = 0;
     for line in lines {
-        match line.strip_prefix("= ") {
-            Some(printed) => rows += &format!("{printed}\n"),
-            None => bytes.extend(line_bytes(line)),
+        if let Some(printed) = line.strip_prefix("= ") {
+            rows += &format!("{printed}\n");
+        } else if let Some(number) = line.strip_prefix("padding ") {
+            padding = number.parse().expect("a number of bytes");
+        } else {
+            bytes.extend(line_bytes(line));
         }
     }
     assert!(!rows.is_empty(), "{name} has no expected rows");
@@ -40,6 +46,7 @@ fn sample(block: &str) -> Option<Sample> {
         name,
         bytes,
         rows,
+        padding,
         kept: true,
     })
 }

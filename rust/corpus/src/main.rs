@@ -1,4 +1,4 @@
-//! Writes the kept samples into the folder that is named, as NAME.xnb and NAME.rows, and the packs.
+//! Writes the files of the kept samples into the folder that is named, and the packs.
 //!
 //! With `all` behind the folder it writes every sample.
 
@@ -28,8 +28,9 @@ fn write_samples(folder: &Path, all: bool) -> std::io::Result<usize> {
     let mut samples = corpus::samples();
     samples.retain(|sample| all || sample.kept);
     for sample in &samples {
-        std::fs::write(folder.join(format!("{}.xnb", sample.name)), &sample.bytes)?;
-        std::fs::write(folder.join(format!("{}.rows", sample.name)), &sample.rows)?;
+        for (name, bytes) in sample.files() {
+            std::fs::write(folder.join(name), bytes)?;
+        }
     }
     Ok(samples.len() + corpus::packs::folder::write_packs(folder)?)
 }

@@ -1,4 +1,4 @@
-//! A sample: a file and what `rows` must print for it.
+//! A sample: a file, what `rows` must print for it, and its padding.
 
 use crate::writer::{write, File, Written};
 
@@ -7,6 +7,8 @@ pub struct Sample {
     pub bytes: Vec<u8>,
     /// The expected output of `rows`.
     pub rows: String,
+    /// The padding that must be told of it, 0 for a refused file.
+    pub padding: usize,
     /// Whether the sample is kept in the repository as files; every sample is used in tests.
     pub kept: bool,
 }
@@ -19,6 +21,19 @@ impl Sample {
             ..self
         }
     }
+
+    /// The files that keep the sample, by name: NAME.padding stands beside the others unless the padding is 0.
+    pub fn files(&self) -> Vec<(String, Vec<u8>)> {
+        let mut files = vec![
+            (format!("{}.xnb", self.name), self.bytes.clone()),
+            (format!("{}.rows", self.name), self.rows.clone().into()),
+        ];
+        if self.padding > 0 {
+            let line = format!("{}\n", self.padding);
+            files.push((format!("{}.padding", self.name), line.into()));
+        }
+        files
+    }
 }
 
 /// A file that must be accepted with the rows as written.
@@ -27,6 +42,7 @@ pub fn accepted(name: &str, file: File) -> Sample {
     Sample {
         name: format!("ok-{name}"),
         rows: row_lines(&written),
+        padding: written.padding,
         bytes: written.bytes,
         kept: true,
     }
@@ -44,6 +60,7 @@ pub fn refused_bytes(name: &str, number: u32, place: usize, bytes: Vec<u8>) -> S
     Sample {
         name: format!("bad-{number:02}-{name}"),
         rows: refusal_line(number, place),
+        padding: 0,
         bytes,
         kept: true,
     }

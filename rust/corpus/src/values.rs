@@ -1,6 +1,6 @@
 //! Values to be written, by kind.
 
-use crate::writer::{File, Part, Role, Seven, Value};
+use crate::writer::{each_seven, File, Part, Role, Seven, Value};
 
 /// A whole file with a right header and right counts.
 pub fn file<N: AsRef<str>>(readers: &[N], primary: Value, shared: Vec<Value>) -> File {
@@ -312,19 +312,8 @@ pub fn reference(resource_id: u32) -> Value {
 /// The same value with every seven-bit number in it written in so many bytes.
 pub fn padded(width: usize, value: Value) -> Value {
     let mut value = value;
-    pad_parts(width, &mut value.parts);
+    each_seven(&mut value.parts, &mut |_, seven| seven.width = width);
     value
-}
-
-/// Writes every seven-bit number among the parts and below them in so many bytes.
-pub fn pad_parts(width: usize, parts: &mut [Part]) {
-    for part in parts {
-        match part {
-            Part::Seven(_, seven) => seven.width = width,
-            Part::Child(child) => pad_parts(width, &mut child.parts),
-            _ => {}
-        }
-    }
 }
 
 /// The same value with the expected refusal's place at its start.

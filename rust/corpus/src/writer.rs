@@ -94,8 +94,43 @@ pub struct Written {
     pub fields: Vec<Field>,
     pub readers: usize,
     pub shared: usize,
+    /// How many bytes the seven-bit numbers have more than their shortest forms.
+    pub padding: usize,
     /// The place marked as the expected refusal's.
     pub fault: Option<usize>,
+}
+
+impl File {
+    /// Hands on each seven-bit number, in file order, to be changed.
+    pub fn each_seven(&mut self, change: &mut dyn FnMut(Role, &mut Seven)) {
+        each_seven(&mut self.reader_count, change);
+        for reader in &mut self.readers {
+            each_seven(reader, change);
+        }
+        each_seven(&mut self.shared_count, change);
+        for object in &mut self.objects {
+            each_seven(&mut object.parts, change);
+        }
+    }
+}
+
+/// Hands on each seven-bit number among the parts and below them.
+pub fn each_seven(parts: &mut [Part], change: &mut dyn FnMut(Role, &mut Seven)) {
+    for part in parts {
+        match part {
+            Part::Seven(role, seven) => change(*role, seven),
+            Part::Child(child) => each_seven(&mut child.parts, change),
+            _ => {}
+        }
+    }
+}
+
+impl Seven {
+    /// How many bytes it is written in more than its shortest form has.
+    pub fn padding(self) -> usize {
+        let shortest = Seven { width: 0, ..self };
+        seven_bytes(self).len() - seven_bytes(shortest).len()
+    }
 }
 
 /// The bytes of a seven-bit number.
@@ -134,6 +169,7 @@ pub fn write(file: &File) -> Written {
         fields: writer.fields,
         readers: file.readers.len(),
         shared: file.objects.len() - 1,
+        padding: writer.padding,
         fault: writer.fault,
     }
 }
@@ -151,6 +187,7 @@ struct Writer {
     bytes: Vec<u8>,
     rows: Vec<Row>,
     fields: Vec<Field>,
+    padding: usize,
     fault: Option<usize>,
     end: Option<usize>,
 }
@@ -175,7 +212,10 @@ impl Writer {
         for part in parts {
             match part {
                 Part::Field(role, bytes) => self.field(*role, bytes),
-                Part::Seven(role, seven) => self.field(*role, &seven_bytes(*seven)),
+                Part::Seven(role, seven) => {
+                    self.padding += seven.padding();
+                    self.field(*role, &seven_bytes(*seven));
+                }
                 Part::Data(bytes) => self.data(bytes),
                 Part::Child(child) => rows += self.child(child, owner),
                 Part::Fault => self.fault = Some(self.bytes.len()),

@@ -12,23 +12,18 @@ fn kept() -> Vec<Sample> {
 fn kept_files_are_up_to_date() {
     let mut expected = BTreeSet::new();
     for sample in kept() {
-        let xnb = format!("{}.xnb", sample.name);
-        let rows = format!("{}.rows", sample.name);
-        let read = |name: &str| std::fs::read(folder().join(name)).unwrap_or_default();
-        assert_eq!(read(&xnb), sample.bytes, "{xnb}: run corpus/make");
-        assert_eq!(
-            read(&rows),
-            sample.rows.as_bytes(),
-            "{rows}: run corpus/make"
-        );
-        expected.insert(xnb);
-        expected.insert(rows);
+        for (name, bytes) in sample.files() {
+            let kept = std::fs::read(folder().join(&name)).unwrap_or_default();
+            assert_eq!(kept, bytes, "{name}: run corpus/make");
+            expected.insert(name);
+        }
     }
     let mut found = BTreeSet::new();
     for entry in std::fs::read_dir(folder()).expect("the corpus is there") {
         let name = entry.expect("a file").file_name();
         let name = name.to_string_lossy().into_owned();
-        if name.ends_with(".xnb") || name.ends_with(".rows") {
+        let extension = name.rsplit('.').next().unwrap_or(&name);
+        if ["xnb", "rows", "padding"].contains(&extension) {
             found.insert(name);
         }
     }

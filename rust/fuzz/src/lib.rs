@@ -2,6 +2,7 @@
 //!
 //! `case(seed)` gives one file; equal seeds give equal files.
 //! `limits::cases()` gives files at every bound of 01 and just past it.
+//! `padding::case(seed)` gives one whose seven-bit numbers are padded by chosen amounts.
 //! `tables::case(seed)` gives a table that no loader left, and `tables::in_columns` puts a table into columns.
 
 mod aimed;
@@ -9,6 +10,7 @@ mod blind;
 pub mod limits;
 mod maker;
 pub mod packs;
+pub mod padding;
 pub mod random;
 mod shape;
 pub mod tables;
@@ -35,6 +37,7 @@ pub enum Known {
         rows: Vec<Row>,
         readers: usize,
         shared: usize,
+        padding: usize,
     },
     Refused {
         number: u32,
@@ -87,6 +90,7 @@ fn lawful_case(random: &mut Random, written: Written) -> Case {
             rows: written.rows,
             readers: written.readers,
             shared: written.shared,
+            padding: written.padding,
         }),
     }
 }

@@ -26,17 +26,19 @@ pub fn cases() -> Vec<Limit> {
     limits.extend(fonts());
     limits.extend(orders());
     limits.extend(longest_files());
+    limits.extend(crate::padding::limits());
     limits
 }
 
 /// A file that must be accepted, or refused at the place marked in it where a number is given.
-fn limit(name: impl Into<String>, refusal: u32, file: File) -> Limit {
+pub fn limit(name: impl Into<String>, refusal: u32, file: File) -> Limit {
     let written = write(&file);
     let known = if refusal == 0 {
         Known::Accepted {
             rows: written.rows,
             readers: written.readers,
             shared: written.shared,
+            padding: written.padding,
         }
     } else {
         let place = written.fault.expect("a damaged file marks its fault");
@@ -55,7 +57,7 @@ fn limit(name: impl Into<String>, refusal: u32, file: File) -> Limit {
     }
 }
 
-fn alone<N: AsRef<str>>(readers: &[N], primary: Value) -> File {
+pub fn alone<N: AsRef<str>>(readers: &[N], primary: Value) -> File {
     file(readers, primary, vec![])
 }
 
@@ -118,19 +120,15 @@ fn counts() -> Vec<Limit> {
 
 /// Seven-bit numbers of five bytes, as type ids.
 fn numbers() -> Vec<Limit> {
-    let id = |bytes: &[u8], rest: Vec<Part>| {
-        let mut parts = vec![Part::Fault, Part::Field(Role::FreeTypeId, bytes.to_vec())];
-        parts.extend(rest);
-        value(0, parts)
+    let null_in = |bytes: &[u8]| {
+        let id = Part::Field(Role::FreeTypeId, bytes.to_vec());
+        alone(&[BYTE], value(0, vec![Part::Fault, id]))
     };
-    let null_in = |bytes: &[u8]| alone(&[BYTE], id(bytes, vec![]));
-    let mut byte_object = id(&[0x81, 0x80, 0x80, 0x80, 0x00], vec![number_byte(7)]);
-    byte_object.kind = 1;
-    byte_object.detail = 1;
+    let byte_object = padded(5, object(1, byte(7)));
     vec![
-        limit("0 in one byte", 0, null_in(&[0])),
-        limit("0 in two bytes", 0, null_in(&[0x80, 0])),
-        limit("0 in five bytes", 0, null_in(&[0x80, 0x80, 0x80, 0x80, 0])),
+        limit("0 in one byte", 0, alone(&[BYTE], null())),
+        limit("0 in two bytes", 0, alone(&[BYTE], padded(2, null()))),
+        limit("0 in five bytes", 0, alone(&[BYTE], padded(5, null()))),
         limit("1 in five bytes", 0, alone(&[BYTE], byte_object)),
         limit(
             "the largest number",
@@ -157,10 +155,6 @@ fn numbers() -> Vec<Limit> {
         limit("cut after one byte", 1, null_in(&[0x80])),
         limit("cut before its start", 1, null_in(&[])),
     ]
-}
-
-fn number_byte(byte: u8) -> Part {
-    Part::Field(Role::Fixed(1), vec![byte])
 }
 
 fn depths_and_rows() -> Vec<Limit> {

@@ -10,7 +10,7 @@ use corpus::values::{
     image_bytes, image_level, list, nothing, null, object, page, reference, something, text,
     texture_of, Font,
 };
-use corpus::writer::{File, Part, Value};
+use corpus::writer::{File, Value};
 use std::collections::BTreeSet;
 
 const MOST_READERS: usize = 64;
@@ -74,34 +74,14 @@ pub fn make(random: &mut Random, planted: Planted) -> Made {
     file.start[3] = maker.random.pick(b"wmx");
     file.start[5] = maker.random.pick(&[0, 1]);
     if maker.random.chance(40) {
-        pad_some(maker.random, &mut file);
+        // Some seven-bit numbers get more bytes than they need.
+        let random = &mut *maker.random;
+        file.each_seven(&mut |_, seven| seven.width = random.below(6));
     }
     let targets = maker.readers.into_iter().map(|(target, _)| target);
     Made {
         file,
         targets: targets.collect(),
-    }
-}
-
-/// Writes some seven-bit numbers in more bytes than they need.
-fn pad_some(random: &mut Random, file: &mut File) {
-    pad_some_parts(random, &mut file.reader_count);
-    for reader in &mut file.readers {
-        pad_some_parts(random, reader);
-    }
-    pad_some_parts(random, &mut file.shared_count);
-    for object in &mut file.objects {
-        pad_some_parts(random, &mut object.parts);
-    }
-}
-
-fn pad_some_parts(random: &mut Random, parts: &mut [Part]) {
-    for part in parts {
-        match part {
-            Part::Seven(_, seven) => seven.width = random.below(6),
-            Part::Child(child) => pad_some_parts(random, &mut child.parts),
-            _ => {}
-        }
     }
 }
 

@@ -169,6 +169,5 @@ fn matches(pack: &[u8], entry: &[u64], path: &[u8]) -> bool {
     entry[1] != 0
         && inside(wide[0], wide[1])
         && inside(wide[2], wide[3])
-        && pack[entry[0] as usize..][..entry[1] as usize].to_ascii_lowercase()
-            == path.to_ascii_lowercase()
+        && pack[entry[0] as usize..][..entry[1] as usize].eq_ignore_ascii_case(path)
 }

@@ -9,12 +9,18 @@ pub struct Cursor<'f> {
     pub at: usize,
     /// Every seven-bit number met so far, with its place.
     pub sevens: Vec<(usize, Seven)>,
+    /// Their padding in all.
+    pub padding: usize,
 }
 
 impl<'f> Cursor<'f> {
     pub fn new(file: &'f [u8], at: usize) -> Cursor<'f> {
-        let sevens = Vec::new();
-        Cursor { file, at, sevens }
+        Cursor {
+            file,
+            at,
+            sevens: Vec::new(),
+            padding: 0,
+        }
     }
 
     /// How many bytes are left.
@@ -46,6 +52,7 @@ impl<'f> Cursor<'f> {
         match read_seven(&self.file[self.at..]) {
             Ok(seven) => {
                 self.sevens.push((self.at, seven));
+                self.padding += seven.padding;
                 self.at += seven.width;
                 Ok(seven.value)
             }

@@ -26,7 +26,7 @@ mod walk;
 
 pub use branches::broken_branch;
 pub use image::{level_size, longest_chain};
-pub use load::{builder_answer, load, load_in, Loaded};
+pub use load::{builder_answer, load, load_in, padding_told, Loaded};
 pub use lookup::{next, part, signed, text, time};
 pub use printed::{printed_rows, refusal_line, shortened, INPUT_TOO_LONG, LONGEST_INPUT};
 pub use refusal::Refusal;

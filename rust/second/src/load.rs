@@ -25,6 +25,13 @@ pub struct Loaded {
     pub rows: usize,
     pub readers: usize,
     pub shared: usize,
+    /// How many bytes the file's seven-bit numbers have more than their shortest forms.
+    pub padding: usize,
+}
+
+/// The padding that is told of a file: "Refused files report 0."
+pub fn padding_told(answer: Result<Loaded, Refusal>) -> usize {
+    answer.map_or(0, |loaded| loaded.padding)
 }
 
 /// A file that was read: its counts, its rows and its seven-bit numbers in order.
@@ -84,6 +91,7 @@ pub fn read_file(file: &[u8], room: usize) -> Result<Read, Refusal> {
         rows: walk.rows.len(),
         readers: readers.len(),
         shared: shared as usize,
+        padding: walk.cursor.padding,
     };
     Ok(Read {
         loaded,

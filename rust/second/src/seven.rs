@@ -8,6 +8,19 @@ pub struct Seven {
     pub value: u32,
     /// How many bytes it takes in the file.
     pub width: usize,
+    /// How many of them are more than its shortest form has.
+    pub padding: usize,
+}
+
+impl Seven {
+    fn new(value: u32, width: usize) -> Seven {
+        let padding = width - shortest_width(value);
+        Seven {
+            value,
+            width,
+            padding,
+        }
+    }
 }
 
 /// Reads the number at the start of the bytes, or gives the refusal's number.
@@ -17,8 +30,7 @@ pub fn read_seven(bytes: &[u8]) -> Result<Seven, u32> {
         let byte = *bytes.get(index).ok_or(PAST_END)?;
         value |= u32::from(byte & 0x7F) << (7 * index);
         if byte & 0x80 == 0 {
-            let width = index + 1;
-            return Ok(Seven { value, width });
+            return Ok(Seven::new(value, index + 1));
         }
     }
     // The fifth byte has only four bits left to give.
@@ -27,7 +39,18 @@ pub fn read_seven(bytes: &[u8]) -> Result<Seven, u32> {
         return Err(BROKEN_NUMBER);
     }
     value |= u32::from(fifth) << 28;
-    Ok(Seven { value, width: 5 })
+    Ok(Seven::new(value, 5))
+}
+
+/// How many bytes the shortest form of a number has.
+fn shortest_width(number: u32) -> usize {
+    match number {
+        0..=0x7F => 1,
+        0x80..=0x3FFF => 2,
+        0x4000..=0x1F_FFFF => 3,
+        0x20_0000..=0xFFF_FFFF => 4,
+        0x1000_0000.. => 5,
+    }
 }
 
 /// The shortest bytes of a number.

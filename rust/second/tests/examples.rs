@@ -38,6 +38,7 @@ fn p1_to_p3_rows() {
         rows: 1,
         readers: 0,
         shared: 0,
+        padding: 0,
     };
     assert_eq!(loaded, Ok(expected));
     assert_eq!(words, [0, 12, 1, 0, 0, 0, 1, 0, 0, 0, 0, 0, 0, 0, 0]);
@@ -86,8 +87,12 @@ fn p11_seven_bit_numbers() {
         for number in [1 << shift, (1 << shift) - 1, u32::MAX << shift] {
             let bytes = shortest_seven(number);
             let width = bytes.len();
-            let value = number;
-            assert_eq!(read_seven(&bytes), Ok(Seven { value, width }));
+            let read = Seven {
+                value: number,
+                width,
+                padding: 0,
+            };
+            assert_eq!(read_seven(&bytes), Ok(read));
             let shorter_would_do = width > 1 && bytes[width - 1] == 0;
             assert!(!shorter_would_do);
         }

@@ -11,7 +11,7 @@ struct Wrong {
     wrong: &'static str,
 }
 
-const WRONG: [Wrong; 9] = [
+const WRONG: &[Wrong] = &[
     Wrong {
         what: "DateTime's limit",
         file: "walk.rs",
@@ -68,10 +68,39 @@ const WRONG: [Wrong; 9] = [
         right: "(self.rows.len() - row) as u32",
         wrong: "1 + children",
     },
+    Wrong {
+        what: "a text's count left out of the padding",
+        file: "walk.rs",
+        right: "let count = self.cursor.take_seven()?;",
+        wrong: "let before = self.cursor.padding;
+        let count = self.cursor.take_seven()?;
+        self.cursor.padding = before;",
+    },
+    Wrong {
+        what: "the reader count left out of the padding",
+        file: "load.rs",
+        right: "let count = read_count(cursor, MOST_READERS)?;",
+        wrong: "let count = read_count(cursor, MOST_READERS)?;
+    cursor.padding = 0;",
+    },
+    Wrong {
+        what: "one byte as the shortest form of 128",
+        file: "seven.rs",
+        right: "0x80..=0x3FFF => 2,",
+        wrong: "0x80..=0x3FFF => 1,",
+    },
 ];
 
-/// Prints the name of every file in the folder whose rows are not those beside it.
+/// Prints the name of every file in the folder whose rows or padding are not those beside it.
 const PROBE: &str = r#"
+/// Whether the padding that is told of a file is that beside it, 0 without a file for it.
+fn tells_padding(file: &[u8], path: &std::path::Path) -> bool {
+    let line = std::fs::read_to_string(path.with_extension("padding"));
+    let kept = line.unwrap_or("0\n".to_string());
+    let answer = load(file, &mut vec![0; 1024 * WORDS_PER_ROW]);
+    format!("{}\n", padding_told(answer)) == kept
+}
+
 fn main() {
     let folder = std::env::args().nth(1).expect("a folder");
     for entry in std::fs::read_dir(folder).expect("the corpus is there") {
@@ -79,7 +108,7 @@ fn main() {
         if path.extension().is_some_and(|it| it == "xnb") {
             let file = std::fs::read(&path).expect("a sample");
             let rows = std::fs::read_to_string(path.with_extension("rows")).expect("its rows");
-            if printed_rows(&file) != rows {
+            if printed_rows(&file) != rows || !tells_padding(&file, &path) {
                 println!("{}", path.file_stem().expect("a name").to_string_lossy());
             }
         }
