@@ -11,6 +11,8 @@ pub struct Loaded {
     pub rows: usize,
     pub readers: usize,
     pub shared: usize,
+    /// How many bytes its seven-bit numbers have more than their shortest forms.
+    pub padding: usize,
 }
 
 /// Whole seconds, rounded down, and the ticks above them, 10,000,000 to a second.
@@ -32,7 +34,7 @@ pub fn rewrite(file: &[u8], words: &mut [u32], out: &mut [u8]) -> Result<usize, 
     unpacked(raw::rewrite(file, words, out))
 }
 
-/// The shortest form of a file.
+/// The shortest form of a file: it is shorter by the file's [`padding`](crate::Grid::padding).
 pub fn shorten(file: &[u8]) -> Result<Vec<u8>, Refused> {
     // It is never longer than the file.
     let mut out = vec![0; file.len()];
@@ -45,11 +47,12 @@ impl Shape {
     /// Loads a file into lent words, [`WORDS_PER_ROW`](crate::WORDS_PER_ROW) to a row; every other word is zero,
     /// and all are after a refusal.
     pub fn load(self, file: &[u8], words: &mut [u32]) -> Result<Loaded, Refused> {
-        let (answer, readers, shared) = raw::load_table(self, file, words);
+        let answer = raw::load_table(self, file, words);
         Ok(Loaded {
-            rows: unpacked(answer)?,
-            readers: readers as usize,
-            shared: shared as usize,
+            rows: unpacked(answer.packed)?,
+            readers: answer.readers as usize,
+            shared: answer.shared as usize,
+            padding: answer.padding as usize,
         })
     }
 

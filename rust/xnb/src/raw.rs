@@ -20,6 +20,7 @@ mod entries {
             words_length: usize,
             readers: *mut u32,
             shared: *mut u32,
+            padding: *mut u32,
         ) -> u64;
         pub fn xnb_rewrite(
             file: *const u8,
@@ -72,6 +73,7 @@ mod entries {
             words_length: usize,
             readers: *mut u32,
             shared: *mut u32,
+            padding: *mut u32,
         ) -> u64;
         pub fn xnb_columns_part(
             file: *const u8,
@@ -120,14 +122,27 @@ pub fn load(file: &[u8]) -> u64 {
     unsafe { entries::xnb_load(file.as_ptr(), file.len()) }
 }
 
-/// The packed answer, the reader count and the shared count.
-pub fn load_table(shape: Shape, file: &[u8], words: &mut [u32]) -> (u64, u32, u32) {
+/// What a load answers.
+#[derive(Clone, Copy, Debug, PartialEq, Eq)]
+pub struct LoadAnswer {
+    /// The packed answer; its lower half is the number of rows, or the place.
+    pub packed: u64,
+    /// The reader count, or 0.
+    pub readers: u32,
+    /// The shared count, or 0.
+    pub shared: u32,
+    /// How many bytes the seven-bit numbers have more than their shortest forms, or 0.
+    pub padding: u32,
+}
+
+/// Loads into lent words.
+pub fn load_table(shape: Shape, file: &[u8], words: &mut [u32]) -> LoadAnswer {
     let entry = match shape {
         Shape::Rows => entries::xnb_load_rows,
         Shape::Columns => entries::xnb_load_columns,
     };
-    let (mut readers, mut shared) = (u32::MAX, u32::MAX);
-    let answer = unsafe {
+    let (mut readers, mut shared, mut padding) = (u32::MAX, u32::MAX, u32::MAX);
+    let packed = unsafe {
         entry(
             file.as_ptr(),
             file.len(),
@@ -135,9 +150,15 @@ pub fn load_table(shape: Shape, file: &[u8], words: &mut [u32]) -> (u64, u32, u3
             words.len(),
             &mut readers,
             &mut shared,
+            &mut padding,
         )
     };
-    (answer, readers, shared)
+    LoadAnswer {
+        packed,
+        readers,
+        shared,
+        padding,
+    }
 }
 
 /// The packed answer; its lower half is the new length, or the place.

@@ -93,9 +93,32 @@ impl<'f, S: Shaped, W: AsRef<[u32]>> Grid<'f, S, W> {
         self.file
     }
 
-    /// The number of rows, readers and shared objects.
+    /// The number of rows, readers and shared objects, and the padding.
     pub fn loaded(&self) -> Loaded {
         self.loaded
+    }
+
+    /// How many bytes the file's seven-bit numbers have more than their shortest forms.
+    ///
+    /// It is 0 exactly if the file is already as short as [`shorten`](crate::shorten) makes it.
+    ///
+    /// ```
+    /// let mut file = b"XNBw\x05\x00\x44\x00\x00\x00\x01\x2C".to_vec();
+    /// file.extend_from_slice(b"Microsoft.Xna.Framework.Content.StringReader\x00\x00\x00\x00");
+    /// // No shared object; a text of two bytes, its type id in two bytes and its count in three.
+    /// file.extend_from_slice(b"\x00\x81\x00\x82\x80\x00Hi");
+    ///
+    /// let table = xnb::Table::load(&file)?;
+    /// assert_eq!(table.padding(), 3);
+    /// assert_eq!(xnb::Columns::load(&file)?.padding(), 3);
+    ///
+    /// let shortest = xnb::shorten(&file)?;
+    /// assert_eq!(shortest.len(), file.len() - table.padding());
+    /// assert_eq!(xnb::Table::load(&shortest)?.padding(), 0);
+    /// # Ok::<(), xnb::Refused>(())
+    /// ```
+    pub fn padding(&self) -> usize {
+        self.loaded.padding
     }
 
     /// One row, found without looking at any other.

@@ -179,7 +179,13 @@ fn run(program: &Path, words: &[&str], input: &[u8]) -> (Vec<u8>, String, bool) 
     (ran.stdout, besides, ran.status.success())
 }
 
-/// The lines that README's program prints for a table's texts.
+/// The line that README's program prints first.
+fn padding(table: &xnb::Table) -> String {
+    let (padding, length) = (table.padding(), table.file().len());
+    format!("{padding} of {length} bytes are padding\n")
+}
+
+/// The lines that it prints for a table's texts.
 fn texts(table: &xnb::Table) -> String {
     let rows = (0..).zip(table.rows());
     let rows = rows.filter(|(_, row)| row.kind == xnb::Kind::String);
@@ -196,9 +202,11 @@ fn kinds(table: &xnb::Table) -> String {
     table.objects().enumerate().map(line).collect()
 }
 
-/// README's program over kept files: the texts by rows and in columns, and the objects.
+/// README's program over files that pad and some others: the padding, the texts by rows and in columns, and the objects.
 fn compare_files(program: &Path) {
-    for file in kept_files().iter().step_by(5) {
+    let kept = kept_files();
+    let padded = kept.iter().filter(|file| file.padding > 0);
+    for file in kept.iter().step_by(5).chain(padded) {
         let table = match xnb::Table::load(&file.bytes) {
             Ok(table) => table,
             Err(refused) => {
@@ -209,13 +217,14 @@ fn compare_files(program: &Path) {
                 continue;
             }
         };
-        let lines = texts(&table).into_bytes();
-        let told = (lines.clone(), String::new(), true);
+        let lines = padding(&table) + &texts(&table);
+        let told = (lines.clone().into_bytes(), String::new(), true);
         assert_eq!(run(program, &[], &file.bytes), told, "{}", file.name);
+        let told = (texts(&table).into_bytes(), String::new(), true);
         assert_eq!(run(program, &["texts"], &file.bytes), told, "{}", file.name);
         let shared = table.loaded().shared;
         if shared < 10 {
-            let objects = [lines, kinds(&table).into_bytes()].concat();
+            let objects = (lines + &kinds(&table)).into_bytes();
             let words = ["kinds", &shared.to_string()];
             let (out, _, _) = run(program, &words, &file.bytes);
             assert_eq!(out, objects, "{}", file.name);

@@ -6,13 +6,14 @@ use corpus::folder::kept_files;
 use fuzz::random::Random;
 use fuzz::tables::in_columns;
 use lent::Lent;
-use xnb::{raw, Shape, WORDS_PER_ROW};
+use xnb::raw::{self, LoadAnswer};
+use xnb::{Shape, WORDS_PER_ROW};
 
 const FILES: u64 = 30_000;
 const TABLES: u64 = 20_000;
 
 /// The answer to a load with so many words lent, and the words that it leaves.
-fn loaded(shape: Shape, file: &[u8], garbage: u32, words: usize) -> ((u64, u32, u32), Vec<u32>) {
+fn loaded(shape: Shape, file: &[u8], garbage: u32, words: usize) -> (LoadAnswer, Vec<u32>) {
     let mut lent = Lent::new(garbage, words);
     let answer = raw::load_table(shape, file, lent.middle());
     let left = lent.middle().to_vec();
@@ -28,14 +29,14 @@ fn compare_loads(name: &str, file: &[u8], garbage: u32, words: usize) -> (u64, V
     let (columns_answer, columns) = loaded(Shape::Columns, file, !garbage, words);
     assert_eq!(columns_answer, answer, "{told}");
     assert!(columns == in_columns(&by_rows), "{told}: other rows");
-    let used = if answer.0 >> 32 == 0 {
-        answer.0 as usize
+    let used = if answer.packed >> 32 == 0 {
+        answer.packed as usize
     } else {
         0
     };
     let unused = &by_rows[WORDS_PER_ROW * used..];
     assert!(unused.iter().all(|word| *word == 0), "{told}");
-    (answer.0, by_rows)
+    (answer.packed, by_rows)
 }
 
 /// "Lookups over either answer the same": for these rows of words of any content.

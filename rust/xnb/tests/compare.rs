@@ -75,6 +75,19 @@ fn generated_files_give_the_second_loaders_answers() {
     SHAPES.into_iter().for_each(compare_generated);
 }
 
+/// Files whose numbers are padded by chosen amounts.
+#[test]
+fn padded_files_give_the_second_loaders_answers() {
+    for shape in SHAPES {
+        let mut sides = Sides::new(shape, 5);
+        for seed in 0..files() / 4 {
+            let case = fuzz::padding::case(seed);
+            compare(&mut sides, &format!("seed {seed}"), &case.bytes, case.words);
+        }
+        println!("{} files, {shape:?}\n{}", files() / 4, sides.counts);
+    }
+}
+
 #[test]
 fn limits_give_the_second_loaders_answers() {
     let limits = fuzz::limits::cases();

@@ -3,9 +3,10 @@
 use crate::lent::Lent;
 use fuzz::random::Random;
 use fuzz::tables::in_columns;
-use second::{broken_branch, Refusal, Table, WORDS_PER_ROW};
+use second::{broken_branch, padding_told, Refusal, Table, WORDS_PER_ROW};
 use std::fmt::{self, Display, Formatter};
-use xnb::{raw, Shape};
+use xnb::raw::{self, LoadAnswer};
+use xnb::Shape;
 
 /// What was called.
 #[derive(Clone, Copy)]
@@ -143,10 +144,14 @@ impl Sides {
         let mut second = vec![self.random.number() as u32; words];
         let answer = raw::load_table(self.shape, file, linked.middle());
         let expected = second::load_in(seconds(self.shape), file, &mut second);
-        let (readers, shared) = expected.map_or((0, 0), |it| (it.readers, it.shared));
         let packed = packed(expected.map(|it| it.rows));
-        let expected_numbers = (packed, readers as u32, shared as u32);
-        assert_eq!(answer, expected_numbers, "{name}: load with {words} words");
+        let expected_answer = LoadAnswer {
+            packed,
+            readers: expected.map_or(0, |it| it.readers) as u32,
+            shared: expected.map_or(0, |it| it.shared) as u32,
+            padding: padding_told(expected) as u32,
+        };
+        assert_eq!(answer, expected_answer, "{name}: load with {words} words");
         linked.check(name, &second);
         let rows = expected.map_or(0, |it| it.rows);
         let table = seconds_table(self.shape, linked.middle());
