@@ -149,6 +149,11 @@ impl Input {
         &self.path
     }
 
+    /// The folder that was named and that it was found below.
+    pub fn folder(&self) -> Option<&Path> {
+        self.folder.as_deref()
+    }
+
     /// Its path below the folder that it was found in, or its last part.
     pub fn relative(&self) -> Option<&Path> {
         match &self.folder {

@@ -113,8 +113,8 @@ fn check_has_room_for_1024_rows_unless_asked() {
     assert!(ran.out.starts_with(refused), "{}", ran.out);
     assert_eq!(ran.status, Some(1));
     let ran = run(&["check", "--rows", "1025", "bad-19-1025-rows.xnb"]);
-    let taken = "bad-19-1025-rows.xnb: rows 1025 readers 1 shared 0\n\
-        1 file: 1 accepted, 0 refused, 0 unread\n";
+    let taken = "bad-19-1025-rows.xnb: rows 1025 readers 1 shared 0 padding 0\n\
+        1 file: 1 accepted, 0 refused, 0 unread; padding 0 in 0 files\n";
     assert_eq!((ran.out.as_str(), ran.status), (taken, Some(0)));
     let ran = run(&["check", "--rows=0", "ok-kind-00-null.xnb"]);
     assert!(ran.out.contains("refused 19 at 12: "), "{}", ran.out);
@@ -138,8 +138,12 @@ fn check_tells_each_file_and_sums_up() {
     }
     let refused = lines.iter().filter(|it| it.contains(": refused ")).count();
     let (all, accepted) = (files.len(), files.len() - refused);
-    let summary = format!("{all} files: {accepted} accepted, {refused} refused, 0 unread");
-    assert_eq!(lines[files.len()], summary);
+    let summary = format!("{all} files: {accepted} accepted, {refused} refused, 0 unread; ");
+    assert!(
+        lines[files.len()].starts_with(&summary),
+        "{}",
+        lines[files.len()]
+    );
     assert_eq!((ran.status, ran.err.as_str()), (Some(1), ""));
     assert_eq!(run(&["check", "ok-kind-13-string.xnb"]).status, Some(0));
 }
@@ -152,9 +156,9 @@ fn folders_are_walked() {
     for name in ["b/deep/two.XNB", "b/one.xnb", "a.xnb", "b/one.txt", "xnb"] {
         fs::write(top.join("depot").join(name), &string).expect("a file");
     }
-    let line = |name| format!("depot/{name}: rows 1 readers 1 shared 0\n");
+    let line = |name| format!("depot/{name}: rows 1 readers 1 shared 0 padding 0\n");
     let expected = ["a.xnb", "b/deep/two.XNB", "b/one.xnb"].map(line).concat()
-        + "3 files: 3 accepted, 0 refused, 0 unread\n";
+        + "3 files: 3 accepted, 0 refused, 0 unread; padding 0 in 0 files\n";
     let ran = run_in(&top, &["check", "depot"], &[]);
     assert_eq!((ran.out, ran.status), (expected, Some(0)));
     let ran = run_in(&top, &["rows", "depot/b/deep"], &[]);
@@ -190,8 +194,9 @@ fn standard_input_is_a_file() {
     let ran = run_in(&folder, &["rows", "-"], &string);
     assert_eq!(ran.out, "rows 1 readers 1 shared 0\n0 13 61 4 0 0 1 1\n");
     let ran = run_in(&folder, &["check", "-", "ok-kind-00-null.xnb"], &string);
-    let expected = "-: rows 1 readers 1 shared 0\nok-kind-00-null.xnb: rows 1 readers 0 shared 0\n\
-        2 files: 2 accepted, 0 refused, 0 unread\n";
+    let expected = "-: rows 1 readers 1 shared 0 padding 0\n\
+        ok-kind-00-null.xnb: rows 1 readers 0 shared 0 padding 0\n\
+        2 files: 2 accepted, 0 refused, 0 unread; padding 0 in 0 files\n";
     assert_eq!((ran.out.as_str(), ran.status), (expected, Some(0)));
     let ran = run_in(&folder, &["check", "-", "-"], &string);
     assert_eq!(ran.err, "-: standard input is read once only\n");
@@ -435,7 +440,7 @@ fn missing_files_are_told() {
     let ran = run(&["check", "no-such-file", "bad-01-no-byte.xnb"]);
     assert_eq!(ran.status, Some(2));
     assert!(ran.err.starts_with("no-such-file: "), "{}", ran.err);
-    let summary = "2 files: 0 accepted, 1 refused, 1 unread\n";
+    let summary = "2 files: 0 accepted, 1 refused, 1 unread; padding 0 in 0 files\n";
     assert!(ran.out.ends_with(summary), "{}", ran.out);
     let ran = run(&["check", "--json", "no-such-file"]);
     let unread = json(ran.out.lines().next().expect("a line"));

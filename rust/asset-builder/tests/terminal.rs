@@ -52,6 +52,7 @@ fn a_closed_pipe_ends_quietly() {
     let told = [
         ("check .", "1\n"),
         ("check --json .", "1\n"),
+        ("check --by-padding .", "1\n"),
         ("rows .", "1\n"),
         ("rows ok-1024-rows.xnb", "0\n"),
         ("tree ok-1024-rows.xnb", "0\n"),

@@ -1,17 +1,22 @@
 //! `check`: whether the asset builder takes each file.
 
-use super::{at_most_all_rows, for_each, load, BUILDER_ROWS};
-use crate::input::Inputs;
+use super::ranking::{Padding, Ranking};
+use super::{at_most_all_rows, counted, for_each, load, BUILDER_ROWS};
+use crate::input::{Input, Inputs};
 use crate::json;
 use crate::refusal::Told;
 use crate::run::{End, Run, Status};
 use serde::Serialize;
+use std::fmt::{self, Display, Formatter};
+use xnb::{Loaded, Refused};
 
 /// Tell whether the asset builder takes each file, and why not
 ///
 /// The answer is that of document 01's asset builder, which has room for 1024 rows.
-/// A file that is taken has one line; a refusal tells the rule, what was found,
-/// and the bytes around the place. The last line sums up.
+/// A file that is taken has one line, with its padding: how many bytes its seven-bit
+/// numbers have more than their shortest forms, which `shorten` leaves out. A refusal
+/// tells the rule, what was found, and the bytes around the place. The last line sums
+/// up, with the padding of all files and how many of them pad.
 #[derive(clap::Args)]
 #[command(verbatim_doc_comment)]
 pub struct Check {
@@ -23,6 +28,10 @@ pub struct Check {
         value_parser = at_most_all_rows())]
     rows: u32,
 
+    /// List the files that pad instead of all that are taken, most padding first, then each folder named with its sum
+    #[arg(long)]
+    by_padding: bool,
+
     /// Print JSON: an object a file on a line of its own, and the summary on the last
     #[arg(long)]
     json: bool,
@@ -30,24 +39,32 @@ pub struct Check {
 
 /// What is told of a file.
 #[derive(Serialize)]
-struct Checked<'f> {
+pub struct Checked<'f> {
     file: String,
     /// The number that the asset builder gets.
     #[serde(skip_serializing_if = "Option::is_none")]
     answer: Option<u64>,
-    #[serde(skip_serializing_if = "Option::is_none")]
-    accepted: Option<Accepted>,
-    #[serde(skip_serializing_if = "Option::is_none")]
-    refused: Option<Told<'f>>,
-    #[serde(skip_serializing_if = "Option::is_none")]
-    unread: Option<String>,
+    #[serde(flatten)]
+    outcome: Outcome<'f>,
 }
 
 #[derive(Serialize)]
-struct Accepted {
+#[serde(rename_all = "lowercase")]
+enum Outcome<'f> {
+    Accepted(Accepted),
+    Refused(Told<'f>),
+    Unread(String),
+}
+
+/// What an accepted file holds.
+#[derive(Clone, Copy, Serialize)]
+pub struct Accepted {
     rows: usize,
     readers: usize,
     shared: usize,
+    pub padding: usize,
+    /// The file's length.
+    pub bytes: usize,
 }
 
 #[derive(Default, Serialize)]
@@ -56,94 +73,142 @@ struct Summary {
     accepted: usize,
     refused: usize,
     unread: usize,
+    #[serde(flatten)]
+    padding: Padding,
 }
 
 impl Check {
     pub fn run(&self, run: &mut Run) -> End {
         let mut summary = Summary::default();
+        let mut ranking = Ranking::default();
         for_each(&self.inputs, run, |run, input, file| {
-            let checked = self.checked(input.name(), file, &mut summary);
-            if checked.refused.is_some() {
-                run.mark(Status::Refused);
+            let checked = self.checked(input, file);
+            summary.count(&checked.outcome);
+            match &checked.outcome {
+                Outcome::Accepted(accepted) if self.by_padding => {
+                    ranking.add(input, *accepted);
+                    return Ok(());
+                }
+                Outcome::Refused(_) => run.mark(Status::Refused),
+                _ => {}
             }
-            if self.json {
-                return run.print(&json::line(&checked));
+            match self.json {
+                true => run.print(&json::line(&checked)),
+                false => print(run, input, &checked.outcome),
             }
-            let paint = run.paint();
-            let name = paint.name(&input.shown());
-            if let Some(told) = &checked.refused {
-                run.print(&format!("{name}: {}", told.lines(paint)))?;
-            }
-            if let Some(Accepted {
-                rows,
-                readers,
-                shared,
-            }) = checked.accepted
-            {
-                run.print(&format!(
-                    "{name}: rows {rows} readers {readers} shared {shared}\n"
-                ))?;
-            }
-            Ok(())
         })?;
-        if self.json {
-            return run.print(&json::line(&summary));
-        }
-        run.print(&summary.line())
+        ranking.print(run, self.json)?;
+        run.print(&match self.json {
+            true => json::line(&summary),
+            false => format!("{summary}\n"),
+        })
     }
 
-    fn checked<'f>(
-        &self,
-        name: String,
-        file: Result<&'f [u8], String>,
-        summary: &mut Summary,
-    ) -> Checked<'f> {
-        summary.files += 1;
-        let mut checked = Checked {
-            file: name,
-            answer: None,
-            accepted: None,
-            refused: None,
-            unread: None,
-        };
+    fn checked<'f>(&self, input: &Input, file: Result<&'f [u8], String>) -> Checked<'f> {
         let file = match file {
             Ok(file) => file,
             Err(why) => {
-                summary.unread += 1;
-                checked.unread = Some(why);
-                return checked;
+                return Checked {
+                    file: input.name(),
+                    answer: None,
+                    outcome: Outcome::Unread(why),
+                }
             }
         };
-        match load(file, self.rows).map(|table| table.loaded()) {
-            Ok(loaded) => {
-                summary.accepted += 1;
-                checked.answer = Some(loaded.rows as u64);
-                checked.accepted = Some(Accepted {
-                    rows: loaded.rows,
-                    readers: loaded.readers,
-                    shared: loaded.shared,
-                });
-            }
-            Err(refused) => {
-                summary.refused += 1;
-                let number = u64::from(refused.refusal.number());
-                checked.answer = Some((number << 32) + u64::from(refused.place));
-                checked.refused = Some(Told::of_file(file, refused, self.rows as usize));
-            }
+        match load(file, self.rows) {
+            Ok(table) => Checked::accepted(input, Accepted::of(file, table.loaded())),
+            Err(refused) => Checked {
+                file: input.name(),
+                answer: Some(packed(refused)),
+                outcome: Outcome::Refused(Told::of_file(file, refused, self.rows as usize)),
+            },
         }
-        checked
+    }
+}
+
+/// A refusal as the asset builder gets it.
+fn packed(refused: Refused) -> u64 {
+    (u64::from(refused.refusal.number()) << 32) + u64::from(refused.place)
+}
+
+/// Prints the lines of a file; why one is unread was told when it was met.
+fn print(run: &mut Run, input: &Input, outcome: &Outcome) -> End {
+    let paint = run.paint();
+    let name = paint.name(&input.shown());
+    match outcome {
+        Outcome::Accepted(accepted) => run.print(&format!("{name}: {accepted}\n")),
+        Outcome::Refused(told) => run.print(&format!("{name}: {}", told.lines(paint))),
+        Outcome::Unread(_) => Ok(()),
+    }
+}
+
+impl Checked<'_> {
+    pub fn accepted(input: &Input, accepted: Accepted) -> Self {
+        Checked {
+            file: input.name(),
+            answer: Some(accepted.rows as u64),
+            outcome: Outcome::Accepted(accepted),
+        }
+    }
+}
+
+impl Accepted {
+    fn of(file: &[u8], loaded: Loaded) -> Accepted {
+        Accepted {
+            rows: loaded.rows,
+            readers: loaded.readers,
+            shared: loaded.shared,
+            padding: loaded.padding,
+            bytes: file.len(),
+        }
+    }
+}
+
+impl Display for Accepted {
+    fn fmt(&self, out: &mut Formatter) -> fmt::Result {
+        let Accepted {
+            rows,
+            readers,
+            shared,
+            padding,
+            ..
+        } = self;
+        write!(
+            out,
+            "rows {rows} readers {readers} shared {shared} padding {padding}"
+        )
     }
 }
 
 impl Summary {
-    fn line(&self) -> String {
+    fn count(&mut self, outcome: &Outcome) {
+        self.files += 1;
+        match outcome {
+            Outcome::Accepted(accepted) => {
+                self.accepted += 1;
+                self.padding.add(accepted);
+            }
+            Outcome::Refused(_) => self.refused += 1,
+            Outcome::Unread(_) => self.unread += 1,
+        }
+    }
+}
+
+impl Display for Summary {
+    fn fmt(&self, out: &mut Formatter) -> fmt::Result {
         let Summary {
             files,
             accepted,
             refused,
             unread,
+            padding,
         } = self;
-        let noun = if *files == 1 { "file" } else { "files" };
-        format!("{files} {noun}: {accepted} accepted, {refused} refused, {unread} unread\n")
+        let files = counted(*files, "file", "files");
+        let padded = counted(padding.padded, "file", "files");
+        write!(
+            out,
+            "{files}: {accepted} accepted, {refused} refused, {unread} unread; "
+        )?;
+        write!(out, "padding {} in {padded}", padding.padding)
     }
 }

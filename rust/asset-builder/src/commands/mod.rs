@@ -5,6 +5,7 @@ mod completions;
 mod convert;
 mod man;
 mod pack;
+mod ranking;
 mod rows;
 mod salvage;
 mod shorten;
@@ -96,6 +97,11 @@ fn for_each(
 fn load(file: &[u8], room: u32) -> Result<Table<'_>, Refused> {
     let rows = file.len().min(room as usize);
     Table::load_into(file, vec![0; WORDS_PER_ROW * rows])
+}
+
+/// So many of a thing.
+fn counted(count: usize, one: &str, many: &str) -> String {
+    format!("{count} {}", if count == 1 { one } else { many })
 }
 
 /// Tells a refusal on standard error.

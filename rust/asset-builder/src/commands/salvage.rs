@@ -1,6 +1,6 @@
 //! `salvage`: what a damaged marked pack still holds.
 
-use super::tell_refusal;
+use super::{counted, tell_refusal};
 use crate::input::Input;
 use crate::json;
 use crate::output::Output;
@@ -134,9 +134,4 @@ fn lines(input: &Input, salvaged: &Salvaged) -> String {
         lines += &format!("  skipped at {start}, length {length}\n");
     }
     lines
-}
-
-/// So many of a thing.
-fn counted(count: usize, one: &str, many: &str) -> String {
-    format!("{count} {}", if count == 1 { one } else { many })
 }
