@@ -63,16 +63,14 @@ fn builder() {
 }
 
 fn load() {
-    let mut all = all_inputs(1000);
-    all.extend(inputs::many_values(60_000));
+    let all = short_and_long_inputs();
     let others: [(&str, Task); 2] = [("second", second_load), ("memcpy", copy)];
     table("xnb_load_rows", all, |it| it.rows, load_rows, &others);
 }
 
 /// Loads into columns beside loads into rows, in the same words.
 fn load_columns() {
-    let mut all = all_inputs(1000);
-    all.extend(inputs::many_values(60_000));
+    let all = short_and_long_inputs();
     let ours = |lent: &mut Lent| load_in(Shape::Columns, lent);
     let second = |lent: &mut Lent| {
         let (file, words) = (black_box(&lent.file), black_box(&mut lent.words));
@@ -105,8 +103,7 @@ fn utf8() {
 }
 
 fn rewrite() {
-    let mut all = all_inputs(1000);
-    all.push(inputs::padded_objects(1000));
+    let all = short_and_long_inputs();
     let ours = |lent: &mut Lent| {
         let (file, words, out) = (&lent.file, &mut lent.words, &mut lent.out);
         let length = xnb::rewrite(black_box(file), black_box(words), black_box(out));
@@ -139,6 +136,14 @@ fn all_inputs(rows: usize) -> Vec<Input> {
     all.extend(inputs::images());
     all.extend(inputs::many_values(rows));
     all.extend(inputs::reader_lists());
+    all
+}
+
+/// Files of about 1,000 and of about 60,000 rows, and such with padded numbers.
+fn short_and_long_inputs() -> Vec<Input> {
+    let mut all = all_inputs(1000);
+    all.extend(inputs::many_values(60_000));
+    all.extend([1000, 60_000].map(inputs::padded_objects));
     all
 }
 
