@@ -5,6 +5,7 @@ pub mod Text
 pub mod Target
 pub mod Name
 pub mod Kind
+pub mod EnumList
 pub mod Named
 pub mod Fixed
 pub mod Image

@@ -1,4 +1,4 @@
--- The target of a reader's name (01, "Reader names"). Assumes nothing.
+-- The target of a reader's name (01, "Reader names"), under a lent list of enum types (02, Req 02). Assumes nothing.
 use mathlib.Core.Path.{_≡_}
 use mathlib.Core.Bool.{Bool, not, _&&_, _||_, cond}
 use mathlib.Core.List.{List}
@@ -8,6 +8,7 @@ use Rattle.layout.specs.Number.{between}
 use Rattle.layout.specs.Target.{Target, fixed, char, string, object, texture, texture2D, spriteFont, page, enum, nullable, array, list, dictionary, kindOf, isValue}
 use Rattle.layout.specs.Name.{Name, simple, one, two, text, Formed}
 use Rattle.layout.specs.Kind.{lookup, targets, readers}
+use Rattle.layout.specs.EnumList.{EnumEntry, sizeIn}
 
 -- 01: "A head that is not listed, or a wrong argument count: 11": such a name is unknown
 pub data Typed : Type 0 where
@@ -39,17 +40,25 @@ paired k unknown b = unknown
 paired k (known t) unknown = unknown
 paired k (known t) (known u) = cond (eqb k 19) (known (dictionary t u)) unknown
 
--- the type of an argument; 01: "Arguments are target type names as 000 gives them"
-unfoldable pub typeOf : Name → Typed
-typeOf (simple h t) = plain (lookup h targets)
-typeOf (one h a t) = wrapped (lookup h targets) (typeOf a)
-typeOf (two h a b t) = paired (lookup h targets) (typeOf a) (typeOf b)
+-- 02: "a listed name is a known value type in arguments": the enum of this name and the size that the list gives it, 0 if it is not listed
+unfoldable pub listedEnum : List ℕ → (size : ℕ) → Typed
+listedEnum h size = cond (eqb size 0) unknown (known (enum h size))
+
+-- the type of an argument; 01: "Arguments are target type names as 000 gives them"; a listed name takes no arguments
+unfoldable pub typeOf : List EnumEntry → Name → Typed
+typeOf es (simple h t) = cond (eqb (lookup h targets) 0) (listedEnum h (sizeIn es h)) (plain (lookup h targets))
+typeOf es (one h a t) = wrapped (lookup h targets) (typeOf es a)
+typeOf es (two h a b t) = paired (lookup h targets) (typeOf es a) (typeOf es b)
+
+-- 02: "EnumReader for a listed name takes that size, for others four"
+unfoldable pub sizeOrFour : ℕ → ℕ
+sizeOrFour size = cond (eqb size 0) 4 size
 
 -- 01: "Array and enum types are not known as arguments, but Enum's own has any head that is no target name above and no arguments"
-unfoldable pub enumOf : Name → Typed
-enumOf (simple h t) = cond (eqb (lookup h targets) 0) (known (enum h)) unknown
-enumOf (one h a t) = unknown
-enumOf (two h a b t) = unknown
+unfoldable pub enumOf : List EnumEntry → Name → Typed
+enumOf es (simple h t) = cond (eqb (lookup h targets) 0) (known (enum h (sizeOrFour (sizeIn es h)))) unknown
+enumOf es (one h a t) = unknown
+enumOf es (two h a b t) = unknown
 
 -- an Array reader's target
 unfoldable pub arrayOf : Typed → Typed
@@ -57,11 +66,12 @@ arrayOf unknown = unknown
 arrayOf (known t) = known (array t)
 
 -- the target of a reader's name: Enum and Array take their argument here alone, the other kinds as arguments do
-unfoldable pub readerOf : Name → Typed
-readerOf (simple h t) = plain (lookup h readers)
-readerOf (one h a t) = cond (eqb (lookup h readers) 15) (enumOf a) (cond (eqb (lookup h readers) 17) (arrayOf (typeOf a)) (wrapped (lookup h readers) (typeOf a)))
-readerOf (two h a b t) = paired (lookup h readers) (typeOf a) (typeOf b)
+unfoldable pub readerOf : List EnumEntry → Name → Typed
+readerOf es (simple h t) = plain (lookup h readers)
+readerOf es (one h a t) =
+    cond (eqb (lookup h readers) 15) (enumOf es a) (cond (eqb (lookup h readers) 17) (arrayOf (typeOf es a)) (wrapped (lookup h readers) (typeOf es a)))
+readerOf es (two h a b t) = paired (lookup h readers) (typeOf es a) (typeOf es b)
 
--- 01, "Reader names": the bytes are the text of a name that keeps the grammar, nests at most 8 levels and names a reader of this target
-unfoldable pub named : List ℕ → Target → Type 0
-named s t = (n : Name) × Formed 8 n × (text n ≡ s) × (readerOf n ≡ known t)
+-- 01, "Reader names": the bytes are the text of a name that keeps the grammar, nests at most 8 levels and, under a list of enum types, names a reader of this target
+unfoldable pub named : List EnumEntry → List ℕ → Target → Type 0
+named es s t = (n : Name) × Formed 8 n × (text n ≡ s) × (readerOf es n ≡ known t)

@@ -3,12 +3,12 @@ use mathlib.Core.Bool.{Bool, true, false}
 use mathlib.Core.List.{List}
 use Prim.Native.Nat.{ℕ}
 
--- `fixed k` is the type of kind k, for a kind whose size 01 fixes; `enum` has its type's name.
+-- `fixed k` is the type of kind k, for a kind whose size 01 fixes; `enum` has its type's name and its size in bytes.
 -- 01: "Targets are equal when heads and arguments are": equal targets are equal here.
 pub data Target : Type 0 where
   fixed : ℕ → Target
   char string object texture texture2D spriteFont page : Target
-  enum : List ℕ → Target
+  enum : (name : List ℕ) (size : ℕ) → Target
   nullable array list : Target → Target
   dictionary : Target → Target → Target
   deriving Discrete as target-discrete
@@ -19,7 +19,7 @@ kindOf (fixed k) = k
 kindOf char = 12
 kindOf string = 13
 kindOf object = 14
-kindOf (enum name) = 15
+kindOf (enum name z) = 15
 kindOf (nullable t) = 16
 kindOf (array t) = 17
 kindOf (list t) = 18
@@ -35,7 +35,7 @@ isValue (fixed k) = true
 isValue char = true
 isValue string = false
 isValue object = false
-isValue (enum name) = true
+isValue (enum name z) = true
 isValue (nullable t) = true
 isValue (array t) = false
 isValue (list t) = false

@@ -81,7 +81,7 @@ module _ (file : List ℕ) where
   headAt char at = whole (ownAt (charAt file) at)
   headAt string at = textAt at
   headAt object at = refused 13 at
-  headAt (enum name) at = fixedHeadAt 15 at
+  headAt (enum name z) at = whole (some file z at at)
   headAt (nullable t) at = flagAt t at
   headAt (array t) at = countAt (λ n. replicate n (slotOf t)) at
   headAt (list t) at = countAt (λ n. replicate n (slotOf t)) at
@@ -261,7 +261,10 @@ module _ (file : List ℕ) where
   head-reads char = char-head-reads
   head-reads string = text-reads
   head-reads object = never-reads
-  head-reads (enum name) = fixed-head-reads 15
+  head-reads (enum name z) =
+      convert file (whole-reads (here-reads file (λ p. some-reads file z p)))
+      (λ o bs s w. (w .0 .0, w .0 .1, w .1))
+      (λ o bs w. ((w .0, w .1), w .2))
   head-reads (nullable t) = flag-reads t
   head-reads (array t) = count-reads (λ n. replicate n (slotOf t))
   head-reads (list t) = count-reads (λ n. replicate n (slotOf t))

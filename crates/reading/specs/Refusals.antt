@@ -154,7 +154,7 @@ module _ (file : List ℕ) (most : ℕ) (fits : length file ≤ most) where
   head-inside char at h = whole-inside (own-inside at h)
   head-inside string at h = text-inside at h
   head-inside object at h = of-refused (fault 13 refl refl h)
-  head-inside (enum name) at h = fixed-inside 15 at h
+  head-inside (enum name z) at h = whole-inside (some-inside z at at h h)
   head-inside (nullable t) at h = field-inside _ _ _ at at h (some-inside 1 at at h h)
   head-inside (array t) at h = count-inside _ at h
   head-inside (list t) at h = count-inside _ at h
