@@ -5,11 +5,11 @@ use mathlib.Core.List.{List, [], _∷_, _++_}
 use Prim.Native.Nat.{ℕ, suc, _+_, _-_, _≤_}
 use native.Mathlib.Omega.{arith}
 use lib.ListN.{length, take, drop, set, length-append, length-drop}
-use lib.Seq.{sets}
+use lib.Seq.{sets, length-take-le}
 use Rattle.laws.specs.Small.{differ}
 use Rattle.layout.specs.Text.{ascii}
 use Rattle.layout.specs.Name.{Name, Tail, none, simple, one, two, headByte}
-use Rattle.layout.specs.Kind.{lookup}
+use Rattle.layout.specs.EnumList.{EnumEntry}
 use Rattle.names.specs.declared.Parsed.{Parsed}
 use Rattle.names.specs.declared.Parsed.the-variants.{Name as Parsed-name, Broken as Parsed-broken}
 use Rattle.names.specs.Parse.{Read, broken, name, span, starts, tailOf, ended, closed, opening, onOnly, onSecond, onFirst, afterHead, headed, nameIn}
@@ -17,9 +17,9 @@ use Rattle.names.specs.Complete.{length-write}
 use Rattle.names.specs.Sound.{Ok, Stands, span-le, sound}
 use Rattle.names.specs.Contract.{answer, met, Parses, Inside, tailed, passed, tailedAfter, closing}
 use Rattle.names.proofs.Laws.{rest, starts-fits}
-use Rattle.names.specs.Codes.{heads-short, codes-append, codes-length}
-use Rattle.names.specs.Heading.{Heading, heading, headings}
-use Rattle.names.specs.Kind.{codes, node, listed}
+use Rattle.names.specs.Codes.{heads-few, codes-append, codes-length}
+use Rattle.names.specs.Heading.{Heading, heading, headings, long}
+use Rattle.names.specs.Kind.{codes, word, kindIn}
 
 -- what follows a head: at most 3, and four bytes where arguments are opened
 abbrev by : (a b c : Bool) → ℕ
@@ -46,46 +46,54 @@ module _ (s : List ℕ) (h n : ℕ) (head : h ≡ span headByte s) (e : n ≡ op
   opening-fits f g = opens s h _ _ (starts (ascii "`") (drop h s)) refl refl fits .1 (λ q. f (e ∙ q)) (λ q. g (e ∙ q))
 
 -- how a name opens
-pub too-deep : (l : ℕ) (s : List ℕ) → l ≡ 0 → nameIn l s ≡ broken []
+pub too-deep : (l at : ℕ) (s : List ℕ) → l ≡ 0 → nameIn l at s ≡ broken []
 unfolding nameIn
-too-deep l s e = rw e
+too-deep l at s e = rw e
 
-module _ (l : ℕ) (s : List ℕ) (h : ℕ) (some : l ≡ 0 → ⊥) (e : h ≡ span headByte s) where
-  one-less : nameIn l s ≡ headed (nameIn (l - 1)) s h
+module _ (l at : ℕ) (s : List ℕ) (h : ℕ) (some : l ≡ 0 → ⊥) (e : h ≡ span headByte s) where
+  one-less : nameIn l at s ≡ headed (nameIn (l - 1)) at s h
   unfolding nameIn
   one-less =
       let z : l ≡ suc (l - 1) = omega (arith, some) in
-      ap (λ (k : ℕ). nameIn k s) z ∙ ap (headed (nameIn (l - 1)) s) (sym e)
+      ap (λ (k : ℕ). nameIn k at s) z ∙ ap (headed (nameIn (l - 1)) at s) (sym e)
 
-  pub headless : h ≡ 0 → nameIn l s ≡ broken []
+  pub headless : h ≡ 0 → nameIn l at s ≡ broken []
   unfolding headed
   headless z = one-less ∙ rw z
 
-  pub opened : (h ≡ 0 → ⊥) → (n : ℕ) → n ≡ opening (drop h s) → nameIn l s ≡ afterHead (nameIn (l - 1)) s h n
+  pub opened : (h ≡ 0 → ⊥) → (n : ℕ) → n ≡ opening (drop h s) → nameIn l at s ≡ afterHead (nameIn (l - 1)) at s h n
   unfolding headed
   opened f n q =
       let z : h ≡ suc (h - 1) = omega arith in
-      one-less ∙ ap (headed (nameIn (l - 1)) s) z ∙ ap (λ (k : ℕ). afterHead (nameIn (l - 1)) s k (opening (drop k s))) (sym z) ∙ ap (afterHead (nameIn (l - 1)) s h) (sym q)
+      one-less ∙ ap (headed (nameIn (l - 1)) at s) z ∙ ap (λ (k : ℕ). afterHead (nameIn (l - 1)) at s k (opening (drop k s))) (sym z) ∙ ap (afterHead (nameIn (l - 1)) at s h) (sym q)
 
--- what a call on `&s[a..]` answers
-pub record Took (s : List ℕ) (a used l k u : ℕ) : Type 0 where
+-- what a call on `&s[a..]` answers, whose first byte is at `at`
+pub record Took (s : List ℕ) (a at used l k u : ℕ) : Type 0 where
   pub n : Name
-  pub is : nameIn l (drop a s) ≡ name n k
-  pub more : u ≡ used + length (headings n)
+  pub is : nameIn l at (drop a s) ≡ name n k
+  pub size : k ≡ long n
+  pub more : u ≡ used + length (headings at n)
   pub within : a + k ≤ length s
-  pub most : length (headings n) ≤ k
+  pub most : length (headings at n) ≤ k
 
-took-as : (s : List ℕ) (a used l k u : ℕ) → a ≤ length s → (r : Read) → nameIn l (drop a s) ≡ r → Ok (Stands l (drop a s)) r → Parsed-name k u ≡ answer used r → Took s a used l k u
-took-as s a used l k u h (broken hs) q o e = differ cc
-took-as s a used l k u h (name n j) q o e =
+took-as : (s : List ℕ) (a at used l k u : ℕ) → a ≤ length s → (r : Read) → nameIn l at (drop a s) ≡ r → Ok (Stands l (drop a s)) r → Parsed-name k u ≡ answer at used r → Took s a at used l k u
+took-as s a at used l k u h (broken hs) q o e = differ cc
+took-as s a at used l k u h (name n j) q o e =
     let p = o .got refl in
     let i : k ≡ j = cc in
-    let v : u ≡ used + length (headings n) = cc in
-    record { n = n; is = q ∙ ap (name n) (sym i); more = v; within = omega (arith, length-drop a s, ap length (p .1), length-write n (drop j (drop a s)), p .2); most = omega (arith, heads-short l n (p .0), p .2) }
+    let v : u ≡ used + length (headings at n) = cc in
+    record {
+      n = n;
+      is = q ∙ ap (name n) (sym i);
+      size = i ∙ p .2;
+      more = v;
+      within = omega (arith, length-drop a s, ap length (p .1), length-write n (drop j (drop a s)), p .2);
+      most = omega (arith, heads-few l at n (p .0), p .2);
+    }
 
-module _ (s : List ℕ) (a used l : ℕ) (h : a ≤ length s) {first : Parsed} (e : first ≡ answer used (nameIn l (drop a s))) where
-  pub took : {k u : ℕ} → first ≡ Parsed-name k u → Took s a used l k u
-  took {k} {u} q = took-as s a used l k u h (nameIn l (drop a s)) refl (sound l (drop a s)) (sym q ∙ e)
+module _ (s : List ℕ) (a at used l : ℕ) (h : a ≤ length s) {first : Parsed} (e : first ≡ answer at used (nameIn l at (drop a s))) where
+  pub took : {k u : ℕ} → first ≡ Parsed-name k u → Took s a at used l k u
+  took {k} {u} q = took-as s a at used l k u h (nameIn l at (drop a s)) refl (sound l at (drop a s)) (sym q ∙ e)
 
   inside-as : (p : Parsed) → first ≡ p → Inside (length s) a p
   inside-as Parsed-broken q = tt
@@ -103,57 +111,76 @@ sets-append l i (x ∷ a) b =
     let z : i + suc (length a) ≡ suc i + length a = omega arith in
     rw z (sets-append (set l i x) (suc i) a b)
 
--- what was met after a head, and where the name ends, by what its arguments answered
-module _ (own : Bool) (s : List ℕ) (h : ℕ) where
-  -- the code of the head with n arguments
-  abbrev pub first : ℕ → ℕ
-  first n = node (lookup (take h s) (listed own)) n
+-- the code of a head of h bytes with n arguments
+abbrev pub first : List EnumEntry → Bool → (at : ℕ) → List ℕ → (h n : ℕ) → ℕ
+first es own at s h n = word (kindIn es own (take h s) n) n at
 
+-- what was met after a head of h bytes, and where the name ends, by what its arguments answered
+module _ (es : List EnumEntry) (own : Bool) (at : ℕ) (s : List ℕ) (h : ℕ) (size : length (take h s) ≡ h) where
   -- a name that n makes of its tail ends, or its brackets are missing: the same heads were met
-  closed-met : (n : Tail → Name) (hs : List Heading) (e : ℕ) → ((t : Tail) → headings (n t) ≡ hs) → met (closed n s e) ≡ hs
+  closed-met : (n : Tail → Name) (hs : List Heading) (e : ℕ) → ((t : Tail) → headings at (n t) ≡ hs) → met at (closed at n s e) ≡ hs
   unfolding closed
-  closed-met n hs e f = elim (starts (ascii "]]") (drop e s)) as (λ b. met (cond b (ended n s (e + 2)) (broken (headings (n none)))) ≡ hs) [ true ↦ f (tailOf (drop (e + 2) s)) | false ↦ f none ]
+  closed-met n hs e f =
+      elim (starts (ascii "]]") (drop e s)) as (λ b. met at (cond b (ended n s (e + 2)) (broken (headings at (n none)))) ≡ hs) [ true ↦ f (tailOf (drop (e + 2) s)) | false ↦ f none ]
 
-  closed-answer : (n : Tail → Name) (hs : List Heading) (a k u used : ℕ) → ((t : Tail) → headings (n t) ≡ hs) → u ≡ used + length hs → closing s a (Parsed-name k u) ≡ answer used (closed n s (a + k))
+  closed-answer : (n : Tail → Name) (hs : List Heading) (a k u used : ℕ) → ((t : Tail) → headings at (n t) ≡ hs) → u ≡ used + length hs
+      → closing s a (Parsed-name k u) ≡ answer at used (closed at n s (a + k))
   unfolding closed ascii
   closed-answer n hs a k u used f v =
-      elim (starts (ascii "]]") (drop (a + k) s)) as (λ b. tailedAfter s (cond b (Parsed-name (a + k + 2) u) Parsed-broken) ≡ answer used (cond b (ended n s (a + k + 2)) (broken (headings (n none)))))
+      elim (starts (ascii "]]") (drop (a + k) s))
+      as (λ b. tailedAfter s (cond b (Parsed-name (a + k + 2) u) Parsed-broken) ≡ answer at used (cond b (ended n s (a + k + 2)) (broken (headings at (n none)))))
       [ true ↦ rw (f (tailOf (drop (a + k + 2) s)), v) | false ↦ refl ]
 
-  only-met : (a : ℕ) (r : Read) → codes own (met (onOnly s h a r)) ≡ first 1 ∷ codes false (met r)
-  unfolding onOnly codes headings
-  only-met a (broken hs) = refl
-  only-met a (name x k) = rw (closed-met (one (take h s) x) (heading (take h s) 1 ∷ headings x) (a + k) (λ t. refl))
+  -- the heads of a name with one argument, and with two
+  one-heads : (x : Name) (t : Tail) → headings at (one (take h s) x t) ≡ heading (take h s) 1 at ∷ headings (at + (h + 4)) x
+  unfolding headings
+  one-heads x t = rw size
 
-  only-answer : (a used : ℕ) (r : Read) → closing s a (answer (used + 1) r) ≡ answer used (onOnly s h a r)
-  unfolding onOnly headings
-  only-answer a used (broken hs) = refl
-  only-answer a used (name x k) = closed-answer (one (take h s) x) (heading (take h s) 1 ∷ headings x) a k (used + 1 + length (headings x)) used (λ t. refl) (omega arith)
+  two-heads : (x y : Name) (b : ℕ) → b ≡ h + 4 + long x + 3 → (t : Tail) → headings at (two (take h s) x y t) ≡ heading (take h s) 2 at ∷ (headings (at + (h + 4)) x ++ headings (at + b) y)
+  unfolding headings
+  two-heads x y b e t = rw (size, e)
 
-  second-met : (x : Name) (b : ℕ) (r : Read) → codes own (met (onSecond s h x b r)) ≡ first 2 ∷ (codes false (headings x) ++ codes false (met r))
-  unfolding onSecond codes headings
-  second-met x b (broken hs) = rw (codes-append (headings x) hs)
-  second-met x b (name y k) = rw (closed-met (two (take h s) x y) (heading (take h s) 2 ∷ (headings x ++ headings y)) (b + k) (λ t. refl), codes-append (headings x) (headings y))
+  only-met : (r : Read) → codes es own (met at (onOnly at s h (h + 4) r)) ≡ first es own at s h 1 ∷ codes es false (met (at + (h + 4)) r)
+  unfolding onOnly codes
+  only-met (broken hs) = refl
+  only-met (name x k) = rw (closed-met (one (take h s) x) (heading (take h s) 1 at ∷ headings (at + (h + 4)) x) (h + 4 + k) (one-heads x))
 
-  second-answer : (x : Name) (b u used : ℕ) → u ≡ used + 1 + length (headings x) → (r : Read) → closing s b (answer u r) ≡ answer used (onSecond s h x b r)
-  unfolding onSecond headings
-  second-answer x b u used v (broken hs) = refl
-  second-answer x b u used v (name y k) =
-      closed-answer (two (take h s) x y) (heading (take h s) 2 ∷ (headings x ++ headings y)) b k (u + length (headings y)) used (λ t. refl) (omega (arith, length-append (headings x) (headings y)))
+  only-answer : (used : ℕ) (r : Read) → closing s (h + 4) (answer (at + (h + 4)) (used + 1) r) ≡ answer at used (onOnly at s h (h + 4) r)
+  unfolding onOnly
+  only-answer used (broken hs) = refl
+  only-answer used (name x k) =
+      closed-answer (one (take h s) x) (heading (take h s) 1 at ∷ headings (at + (h + 4)) x) (h + 4) k (used + 1 + length (headings (at + (h + 4)) x)) used (one-heads x) (omega arith)
+
+  module _ (x : Name) (b : ℕ) (e : b ≡ h + 4 + long x + 3) where
+    second-met : (r : Read) → codes es own (met at (onSecond at s h (h + 4) x b r)) ≡ first es own at s h 2 ∷ (codes es false (headings (at + (h + 4)) x) ++ codes es false (met (at + b) r))
+    unfolding onSecond codes
+    second-met (broken hs) = rw (codes-append es (headings (at + (h + 4)) x) hs)
+    second-met (name y k) =
+        rw (
+          closed-met (two (take h s) x y) (heading (take h s) 2 at ∷ (headings (at + (h + 4)) x ++ headings (at + b) y)) (b + k) (two-heads x y b e),
+          codes-append es (headings (at + (h + 4)) x) (headings (at + b) y),
+        )
+
+    second-answer : (u used : ℕ) → u ≡ used + 1 + length (headings (at + (h + 4)) x) → (r : Read) → closing s b (answer (at + b) u r) ≡ answer at used (onSecond at s h (h + 4) x b r)
+    unfolding onSecond
+    second-answer u used v (broken hs) = refl
+    second-answer u used v (name y k) =
+        closed-answer (two (take h s) x y) (heading (take h s) 2 at ∷ (headings (at + (h + 4)) x ++ headings (at + b) y)) b k (u + length (headings (at + b) y)) used (two-heads x y b e)
+        (omega (arith, length-append (headings (at + (h + 4)) x) (headings (at + b) y)))
 
   -- no comma follows the first of two arguments, or it is broken
   comma-lost : (second : Read) (hs : List Heading) (b u used : ℕ) (y : Bool) → cond y (Parsed-name b u) Parsed-broken ≡ Parsed-broken
-      → (answer used (cond y second (broken hs)) ≡ Parsed-broken) × (met (cond y second (broken hs)) ≡ hs)
+      → (answer at used (cond y second (broken hs)) ≡ Parsed-broken) × (met at (cond y second (broken hs)) ≡ hs)
   comma-lost second hs b u used true e = differ cc
   comma-lost second hs b u used false e = (refl, refl)
 
-  first-lost : (below : List ℕ → Read) (a u used : ℕ) (r : Read) → passed (ascii "],[") s a (answer u r) ≡ Parsed-broken
-      → (answer used (onFirst below s h a r) ≡ Parsed-broken) × (codes own (met (onFirst below s h a r)) ≡ first 2 ∷ codes false (met r))
+  first-lost : (below : ℕ → List ℕ → Read) (u used : ℕ) (r : Read) → passed (ascii "],[") s (h + 4) (answer (at + (h + 4)) u r) ≡ Parsed-broken
+      → (answer at used (onFirst below at s h (h + 4) r) ≡ Parsed-broken) × (codes es own (met at (onFirst below at s h (h + 4) r)) ≡ first es own at s h 2 ∷ codes es false (met (at + (h + 4)) r))
   unfolding onFirst codes ascii
-  first-lost below a u used (broken hs) e = (refl, refl)
-  first-lost below a u used (name x k) e =
-      let b = a + k + 3 in
-      let g = comma-lost (onSecond s h x b (below (drop b s))) (heading (take h s) 2 ∷ headings x) b (u + length (headings x)) used (starts (ascii "],[") (drop (a + k) s)) e in
+  first-lost below u used (broken hs) e = (refl, refl)
+  first-lost below u used (name x k) e =
+      let b = h + 4 + k + 3 in
+      let g = comma-lost (onSecond at s h (h + 4) x b (below (at + b) (drop b s))) (heading (take h s) 2 at ∷ headings (at + (h + 4)) x) b (u + length (headings (at + (h + 4)) x)) used (starts (ascii "],[") (drop (h + 4 + k) s)) e in
       (g .0, rw (g .1))
 
 -- a code is put before those that were written after it
@@ -163,11 +190,12 @@ fronted c used x ws p q =
     q ∙ rw (p, z)
 
 -- a call on `&s[a..]`
-part-answer : {own : Bool} {l : ℕ} (s : List ℕ) (a : ℕ) {c c′ : List ℕ} {used : ℕ} {r : Parsed} → Parses own l (take (length s - a) (drop a s)) c c′ used r → Parses own l (drop a s) c c′ used r
-part-answer s a p = rw (rest s a) at p
+module _ {es : List EnumEntry} {own : Bool} {l : ℕ} (s : List ℕ) (a : ℕ) {at : ℕ} {c c′ : List ℕ} {used : ℕ} {r : Parsed} (p : Parses es own l at (take (length s - a) (drop a s)) c c′ used r) where
+  part-answer : Parses es own l at (drop a s) c c′ used r
+  part-answer = rw (rest s a) at p
 
-pub part-inside : {own : Bool} {l : ℕ} (s : List ℕ) (a : ℕ) {c c′ : List ℕ} {used : ℕ} {r : Parsed} → a ≤ length s → Parses own l (take (length s - a) (drop a s)) c c′ used r → Inside (length s) a r
-part-inside {l} s a {used} h p = inside s a used l h (part-answer s a p .answers)
+  pub part-inside : a ≤ length s → Inside (length s) a r
+  part-inside h = inside s a at used l h (part-answer .answers)
 
 pub part-length : (s : List ℕ) (a : ℕ) → length (take (length s - a) (drop a s)) ≡ length s - a
 part-length s a = ap length (rest s a) ∙ length-drop a s
@@ -197,72 +225,74 @@ module _ (w s : List ℕ) (a b u : ℕ) where
       let t = has-passed argument e in
       omega (arith, t .next, starts-fits w s (a + t .k) (within (length s) a i (t .is)) (t .stands))
 
--- the second argument starts within the part, and leaves room for its codes
-pub second-fits : {own : Bool} {l : ℕ} (s : List ℕ) (a : ℕ) {c c′ : List ℕ} {used : ℕ} {f : Parsed} (b u : ℕ) → a ≤ length s → Parses own l (take (length s - a) (drop a s)) c c′ used f
-    → passed (ascii "],[") s a f ≡ Parsed-name b u → (b ≤ length s) × (u + a ≤ used + b)
+-- the second argument starts within the part, and the codes that are used until then are fewer than the bytes
+pub second-fits : {es : List EnumEntry} {own : Bool} {l : ℕ} (s : List ℕ) (a : ℕ) {at : ℕ} {c c′ : List ℕ} {used : ℕ} {f : Parsed} (b u : ℕ) → a ≤ length s
+    → Parses es own l at (take (length s - a) (drop a s)) c c′ used f → passed (ascii "],[") s a f ≡ Parsed-name b u → (b ≤ length s) × (u + a ≤ used + b)
 unfolding ascii
-second-fits {l} s a {used} {f} b u h p y =
+second-fits {l = l} s a {at} {used = used} {f} b u h p y =
     let t = has-passed (ascii "],[") s a b u f y in
-    let k = took s a used l h (part-answer s a p .answers) (t .is) in
+    let k = took s a at used l h (part-answer s a p .answers) (t .is) in
     let g = starts-fits _ s (a + t .k) (k .within) (t .stands) in
     (omega (arith, t .next), omega (arith, t .next, k .more, k .most))
 
 -- what `parse` returns
-module _ {own : Bool} {l : ℕ} {s c : List ℕ} {used : ℕ} where
-  pub give-up : nameIn l s ≡ broken [] → Parses own l s c c used Parsed-broken
+module _ {es : List EnumEntry} {own : Bool} {l at : ℕ} {s c : List ℕ} {used : ℕ} where
+  pub give-up : nameIn l at s ≡ broken [] → Parses es own l at s c c used Parsed-broken
   unfolding codes
   give-up e = record { answers = rw e; writes = rw e }
 
-  module _ (h n : ℕ) (e : nameIn l s ≡ afterHead (nameIn (l - 1)) s h n) where
-    pub odd-done : n ≡ 3 → Parses own l s c c used Parsed-broken
+  module _ (h n : ℕ) (e : nameIn l at s ≡ afterHead (nameIn (l - 1)) at s h n) where
+    pub odd-done : n ≡ 3 → Parses es own l at s c c used Parsed-broken
     unfolding afterHead
     odd-done z = give-up (e ∙ rw z)
 
-    pub simple-done : {c₁ : List ℕ} {r : Parsed} → c₁ ≡ set c used (first own s h n) → n ≡ 0 → r ≡ tailed s h (used + 1) → Parses own l s c c₁ used r
-    unfolding afterHead codes headings
-    simple-done w z q =
-        let i : nameIn l s ≡ ended (simple (take h s)) s h = e ∙ rw z in
-        record { answers = q ∙ rw i; writes = w ∙ rw (i, z) }
+    module _ (inside : h ≤ length s) where
+      pub simple-done : {c₁ : List ℕ} {r : Parsed} → c₁ ≡ set c used (first es own at s h n) → n ≡ 0 → r ≡ tailed s h (used + 1) → Parses es own l at s c c₁ used r
+      unfolding afterHead codes headings
+      simple-done w z q =
+          let i : nameIn l at s ≡ ended (simple (take h s)) s h = e ∙ rw z in
+          record { answers = q ∙ rw i; writes = w ∙ rw (i, z) }
 
-    module _ {c₁ c₂ : List ℕ} (w : c₁ ≡ set c used (first own s h n)) {f : Parsed} (p : Parses false (l - 1) (take (length s - (h + 4)) (drop (h + 4) s)) c₁ c₂ (used + 1) f) where
-      pub only-done : {r : Parsed} → n ≡ 1 → r ≡ closing s (h + 4) f → Parses own l s c c₂ used r
-      unfolding afterHead
-      only-done z q =
-          let d = part-answer s (h + 4) p in
-          let x = nameIn (l - 1) (drop (h + 4) s) in
-          let i : nameIn l s ≡ onOnly s h (h + 4) x = e ∙ rw z in
-          record {
-            answers = q ∙ ap (closing s (h + 4)) (d .answers) ∙ only-answer own s h (h + 4) used x ∙ ap (answer used) (sym i);
-            writes = fronted c used (first own s h 1) (codes false (met x)) (rw z at w) (d .writes) ∙ ap (sets c used) (sym (only-met own s h (h + 4) x) ∙ ap (λ (r : Read). codes own (met r)) (sym i));
-          }
+      module _ {c₁ c₂ : List ℕ} (w : c₁ ≡ set c used (first es own at s h n)) {f : Parsed} (p : Parses es false (l - 1) (at + (h + 4)) (take (length s - (h + 4)) (drop (h + 4) s)) c₁ c₂ (used + 1) f) where
+        pub only-done : {r : Parsed} → n ≡ 1 → r ≡ closing s (h + 4) f → Parses es own l at s c c₂ used r
+        unfolding afterHead
+        only-done z q =
+            let d = part-answer s (h + 4) p in
+            let x = nameIn (l - 1) (at + (h + 4)) (drop (h + 4) s) in
+            let i : nameIn l at s ≡ onOnly at s h (h + 4) x = e ∙ rw z in
+            record {
+              answers = q ∙ ap (closing s (h + 4)) (d .answers) ∙ only-answer es own at s h (length-take-le h s inside) used x ∙ ap (answer at used) (sym i);
+              writes = fronted c used (first es own at s h 1) (codes es false (met (at + (h + 4)) x)) (rw z at w) (d .writes) ∙ ap (sets c used) (sym (only-met es own at s h (length-take-le h s inside) x) ∙ ap (λ (r : Read). codes es own (met at r)) (sym i));
+            }
 
-      pub both-done : (b u : ℕ) {c₃ : List ℕ} {f₂ r : Parsed} → n ≡ 2 → h + 4 ≤ length s → passed (ascii "],[") s (h + 4) f ≡ Parsed-name b u
-          → Parses false (l - 1) (take (length s - b) (drop b s)) c₂ c₃ u f₂ → r ≡ closing s b f₂ → Parses own l s c c₃ used r
-      unfolding afterHead onFirst ascii
-      both-done b u {c₃} z g y p₂ q =
-          let d = part-answer s (h + 4) p in
-          let d₂ = part-answer s b p₂ in
-          let t = has-passed (ascii "],[") s (h + 4) b u f y in
-          let k = took s (h + 4) (used + 1) (l - 1) g (d .answers) (t .is) in
-          let r₂ = nameIn (l - 1) (drop b s) in
-          let i : nameIn l s ≡ onSecond s h (k .n) b r₂ = e ∙ rw (z, k .is, t .stands, ← t .next) in
-          let xs = codes false (headings (k .n)) in
-          let w₂ : c₂ ≡ sets c used (first own s h 2 ∷ xs) = fronted c used (first own s h 2) xs (rw z at w) (d .writes ∙ rw (k .is)) in
-          let v : u ≡ used + length (first own s h 2 ∷ xs) = omega (arith, k .more, codes-length false (headings (k .n))) in
-          let w₃ : c₃ ≡ sets (sets c used (first own s h 2 ∷ xs)) (used + length (first own s h 2 ∷ xs)) (codes false (met r₂)) = d₂ .writes ∙ ap (λ (k : List ℕ). sets k u (codes false (met r₂))) w₂ ∙ ap (λ (k : ℕ). sets (sets c used (first own s h 2 ∷ xs)) k (codes false (met r₂))) v in
-          record {
-            answers = q ∙ ap (closing s b) (d₂ .answers) ∙ second-answer own s h (k .n) b u used (k .more) r₂ ∙ ap (answer used) (sym i);
-            writes = w₃ ∙ sets-append c used (first own s h 2 ∷ xs) (codes false (met r₂)) ∙ ap (sets c used) (sym (second-met own s h (k .n) b r₂) ∙ ap (λ (r : Read). codes own (met r)) (sym i));
-          }
+        pub both-done : (b u : ℕ) {c₃ : List ℕ} {f₂ r : Parsed} → n ≡ 2 → h + 4 ≤ length s → passed (ascii "],[") s (h + 4) f ≡ Parsed-name b u
+            → Parses es false (l - 1) (at + b) (take (length s - b) (drop b s)) c₂ c₃ u f₂ → r ≡ closing s b f₂ → Parses es own l at s c c₃ used r
+        unfolding afterHead onFirst ascii
+        both-done b u {c₃} z g y p₂ q =
+            let d = part-answer s (h + 4) p in
+            let d₂ = part-answer s b p₂ in
+            let t = has-passed (ascii "],[") s (h + 4) b u f y in
+            let k = took s (h + 4) (at + (h + 4)) (used + 1) (l - 1) g (d .answers) (t .is) in
+            let r₂ = nameIn (l - 1) (at + b) (drop b s) in
+            let i : nameIn l at s ≡ onSecond at s h (h + 4) (k .n) b r₂ = e ∙ rw (z, k .is, t .stands, ← t .next) in
+            let xs = codes es false (headings (at + (h + 4)) (k .n)) in
+            let m : b ≡ h + 4 + long (k .n) + 3 = omega (arith, t .next, k .size) in
+            let w₂ : c₂ ≡ sets c used (first es own at s h 2 ∷ xs) = fronted c used (first es own at s h 2) xs (rw z at w) (d .writes ∙ rw (k .is)) in
+            let v : u ≡ used + length (first es own at s h 2 ∷ xs) = omega (arith, k .more, codes-length es false (headings (at + (h + 4)) (k .n))) in
+            let w₃ : c₃ ≡ sets (sets c used (first es own at s h 2 ∷ xs)) (used + length (first es own at s h 2 ∷ xs)) (codes es false (met (at + b) r₂)) = d₂ .writes ∙ ap (λ (k : List ℕ). sets k u (codes es false (met (at + b) r₂))) w₂ ∙ ap (λ (k : ℕ). sets (sets c used (first es own at s h 2 ∷ xs)) k (codes es false (met (at + b) r₂))) v in
+            record {
+              answers = q ∙ ap (closing s b) (d₂ .answers) ∙ second-answer es own at s h (length-take-le h s inside) (k .n) b m u used (k .more) r₂ ∙ ap (answer at used) (sym i);
+              writes = w₃ ∙ sets-append c used (first es own at s h 2 ∷ xs) (codes es false (met (at + b) r₂)) ∙ ap (sets c used) (sym (second-met es own at s h (length-take-le h s inside) (k .n) b m r₂) ∙ ap (λ (r : Read). codes es own (met at r)) (sym i));
+            }
 
-      pub part-lost : n ≡ 2 → passed (ascii "],[") s (h + 4) f ≡ Parsed-broken → Parses own l s c c₂ used Parsed-broken
-      unfolding afterHead
-      part-lost z y =
-          let d = part-answer s (h + 4) p in
-          let x = nameIn (l - 1) (drop (h + 4) s) in
-          let i : nameIn l s ≡ onFirst (nameIn (l - 1)) s h (h + 4) x = e ∙ rw z in
-          let g = first-lost own s h (nameIn (l - 1)) (h + 4) (used + 1) used x (ap (passed (ascii "],[") s (h + 4)) (sym (d .answers)) ∙ y) in
-          record {
-            answers = sym (g .0) ∙ ap (answer used) (sym i);
-            writes = fronted c used (first own s h 2) (codes false (met x)) (rw z at w) (d .writes) ∙ ap (sets c used) (sym (g .1) ∙ ap (λ (r : Read). codes own (met r)) (sym i));
-          }
+        pub part-lost : n ≡ 2 → passed (ascii "],[") s (h + 4) f ≡ Parsed-broken → Parses es own l at s c c₂ used Parsed-broken
+        unfolding afterHead
+        part-lost z y =
+            let d = part-answer s (h + 4) p in
+            let x = nameIn (l - 1) (at + (h + 4)) (drop (h + 4) s) in
+            let i : nameIn l at s ≡ onFirst (nameIn (l - 1)) at s h (h + 4) x = e ∙ rw z in
+            let g = first-lost es own at s h (length-take-le h s inside) (nameIn (l - 1)) (used + 1) used x (ap (passed (ascii "],[") s (h + 4)) (sym (d .answers)) ∙ y) in
+            record {
+              answers = sym (g .0) ∙ ap (answer at used) (sym i);
+              writes = fronted c used (first es own at s h 2) (codes es false (met (at + (h + 4)) x)) (rw z at w) (d .writes) ∙ ap (sets c used) (sym (g .1) ∙ ap (λ (r : Read). codes es own (met at r)) (sym i));
+            }

@@ -1,15 +1,19 @@
--- A head looked up in a table of entries. Assumes nothing.
+-- A head looked up in a list of entries. Assumes nothing.
 use mathlib.Core.Path.{_≡_, refl, sym, ap, _∙_}
-use mathlib.Core.Bool.{true, false, _&&_}
-use mathlib.Core.List.{List, [], _∷_, _++_}
-use Prim.Native.Nat.{ℕ, suc, _+_, _-_, _≤_, _<_}
+use mathlib.Core.Bool.{Bool, true, false, _&&_, cond}
+use mathlib.Core.List.{List, [], _∷_}
+use Prim.Native.Nat.{ℕ, zero, suc, _+_, _-_, _≤_, _<_}
 use native.Mathlib.Omega.{arith}
-use lib.Dec.{eqb}
-use lib.ListN.{length, take, drop, getD, length-drop, length-append}
-use lib.Seq.{getD-drop, drop-drop, drop-append-seam, take-append-seam}
-use Rattle.layout.specs.Kind.{Entry, entry, alike, lookup}
+use lib.Dec.{eqb, ltb}
+use lib.ListN.{length, take, drop, getD, length-drop, drop-of-length-le}
+use lib.Seq.{getD-drop, drop-drop}
+use borrow.Author.Tests.{lt-ltb, le-ltb}
+use Rattle.layout.specs.Kind.{alike, lookup}
+use Rattle.layout.specs.EnumList.{EnumEntry, entry, writeEnums, sizeIn}
 use Rattle.names.specs.Parse.{starts}
-use Rattle.names.specs.Kind.{flat}
+use Rattle.names.specs.Kind.{listed}
+use Rattle.names.specs.Entries.{entriesIn, entriesOf, entries-written, listing, listing-is}
+use Rattle.names.proofs.Laws.{cons-at}
 
 pub alike-length : (h n : List ℕ) → (length h ≡ length n → ⊥) → false ≡ alike h n
 unfolding alike
@@ -28,73 +32,74 @@ alike-starts (a ∷ n) (b ∷ h) e =
     let z : length n ≡ length h = omega arith in
     rw (alike-starts n h z)
 
-abbrev pub Opened : List ℕ → ℕ → List Entry → Type 0
-Opened table at es =
-    (n : List ℕ) × (k : ℕ) × (es′ : List Entry) × (es ≡ entry n k ∷ es′) × (getD table at 0 ≡ length n) × (getD table (at + 1) 0 ≡ k)
-    × (take (length n) (drop (at + 2) table) ≡ n) × (at + 2 + length n ≤ length table) × (drop (at + 2 + length n) table ≡ flat es′)
-
-pub opened : (table : List ℕ) (at : ℕ) (es : List Entry) → drop at table ≡ flat es → at < length table → Opened table at es
-unfolding flat
-opened table at [] e h = absurd (omega (arith, ap length e, length-drop at table))
-opened table at (entry n k ∷ es′) e h =
-    let z : at + 0 ≡ at = omega arith in
-    let d : drop (at + 2) table ≡ n ++ flat es′ = sym (drop-drop 2 at table) ∙ ap (drop 2) e in
-    let l : length table - at ≡ suc (suc (length n + length (flat es′))) = sym (length-drop at table) ∙ ap length e ∙ ap (λ (x : ℕ). suc (suc x)) (length-append n (flat es′)) in (
-      n,
-      k,
-      es′,
-      refl,
-      ap (λ (x : ℕ). getD table x 0) (sym z) ∙ sym (getD-drop at table 0 0) ∙ ap (λ (l : List ℕ). getD l 0 0) e,
-      sym (getD-drop at table 1 0) ∙ ap (λ (l : List ℕ). getD l 1 0) e,
-      ap (take (length n)) d ∙ take-append-seam n (flat es′),
-      omega arith,
-      sym (drop-drop (length n) (at + 2) table) ∙ ap (drop (length n)) d ∙ drop-append-seam n (flat es′),
-    )
-
--- the end of the entry at `at`, as the code has it
-abbrev pub endAt : List ℕ → ℕ → ℕ
-endAt table at = at + 2 + getD table at 0
-
--- the entry's name, as the code has it
-abbrev pub nameAt : List ℕ → ℕ → List ℕ
-nameAt table at = take (endAt table at - (at + 2)) (drop (at + 2) table)
+-- no bytes hold no entry
+no-entries : (most : ℕ) → entriesIn most [] ≡ []
+unfolding entriesIn
+no-entries zero = refl
+no-entries (suc m) = refl
 
 -- the entries from `at` on are as good as all
-pub record Left (table head : List ℕ) (all : List Entry) (at : ℕ) : Type 0 where
-  pub es : List Entry
-  pub there : drop at table ≡ flat es
-  pub same : lookup head es ≡ lookup head all
+pub record Left (table head : List ℕ) (at : ℕ) : Type 0 where
+  pub most : ℕ
+  pub enough : length table ≤ at + most
+  pub same : sizeIn (entriesIn most (drop at table)) head ≡ sizeIn (entriesOf table) head
 
-module _ {table head : List ℕ} {all : List Entry} {at : ℕ} (left : Left table head all at) (h : at < length table) where
-  o : Opened table at (left .es)
-  o = opened table at (left .es) (left .there) h
+pub left-start : (table head : List ℕ) → Left table head 0
+unfolding entriesOf
+left-start table head = record { most = length table; enough = omega arith; same = refl }
 
-  pub ends : endAt table at ≤ length table
-  ends = omega (arith, o .4, o .7)
+pub find-none : {table head : List ℕ} {at : ℕ} → Left table head at → length table ≤ at → 0 ≡ sizeIn (entriesOf table) head
+unfolding sizeIn
+find-none {table} {head} {at} l h =
+    let d : drop at table ≡ [] = drop-of-length-le table h in
+    sym (ap (λ (s : List ℕ). sizeIn (entriesIn (l .most) s) head) d ∙ ap (λ (es : List EnumEntry). sizeIn es head) (no-entries (l .most))) ∙ l .same
 
-  name-is : nameAt table at ≡ o .0
-  name-is =
-      let z : endAt table at - (at + 2) ≡ length (o .0) = omega (arith, o .4) in
-      ap (λ (k : ℕ). take k (drop (at + 2) table)) z ∙ o .6
+-- the entry at a place, as the code has it: the length of its name, the name and the byte behind it
+module _ {table head : List ℕ} {at : ℕ} (left : Left table head at) (h : at < length table) where
+  abbrev size : ℕ
+  size = getD table at 0
 
-  pub find-this : alike head (nameAt table at) ≡ true → getD table (at + 1) 0 ≡ lookup head all
-  unfolding lookup
-  find-this b =
-      let q : alike head (o .0) ≡ true = ap (alike head) (sym name-is) ∙ b in
-      let y : lookup head (entry (o .0) (o .1) ∷ o .2) ≡ o .1 = rw q in
-      o .5 ∙ sym y ∙ ap (lookup head) (sym (o .3)) ∙ left .same
+  opened : entriesIn (left .most) (drop at table)
+      ≡ cond (ltb size (length (drop (at + 1) table))) (entry (take size (drop (at + 1) table)) (getD (drop (at + 1) table) size 0) ∷ entriesIn (left .most - 1) (drop (suc size) (drop (at + 1) table))) []
+  unfolding entriesIn
+  opened =
+      let z : left .most ≡ suc (left .most - 1) = omega (arith, left .enough) in
+      ap (entriesIn (left .most)) (cons-at table at h) ∙ ap (λ (m : ℕ). entriesIn m (getD table at 0 ∷ drop (at + 1) table)) z
 
-  pub find-next : alike head (nameAt table at) ≡ false → Left table head all (endAt table at)
-  unfolding lookup
-  find-next b =
-      let q : alike head (o .0) ≡ false = ap (alike head) (sym name-is) ∙ b in
-      let y : lookup head (entry (o .0) (o .1) ∷ o .2) ≡ lookup head (o .2) = rw q in
-      record { es = o .2; there = ap (λ (k : ℕ). drop (at + 2 + k) table) (o .4) ∙ o .8; same = sym y ∙ ap (lookup head) (sym (o .3)) ∙ left .same }
+  pub find-cut : length table - (at + 1) ≤ size → 0 ≡ sizeIn (entriesOf table) head
+  unfolding sizeIn
+  find-cut c =
+      let b = le-ltb size (length (drop (at + 1) table)) (omega (arith, length-drop (at + 1) table)) in
+      let e : entriesIn (left .most) (drop at table) ≡ [] = opened ∙ rw b in
+      sym (ap (λ (es : List EnumEntry). sizeIn es head) e) ∙ left .same
 
-find-end : (table head : List ℕ) (at : ℕ) (es all : List Entry) → drop at table ≡ flat es → length table ≤ at → lookup head es ≡ lookup head all → 0 ≡ lookup head all
-unfolding flat lookup
-find-end table head at [] all e h q = q
-find-end table head at (entry n k ∷ es) all e h q = absurd (let z : length (drop at table) ≡ suc (suc (length (n ++ flat es))) = ap length e in omega (arith, length-drop at table))
+  module _ (c : size < length table - (at + 1)) where
+    -- the name, as the code has it
+    name-is : take (at + 1 + size - (at + 1)) (drop (at + 1) table) ≡ take size (drop (at + 1) table)
+    name-is = ap (λ (k : ℕ). take k (drop (at + 1) table)) (let z : at + 1 + size - (at + 1) ≡ size = omega arith in z)
 
-pub find-none : {table head : List ℕ} {all : List Entry} {at : ℕ} → Left table head all at → length table ≤ at → 0 ≡ lookup head all
-find-none l h = find-end _ _ _ (l .es) _ (l .there) h (l .same)
+    whole : sizeIn (entriesIn (left .most) (drop at table)) head
+        ≡ cond (alike head (take size (drop (at + 1) table))) (getD (drop (at + 1) table) size 0) (sizeIn (entriesIn (left .most - 1) (drop (suc size) (drop (at + 1) table))) head)
+    unfolding sizeIn
+    whole =
+        let b = lt-ltb size (length (drop (at + 1) table)) (omega (arith, length-drop (at + 1) table)) in
+        let e : entriesIn (left .most) (drop at table) ≡ entry (take size (drop (at + 1) table)) (getD (drop (at + 1) table) size 0) ∷ entriesIn (left .most - 1) (drop (suc size) (drop (at + 1) table)) = opened ∙ rw b in
+        ap (λ (es : List EnumEntry). sizeIn es head) e
+
+    pub find-this : alike head (take (at + 1 + size - (at + 1)) (drop (at + 1) table)) ≡ true → getD table (at + 1 + size) 0 ≡ sizeIn (entriesOf table) head
+    find-this b = sym (getD-drop (at + 1) table size 0) ∙ sym (whole ∙ rw (ap (alike head) (sym name-is) ∙ b)) ∙ left .same
+
+    pub find-next : alike head (take (at + 1 + size - (at + 1)) (drop (at + 1) table)) ≡ false → Left table head (at + 1 + size + 1)
+    find-next b =
+        let z : at + 1 + suc size ≡ at + 1 + size + 1 = omega arith in
+        let d : drop (suc size) (drop (at + 1) table) ≡ drop (at + 1 + size + 1) table = drop-drop (suc size) (at + 1) table ∙ ap (λ (k : ℕ). drop k table) z in
+        record {
+          most = left .most - 1;
+          enough = omega (arith, left .enough);
+          same = ap (λ (s : List ℕ). sizeIn (entriesIn (left .most - 1) s) head) (sym d) ∙ sym (whole ∙ rw (ap (alike head) (sym name-is) ∙ b)) ∙ left .same;
+        }
+
+-- a table of heads and kinds that is written so
+pub table-found : (own : Bool) (table h : List ℕ) → table ≡ writeEnums (listing (listed own)) → sizeIn (entriesOf table) h ≡ lookup h (listed own)
+table-found own table h e =
+    ap (λ (t : List ℕ). sizeIn (entriesOf t) h) e ∙ ap (λ (es : List EnumEntry). sizeIn es h) (entries-written (listing (listed own))) ∙ listing-is (listed own) h

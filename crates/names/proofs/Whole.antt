@@ -1,53 +1,73 @@
 -- What `read_name` returns. Assumes nothing.
 use mathlib.Core.Path.{_≡_, refl, sym, _∙_}
-use mathlib.Core.Bool.{true}
+use mathlib.Core.Bool.{Bool, true, false, _&&_}
 use mathlib.Core.List.{List}
 use Prim.Native.Nat.{ℕ, _+_, _<_, _≤_}
+use lib.Dec.{leb}
 use lib.ListN.{length}
 use lib.Seq.{sets}
 use borrow.Author.Tests.{lt-leb, le-leb, eq-eqb, ne-eqb}
 use Rattle.laws.specs.Small.{differ}
+use Rattle.layout.specs.EnumList.{EnumEntry}
 use Rattle.names.specs.declared.Parsed.{Parsed}
 use Rattle.names.specs.declared.Parsed.the-variants.{Name as Parsed-name, Broken as Parsed-broken}
 use Rattle.names.specs.declared.Named.the-variants.{Codes, Broken, NoRoom}
 use Rattle.names.specs.Parse.{Read, broken, name, nameIn, whole, nameOf}
-use Rattle.names.specs.Contract.{answer, met, Parses, roomy, answerOf, contentOf, ReadsName}
+use Rattle.names.specs.Contract.{answer, met, Parses, placed, ending, answerOf, contentOf, ReadsName}
 use Rattle.names.specs.Kind.{codes}
 use Rattle.names.specs.Heading.{headings}
 
-pub no-room-is : {s c : List ℕ} {used : ℕ} → length c < used + length s → ReadsName s c c used NoRoom
-unfolding roomy answerOf contentOf
-no-room-is {s} {c} {used} h =
-    let b = lt-leb (used + length s) (length c) h in
-    record { answers = rw b; writes = rw b }
+module _ {es : List EnumEntry} {s : List ℕ} {at : ℕ} {c : List ℕ} {used : ℕ} where
+  not-placed : placed s at used ≡ false → ReadsName es s at c c used NoRoom
+  unfolding answerOf contentOf
+  not-placed b = record { answers = rw b; writes = rw b }
 
-module _ (s c c′ : List ℕ) (used : ℕ) (h : used + length s ≤ length c) where
+  pub many-used : 16777216 < used → ReadsName es s at c c used NoRoom
+  unfolding placed
+  many-used h = not-placed (rw (lt-leb used 16777216 h))
+
+  pub too-far : 16777216 < at + length s → ReadsName es s at c c used NoRoom
+  unfolding placed
+  too-far h = not-placed (rw (lt-leb (at + length s) 16777216 h) (go (leb used 16777216))) where
+    go : (b : Bool) → (b && false) ≡ false
+    go true = refl
+    go false = refl
+
+module _ (es : List EnumEntry) (s : List ℕ) (at : ℕ) (c c′ : List ℕ) (used : ℕ) (u : used ≤ 16777216) (h : at + length s ≤ 16777216) where
+  is-placed : placed s at used ≡ true
+  unfolding placed
+  is-placed = rw (le-leb used 16777216 u, le-leb (at + length s) 16777216 h)
+
   -- by what stands first in s
-  broken-as : (r : Read) → nameIn 8 s ≡ r → Parsed-broken ≡ answer used r → c′ ≡ sets c used (codes true (met r)) → ReadsName s c c′ used Broken
-  unfolding roomy answerOf contentOf nameOf whole
-  broken-as (broken hs) i a w =
-      let b = le-leb (used + length s) (length c) h in
-      record { answers = rw (b, i); writes = w ∙ rw (b, i) }
+  broken-as : (r : Read) → nameIn 8 at s ≡ r → Parsed-broken ≡ answer at used r → c′ ≡ sets c used (codes es true (met at r)) → ReadsName es s at c c′ used Broken
+  unfolding answerOf contentOf nameOf whole
+  broken-as (broken hs) i a w = record { answers = rw (is-placed, i); writes = w ∙ rw (is-placed, i) }
   broken-as (name n j) i a w = differ cc
 
-  named-as : (k u : ℕ) (r : Read) → nameIn 8 s ≡ r → Parsed-name k u ≡ answer used r → c′ ≡ sets c used (codes true (met r))
-      → ((k ≡ length s) → ReadsName s c c′ used (Codes u)) × ((k ≡ length s → ⊥) → ReadsName s c c′ used Broken)
-  unfolding roomy answerOf contentOf nameOf whole
-  named-as k u (broken hs) i a w = differ cc
-  named-as k u (name n j) i a w =
-      let b = le-leb (used + length s) (length c) h in
-      let p : k ≡ j = cc in
-      let v : u ≡ used + length (headings n) = cc in (
-        (λ e. let q = eq-eqb j (length s) (sym p ∙ e) in record { answers = rw (b, i, q, v); writes = w ∙ rw (b, i, q) }),
-        (λ f. let q = ne-eqb j (length s) (λ e. f (p ∙ e)) in record { answers = rw (b, i, q); writes = w ∙ rw (b, i, q) }),
-      )
+  module _ (k v : ℕ) where
+    named-as : (r : Read) → nameIn 8 at s ≡ r → Parsed-name k v ≡ answer at used r → c′ ≡ sets c used (codes es true (met at r))
+        → (k ≡ length s → v ≤ length c → ReadsName es s at c c′ used (Codes v)) × (k ≡ length s → length c < v → ReadsName es s at c c′ used NoRoom)
+        × ((k ≡ length s → ⊥) → ReadsName es s at c c′ used Broken)
+    unfolding answerOf contentOf nameOf whole ending
+    named-as (broken hs) i a w = differ cc
+    named-as (name n j) i a w =
+        let p : k ≡ j = cc in
+        let d : v ≡ used + length (headings at n) = cc in (
+          (λ e l. let q = eq-eqb j (length s) (sym p ∙ e) in record { answers = rw (is-placed, i, q, ← d, le-leb v (length c) l); writes = w ∙ rw (is-placed, i, q) }),
+          (λ e l. let q = eq-eqb j (length s) (sym p ∙ e) in record { answers = rw (is-placed, i, q, ← d, lt-leb v (length c) l); writes = w ∙ rw (is-placed, i, q) }),
+          (λ f. let q = ne-eqb j (length s) (λ e. f (p ∙ e)) in record { answers = rw (is-placed, i, q); writes = w ∙ rw (is-placed, i, q) }),
+        )
 
-  module _ {f : Parsed} (p : Parses true 8 s c c′ used f) where
-    pub broken-is : f ≡ Parsed-broken → ReadsName s c c′ used Broken
-    broken-is e = broken-as (nameIn 8 s) refl (sym e ∙ p .answers) (p .writes)
+  module _ {f : Parsed} (p : Parses es true 8 at s c c′ used f) where
+    pub broken-is : f ≡ Parsed-broken → ReadsName es s at c c′ used Broken
+    broken-is e = broken-as (nameIn 8 at s) refl (sym e ∙ p .answers) (p .writes)
 
-    pub more-is : (k u : ℕ) → f ≡ Parsed-name k u → (k ≡ length s → ⊥) → ReadsName s c c′ used Broken
-    more-is k u e g = named-as k u (nameIn 8 s) refl (sym e ∙ p .answers) (p .writes) .1 g
+    module _ (k v : ℕ) (e : f ≡ Parsed-name k v) where
+      pub more-is : (k ≡ length s → ⊥) → ReadsName es s at c c′ used Broken
+      more-is g = named-as k v (nameIn 8 at s) refl (sym e ∙ p .answers) (p .writes) .2 g
 
-    pub named-is : (k u : ℕ) → f ≡ Parsed-name k u → k ≡ length s → ReadsName s c c′ used (Codes u)
-    named-is k u e g = named-as k u (nameIn 8 s) refl (sym e ∙ p .answers) (p .writes) .0 g
+      pub full-is : k ≡ length s → length c < v → ReadsName es s at c c′ used NoRoom
+      full-is g l = named-as k v (nameIn 8 at s) refl (sym e ∙ p .answers) (p .writes) .1 g l
+
+      pub named-is : k ≡ length s → v ≤ length c → ReadsName es s at c c′ used (Codes v)
+      named-is g l = named-as k v (nameIn 8 at s) refl (sym e ∙ p .answers) (p .writes) .0 g l

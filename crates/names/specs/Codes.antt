@@ -1,8 +1,8 @@
--- The codes of a name's heads: how many, and that each fits a byte. Assumes nothing.
+-- The codes of a name's heads: how many, and that each fits a word. Assumes nothing.
 use mathlib.Core.Path.{_≡_, refl, ap}
 use mathlib.Core.Bool.{Bool, true, false, _&&_, cond}
 use mathlib.Core.List.{List, [], _∷_, _++_}
-use Prim.Native.Nat.{ℕ, zero, suc, _<_, _≤_}
+use Prim.Native.Nat.{ℕ, zero, suc, _+_, _*_, _<_, _≤_}
 use native.Mathlib.Omega.{arith}
 use lib.Dec.{eqb, ltb}
 use lib.ListN.{length, length-append}
@@ -11,28 +11,34 @@ use Rattle.laws.specs.Small.{differ, both}
 use Rattle.layout.specs.Text.{ascii}
 use Rattle.layout.specs.Name.{Name, simple, one, two, Head, Formed}
 use Rattle.layout.specs.Kind.{Entry, entry, reader, readers, target, targets, alike, lookup}
+use Rattle.layout.specs.EnumList.{EnumEntry, sizeIn}
 use Rattle.names.specs.Parse.{name, nameOf}
-use Rattle.names.specs.Complete.{long, length-write}
+use Rattle.names.specs.Complete.{length-write}
 use Rattle.names.specs.Laws.{read-is-text}
-use Rattle.names.specs.Heading.{Heading, heading, headings}
-use Rattle.names.specs.Kind.{listed, codes}
+use Rattle.names.specs.Heading.{Heading, heading, headings, long}
+use Rattle.names.specs.Kind.{listed, enumKind, kindIn, codes}
 
--- a lawful name has a byte for each head
-pub heads-short : (l : ℕ) (n : Name) → Formed l n → length (headings n) ≤ long n
+-- a head has a byte
+pub some-head : (h : List ℕ) → Head h → 1 ≤ length h
+some-head [] w = absurd (w .some refl)
+some-head (b ∷ h) w = omega arith
+
+-- 11 codes need 2 bytes at most but for 9: a lawful name has a byte or more for each head, and one of 1,024 bytes has at most 187 heads
+pub heads-few : (l at : ℕ) (n : Name) → Formed l n → 11 * length (headings at n) ≤ 2 * long n + 9
 unfolding Formed headings long
-heads-short zero n f = absurd f
-heads-short (suc l) (simple h t) f = omega (arith, some h (f .0)) where
-  some : (h : List ℕ) → Head h → 1 ≤ length h
-  some [] w = absurd (w .some refl)
-  some (b ∷ h) w = omega arith
-heads-short (suc l) (one h a t) f = omega (arith, heads-short l a (f .1))
-heads-short (suc l) (two h a b t) f = omega (arith, heads-short l a (f .1), heads-short l b (f .2), length-append (headings a) (headings b))
+heads-few zero at n f = absurd f
+heads-few (suc l) at (simple h t) f = omega (arith, some-head h (f .0))
+heads-few (suc l) at (one h a t) f = omega (arith, some-head h (f .0), heads-few l (at + (length h + 4)) a (f .1))
+heads-few (suc l) at (two h a b t) f =
+    let p = at + (length h + 4) in
+    let q = at + (length h + 4 + long a + 3) in
+    omega (arith, some-head h (f .0), heads-few l p a (f .1), heads-few l q b (f .2), length-append (headings p a) (headings q b))
 
--- a name that is read has at least as many bytes as heads
-pub read-has-room : (s : List ℕ) (n : Name) (k : ℕ) → nameOf s ≡ name n k → length (headings n) ≤ length s
-read-has-room s n k e =
-    let g = read-is-text s n k e in
-    omega (arith, heads-short 8 n (g .0), ap length (g .1), length-write n [])
+-- a name that is read has few heads
+pub read-is-few : (at : ℕ) (s : List ℕ) (n : Name) (k : ℕ) → nameOf at s ≡ name n k → 11 * length (headings at n) ≤ 2 * length s + 9
+read-is-few at s n k e =
+    let g = read-is-text at s n k e in
+    omega (arith, heads-few 8 at n (g .0), ap length (g .1), length-write n [])
 
 -- the test of two texts is equality
 pub alike-then : (a b : List ℕ) → alike a b ≡ true → a ≡ b
@@ -80,17 +86,29 @@ unfolding small listed readers targets reader target
 listed-small true = refl
 listed-small false = refl
 
--- every kind that a head names is below 64, so that a byte holds it with the number of arguments
-pub kind-is-small : (own : Bool) (h : List ℕ) → lookup h (listed own) < 64
-kind-is-small own h = lookup-small h (listed own) (listed-small own)
+-- every kind that a head names is below 64
+pub lookup-is-small : (own : Bool) (h : List ℕ) → lookup h (listed own) < 64
+lookup-is-small own h = lookup-small h (listed own) (listed-small own)
+
+enum-small : (z : ℕ) → enumKind z < 64
+unfolding enumKind
+enum-small z = found-small (eqb z 1) 60 _ (omega arith) (found-small (eqb z 2) 61 _ (omega arith) (found-small (eqb z 4) 62 _ (omega arith) (found-small (eqb z 8) 63 _ (omega arith) (omega arith))))
+
+-- and so is every kind under a list of enum types, so that a word holds it with the number of arguments and a place
+pub kind-is-small : (es : List EnumEntry) (own : Bool) (h : List ℕ) (n : ℕ) → kindIn es own h n < 64
+unfolding kindIn listed
+kind-is-small es true h n = lookup-is-small true h
+kind-is-small es false h n =
+    found-small (eqb (lookup h targets) 0) _ (lookup h targets) (found-small (eqb n 0) _ 0 (enum-small (sizeIn es h)) (omega arith)) (lookup-is-small false h)
 
 -- as many codes as heads, in their order
-pub codes-append : (a b : List Heading) → codes false (a ++ b) ≡ codes false a ++ codes false b
-unfolding codes
-codes-append [] b = refl
-codes-append (heading h n ∷ a) b = rw (codes-append a b)
+module _ (es : List EnumEntry) where
+  pub codes-append : (a b : List Heading) → codes es false (a ++ b) ≡ codes es false a ++ codes es false b
+  unfolding codes
+  codes-append [] b = refl
+  codes-append (heading h n p ∷ a) b = rw (codes-append a b)
 
-pub codes-length : (own : Bool) (hs : List Heading) → length (codes own hs) ≡ length hs
-unfolding codes
-codes-length own [] = refl
-codes-length own (heading h n ∷ hs) = ap suc (codes-length false hs)
+  pub codes-length : (own : Bool) (hs : List Heading) → length (codes es own hs) ≡ length hs
+  unfolding codes
+  codes-length own [] = refl
+  codes-length own (heading h n p ∷ hs) = ap suc (codes-length false hs)

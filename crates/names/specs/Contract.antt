@@ -1,6 +1,6 @@
 -- What the parser answers and which codes it leaves. Assumes nothing.
 use mathlib.Core.Path.{_≡_}
-use mathlib.Core.Bool.{Bool, true, false, cond}
+use mathlib.Core.Bool.{Bool, true, false, _&&_, cond}
 use mathlib.Core.List.{List}
 use Prim.Native.Nat.{ℕ, _+_, _≤_}
 use lib.Dec.{leb}
@@ -8,6 +8,7 @@ use lib.ListN.{length, drop}
 use lib.Seq.{sets}
 use Rattle.layout.specs.Text.{ascii}
 use Rattle.layout.specs.Name.{headByte, tailByte}
+use Rattle.layout.specs.EnumList.{EnumEntry}
 use Rattle.names.specs.declared.Parsed.{Parsed}
 use Rattle.names.specs.declared.Parsed.the-variants.{Name as Parsed-name, Broken as Parsed-broken}
 use Rattle.names.specs.declared.Named.{Named}
@@ -21,20 +22,20 @@ abbrev pub class : (tail : Bool) → ℕ → Bool
 class true b = tailByte b
 class false b = headByte b
 
--- where a name ends, and how many codes are used then
-abbrev pub answer : (used : ℕ) → Read → Parsed
-answer used (broken hs) = Parsed-broken
-answer used (name n k) = Parsed-name k (used + length (headings n))
+-- where a name that starts at a place ends, and how many codes are used then
+abbrev pub answer : (at used : ℕ) → Read → Parsed
+answer at used (broken hs) = Parsed-broken
+answer at used (name n k) = Parsed-name k (used + length (headings at n))
 
 -- the heads that were met, in order
-abbrev pub met : Read → List Heading
-met (broken hs) = hs
-met (name n k) = headings n
+abbrev pub met : (at : ℕ) → Read → List Heading
+met at (broken hs) = hs
+met at (name n k) = headings at n
 
--- a part that starts with a name: its end, and the heads' codes from `used` on
-pub record Parses (own : Bool) (levels : ℕ) (s c c′ : List ℕ) (used : ℕ) (r : Parsed) : Type 0 where
-  pub answers : r ≡ answer used (nameIn levels s)
-  pub writes : c′ ≡ sets c used (codes own (met (nameIn levels s)))
+-- a part that starts with a name: its end, and the heads' codes from `used` on, as far as there is room for them
+pub record Parses (es : List EnumEntry) (own : Bool) (levels at : ℕ) (s c c′ : List ℕ) (used : ℕ) (r : Parsed) : Type 0 where
+  pub answers : r ≡ answer at used (nameIn levels at s)
+  pub writes : c′ ≡ sets c used (codes es own (met at (nameIn levels at s)))
 
 -- an argument that was read from `at` on ends within so many bytes
 abbrev pub Inside : (size at : ℕ) → Parsed → Type 0
@@ -70,21 +71,25 @@ told (Codes used) = coded used
 told Broken = refused 10
 told NoRoom = no-room
 
--- from `used` on there is room for a code for each byte of a name
-unfoldable pub roomy : (s c : List ℕ) (used : ℕ) → Bool
-roomy s c used = leb (used + length s) (length c)
+-- the codes' own places start where 32 bits can count them, and a word has room for the name's places in the file, which are below 2 to the 24
+unfoldable pub placed : (s : List ℕ) (at used : ℕ) → Bool
+placed s at used = leb used 16777216 && leb (at + length s) 16777216
 
-unfoldable pub answerOf : (room : Bool) (used : ℕ) → Read → Answer
-answerOf false used r = no-room
-answerOf true used (broken hs) = refused 10
-answerOf true used (name n k) = coded (used + length (headings n))
+-- codes that end within the room
+unfoldable pub ending : (room end : ℕ) → Answer → Answer
+ending room end x = cond (leb end room) x no-room
 
--- the codes of all heads, or of those before the fault
-unfoldable pub contentOf : (room : Bool) → List ℕ → (used : ℕ) → Read → List ℕ
-contentOf false c used r = c
-contentOf true c used r = sets c used (codes true (met r))
+unfoldable pub answerOf : (placed : Bool) (room at used : ℕ) → Read → Answer
+answerOf false room at used r = no-room
+answerOf true room at used (broken hs) = refused 10
+answerOf true room at used (name n k) = ending room (used + length (headings at n)) (coded (used + length (headings at n)))
 
--- a whole reader name s, and the codes before and after
-pub record ReadsName (s c c′ : List ℕ) (used : ℕ) (r : Named) : Type 0 where
-  pub answers : told r ≡ answerOf (roomy s c used) used (nameOf s)
-  pub writes : c′ ≡ contentOf (roomy s c used) c used (nameOf s)
+-- the codes of all heads, or of those before the fault, as far as there is room for them
+unfoldable pub contentOf : (placed : Bool) → List EnumEntry → List ℕ → (at used : ℕ) → Read → List ℕ
+contentOf false es c at used r = c
+contentOf true es c at used r = sets c used (codes es true (met at r))
+
+-- a whole reader name s whose first byte is at a place, under a list of enum types, and the codes before and after
+pub record ReadsName (es : List EnumEntry) (s : List ℕ) (at : ℕ) (c c′ : List ℕ) (used : ℕ) (r : Named) : Type 0 where
+  pub answers : told r ≡ answerOf (placed s at used) (length c) at used (nameOf at s)
+  pub writes : c′ ≡ contentOf (placed s at used) es c at used (nameOf at s)

@@ -11,46 +11,46 @@ use borrow.Author.Tests.{eq-eqb, eqb-true}
 use Rattle.laws.specs.Small.{differ}
 use Rattle.layout.specs.Name.{Name, write, text, Formed}
 use Rattle.names.specs.Parse.{Read, broken, name, nameIn, whole, nameOf}
-use Rattle.names.specs.Complete.{long, length-write, complete, end}
+use Rattle.names.specs.Complete.{length-write, complete, end}
 use Rattle.names.specs.Sound.{Ok, not-read, is-read, Stands, sound}
-use Rattle.names.specs.Heading.{Heading, headings}
+use Rattle.names.specs.Heading.{Heading, headings, long}
 
 -- the text of a lawful name is read as that name
-pub text-is-read : (n : Name) → Formed 8 n → nameOf (text n) ≡ name n (length (text n))
+pub text-is-read : (at : ℕ) (n : Name) → Formed 8 n → nameOf at (text n) ≡ name n (length (text n))
 unfolding nameOf whole
-text-is-read n f =
+text-is-read at n f =
     let z : long n ≡ length (text n) = omega (arith, length-write n []) in
-    rw (complete 8 n f end, z, eq-eqb (length (text n)) (length (text n)) refl)
+    rw (complete 8 at n f end, z, eq-eqb (length (text n)) (length (text n)) refl)
 
 abbrev Whole : List ℕ → Name → ℕ → Type 0
 Whole s n k = Formed 8 n × (s ≡ text n) × (k ≡ length s)
 
-whole-sound : (s : List ℕ) (n : Name) (k : ℕ) → Stands 8 s n k → (b : Bool) → eqb k (length s) ≡ b → Ok (Whole s) (cond b (name n k) (broken (headings n)))
-whole-sound s n k p true b =
+whole-sound : (at : ℕ) (s : List ℕ) (n : Name) (k : ℕ) → Stands 8 s n k → (b : Bool) → eqb k (length s) ≡ b → Ok (Whole s) (cond b (name n k) (broken (headings at n)))
+whole-sound at s n k p true b =
     let z : k ≡ length s = eqb-true k (length s) b in
     is-read (p .0, p .1 ∙ ap (write n) (rw z (drop-length s)), z)
-whole-sound s n k p false b = not-read
+whole-sound at s n k p false b = not-read
 
-read-sound : (s : List ℕ) (r : Read) → Ok (Stands 8 s) r → Ok (Whole s) (whole s r)
+read-sound : (at : ℕ) (s : List ℕ) (r : Read) → Ok (Stands 8 s) r → Ok (Whole s) (whole at s r)
 unfolding whole
-read-sound s (broken hs) o = not-read
-read-sound s (name n k) o = whole-sound s n k (o .got refl) (eqb k (length s)) refl
+read-sound at s (broken hs) o = not-read
+read-sound at s (name n k) o = whole-sound at s n k (o .got refl) (eqb k (length s)) refl
 
 -- bytes that are read as a name are the text of that name, which is lawful
-pub read-is-text : (s : List ℕ) (n : Name) (k : ℕ) → nameOf s ≡ name n k → Formed 8 n × (s ≡ text n) × (k ≡ length s)
+pub read-is-text : (at : ℕ) (s : List ℕ) (n : Name) (k : ℕ) → nameOf at s ≡ name n k → Formed 8 n × (s ≡ text n) × (k ≡ length s)
 unfolding nameOf
-read-is-text s n k e = read-sound s (nameIn 8 s) (sound 8 s) .got e
+read-is-text at s n k e = read-sound at s (nameIn 8 at s) (sound 8 at s) .got e
 
 -- bytes that are not read are the text of no lawful name
-pub broken-is-no-text : (s : List ℕ) (hs : List Heading) → nameOf s ≡ broken hs → (n : Name) → Formed 8 n → s ≡ text n → ⊥
-broken-is-no-text s hs e n f q =
-    let p : nameOf s ≡ name n (length (text n)) = ap nameOf q ∙ text-is-read n f in
+pub broken-is-no-text : (at : ℕ) (s : List ℕ) (hs : List Heading) → nameOf at s ≡ broken hs → (n : Name) → Formed 8 n → s ≡ text n → ⊥
+broken-is-no-text at s hs e n f q =
+    let p : nameOf at s ≡ name n (length (text n)) = ap (nameOf at) q ∙ text-is-read at n f in
     differ cc
 
 -- two lawful names with one text are one name
 pub text-is-unique : (m n : Name) → Formed 8 m → Formed 8 n → text m ≡ text n → m ≡ n
 text-is-unique m n f g e =
-    let p = text-is-read m f in
-    let q = text-is-read n g in
-    let r : nameOf (text m) ≡ nameOf (text n) = ap nameOf e in
+    let p = text-is-read 0 m f in
+    let q = text-is-read 0 n g in
+    let r : nameOf 0 (text m) ≡ nameOf 0 (text n) = ap (nameOf 0) e in
     cc

@@ -5,5 +5,6 @@ pub mod Complete
 pub mod Sound
 pub mod Laws
 pub mod Kind
+pub mod Entries
 pub mod Codes
 pub mod Contract

@@ -36,52 +36,54 @@ tailOf s = cond (starts (ascii ",") s) (some (take (span tailByte (drop 1 s)) (d
 abbrev pub ended : (Tail → Name) → List ℕ → ℕ → Read
 ended n s e = name (n (tailOf (drop e s))) (e + tailSize (drop e s))
 
--- two brackets at e, and perhaps a tail
-unfoldable pub closed : (Tail → Name) → List ℕ → ℕ → Read
-closed n s e = cond (starts (ascii "]]") (drop e s)) (ended n s (e + 2)) (broken (headings (n none)))
+-- two brackets at e, and perhaps a tail; the heads before are those of n, whatever its tail
+unfoldable pub closed : (at : ℕ) → (Tail → Name) → List ℕ → ℕ → Read
+closed at n s e = cond (starts (ascii "]]") (drop e s)) (ended n s (e + 2)) (broken (headings at (n none)))
 
 -- what follows a head: no argument, one argument, two arguments, or (3) a backquote that opens none of these
 unfoldable pub opening : List ℕ → ℕ
 opening s = cond (starts (ascii "`1[[") s) 1 (cond (starts (ascii "`2[[") s) 2 (cond (starts (ascii "`") s) 3 0))
 
 -- the only argument was read from a on
-unfoldable pub onOnly : List ℕ → (h a : ℕ) → Read → Read
-onOnly s h a (broken hs) = broken (heading (take h s) 1 ∷ hs)
-onOnly s h a (name x k) = closed (one (take h s) x) s (a + k)
+unfoldable pub onOnly : (at : ℕ) → List ℕ → (h a : ℕ) → Read → Read
+onOnly at s h a (broken hs) = broken (heading (take h s) 1 at ∷ hs)
+onOnly at s h a (name x k) = closed at (one (take h s) x) s (a + k)
 
--- the second argument was read from b on
-unfoldable pub onSecond : List ℕ → (h : ℕ) → Name → (b : ℕ) → Read → Read
-onSecond s h x b (broken hs) = broken (heading (take h s) 2 ∷ (headings x ++ hs))
-onSecond s h x b (name y k) = closed (two (take h s) x y) s (b + k)
+-- the second argument was read from b on, the first from a on
+unfoldable pub onSecond : (at : ℕ) → List ℕ → (h a : ℕ) → Name → (b : ℕ) → Read → Read
+onSecond at s h a x b (broken hs) = broken (heading (take h s) 2 at ∷ (headings (at + a) x ++ hs))
+onSecond at s h a x b (name y k) = closed at (two (take h s) x y) s (b + k)
 
 -- the first of two arguments was read from a on
-unfoldable pub onFirst : (List ℕ → Read) → List ℕ → (h a : ℕ) → Read → Read
-onFirst below s h a (broken hs) = broken (heading (take h s) 2 ∷ hs)
-onFirst below s h a (name x k) =
-    cond (starts (ascii "],[") (drop (a + k) s)) (onSecond s h x (a + k + 3) (below (drop (a + k + 3) s))) (broken (heading (take h s) 2 ∷ headings x))
+unfoldable pub onFirst : (ℕ → List ℕ → Read) → (at : ℕ) → List ℕ → (h a : ℕ) → Read → Read
+onFirst below at s h a (broken hs) = broken (heading (take h s) 2 at ∷ hs)
+onFirst below at s h a (name x k) =
+    cond (starts (ascii "],[") (drop (a + k) s))
+    (onSecond at s h a x (a + k + 3) (below (at + (a + k + 3)) (drop (a + k + 3) s)))
+    (broken (heading (take h s) 2 at ∷ headings (at + a) x))
 
 -- after a head of h bytes, by what follows it; an argument is a name of one level less
-unfoldable pub afterHead : (List ℕ → Read) → List ℕ → (h n : ℕ) → Read
-afterHead below s h zero = ended (simple (take h s)) s h
-afterHead below s h (suc zero) = onOnly s h (h + 4) (below (drop (h + 4) s))
-afterHead below s h (suc (suc zero)) = onFirst below s h (h + 4) (below (drop (h + 4) s))
-afterHead below s h (suc (suc (suc n))) = broken []
+unfoldable pub afterHead : (ℕ → List ℕ → Read) → (at : ℕ) → List ℕ → (h n : ℕ) → Read
+afterHead below at s h zero = ended (simple (take h s)) s h
+afterHead below at s h (suc zero) = onOnly at s h (h + 4) (below (at + (h + 4)) (drop (h + 4) s))
+afterHead below at s h (suc (suc zero)) = onFirst below at s h (h + 4) (below (at + (h + 4)) (drop (h + 4) s))
+afterHead below at s h (suc (suc (suc n))) = broken []
 
 -- after the bytes that may stand in a head: there is at least one
-unfoldable pub headed : (List ℕ → Read) → List ℕ → ℕ → Read
-headed below s zero = broken []
-headed below s (suc h) = afterHead below s (suc h) (opening (drop (suc h) s))
+unfoldable pub headed : (ℕ → List ℕ → Read) → (at : ℕ) → List ℕ → ℕ → Read
+headed below at s zero = broken []
+headed below at s (suc h) = afterHead below at s (suc h) (opening (drop (suc h) s))
 
--- the name that stands first in s, if it nests at most so many levels
-unfoldable pub nameIn : (levels : ℕ) → List ℕ → Read
-nameIn zero s = broken []
-nameIn (suc l) s = headed (nameIn l) s (span headByte s)
+-- the name that stands first in s, whose first byte is at this place, if it nests at most so many levels
+unfoldable pub nameIn : (levels at : ℕ) → List ℕ → Read
+nameIn zero at s = broken []
+nameIn (suc l) at s = headed (nameIn l) at s (span headByte s)
 
 -- nothing stands after the name
-unfoldable pub whole : List ℕ → Read → Read
-whole s (broken hs) = broken hs
-whole s (name n k) = cond (eqb k (length s)) (name n k) (broken (headings n))
+unfoldable pub whole : (at : ℕ) → List ℕ → Read → Read
+whole at s (broken hs) = broken hs
+whole at s (name n k) = cond (eqb k (length s)) (name n k) (broken (headings at n))
 
--- a reader's name; 01: "Names nest at most 8 levels, the reader's own being level 1"
-unfoldable pub nameOf : List ℕ → Read
-nameOf s = whole s (nameIn 8 s)
+-- a reader's name, whose first byte is at this place; 01: "Names nest at most 8 levels, the reader's own being level 1"
+unfoldable pub nameOf : (at : ℕ) → List ℕ → Read
+nameOf at s = whole at s (nameIn 8 at s)

@@ -14,8 +14,7 @@ use Rattle.laws.specs.Ok.{ok-pick}
 use Rattle.layout.specs.Text.{ascii}
 use Rattle.layout.specs.Name.{Tail, none, some, Name, simple, one, two, writeTail, write, headByte, tailByte, all, Head, Tailed, Formed}
 use Rattle.names.specs.Parse.{Read, broken, name, span, starts, tailSize, tailOf, ended, closed, opening, onOnly, onSecond, onFirst, afterHead, headed, nameIn}
-use Rattle.names.specs.Complete.{long, longTail}
-use Rattle.names.specs.Heading.{Heading}
+use Rattle.names.specs.Heading.{Heading, long, longTail}
 
 -- what holds of a name that was read
 abbrev pub Ok : (Name → ℕ → Type 0) → Read → Type 0
@@ -69,14 +68,14 @@ tail-sound : (s : List ℕ) → TailRead s (tailOf s) (tailSize s)
 unfolding tailOf tailSize
 tail-sound s = tail-of s (starts (ascii ",") s) refl
 
-module _ {P : Name → ℕ → Type 0} (n : Tail → Name) (s : List ℕ) where
+module _ {P : Name → ℕ → Type 0} (at : ℕ) (n : Tail → Name) (s : List ℕ) where
   ended-sound : (e : ℕ) → ((t : Tail) (k : ℕ) → Tailed t → drop e s ≡ writeTail t (drop k s) → k ≡ e + longTail t → P (n t) k) → Ok P (ended n s e)
   ended-sound e f =
       let r = tail-sound (drop e s) in
       let k = tailSize (drop e s) in
       is-read (f (tailOf (drop e s)) (e + k) (r .0) (r .1 ∙ ap (writeTail (tailOf (drop e s))) (drop-drop k e s)) (ap (λ (z : ℕ). e + z) (r .2)))
 
-  closed-sound : (e : ℕ) → ((t : Tail) (k : ℕ) → Tailed t → drop e s ≡ ascii "]]" ++ writeTail t (drop k s) → k ≡ e + 2 + longTail t → P (n t) k) → Ok P (closed n s e)
+  closed-sound : (e : ℕ) → ((t : Tail) (k : ℕ) → Tailed t → drop e s ≡ ascii "]]" ++ writeTail t (drop k s) → k ≡ e + 2 + longTail t → P (n t) k) → Ok P (closed at n s e)
   unfolding closed ascii
   closed-sound e f =
       ok-pick (starts (ascii "]]") (drop e s))
@@ -88,36 +87,36 @@ abbrev pub Stands : ℕ → List ℕ → Name → ℕ → Type 0
 Stands l s n k = Formed l n × (s ≡ write n (drop k s)) × (k ≡ long n)
 
 -- after a lawful head of h bytes, with arguments of at most l levels
-module _ (l : ℕ) (s : List ℕ) (h : ℕ) (head : Head (take h s)) (size : length (take h s) ≡ h) (below : List ℕ → Read) (sound-below : (r : List ℕ) → Ok (Stands l r) (below r)) where
+module _ (l at : ℕ) (s : List ℕ) (h : ℕ) (head : Head (take h s)) (size : length (take h s) ≡ h) (below : ℕ → List ℕ → Read) (sound-below : (p : ℕ) (r : List ℕ) → Ok (Stands l r) (below p r)) where
   opened : (w : List ℕ) → starts w (drop h s) ≡ true → s ≡ take h s ++ (w ++ drop (h + length w) s)
   opened w b = sym (take-append-drop h s) ∙ ap (λ (l : List ℕ). take h s ++ l) (starts-is w (drop h s) b ∙ ap (λ (l : List ℕ). w ++ l) (drop-drop (length w) h s))
 
   simple-sound : Ok (Stands (suc l) s) (ended (simple (take h s)) s h)
   unfolding Formed write long
   simple-sound =
-      ended-sound (simple (take h s)) s h
+      ended-sound at (simple (take h s)) s h
       (λ t j ok q e.
       let i : j ≡ length (take h s) + longTail t = omega arith in
       ((head, ok), sym (take-append-drop h s) ∙ ap (λ (l : List ℕ). take h s ++ l) q, i))
 
-  only-sound : starts (ascii "`1[[") (drop h s) ≡ true → (r : Read) → Ok (Stands l (drop (h + 4) s)) r → Ok (Stands (suc l) s) (onOnly s h (h + 4) r)
+  only-sound : starts (ascii "`1[[") (drop h s) ≡ true → (r : Read) → Ok (Stands l (drop (h + 4) s)) r → Ok (Stands (suc l) s) (onOnly at s h (h + 4) r)
   unfolding onOnly Formed write long ascii
   only-sound b (broken hs) o = not-read
   only-sound b (name x k) o =
       let p = o .got refl in
-      closed-sound (one (take h s) x) s (h + 4 + k)
+      closed-sound at (one (take h s) x) s (h + 4 + k)
       (λ t j ok q m.
       let v : drop (h + 4) s ≡ write x (ascii "]]" ++ writeTail t (drop j s)) = p .1 ∙ ap (write x) (drop-drop k (h + 4) s ∙ q) in
       let i : j ≡ length (take h s) + 4 + long x + 2 + longTail t = omega (arith, p .2) in
       ((head, p .0, ok), opened (ascii "`1[[") b ∙ ap (λ (l : List ℕ). take h s ++ (ascii "`1[[" ++ l)) v, i))
 
   second-sound : (x : Name) (k : ℕ) → Stands l (drop (h + 4) s) x k → starts (ascii "`2[[") (drop h s) ≡ true → starts (ascii "],[") (drop (h + 4 + k) s) ≡ true
-      → (r : Read) → Ok (Stands l (drop (h + 4 + k + 3) s)) r → Ok (Stands (suc l) s) (onSecond s h x (h + 4 + k + 3) r)
+      → (r : Read) → Ok (Stands l (drop (h + 4 + k + 3) s)) r → Ok (Stands (suc l) s) (onSecond at s h (h + 4) x (h + 4 + k + 3) r)
   unfolding onSecond Formed write long ascii
   second-sound x k p b c (broken hs) o = not-read
   second-sound x k p b c (name y m) r =
       let o = r .got refl in
-      closed-sound (two (take h s) x y) s (h + 4 + k + 3 + m)
+      closed-sound at (two (take h s) x y) s (h + 4 + k + 3 + m)
       (λ t j ok q e.
       let r₃ = ascii "]]" ++ writeTail t (drop j s) in
       let v : drop (h + 4 + k + 3) s ≡ write y r₃ = o .1 ∙ ap (write y) (drop-drop m (h + 4 + k + 3) s ∙ q) in
@@ -126,34 +125,35 @@ module _ (l : ℕ) (s : List ℕ) (h : ℕ) (head : Head (take h s)) (size : len
       let i : j ≡ length (take h s) + 4 + long x + 3 + long y + 2 + longTail t = omega (arith, p .2, o .2) in
       ((head, p .0, o .0, ok), opened (ascii "`2[[") b ∙ ap (λ (l : List ℕ). take h s ++ (ascii "`2[[" ++ l)) w, i))
 
-  first-sound : starts (ascii "`2[[") (drop h s) ≡ true → (r : Read) → Ok (Stands l (drop (h + 4) s)) r → Ok (Stands (suc l) s) (onFirst below s h (h + 4) r)
+  first-sound : starts (ascii "`2[[") (drop h s) ≡ true → (r : Read) → Ok (Stands l (drop (h + 4) s)) r → Ok (Stands (suc l) s) (onFirst below at s h (h + 4) r)
   unfolding onFirst
   first-sound b (broken hs) o = not-read
   first-sound b (name x k) o =
-      ok-pick (starts (ascii "],[") (drop (h + 4 + k) s)) (λ c. second-sound x k (o .got refl) b c (below (drop (h + 4 + k + 3) s)) (sound-below (drop (h + 4 + k + 3) s))) not-read
+      ok-pick (starts (ascii "],[") (drop (h + 4 + k) s)) (λ c. second-sound x k (o .got refl) b c (below (at + (h + 4 + k + 3)) (drop (h + 4 + k + 3) s)) (sound-below (at + (h + 4 + k + 3)) (drop (h + 4 + k + 3) s))) not-read
 
   -- by what follows the head
-  by-opening : (b₁ b₂ b₃ : Bool) → starts (ascii "`1[[") (drop h s) ≡ b₁ → starts (ascii "`2[[") (drop h s) ≡ b₂ → Ok (Stands (suc l) s) (afterHead below s h (cond b₁ 1 (cond b₂ 2 (cond b₃ 3 0))))
+  by-opening : (b₁ b₂ b₃ : Bool) → starts (ascii "`1[[") (drop h s) ≡ b₁ → starts (ascii "`2[[") (drop h s) ≡ b₂ → Ok (Stands (suc l) s) (afterHead below at s h (cond b₁ 1 (cond b₂ 2 (cond b₃ 3 0))))
   unfolding afterHead
-  by-opening true b₂ b₃ e₁ e₂ = only-sound e₁ (below (drop (h + 4) s)) (sound-below (drop (h + 4) s))
-  by-opening false true b₃ e₁ e₂ = first-sound e₂ (below (drop (h + 4) s)) (sound-below (drop (h + 4) s))
+  by-opening true b₂ b₃ e₁ e₂ = only-sound e₁ (below (at + (h + 4)) (drop (h + 4) s)) (sound-below (at + (h + 4)) (drop (h + 4) s))
+  by-opening false true b₃ e₁ e₂ = first-sound e₂ (below (at + (h + 4)) (drop (h + 4) s)) (sound-below (at + (h + 4)) (drop (h + 4) s))
   by-opening false false true e₁ e₂ = not-read
   by-opening false false false e₁ e₂ = simple-sound
 
-  after-sound : Ok (Stands (suc l) s) (afterHead below s h (opening (drop h s)))
+  after-sound : Ok (Stands (suc l) s) (afterHead below at s h (opening (drop h s)))
   unfolding opening
   after-sound = by-opening (starts (ascii "`1[[") (drop h s)) (starts (ascii "`2[[") (drop h s)) (starts (ascii "`") (drop h s)) refl refl
 
-head-sound : (l : ℕ) (s : List ℕ) (below : List ℕ → Read) → ((r : List ℕ) → Ok (Stands l r) (below r)) → (h : ℕ) → h ≡ span headByte s → Ok (Stands (suc l) s) (headed below s h)
+head-sound : (l at : ℕ) (s : List ℕ) (below : ℕ → List ℕ → Read) → ((p : ℕ) (r : List ℕ) → Ok (Stands l r) (below p r)) → (h : ℕ) → h ≡ span headByte s
+    → Ok (Stands (suc l) s) (headed below at s h)
 unfolding headed
-head-sound l s below f zero e = not-read
-head-sound l s below f (suc h) e =
+head-sound l at s below f zero e = not-read
+head-sound l at s below f (suc h) e =
     let z : length (take (suc h) s) ≡ suc h = length-take-le (suc h) s (omega (arith, span-le headByte s)) in
     let b : all headByte (take (suc h) s) ≡ true = rw e (span-is headByte s) in
     let some : take (suc h) s ≡ [] → ⊥ = λ q. omega (arith, ap length q) in
-    after-sound l s (suc h) (record { some = some; bytes = b }) z below f
+    after-sound l at s (suc h) (record { some = some; bytes = b }) z below f
 
-pub sound : (l : ℕ) (s : List ℕ) → Ok (Stands l s) (nameIn l s)
+pub sound : (l at : ℕ) (s : List ℕ) → Ok (Stands l s) (nameIn l at s)
 unfolding nameIn
-sound zero s = not-read
-sound (suc l) s = head-sound l s (nameIn l) (sound l) (span headByte s) refl
+sound zero at s = not-read
+sound (suc l) at s = head-sound l at s (nameIn l) (sound l) (span headByte s) refl

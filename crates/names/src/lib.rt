@@ -1,13 +1,15 @@
-// Reader names: the parser, and which kinds their heads name. It decides the grammar alone (10), from left to right, and leaves a byte for each head.
+// Reader names: the parser, and which kinds their heads name. It decides the grammar alone (10), from left to right, and leaves a word for each head.
 ghost use mathlib.Core.Path.{_≡_};
-ghost use Prim.Native.Nat.{_≤_, _+_};
-ghost use lib.ListN.{length, drop};
+ghost use Prim.Native.Nat.{_≤_, _<_, _+_};
+ghost use lib.ListN.{length, drop, set};
 ghost use Rattle.layout.specs.Number.{between};
 ghost use Rattle.layout.specs.Name.{headByte, tailByte};
 ghost use Rattle.layout.specs.Kind.{alike, lookup};
+ghost use Rattle.layout.specs.EnumList.{sizeIn};
 ghost use Rattle.names.specs.Parse.{span, starts, tailSize, opening};
 ghost use Rattle.names.specs.Contract.{class, Inside, tailed, passed, closing, Parses, ReadsName};
-ghost use Rattle.names.specs.Kind.{flat, listed, node};
+ghost use Rattle.names.specs.Kind.{listed, enumKind, kindIn, word};
+ghost use Rattle.names.specs.Entries.{entriesOf, enumsOf};
 
 // A byte from `low` to `high`.
 pub fn within(low: u8, high: u8, b: u8) -> bool
@@ -65,7 +67,7 @@ fn in_class(tail: bool, b: u8) -> bool
 }
 
 // How many bytes from the first on are of a class: a tail's, or a head's.
-fn run(s: &[u8], tail: bool) -> usize
+pub fn run(s: &[u8], tail: bool) -> usize
     ensures { λ r. ⌜ r ≡ span (class tail) (now (s .entry)) ⌝ }
 {
     let mut i = 0;
@@ -122,7 +124,7 @@ fn tailed_at(name: &[u8], at: usize, used: usize) -> Parsed
 }
 
 // What follows a head that ends at `at`: 0, 1 or 2 arguments, or 3 for a backquote that opens none.
-fn opening_at(name: &[u8], at: usize) -> u8
+fn opening_at(name: &[u8], at: usize) -> u32
     requires { ⌜ at ≤ length (now name) ⌝ }
     ensures { λ r. ⌜ r ≡ opening (drop at (now (name .entry))) ⌝ }
 {
@@ -168,7 +170,7 @@ fn close(name: &[u8], at: usize, argument: Parsed) -> Parsed
 }
 
 // Two texts are equal.
-fn same_text(a: &[u8], b: &[u8]) -> bool
+pub fn same_text(a: &[u8], b: &[u8]) -> bool
     ensures { λ r. ⌜ r ≡ alike (now (a .entry)) (now (b .entry)) ⌝ }
 {
     if a.len() == b.len() {
@@ -177,52 +179,109 @@ fn same_text(a: &[u8], b: &[u8]) -> bool
     false
 }
 
-// The kind of a head in a table of entries: a length, a kind, a head; and so on. `own` says which table it is.
-fn find(table: &[u8], own: bool, head: &[u8]) -> u8
-    requires { ⌜ now table ≡ flat (listed own) ⌝ }
-    ensures { λ r. ⌜ r ≡ lookup (now (head .entry)) (listed own) ⌝ }
+// What a list of entries has for a head: a name length byte, a name and a byte for each; 0 if no whole entry has this name.
+pub fn find(entries: &[u8], head: &[u8]) -> u8
+    ensures { λ r. ⌜ r ≡ sizeIn (entriesOf (now (entries .entry))) (now (head .entry)) ⌝ }
 {
     let mut at = 0;
-    while at < table.len() {
-        let name = at + 2;
-        let end = name + table[at] as usize;
-        if same_text(head, &table[name..end]) {
-            return table[at + 1];
+    while at < entries.len() {
+        let name = at + 1;
+        let size = entries[at] as usize;
+        if entries.len() - name <= size {
+            return 0;
         }
-        at = end;
+        let end = name + size;
+        if same_text(head, &entries[name..end]) {
+            return entries[end];
+        }
+        at = end + 1;
     }
     0
 }
 
-// The tables of specs/Kind as bytes: for each entry the head's length, the kind and the head. The proof of `kind_of` compares them.
+// The tables of layout/Kind as bytes, in the form of a lent list: for each entry the head's length, the head and the kind.
+// The proof of `kind_of` compares them.
 const TARGETS: [u8; 757] =
-    *b"\x0b\x01System.Byte\x0c\x02System.SByte\x0c\x03System.Int16\x0d\x04System.UInt16\x0c\x05System.Int32\x0d\x06System.UInt32\x0c\x07System.Int64\x0d\x08System.UInt64\x0d\x09System.Single\x0d\x0aSystem.Double\x0e\x0bSystem.Boolean\x0b\x0cSystem.Char\x0d\x0dSystem.String\x0d\x0eSystem.Object\x0f\x10System.Nullable\x1f\x12System.Collections.Generic.List\x25\x13System.Collections.Generic.Dictionary\x0f\x14System.TimeSpan\x0f\x15System.DateTime\x0e\x16System.Decimal\x1f\x17Microsoft.Xna.Framework.Vector2\x1f\x18Microsoft.Xna.Framework.Vector3\x1f\x19Microsoft.Xna.Framework.Vector4\x1e\x1aMicrosoft.Xna.Framework.Matrix\x22\x1bMicrosoft.Xna.Framework.Quaternion\x1d\x1cMicrosoft.Xna.Framework.Color\x1d\x1dMicrosoft.Xna.Framework.Point\x21\x1eMicrosoft.Xna.Framework.Rectangle\x28\x1fMicrosoft.Xna.Framework.Graphics.Texture\x2a\x20Microsoft.Xna.Framework.Graphics.Texture2D\x2b\x21Microsoft.Xna.Framework.Graphics.SpriteFont\x12\x22Coach.Console.Page";
+    *b"\x0bSystem.Byte\x01\x0cSystem.SByte\x02\x0cSystem.Int16\x03\x0dSystem.UInt16\x04\x0cSystem.Int32\x05\x0dSystem.UInt32\x06\x0cSystem.Int64\x07\x0dSystem.UInt64\x08\x0dSystem.Single\x09\x0dSystem.Double\x0a\x0eSystem.Boolean\x0b\x0bSystem.Char\x0c\x0dSystem.String\x0d\x0dSystem.Object\x0e\x0fSystem.Nullable\x10\x1fSystem.Collections.Generic.List\x12\x25System.Collections.Generic.Dictionary\x13\x0fSystem.TimeSpan\x14\x0fSystem.DateTime\x15\x0eSystem.Decimal\x16\x1fMicrosoft.Xna.Framework.Vector2\x17\x1fMicrosoft.Xna.Framework.Vector3\x18\x1fMicrosoft.Xna.Framework.Vector4\x19\x1eMicrosoft.Xna.Framework.Matrix\x1a\x22Microsoft.Xna.Framework.Quaternion\x1b\x1dMicrosoft.Xna.Framework.Color\x1c\x1dMicrosoft.Xna.Framework.Point\x1d\x21Microsoft.Xna.Framework.Rectangle\x1e\x28Microsoft.Xna.Framework.Graphics.Texture\x1f\x2aMicrosoft.Xna.Framework.Graphics.Texture2D\x20\x2bMicrosoft.Xna.Framework.Graphics.SpriteFont\x21\x12Coach.Console.Page\x22";
 
 const READERS: [u8; 1559] =
-    *b"\x2a\x01Microsoft.Xna.Framework.Content.ByteReader\x2b\x02Microsoft.Xna.Framework.Content.SByteReader\x2b\x03Microsoft.Xna.Framework.Content.Int16Reader\x2c\x04Microsoft.Xna.Framework.Content.UInt16Reader\x2b\x05Microsoft.Xna.Framework.Content.Int32Reader\x2c\x06Microsoft.Xna.Framework.Content.UInt32Reader\x2b\x07Microsoft.Xna.Framework.Content.Int64Reader\x2c\x08Microsoft.Xna.Framework.Content.UInt64Reader\x2c\x09Microsoft.Xna.Framework.Content.SingleReader\x2c\x0aMicrosoft.Xna.Framework.Content.DoubleReader\x2d\x0bMicrosoft.Xna.Framework.Content.BooleanReader\x2a\x0cMicrosoft.Xna.Framework.Content.CharReader\x2c\x0dMicrosoft.Xna.Framework.Content.StringReader\x2c\x0eMicrosoft.Xna.Framework.Content.ObjectReader\x2a\x0fMicrosoft.Xna.Framework.Content.EnumReader\x2e\x10Microsoft.Xna.Framework.Content.NullableReader\x2b\x11Microsoft.Xna.Framework.Content.ArrayReader\x2a\x12Microsoft.Xna.Framework.Content.ListReader\x30\x13Microsoft.Xna.Framework.Content.DictionaryReader\x2e\x14Microsoft.Xna.Framework.Content.TimeSpanReader\x2e\x15Microsoft.Xna.Framework.Content.DateTimeReader\x2d\x16Microsoft.Xna.Framework.Content.DecimalReader\x2d\x17Microsoft.Xna.Framework.Content.Vector2Reader\x2d\x18Microsoft.Xna.Framework.Content.Vector3Reader\x2d\x19Microsoft.Xna.Framework.Content.Vector4Reader\x2c\x1aMicrosoft.Xna.Framework.Content.MatrixReader\x30\x1bMicrosoft.Xna.Framework.Content.QuaternionReader\x2b\x1cMicrosoft.Xna.Framework.Content.ColorReader\x2b\x1dMicrosoft.Xna.Framework.Content.PointReader\x2f\x1eMicrosoft.Xna.Framework.Content.RectangleReader\x2d\x1fMicrosoft.Xna.Framework.Content.TextureReader\x2f\x20Microsoft.Xna.Framework.Content.Texture2DReader\x30\x21Microsoft.Xna.Framework.Content.SpriteFontReader\x18\x22Coach.Console.PageReader";
+    *b"\x2aMicrosoft.Xna.Framework.Content.ByteReader\x01\x2bMicrosoft.Xna.Framework.Content.SByteReader\x02\x2bMicrosoft.Xna.Framework.Content.Int16Reader\x03\x2cMicrosoft.Xna.Framework.Content.UInt16Reader\x04\x2bMicrosoft.Xna.Framework.Content.Int32Reader\x05\x2cMicrosoft.Xna.Framework.Content.UInt32Reader\x06\x2bMicrosoft.Xna.Framework.Content.Int64Reader\x07\x2cMicrosoft.Xna.Framework.Content.UInt64Reader\x08\x2cMicrosoft.Xna.Framework.Content.SingleReader\x09\x2cMicrosoft.Xna.Framework.Content.DoubleReader\x0a\x2dMicrosoft.Xna.Framework.Content.BooleanReader\x0b\x2aMicrosoft.Xna.Framework.Content.CharReader\x0c\x2cMicrosoft.Xna.Framework.Content.StringReader\x0d\x2cMicrosoft.Xna.Framework.Content.ObjectReader\x0e\x2aMicrosoft.Xna.Framework.Content.EnumReader\x0f\x2eMicrosoft.Xna.Framework.Content.NullableReader\x10\x2bMicrosoft.Xna.Framework.Content.ArrayReader\x11\x2aMicrosoft.Xna.Framework.Content.ListReader\x12\x30Microsoft.Xna.Framework.Content.DictionaryReader\x13\x2eMicrosoft.Xna.Framework.Content.TimeSpanReader\x14\x2eMicrosoft.Xna.Framework.Content.DateTimeReader\x15\x2dMicrosoft.Xna.Framework.Content.DecimalReader\x16\x2dMicrosoft.Xna.Framework.Content.Vector2Reader\x17\x2dMicrosoft.Xna.Framework.Content.Vector3Reader\x18\x2dMicrosoft.Xna.Framework.Content.Vector4Reader\x19\x2cMicrosoft.Xna.Framework.Content.MatrixReader\x1a\x30Microsoft.Xna.Framework.Content.QuaternionReader\x1b\x2bMicrosoft.Xna.Framework.Content.ColorReader\x1c\x2bMicrosoft.Xna.Framework.Content.PointReader\x1d\x2fMicrosoft.Xna.Framework.Content.RectangleReader\x1e\x2dMicrosoft.Xna.Framework.Content.TextureReader\x1f\x2fMicrosoft.Xna.Framework.Content.Texture2DReader\x20\x30Microsoft.Xna.Framework.Content.SpriteFontReader\x21\x18Coach.Console.PageReader\x22";
 
 // The kind that a head names, the reader's own or an argument's; 0 if it is not listed.
-fn kind_of(head: &[u8], own: bool) -> u8
+pub fn kind_of(head: &[u8], own: bool) -> u8
     ensures { λ r. ⌜ r ≡ lookup (now (head .entry)) (listed own) ⌝ }
 {
     if own {
-        return find(&READERS, true, head);
+        return find(&READERS, head);
     }
-    find(&TARGETS, false, head)
+    find(&TARGETS, head)
 }
 
-// The code of a head with n arguments: its kind, and 64 times n.
-fn node_of(head: &[u8], own: bool, n: u8) -> u8
-    requires { ⌜ n ≤ 2 ⌝ }
-    ensures { λ r. ⌜ r ≡ node (lookup (now (head .entry)) (listed own)) n ⌝ }
+// The kind of an enum type's code by its size.
+fn enum_kind(size: u8) -> u32
+    ensures { λ r. ⌜ r ≡ enumKind size ⌝ }
 {
-    kind_of(head, own) + 64 * n
+    if size == 1 {
+        return 60;
+    }
+    if size == 2 {
+        return 61;
+    }
+    if size == 4 {
+        return 62;
+    }
+    if size == 8 {
+        return 63;
+    }
+    0
 }
 
-// The name that stands first in `name`: where it ends, and its heads' codes into `codes` from `used` on.
-fn parse(name: &[u8], own: bool, level: u32, codes: &mut [u8], used: usize) -> Parsed
-    requires { ⌜ used + length (now name) ≤ length (now codes) ⌝ }
-    ensures { λ r. ⌜ Parses own level (now (name .entry)) (now (codes .entry)) (now (codes .exit)) used r ⌝ }
+// The kind of a head with n arguments, under a lent list of enum types.
+fn kind_in(head: &[u8], own: bool, n: u32, enums: &[u8]) -> u32
+    ensures { λ r. ⌜ r ≡ kindIn (enumsOf (now (enums .entry))) own (now (head .entry)) n ⌝ }
+{
+    let kind = kind_of(head, own) as u32;
+    if own {
+        return kind;
+    }
+    if kind != 0 {
+        return kind;
+    }
+    if n != 0 {
+        return 0;
+    }
+    enum_kind(find(enums, head))
+}
+
+// The code of a head with n arguments at a place: its kind, 64 times n and 256 times the place.
+fn word_of(head: &[u8], own: bool, n: u32, at: usize, enums: &[u8]) -> u32
+    requires { ⌜ (n ≤ 2) × (at < 16777216) ⌝ }
+    ensures { λ r. ⌜ r ≡ word (kindIn (enumsOf (now (enums .entry))) own (now (head .entry)) n) n at ⌝ }
+{
+    kind_in(head, own, n, enums) + 64 * n + 256 * at as u32
+}
+
+// Puts a code, if there is room for it.
+fn put(codes: &mut [u32], i: usize, code: u32)
+    ensures { λ _. ⌜ now (codes .exit) ≡ set (now (codes .entry)) i code ⌝ }
+{
+    if i < codes.len() {
+        codes[i] = code;
+    }
+}
+
+// The name that stands first in `name`, whose first byte is at `at` in the file: where it ends, and its heads' codes into `codes` from `used` on.
+fn parse(
+    name: &[u8],
+    own: bool,
+    level: u32,
+    at: usize,
+    enums: &[u8],
+    codes: &mut [u32],
+    used: usize,
+) -> Parsed
+    requires { ⌜ (at + length (now name) ≤ 16777216) × (used + length (now name) ≤ 33554432) ⌝ }
+    ensures { λ r. ⌜ Parses (enumsOf (now (enums .entry))) own level at (now (name .entry)) (now (codes .entry)) (now (codes .exit)) used r ⌝ }
 {
     if level == 0 {
         return Parsed::Broken;
@@ -235,48 +294,53 @@ fn parse(name: &[u8], own: bool, level: u32, codes: &mut [u8], used: usize) -> P
     if n == 3 {
         return Parsed::Broken;
     }
-    codes[used] = node_of(&name[..h], own, n);
+    put(codes, used, word_of(&name[..h], own, n, at, enums));
     let next = used + 1;
     if n == 0 {
         return tailed_at(name, h, next);
     }
     let a = h + 4;
-    let first = parse(&name[a..], false, level - 1, codes, next);
+    let first = parse(&name[a..], false, level - 1, at + a, enums, codes, next);
     if n == 1 {
         return close(name, a, first);
     }
     match past(name, a, first, b"],[") {
         Parsed::Broken => Parsed::Broken,
         Parsed::Name { end: b, used: u } => {
-            let second = parse(&name[b..], false, level - 1, codes, u);
+            let second = parse(&name[b..], false, level - 1, at + b, enums, codes, u);
             close(name, b, second)
         }
     }
 }
 
-// What a reader's name comes to: how many codes are used, refusal 10, or no room for a code for each byte of the name.
+// What a reader's name comes to: how many codes are used, refusal 10, or no room for the codes of its heads or for their places.
 pub enum Named {
     Codes(usize),
     Broken,
     NoRoom,
 }
 
-// Reads a whole reader name, and leaves its heads' codes in `codes` from `used` on.
-pub fn read_name(name: &[u8], codes: &mut [u8], used: usize) -> Named
-    ensures { λ r. ⌜ ReadsName (now (name .entry)) (now (codes .entry)) (now (codes .exit)) used r ⌝ }
+// Reads a whole reader name, whose first byte is at `at` in the file, and leaves its heads' codes in `codes` from `used` on.
+pub fn read_name(name: &[u8], at: usize, enums: &[u8], codes: &mut [u32], used: usize) -> Named
+    ensures { λ r. ⌜ ReadsName (enumsOf (now (enums .entry))) (now (name .entry)) at (now (codes .entry)) (now (codes .exit)) used r ⌝ }
 {
-    let room = codes.len();
-    if room < used {
+    if 16777216 < used {
         return Named::NoRoom;
     }
-    if room - used < name.len() {
+    if 16777216 < name.len() {
         return Named::NoRoom;
     }
-    match parse(name, true, 8, codes, used) {
+    if 16777216 - name.len() < at {
+        return Named::NoRoom;
+    }
+    match parse(name, true, 8, at, enums, codes, used) {
         Parsed::Broken => Named::Broken,
         Parsed::Name { end, used: next } => {
             if end != name.len() {
                 return Named::Broken;
+            }
+            if codes.len() < next {
+                return Named::NoRoom;
             }
             Named::Codes(next)
         }

@@ -4,13 +4,13 @@ use mathlib.Core.Bool.{true, false, not}
 use mathlib.Core.List.{List, [], _∷_}
 use Prim.Native.Nat.{ℕ, zero, suc, _+_, _-_, _≤_, _<_}
 use native.Mathlib.Omega.{arith}
-use lib.Dec.{leb}
 use lib.ListN.{length, take, drop, getD, set, length-drop, drop-of-length-le}
 use lib.Seq.{sets, drop-drop, length-take-le}
-use borrow.Author.Tests.{eq-eqb, ne-eqb}
+use borrow.Author.Tests.{eq-eqb, ne-eqb, le-leb, lt-leb}
 use Rattle.names.specs.Parse.{nameOf}
 use Rattle.names.specs.Sound.{span-le}
-use Rattle.names.specs.Contract.{roomy}
+use Rattle.names.specs.Contract.{placed}
+use Rattle.names.specs.Entries.{entriesIn, entriesOf, lawfully, enumsOf}
 use Rattle.names.proofs.Laws.{cons-at, rest}
 use Rattle.io.specs.Counts.{Counts}
 use Rattle.types.specs.declared.Resolved.{Resolved}
@@ -22,14 +22,19 @@ pub empty-is : (s : List ℕ) → length s ≡ 0 → 9 ≡ refusal s
 unfolding refusal
 empty-is s h = rw (eq-eqb (length s) 0 h)
 
--- 1,024 codes are room for every name that is not too long
-pub judged-is : (s c c′ : List ℕ) (r : Resolved) → (length s ≡ 0 → ⊥) → length c ≡ 1024 → Resolves s c c′ 0 r → (k : ℕ) → number (told r) ≡ k → k ≡ refusal s
-unfolding refusal roomy
-judged-is s c c′ r h l w k e =
-    let p : refusal s ≡ number (resolution (leb (length s) 1024) 0 (nameOf s)) = rw (ne-eqb (length s) 0 h) in
-    let q : number (told r) ≡ number (resolution (leb (0 + length s) (length c)) 0 (nameOf s)) = ap number (w .answers) in
-    let z : 0 + length s ≡ length s = omega arith in
-    sym e ∙ q ∙ ap (λ (m : ℕ). number (resolution (leb m (length c)) 0 (nameOf s))) z ∙ ap (λ (m : ℕ). number (resolution (leb (length s) m) 0 (nameOf s))) l ∙ sym p
+pub long-is : (s : List ℕ) → (length s ≡ 0 → ⊥) → 1024 < length s → 9 ≡ refusal s
+unfolding refusal
+long-is s h l = rw (ne-eqb (length s) 0 h, lt-leb (length s) 1024 l)
+
+-- the places of a name that is not too long fit
+pub judged-is : (s enums c c′ : List ℕ) (r : Resolved) → (length s ≡ 0 → ⊥) → length s ≤ 1024 → enums ≡ [] → length c ≡ 187 → Resolves (enumsOf enums) s 0 c c′ 0 r
+    → (k : ℕ) → number (told r) ≡ k → k ≡ refusal s
+unfolding refusal placed enumsOf entriesOf entriesIn lawfully
+judged-is s enums c c′ r h m b l w k e =
+    let p : refusal s ≡ number (resolution [] true 187 0 0 (nameOf 0 s)) = rw (ne-eqb (length s) 0 h, le-leb (length s) 1024 m) in
+    let x : placed s 0 0 ≡ true = rw (le-leb 0 16777216 (omega arith), le-leb (0 + length s) 16777216 (omega arith)) in
+    let q : number (told r) ≡ number (resolution [] true 187 0 0 (nameOf 0 s)) = ap number (w .answers) ∙ rw (b, x, l) in
+    sym e ∙ q ∙ sym p
 
 pub ends-line : (b : ℕ) → b ≡ 10 → inLine b ≡ false
 ends-line b e = ap not (eq-eqb b 10 e)

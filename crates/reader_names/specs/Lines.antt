@@ -1,6 +1,6 @@
 -- The refusal of each line of a text, a line being a reader name. Assumes nothing.
 use mathlib.Core.Path.{_≡_}
-use mathlib.Core.Bool.{Bool, not, cond}
+use mathlib.Core.Bool.{Bool, true, not, cond}
 use mathlib.Core.List.{List, [], _∷_}
 use Prim.Native.Nat.{ℕ, zero, suc, _+_}
 use lib.Dec.{eqb, leb}
@@ -16,9 +16,9 @@ number (coded used) = 0
 number (refused k) = k
 number no-room = 9
 
--- 01: a name has 1 to 1,024 bytes, and is judged in full (9, 10, 11)
+-- 01: a name has 1 to 1,024 bytes, and is judged in full (9, 10, 11); here no enum type is listed, and a name of 1,024 bytes has at most 187 codes
 unfoldable pub refusal : List ℕ → ℕ
-refusal s = cond (eqb (length s) 0) 9 (number (resolution (leb (length s) 1024) 0 (nameOf s)))
+refusal s = cond (eqb (length s) 0) 9 (cond (leb (length s) 1024) (number (resolution [] true 187 0 0 (nameOf 0 s))) 9)
 
 -- a line ends before a byte 0A hex
 abbrev pub inLine : ℕ → Bool

@@ -14,8 +14,11 @@ fn judge(name: &[u8]) -> u8
     if name.len() == 0 {
         return 9;
     }
-    let mut codes = [0u8; 1024];
-    match types::resolve(name, &mut codes, 0) {
+    if 1024 < name.len() {
+        return 9;
+    }
+    let mut codes = [0u32; 187];
+    match types::resolve(name, 0, b"", &mut codes, 0) {
         Resolved::Target(_) => 0,
         Resolved::Broken => 10,
         Resolved::Unknown => 11,

@@ -1,21 +1,21 @@
 -- What each part of the code shows of the reading. Assumes nothing.
 use mathlib.Core.Path.{_≡_, refl, sym, ap, _∙_}
 use mathlib.Core.Bool.{Bool, true, false}
-use mathlib.Core.List.{List}
-use Prim.Native.Nat.{ℕ, zero, suc, _+_, _<_, _≤_}
+use mathlib.Core.List.{List, _++_}
+use Prim.Native.Nat.{ℕ, zero, suc, _+_, _-_, _<_, _≤_}
 use native.Mathlib.Omega.{arith}
 use lib.Dec.{leb, eqb}
-use lib.ListN.{length, take, drop}
+use lib.ListN.{length, take, drop, length-drop, take-append-drop}
 use lib.Seq.{length-take-le}
 use borrow.Author.Tests.{leb-true, le-leb, lt-leb, eq-eqb, ne-eqb}
 use Rattle.laws.specs.Small.{differ}
 use Rattle.names.specs.Contract.{refused as told-refused, no-room}
 use Rattle.types.specs.declared.Resolved.{Resolved}
 use Rattle.types.specs.Contract.{Resolves, told as resolved}
-use Rattle.types.specs.Laws.{reader-has-no-enum}
 use Rattle.types.specs.Short.{codes-are-few}
 use Rattle.types.specs.Meaning.{HasTarget, eleven-is, ten-is, no-room-is}
 use Rattle.layout.specs.Target.{Target}
+use Rattle.layout.specs.EnumList.{EnumEntry}
 use Rattle.reading.specs.Answer.{Answer, refused, read, bind, check, within, true-within}
 use Rattle.reading.specs.Reads.{some}
 use Rattle.reading.specs.Seven.{sevenAt}
@@ -63,13 +63,13 @@ module _ (file : List ℕ) (at : ℕ) where
   version-other {v} q h = rw (q, ne-eqb v 0 h)
 
 -- a reader's count
-module _ (file : List ℕ) (at : ℕ) where
-  pub reader-refused : {n p : ℕ} → sevenAt file at ≡ refused n p → readerAt judgedName file at ≡ refused n p
+module _ (es : List EnumEntry) (file : List ℕ) (at : ℕ) where
+  pub reader-refused : {n p : ℕ} → sevenAt file at ≡ refused n p → readerAt (judgedName es) file at ≡ refused n p
   unfolding readerAt bind
   reader-refused q = rw q
 
   module _ {n e : ℕ} (q : sevenAt file at ≡ read n e) where
-    pub reader-empty : n ≡ 0 → readerAt judgedName file at ≡ refused 9 at
+    pub reader-empty : n ≡ 0 → readerAt (judgedName es) file at ≡ refused 9 at
     unfolding readerAt bind check within
     reader-empty h = rw (q, h)
 
@@ -78,55 +78,66 @@ module _ (file : List ℕ) (at : ℕ) where
     within-false zero h = absurd (omega arith)
     within-false (suc n) h = lt-leb (suc n) 1024 h
 
-    pub reader-long : 1024 < n → readerAt judgedName file at ≡ refused 9 at
+    pub reader-long : 1024 < n → readerAt (judgedName es) file at ≡ refused 9 at
     unfolding readerAt bind check
     reader-long h = rw (q, within-false n h)
 
-    pub reader-named : (n ≡ 0 → ⊥) → n ≤ 1024 → readerAt judgedName file at ≡ namedAt file n at e
+    pub reader-named : (n ≡ 0 → ⊥) → n ≤ 1024 → readerAt (judgedName es) file at ≡ namedAt es file n at e
     unfolding readerAt bind check namedAt versioned
     reader-named h g = rw (q, true-within 1024 n (omega arith) g)
 
+-- the part of the file that is resolved is the name
+pub name-part : (file : List ℕ) (first n : ℕ) → take (first + n - first) (drop first file) ≡ take n (drop first file)
+name-part file first n = ap (λ (k : ℕ). take k (drop first file)) (let e : first + n - first ≡ n = omega arith in e)
+
 -- a name of n bytes from `first` on
-module _ (file : List ℕ) (n at first : ℕ) where
-  pub named-missing : leb n (length (drop first file)) ≡ false → namedAt file n at first ≡ refused 1 at
+module _ (es : List EnumEntry) (file : List ℕ) (n at first : ℕ) where
+  pub named-missing : leb n (length (drop first file)) ≡ false → namedAt es file n at first ≡ refused 1 at
   unfolding namedAt bind some check
   named-missing t = rw t
 
   module _ (t : leb n (length (drop first file)) ≡ true) where
-    name-refused : {k : ℕ} → judgedName (take n (drop first file)) ≡ unknown k → namedAt file n at first ≡ refused k first
+    name-refused : {k : ℕ} → judgedName es (take n (drop first file)) ≡ unknown k → namedAt es file n at first ≡ refused k first
     unfolding namedAt bind some check judge
     name-refused e = rw (t, e)
 
-    name-known : {x : Target} → judgedName (take n (drop first file)) ≡ known x → namedAt file n at first ≡ versioned file (take n (drop first file)) x (first + n)
+    name-known : {x : Target} → judgedName es (take n (drop first file)) ≡ known x → namedAt es file n at first ≡ versioned file (take n (drop first file)) x (first + n)
     unfolding namedAt bind some check judge
     name-known e = rw (t, e)
 
-    module _ (s c c′ : List ℕ) (used : ℕ) (q : s ≡ take n (drop first file)) (few : n ≤ 1024) (room : used + 1024 ≤ length c) (inside : first ≤ length file) where
+    module _ (s c c′ : List ℕ) (used : ℕ) (q : s ≡ take n (drop first file)) (few : n ≤ 1024) (room : used + 187 ≤ length c) (below : used ≤ 16777216) (inside : first ≤ length file) (short : length file ≤ 16777216) where
       size : length s ≡ n
       size = ap length q ∙ length-take-le n (drop first file) (leb-true n (length (drop first file)) t)
 
-      pub named-room : {r : Resolved} → Resolves s c c′ used r → resolved r ≡ no-room → ⊥
-      named-room p e = omega (arith, no-room-is s c c′ used p e, size)
+      -- the name stands in the file
+      standing : drop first file ≡ s ++ drop n (drop first file)
+      standing = sym (take-append-drop n (drop first file)) ∙ ap (λ (l : List ℕ). l ++ drop n (drop first file)) (sym q)
 
-      pub named-ten : {r : Resolved} → Resolves s c c′ used r → resolved r ≡ told-refused 10 → namedAt file n at first ≡ refused 10 first
-      named-ten p e = name-refused (ap judgedName (sym q) ∙ ten-name s (ten-is s c c′ used p e))
+      fits : first + length s ≤ 16777216
+      fits = omega (arith, size, leb-true n (length (drop first file)) t, length-drop first file)
 
-      pub named-eleven : {r : Resolved} → Resolves s c c′ used r → resolved r ≡ told-refused 11 → namedAt file n at first ≡ refused 11 first
-      named-eleven p e = let g = eleven-is s c c′ used p e in name-refused (ap judgedName (sym q) ∙ eleven-name s (g .0) (g .1) (g .2) (g .3))
+      pub named-room : {r : Resolved} → Resolves es s first c c′ used r → resolved r ≡ no-room → ⊥
+      named-room p e = omega (arith, no-room-is es s first c c′ used p e below fits, size)
 
-      module _ (end : ℕ) (g : HasTarget s c c′ used end) where
+      pub named-ten : {r : Resolved} → Resolves es s first c c′ used r → resolved r ≡ told-refused 10 → namedAt es file n at first ≡ refused 10 first
+      named-ten p e = name-refused (ap (judgedName es) (sym q) ∙ ten-name es s (ten-is es s first c c′ used p e))
+
+      pub named-eleven : {r : Resolved} → Resolves es s first c c′ used r → resolved r ≡ told-refused 11 → namedAt es file n at first ≡ refused 11 first
+      named-eleven p e = let g = eleven-is es s first c c′ used p e in name-refused (ap (judgedName es) (sym q) ∙ eleven-name es s (g .0) (g .1) (g .2) (g .3))
+
+      module _ (end : ℕ) (g : HasTarget es s first c c′ used end) where
         taken : (next : ℕ) → Taken (read (s, g .t) next) file c c′ used first end next
         taken next = record {
           name = s;
           t = g .t;
+          words = g .words;
           answer = refl;
           there = ap (λ (k : ℕ). take k (drop first file)) size ∙ sym q;
           inside = inside;
           writes = g .content;
           ends = g .ends;
-          few = omega (arith, codes-are-few (g .n) (g .t) (g .target), ap length (g .writes), size);
-          stands = g .stands;
-          plain = reader-has-no-enum (g .n) (g .t) (g .target);
+          few = omega (arith, codes-are-few es (g .n) (g .t) (g .formed) (g .target), ap length (g .writes), size);
+          stands = g .stands file (drop n (drop first file)) standing;
         }
 
         by-test : (b : Bool) (v next : ℕ) → Takes (check b 12 (first + n) (read (s, g .t) next)) file c c′ used (endOf first end (check b 12 (first + n) (read v next)))
@@ -139,9 +150,9 @@ module _ (file : List ℕ) (n at first : ℕ) where
         by-version (refused k p) = refl
         by-version (read v next) = by-test (eqb v 0) v next
 
-        pub named-target : Takes (namedAt file n at first) file c c′ used (endOf first end (versionAt file (first + n)))
+        pub named-target : Takes (namedAt es file n at first) file c c′ used (endOf first end (versionAt file (first + n)))
         unfolding versionAt versioned
         named-target =
-            let e : namedAt file n at first ≡ versioned file s (g .t) (first + n)
-            = name-known (ap judgedName (sym q) ∙ known-name s (g .n) (g .t) (g .formed) (g .writes) (g .target)) ∙ ap (λ (l : List ℕ). versioned file l (g .t) (first + n)) (sym q) in
+            let e : namedAt es file n at first ≡ versioned file s (g .t) (first + n)
+            = name-known (ap (judgedName es) (sym q) ∙ known-name es s (g .n) (g .t) (g .formed) (g .writes) (g .target)) ∙ ap (λ (l : List ℕ). versioned file l (g .t) (first + n)) (sym q) in
             rw e (by-version (littleAt file 4 (first + n) (first + n)))

@@ -10,7 +10,8 @@ use lib.ListN.{length, take, getD, set, length-append, List·getD-append}
 use lib.Seq.{sets, take-set-le, getD-set-same, getD-set-other, getD-at}
 use borrow.Author.Tests.{ltb-true, ltb-false}
 use Rattle.layout.specs.Target.{Target, object}
-use Rattle.types.specs.Code.{code}
+use Rattle.layout.specs.EnumList.{EnumEntry}
+use Rattle.types.specs.Code.{preludeSize}
 use Rattle.types.specs.Laws.{kept-stands}
 use Rattle.reading.specs.Answer.{Answer, refused, read, bind, several}
 use Rattle.reading.specs.File.{readerAt, readersAt}
@@ -34,8 +35,8 @@ unfolding bind
 after-one names readers name t (refused k p) = refl
 after-one names readers name t (read l e) = rw (append-assoc names (name ∷ []) (l .0), append-assoc readers (t ∷ []) (l .1))
 
-module _ (file codes targets starts : List ℕ) (n at : ℕ) where
-  pub start : Reached file codes codes targets starts n at 0 11 at
+module _ (es : List EnumEntry) (file codes targets starts : List ℕ) (n at : ℕ) where
+  pub start : Reached es file codes codes targets starts n at 0 preludeSize at
   start =
       let z : n - 0 ≡ n = omega arith in
       record {
@@ -44,34 +45,34 @@ module _ (file codes targets starts : List ℕ) (n at : ℕ) where
         few = omega arith;
         names-are = refl;
         readers-are = refl;
-        answer = rw (z, after-none (readersAt judgedName file n at));
+        answer = rw (z, after-none (readersAt (judgedName es) file n at));
         room = (omega arith, omega arith);
         kept = refl;
         each = λ j h. absurd (omega arith);
       }
 
-module _ {file codes codes′ targets starts : List ℕ} {n at i used next : ℕ} (r : Reached file codes codes′ targets starts n at i used next) where
-  pub refuse : i < n → {k p : ℕ} → readerAt judgedName file next ≡ refused k p → readersAt judgedName file n at ≡ refused k p
+module _ {es : List EnumEntry} {file codes codes′ targets starts : List ℕ} {n at i used next : ℕ} (r : Reached es file codes codes′ targets starts n at i used next) where
+  pub refuse : i < n → {k p : ℕ} → readerAt (judgedName es) file next ≡ refused k p → readersAt (judgedName es) file n at ≡ refused k p
   unfolding readersAt several bind
   refuse h q =
       let z : n - i ≡ suc (n - (i + 1)) = omega arith in
       r .answer ∙ rw (z, q)
 
-  pub stop : n ≤ i → Ended-at file codes codes′ targets starts n at next
+  pub stop : n ≤ i → Ended-at es file codes codes′ targets starts n at next
   stop h = record { i = i; used = used; all = omega (arith, r .few); reached = r }
 
-  module _ {codes″ : List ℕ} {first end behind : ℕ} (w : Taken (readerAt judgedName file next) file codes′ codes″ used first end behind) where
-    answers : i < n → readersAt judgedName file n at ≡ after (r .names ++ w .name ∷ []) (r .readers ++ w .t ∷ []) (readersAt judgedName file (n - (i + 1)) behind)
+  module _ {codes″ : List ℕ} {first end behind : ℕ} (w : Taken (readerAt (judgedName es) file next) file codes′ codes″ used first end behind) where
+    answers : i < n → readersAt (judgedName es) file n at ≡ after (r .names ++ w .name ∷ []) (r .readers ++ w .t ∷ []) (readersAt (judgedName es) file (n - (i + 1)) behind)
     unfolding readersAt several bind
     answers h =
         let z : n - i ≡ suc (n - (i + 1)) = omega arith in
-        r .answer ∙ rw (z, w .answer) (after-one (r .names) (r .readers) (w .name) (w .t) (readersAt judgedName file (n - (i + 1)) behind))
+        r .answer ∙ rw (z, w .answer) (after-one (r .names) (r .readers) (w .name) (w .t) (readersAt (judgedName es) file (n - (i + 1)) behind))
 
     new : Entered file codes″ end used first (w .name) (w .t)
-    new = record { stands = w .stands; ends = omega (arith, w .ends); plain = w .plain; there = w .there }
+    new = record { stands = w .stands; ends = omega (arith, w .ends); there = w .there }
 
     old : {a b : ℕ} {name : List ℕ} {t : Target} → Entered file codes′ used a b name t → Entered file codes″ end a b name t
-    old {a} {t = t} e = record { stands = rw (w .writes) (kept-stands codes′ a used (code (w .t)) (e .stands) (e .ends)); ends = omega (arith, w .ends, e .ends); plain = e .plain; there = e .there }
+    old {a} {t = t} e = record { stands = rw (w .writes) (kept-stands file codes′ a used (w .words) (e .stands) (e .ends)); ends = omega (arith, w .ends, e .ends); there = e .there }
 
     module _ (j : ℕ) (in-targets : i < length targets) (in-starts : i < length starts) where
       entered : (b : Bool) → ltb j i ≡ b → j < i + 1
@@ -85,7 +86,7 @@ module _ {file codes codes′ targets starts : List ℕ} {n at i used next : ℕ
           let z : j ≡ i = omega (arith, ltb-false j i q) in
           rw (z, getD-set-same targets i used 0 in-targets, getD-set-same starts i first 0 in-starts, getD-at (r .names) (w .name) [] [] i (r .names-are), getD-at (r .readers) (w .t) [] object i (r .readers-are)) new
 
-    pub turn : i < n → i < length targets → i < length starts → Reached file codes codes″ (set targets i used) (set starts i first) n at (i + 1) end behind
+    pub turn : i < n → i < length targets → i < length starts → Reached es file codes codes″ (set targets i used) (set starts i first) n at (i + 1) end behind
     turn h in-targets in-starts = record {
       names = r .names ++ w .name ∷ [];
       readers = r .readers ++ w .t ∷ [];
@@ -94,6 +95,6 @@ module _ {file codes codes′ targets starts : List ℕ} {n at i used next : ℕ
       readers-are = length-append (r .readers) (w .t ∷ []) ∙ ap (λ (k : ℕ). k + 1) (r .readers-are);
       answer = answers h;
       room = (omega (arith, r .room, w .ends), omega (arith, r .room, w .ends, w .few));
-      kept = rw (w .writes) (take-sets 11 codes′ used (code (w .t)) (r .room .0)) ∙ r .kept;
+      kept = rw (w .writes) (take-sets preludeSize codes′ used (w .words) (r .room .0)) ∙ r .kept;
       each = λ j g. entered j in-targets in-starts (ltb j i) refl g;
     }

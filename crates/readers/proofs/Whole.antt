@@ -8,6 +8,7 @@ use lib.Dec.{leb}
 use lib.ListN.{length}
 use borrow.Author.Tests.{lt-leb}
 use Rattle.layout.specs.Target.{Target}
+use Rattle.layout.specs.EnumList.{EnumEntry}
 use Rattle.reading.specs.Answer.{Answer, refused, read, bind, check, several}
 use Rattle.reading.specs.Seven.{sevenAt}
 use Rattle.reading.specs.File.{readersAt, listsAt}
@@ -21,23 +22,23 @@ use Rattle.numbers.specs.Padded.{past, padOf}
 use Rattle.laws.specs.Small.{differ}
 
 -- behind the reader count
-module _ (file : List ℕ) (n at : ℕ) where
-  pub readers-refused : {k p : ℕ} → readersAt judgedName file n at ≡ refused k p → countedAt file n at ≡ refused k p
+module _ (es : List EnumEntry) (file : List ℕ) (n at : ℕ) where
+  pub readers-refused : {k p : ℕ} → readersAt (judgedName es) file n at ≡ refused k p → countedAt es file n at ≡ refused k p
   unfolding countedAt bind
   readers-refused q = rw q
 
-  module _ {codes codes′ targets starts : List ℕ} {next : ℕ} (e : Ended-at file codes codes′ targets starts n at next) where
-    all-read : readersAt judgedName file n at ≡ read (e .reached .names, e .reached .readers) next
+  module _ {codes codes′ targets starts : List ℕ} {next : ℕ} (e : Ended-at es file codes codes′ targets starts n at next) where
+    all-read : readersAt (judgedName es) file n at ≡ read (e .reached .names, e .reached .readers) next
     unfolding readersAt several bind
     all-read =
         let z : n - e .i ≡ 0 = omega (arith, e .all) in
         e .reached .answer ∙ rw (z, append-nil (e .reached .names), append-nil (e .reached .readers))
 
-    pub shared-refused : {k p : ℕ} → upTo 256 file next ≡ refused k p → countedAt file n at ≡ refused k p
+    pub shared-refused : {k p : ℕ} → upTo 256 file next ≡ refused k p → countedAt es file n at ≡ refused k p
     unfolding countedAt bind
     shared-refused q = rw (all-read, q)
 
-    pub shared-read : n ≤ 64 → length codes′ ≡ 7168 → length targets ≡ 64 → length starts ≡ 64 → {s behind : ℕ} → upTo 256 file next ≡ read s behind → ListsRead (countedAt file n at) file codes codes′ targets starts n s behind
+    pub shared-read : n ≤ 64 → length codes′ ≡ length codes → length targets ≡ 64 → length starts ≡ 64 → {s behind : ℕ} → upTo 256 file next ≡ read s behind → ListsRead (countedAt es file n at) file codes codes′ targets starts n s behind
     unfolding countedAt bind
     shared-read few x y z q =
         let r = e .reached in
@@ -52,7 +53,6 @@ module _ (file : List ℕ) (n at : ℕ) where
             counts = sym l;
             few = omega arith;
             stands = λ i h. r .each i (omega (arith, r .readers-are)) .stands;
-            plain = λ i h. r .each i (omega (arith, r .readers-are)) .plain;
           };
           codes-size = x;
           targets-size = y;
@@ -73,21 +73,21 @@ up-to-bind {A} most file at k = by-count (sevenAt file at) where
   by-count (refused m p) = refl
   by-count (read n e) = by-test (leb n most) n e
 
-module _ (file : List ℕ) (at : ℕ) where
-  pub lists-long : 16777216 < length file → listsOf file at ≡ refused 9 0
+module _ (es : List EnumEntry) (file : List ℕ) (at : ℕ) where
+  pub lists-long : 16777216 < length file → listsOf es file at ≡ refused 9 0
   unfolding listsOf check
   lists-long h = rw (lt-leb (length file) 16777216 h)
 
   module _ (h : length file ≤ 16777216) where
     -- what stands behind the reader count, as reading has it
     behind : (n e : ℕ) → Reading
-    behind n e = bind (readersAt judgedName file n e) (λ l shared. bind (sevenAt file shared) (λ s next. check (leb s 256) 9 shared (read (l .0, l .1, s) next)))
+    behind n e = bind (readersAt (judgedName es) file n e) (λ l shared. bind (sevenAt file shared) (λ s next. check (leb s 256) 9 shared (read (l .0, l .1, s) next)))
 
-    lists-are : listsOf file at ≡ bind (upTo 64 file at) behind
+    lists-are : listsOf es file at ≡ bind (upTo 64 file at) behind
     unfolding listsAt behind
-    lists-are = short-file file at h ∙ sym (up-to-bind 64 file at behind)
+    lists-are = short-file es file at h ∙ sym (up-to-bind 64 file at behind)
 
-    pub lists-refused : {k p : ℕ} → upTo 64 file at ≡ refused k p → listsOf file at ≡ refused k p
+    pub lists-refused : {k p : ℕ} → upTo 64 file at ≡ refused k p → listsOf es file at ≡ refused k p
     unfolding bind
     lists-refused q = lists-are ∙ rw q
 
@@ -96,9 +96,9 @@ module _ (file : List ℕ) (at : ℕ) where
     by-readers (refused k p) = refl
     by-readers (read l e) = sym (up-to-bind 256 file e (λ s next. read (l .0, l .1, s) next))
 
-    pub lists-counted : {n e : ℕ} → upTo 64 file at ≡ read n e → listsOf file at ≡ countedAt file n e
+    pub lists-counted : {n e : ℕ} → upTo 64 file at ≡ read n e → listsOf es file at ≡ countedAt es file n e
     unfolding bind behind countedAt
-    lists-counted {n} {e} q = lists-are ∙ rw q (by-readers (readersAt judgedName file n e))
+    lists-counted {n} {e} q = lists-are ∙ rw q (by-readers (readersAt (judgedName es) file n e))
 
     up-to-past : {n e : ℕ} → upTo 64 file at ≡ read n e → e ≡ past (sevenAt file at) at
     unfolding upTo bind past check

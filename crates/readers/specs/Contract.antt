@@ -1,11 +1,14 @@
 -- What reading the reader list and the shared count answers, and what it leaves in the codes. Assumes nothing.
 use mathlib.Core.Path.{_≡_}
+use mathlib.Core.Bool.{Bool, true, false}
 use mathlib.Core.List.{List, []}
 use Prim.Native.Nat.{ℕ, _+_, _<_, _≤_}
 use lib.Dec.{leb}
 use lib.ListN.{length, take, drop, getD}
 use borrow.Author.Tests.{le-leb}
 use Rattle.layout.specs.Target.{Target}
+use Rattle.layout.specs.EnumList.{EnumEntry}
+use Rattle.types.specs.Code.{preludeSize}
 use Rattle.reading.specs.Answer.{Answer, refused, read, bind, check}
 use Rattle.reading.specs.Seven.{sevenAt}
 use Rattle.reading.specs.File.{readersAt, listsAt}
@@ -14,50 +17,53 @@ use Rattle.places.specs.Places.{entriesPlaces, entriesEnd, listsPlaces}
 use Rattle.places.specs.Padding.{padding}
 use Rattle.readers.specs.declared.Readers.{Readers}
 use Rattle.readers.specs.declared.Lists.{Lists}
-use Rattle.readers.specs.declared.Lists.the-variants.{Refused, Read}
+use Rattle.readers.specs.declared.Lists.the-variants.{Refused, Read, NoRoom}
 use Rattle.readers.specs.Listed.{Listed}
 use Rattle.readers.specs.Judged.{judgedName}
 use Rattle.readers.specs.Parts.{upTo}
+use Rattle.readers.specs.Left.{codesFor, enough}
 
 -- what the names, the targets and the shared count are read as
 abbrev pub Reading : Type 0
 Reading = Answer (List (List ℕ) × List Target × ℕ)
 
 -- n readers and the shared count, behind the reader count
-unfoldable pub countedAt : (file : List ℕ) (n at : ℕ) → Reading
-countedAt file n at = bind (readersAt judgedName file n at) (λ l e. bind (upTo 256 file e) (λ s next. read (l .0, l .1, s) next))
+unfoldable pub countedAt : List EnumEntry → (file : List ℕ) (n at : ℕ) → Reading
+countedAt es file n at = bind (readersAt (judgedName es) file n at) (λ l e. bind (upTo 256 file e) (λ s next. read (l .0, l .1, s) next))
 
 -- the lists of a file; 01: "longer than 16,777,216 bytes is 9 at 0"
-unfoldable pub listsOf : (file : List ℕ) (at : ℕ) → Reading
-listsOf file at = check (leb (length file) 16777216) 9 0 (listsAt judgedName file at)
+unfoldable pub listsOf : List EnumEntry → (file : List ℕ) (at : ℕ) → Reading
+listsOf es file at = check (leb (length file) 16777216) 9 0 (listsAt (judgedName es) file at)
 
 -- a file that the header's rules let through is not longer
-pub short-file : (file : List ℕ) (at : ℕ) → length file ≤ 16777216 → listsOf file at ≡ listsAt judgedName file at
+pub short-file : (es : List EnumEntry) (file : List ℕ) (at : ℕ) → length file ≤ 16777216 → listsOf es file at ≡ listsAt (judgedName es) file at
 unfolding listsOf check
-short-file file at h = rw (le-leb (length file) 16777216 h)
+short-file es file at h = rw (le-leb (length file) 16777216 h)
 
 -- the reader list that two arrays and a count make
 abbrev pub listing : (targets starts : List ℕ) (count : ℕ) → Readers
 listing targets starts count = record { targets = targets; starts = starts; count = count }
 
--- the lists were read: the targets stand in the codes from place 11 on, and each name stands in the file at its start
+-- the lists were read: the targets stand in the codes behind the prelude, and each name stands in the file at its start
 pub record ListsRead (x : Reading) (file codes codes′ targets starts : List ℕ) (count shared next : ℕ) : Type 0 where
   pub names : List (List ℕ)
   pub readers : List Target
   pub answer : x ≡ read (names, readers, shared) next
   pub shared-few : shared ≤ 256
   pub paired : length names ≡ length readers
-  pub listed : Listed codes′ (listing targets starts count) readers
-  pub codes-size : length codes′ ≡ 7168
+  pub listed : Listed file codes′ (listing targets starts count) readers
+  pub codes-size : length codes′ ≡ length codes
   pub targets-size : length targets ≡ 64
   pub starts-size : length starts ≡ 64
-  pub kept : take 11 codes′ ≡ take 11 codes
+  pub kept : take preludeSize codes′ ≡ take preludeSize codes
   pub named : (i : ℕ) → i < length names → take (length (getD names i [])) (drop (getD starts i 0) file) ≡ getD names i []
 
--- the code answers what reading answers, and the padding of the numbers of so many readers
-abbrev pub ReadsLists : (x : Reading) (total : (count : ℕ) → ℕ) (file codes codes′ targets starts : List ℕ) → Lists → Type 0
-ReadsLists x total file codes codes′ targets starts (Refused n p) = x ≡ refused n p
-ReadsLists x total file codes codes′ targets starts (Read count shared padding next) = ListsRead x file codes codes′ targets starts count shared next × (padding ≡ total count)
+-- the code answers what reading answers, and the padding of the numbers of so many readers, if there is room for the codes
+abbrev pub ReadsLists : (x : Reading) (total : (count : ℕ) → ℕ) (room : Bool) (file codes codes′ targets starts : List ℕ) → Lists → Type 0
+ReadsLists x total room file codes codes′ targets starts (Refused n p) = (room ≡ true) × (x ≡ refused n p)
+ReadsLists x total room file codes codes′ targets starts (Read count shared padding next) =
+    (room ≡ true) × ListsRead x file codes codes′ targets starts count shared next × (padding ≡ total count)
+ReadsLists x total room file codes codes′ targets starts NoRoom = room ≡ false
 
 -- the padding of the numbers of so many readers: from the reader count at `at` on, and behind one that has the padding `own`
 unfoldable pub listsTotal : (file : List ℕ) (at : ℕ) → (count : ℕ) → ℕ
@@ -67,14 +73,15 @@ unfoldable pub countedTotal : (file : List ℕ) (at own : ℕ) → (count : ℕ)
 countedTotal file at own count = own + padding file (entriesPlaces file count at) + padOf (sevenAt file (entriesEnd file count at)) (entriesEnd file count at)
 
 -- behind the reader count, which has the padding `own`
-abbrev pub ReadsCounted : (file : List ℕ) (n at own : ℕ) (codes codes′ targets starts : List ℕ) → Lists → Type 0
-ReadsCounted file n at own codes codes′ targets starts r =
-    ReadsLists (countedAt file n at) (countedTotal file at own) file codes codes′ targets starts r
+abbrev pub ReadsCounted : (es : List EnumEntry) (file : List ℕ) (n at own : ℕ) (codes codes′ targets starts : List ℕ) → Lists → Type 0
+ReadsCounted es file n at own codes codes′ targets starts r =
+    ReadsLists (countedAt es file n at) (countedTotal file at own) true file codes codes′ targets starts r
 
 -- from the reader count on
-abbrev pub ReadsListsAt : (file : List ℕ) (at : ℕ) (codes codes′ targets starts : List ℕ) → Lists → Type 0
-ReadsListsAt file at codes codes′ targets starts r = ReadsLists (listsOf file at) (listsTotal file at) file codes codes′ targets starts r
+abbrev pub ReadsListsAt : (es : List EnumEntry) (file : List ℕ) (at : ℕ) (codes codes′ targets starts : List ℕ) → Lists → Type 0
+ReadsListsAt es file at codes codes′ targets starts r =
+    ReadsLists (listsOf es file at) (listsTotal file at) (enough file at (length codes)) file codes codes′ targets starts r
 
--- at most 64 readers are read, from a file of 01's size, and the arrays have their sizes
+-- at most 64 readers are read, from a file of 01's size; there is room for the codes, and the arrays have their sizes
 abbrev pub Sized : (file : List ℕ) (n : ℕ) (codes targets starts : List ℕ) → Type 0
-Sized file n codes targets starts = (length file ≤ 16777216) × (n ≤ 64) × (length codes ≡ 7168) × (length targets ≡ 64) × (length starts ≡ 64)
+Sized file n codes targets starts = (length file ≤ 16777216) × (n ≤ 64) × (codesFor n ≤ length codes) × (length targets ≡ 64) × (length starts ≡ 64)

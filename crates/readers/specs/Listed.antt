@@ -1,16 +1,14 @@
 -- The reader list in code, and the targets that it lists. Assumes nothing.
 use mathlib.Core.Path.{_≡_}
 use mathlib.Core.List.{List}
-use mathlib.Core.Logic.{_⊎_}
 use Prim.Native.Nat.{ℕ, _≤_, _<_}
 use lib.ListN.{length, getD}
-use Rattle.layout.specs.Target.{Target, object, enum}
-use Rattle.types.specs.Code.{Stands, NoEnum}
+use Rattle.layout.specs.Target.{Target, object}
+use Rattle.types.specs.Code.{Stands}
 use Rattle.readers.specs.declared.Readers.{Readers}
 
--- reader i's target stands in the codes at its place; only an enum's own reader has an enum in it
-pub record Listed (codes : List ℕ) (rd : Readers) (readers : List Target) : Type 0 where
+-- reader i's target stands in the codes at its place
+pub record Listed (file codes : List ℕ) (rd : Readers) (readers : List Target) : Type 0 where
   pub counts : rd .count ≡ length readers
   pub few : length readers ≤ 64
-  pub stands : (i : ℕ) → i < length readers → Stands codes (getD (rd .targets) i 0) (getD readers i object)
-  pub plain : (i : ℕ) → i < length readers → NoEnum (getD readers i object) ⊎ ((name : List ℕ) × (getD readers i object ≡ enum name))
+  pub stands : (i : ℕ) → i < length readers → Stands file codes (getD (rd .targets) i 0) (getD readers i object)

@@ -1,13 +1,13 @@
 -- The parts of reading a reader list, as the code reads them one by one. Assumes nothing.
 use mathlib.Core.Path.{_≡_}
 use mathlib.Core.List.{List}
-use mathlib.Core.Logic.{_⊎_}
 use Prim.Native.Nat.{ℕ, _+_, _*_, _≤_}
 use lib.Dec.{leb, eqb}
 use lib.ListN.{length, take, drop}
 use lib.Seq.{sets}
-use Rattle.layout.specs.Target.{Target, enum}
-use Rattle.types.specs.Code.{code, Stands, NoEnum}
+use Rattle.layout.specs.Target.{Target}
+use Rattle.layout.specs.EnumList.{EnumEntry}
+use Rattle.types.specs.Code.{codeSize, Stands}
 use Rattle.reading.specs.Answer.{Answer, refused, read, bind, check}
 use Rattle.reading.specs.Reads.{some}
 use Rattle.reading.specs.Seven.{sevenAt}
@@ -35,21 +35,25 @@ unfoldable pub versioned : List ℕ → List ℕ → Target → ℕ → Answer (
 versioned file name t version = bind (littleAt file 4 version version) (λ v next. check (eqb v 0) 12 version (read (name, t) next))
 
 -- a reader whose name has n bytes from `first` on, behind the count at `at`
-unfoldable pub namedAt : List ℕ → (n at first : ℕ) → Answer (List ℕ × Target)
-namedAt file n at first = bind (some file n at first) (λ name end. bind (judge (judgedName name) first end) (λ t version. versioned file name t version))
+unfoldable pub namedAt : List EnumEntry → List ℕ → (n at first : ℕ) → Answer (List ℕ × Target)
+namedAt es file n at first = bind (some file n at first) (λ name end. bind (judge (judgedName es name) first end) (λ t version. versioned file name t version))
+
+-- a file of 01's size, and room for the codes of one name behind those that are used
+abbrev pub Ready : (file : List ℕ) (used : ℕ) (c : List ℕ) → Type 0
+Ready file used c = (length file ≤ 16777216) × (used ≤ 16777216) × (used + 187 ≤ length c)
 
 -- a reader was read: its name stands at `first`, and the codes of its target from `used` to `end`
 pub record Taken (x : Answer (List ℕ × Target)) (file c c′ : List ℕ) (used first end next : ℕ) : Type 0 where
   pub name : List ℕ
   pub t : Target
+  pub words : List ℕ
   pub answer : x ≡ read (name, t) next
   pub there : take (length name) (drop first file) ≡ name
   pub inside : first ≤ length file
-  pub writes : c′ ≡ sets c used (code t)
-  pub ends : end ≡ used + length (code t)
-  pub few : 11 * length (code t) ≤ 1024
-  pub stands : Stands c′ used t
-  pub plain : NoEnum t ⊎ ((name : List ℕ) × (t ≡ enum name))
+  pub writes : c′ ≡ sets c used words
+  pub ends : end ≡ used + codeSize t
+  pub few : 11 * codeSize t ≤ 1024
+  pub stands : Stands file c′ used t
 
 -- what the code answers of a reader that reading answers so
 abbrev pub Takes : (x : Answer (List ℕ × Target)) (file c c′ : List ℕ) (used : ℕ) → One → Type 0

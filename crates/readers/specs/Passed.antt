@@ -7,6 +7,7 @@ use native.Mathlib.Omega.{arith}
 use lib.Dec.{eqb, leb}
 use lib.ListN.{length, drop}
 use Rattle.layout.specs.Target.{Target}
+use Rattle.layout.specs.EnumList.{EnumEntry}
 use Rattle.reading.specs.Answer.{Answer, refused, read, bind, check, within, Ok, not-read, is-read, ok-bind, ok-check}
 use Rattle.reading.specs.Reads.{Small, some}
 use Rattle.reading.specs.Seven.{sevenAt}
@@ -38,15 +39,15 @@ module _ (file : List ℕ) where
   unfolding littleAt
   little-ends at = ok-bind (some-ends 4 at at) (λ bs e q. is-read q)
 
-  reader-ends : (at : ℕ) → Ok (λ a e. e ≡ behindEntry (sevenAt file at) at) (readerAt judgedName file at)
+  reader-ends : (es : List EnumEntry) (at : ℕ) → Ok (λ a e. e ≡ behindEntry (sevenAt file at) at) (readerAt (judgedName es) file at)
   unfolding readerAt behindEntry past numberOf bind
-  reader-ends at = go (sevenAt file at) where
+  reader-ends es at = go (sevenAt file at) where
     go : (x : Answer ℕ) → Ok {A = List ℕ × Target} (λ a e. e ≡ past x at + numberOf x + 4) (bind x (λ n first. check (within 1024 n) 9 at
-        (bind (some file n at first) (λ name end. bind (judge (judgedName name) first end) (λ t version.
+        (bind (some file n at first) (λ name end. bind (judge (judgedName es name) first end) (λ t version.
         bind (littleAt file 4 version version) (λ v next. check (eqb v 0) 12 version (read (name, t) next)))))))
     go (refused n p) = not-read
     go (read n first) =
-        ok-check (within 1024 n) 9 at _ (λ z. ok-bind (some-ends n at first) (λ name end e. ok-bind (judge-ends (judgedName name) first end) (λ t version f.
+        ok-check (within 1024 n) 9 at _ (λ z. ok-bind (some-ends n at first) (λ name end e. ok-bind (judge-ends (judgedName es name) first end) (λ t version f.
         ok-bind (little-ends version) (λ v next g. ok-check (eqb v 0) 12 version _ (λ y. is-read (omega arith))))))
 
   pub none-passed : (n at : ℕ) → Passed file n at 0 at 0
@@ -54,12 +55,12 @@ module _ (file : List ℕ) where
       let z : n - 0 ≡ n = omega arith in
       record { ends = ap (λ (k : ℕ). entriesEnd file k at) z; adds = omega (arith, ap (λ (k : ℕ). padding file (entriesPlaces file k at)) z); few = omega arith }
 
-  pub one-passed : (n at i next sum : ℕ) {behind : ℕ} {x : List ℕ × Target} → Small file → i < n → readerAt judgedName file next ≡ read x behind → Passed file n at i next sum
+  pub one-passed : (es : List EnumEntry) (n at i next sum : ℕ) {behind : ℕ} {x : List ℕ × Target} → Small file → i < n → readerAt (judgedName es) file next ≡ read x behind → Passed file n at i next sum
       → Passed file n at (i + 1) behind (sum + padOf (sevenAt file next) next)
   unfolding entriesPlaces entriesEnd padding
-  one-passed n at i next sum {behind} small h q p =
+  one-passed es n at i next sum {behind} small h q p =
       let z : n - i ≡ suc (n - (i + 1)) = omega arith in
-      let e : behind ≡ behindEntry (sevenAt file next) next = reader-ends next .got q in
+      let e : behind ≡ behindEntry (sevenAt file next) next = reader-ends es next .got q in
       let a = rw z at (p .ends) in
       let b = rw z at (p .adds) in
       rw e (record { ends = a; adds = omega (arith, b); few = omega (arith, p .few, pad-few file small next) })

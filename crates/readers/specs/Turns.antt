@@ -1,11 +1,11 @@
 -- The readers that were read so far. Assumes nothing.
 use mathlib.Core.Path.{_≡_}
 use mathlib.Core.List.{List, [], _++_}
-use mathlib.Core.Logic.{_⊎_}
 use Prim.Native.Nat.{ℕ, _+_, _-_, _*_, _<_, _≤_}
 use lib.ListN.{length, take, drop, getD}
-use Rattle.layout.specs.Target.{Target, object, enum}
-use Rattle.types.specs.Code.{code, Stands, NoEnum}
+use Rattle.layout.specs.Target.{Target, object}
+use Rattle.layout.specs.EnumList.{EnumEntry}
+use Rattle.types.specs.Code.{preludeSize, codeSize, Stands}
 use Rattle.reading.specs.Answer.{Answer, refused, read, bind}
 use Rattle.reading.specs.File.{readersAt}
 use Rattle.readers.specs.declared.Many.{Many}
@@ -15,9 +15,8 @@ use Rattle.readers.specs.Passed.{Passed}
 
 -- a reader in the arrays: its codes stand at `target` and end before `used`, and its name stands in the file at `start`
 pub record Entered (file codes : List ℕ) (used target start : ℕ) (name : List ℕ) (t : Target) : Type 0 where
-  pub stands : Stands codes target t
-  pub ends : target + length (code t) ≤ used
-  pub plain : NoEnum t ⊎ ((name : List ℕ) × (t ≡ enum name))
+  pub stands : Stands file codes target t
+  pub ends : target + codeSize t ≤ used
   pub there : take (length name) (drop start file) ≡ name
 
 -- the answer of the readers behind those that were read
@@ -25,25 +24,25 @@ abbrev pub after : (names : List (List ℕ)) (readers : List Target) → Answer 
 after names readers x = bind x (λ l e. read (names ++ l .0, readers ++ l .1) e)
 
 -- i of n readers were read: the others are next, at `next`, and their codes from `used` on
-pub record Reached (file codes codes′ targets starts : List ℕ) (n at i used next : ℕ) : Type 0 where
+pub record Reached (es : List EnumEntry) (file codes codes′ targets starts : List ℕ) (n at i used next : ℕ) : Type 0 where
   pub names : List (List ℕ)
   pub readers : List Target
   pub few : i ≤ n
   pub names-are : length names ≡ i
   pub readers-are : length readers ≡ i
-  pub answer : readersAt judgedName file n at ≡ after names readers (readersAt judgedName file (n - i) next)
-  pub room : (11 ≤ used) × (used ≤ 11 + 93 * i)
-  pub kept : take 11 codes′ ≡ take 11 codes
+  pub answer : readersAt (judgedName es) file n at ≡ after names readers (readersAt (judgedName es) file (n - i) next)
+  pub room : (preludeSize ≤ used) × (used ≤ preludeSize + 93 * i)
+  pub kept : take preludeSize codes′ ≡ take preludeSize codes
   pub each : (j : ℕ) → j < i → Entered file codes′ used (getD targets j 0) (getD starts j 0) (getD names j []) (getD readers j object)
 
 -- all n were read
-pub record Ended-at (file codes codes′ targets starts : List ℕ) (n at next : ℕ) : Type 0 where
+pub record Ended-at (es : List EnumEntry) (file codes codes′ targets starts : List ℕ) (n at next : ℕ) : Type 0 where
   pub i : ℕ
   pub used : ℕ
   pub all : i ≡ n
-  pub reached : Reached file codes codes′ targets starts n at i used next
+  pub reached : Reached es file codes codes′ targets starts n at i used next
 
 -- what the code answers of n readers
-abbrev pub Ends : (file codes codes′ targets starts : List ℕ) (n at : ℕ) → Many → Type 0
-Ends file codes codes′ targets starts n at (Refused number place) = readersAt judgedName file n at ≡ refused number place
-Ends file codes codes′ targets starts n at (Ended sum next) = Ended-at file codes codes′ targets starts n at next × Passed file n at n next sum
+abbrev pub Ends : (es : List EnumEntry) (file codes codes′ targets starts : List ℕ) (n at : ℕ) → Many → Type 0
+Ends es file codes codes′ targets starts n at (Refused number place) = readersAt (judgedName es) file n at ≡ refused number place
+Ends es file codes codes′ targets starts n at (Ended sum next) = Ended-at es file codes codes′ targets starts n at next × Passed file n at n next sum

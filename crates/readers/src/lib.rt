@@ -8,12 +8,13 @@ ghost use lib.ListN.{length};
 ghost use Rattle.answers.specs.Told.{told};
 ghost use Rattle.reading.specs.Seven.{sevenAt};
 ghost use Rattle.reading.specs.File.{readerAt};
+ghost use Rattle.names.specs.Entries.{enumsOf};
 ghost use Rattle.numbers.specs.Padded.{padOf};
 ghost use Rattle.readers.specs.Judged.{judgedName};
-ghost use Rattle.readers.specs.Parts.{upTo, versionAt, endOf, namedAt, Takes};
+ghost use Rattle.readers.specs.Parts.{upTo, versionAt, endOf, namedAt, Ready, Takes};
 ghost use Rattle.readers.specs.Contract.{Sized, ReadsCounted, ReadsListsAt};
 ghost use Rattle.readers.specs.Turns.{Ends};
-ghost use Rattle.readers.specs.Left.{namedLeft, readerLeft, readersLeft, arraysLeft, listsLeft};
+ghost use Rattle.readers.specs.Left.{namedLeft, readerLeft, readersLeft, arraysLeft, codesFor, listsLeft};
 
 // The types and names of the first `count` readers.
 pub struct Readers {
@@ -79,16 +80,25 @@ fn versioned(file: &[u8], first: usize, end: usize, at: usize) -> One
 }
 
 // A reader whose name has n bytes from `first` on, which its count at `at` says.
-fn named_at(file: &[u8], codes: &mut [u8], used: usize, at: usize, first: usize, n: usize) -> One
-    requires { ⌜ (first ≤ length (now file)) × (n ≤ 1024) × (used + 1024 ≤ length (now codes)) ⌝ }
-    ensures { λ r. ⌜ Takes (namedAt (now (file .entry)) n at first) (now (file .entry)) (now (codes .entry)) (now (codes .exit)) used r ⌝ }
-    ensures { λ r. ⌜ namedLeft (now (file .entry)) (now (codes .entry)) used at first n ≡ (r, now (codes .exit)) ⌝ }
+fn named_at(
+    file: &[u8],
+    enums: &[u8],
+    codes: &mut [u32],
+    used: usize,
+    at: usize,
+    first: usize,
+    n: usize,
+) -> One
+    requires { ⌜ (first ≤ length (now file)) × (n ≤ 1024) × Ready (now file) used (now codes) ⌝ }
+    ensures { λ r. ⌜ Takes (namedAt (enumsOf (now (enums .entry))) (now (file .entry)) n at first)
+        (now (file .entry)) (now (codes .entry)) (now (codes .exit)) used r ⌝ }
+    ensures { λ r. ⌜ namedLeft (enumsOf (now (enums .entry))) (now (file .entry)) (now (codes .entry)) used at first n ≡ (r, now (codes .exit)) ⌝ }
 {
     if !numbers::little::has_bytes(file, first, n) {
         return One::Refused(1, at);
     }
     let version = first + n;
-    match types::resolve(&file[first..version], codes, used) {
+    match types::resolve(&file[first..version], first, enums, codes, used) {
         Resolved::NoRoom => One::Refused(1, at),
         Resolved::Broken => One::Refused(10, first),
         Resolved::Unknown => One::Refused(11, first),
@@ -97,10 +107,11 @@ fn named_at(file: &[u8], codes: &mut [u8], used: usize, at: usize, first: usize,
 }
 
 // A reader: the count of its name's bytes, its name and its version.
-fn reader_at(file: &[u8], codes: &mut [u8], used: usize, at: usize) -> One
-    requires { ⌜ used + 1024 ≤ length (now codes) ⌝ }
-    ensures { λ r. ⌜ Takes (readerAt judgedName (now (file .entry)) at) (now (file .entry)) (now (codes .entry)) (now (codes .exit)) used r ⌝ }
-    ensures { λ r. ⌜ readerLeft (now (file .entry)) (now (codes .entry)) used at ≡ (r, now (codes .exit)) ⌝ }
+fn reader_at(file: &[u8], enums: &[u8], codes: &mut [u32], used: usize, at: usize) -> One
+    requires { ⌜ Ready (now file) used (now codes) ⌝ }
+    ensures { λ r. ⌜ Takes (readerAt (judgedName (enumsOf (now (enums .entry)))) (now (file .entry)) at)
+        (now (file .entry)) (now (codes .entry)) (now (codes .exit)) used r ⌝ }
+    ensures { λ r. ⌜ readerLeft (enumsOf (now (enums .entry))) (now (file .entry)) (now (codes .entry)) used at ≡ (r, now (codes .exit)) ⌝ }
 {
     match numbers::seven::seven_at(file, at) {
         Number::Refused(number, place) => One::Refused(number, place),
@@ -111,7 +122,7 @@ fn reader_at(file: &[u8], codes: &mut [u8], used: usize, at: usize) -> One
             if 1024 < n {
                 return One::Refused(9, at);
             }
-            named_at(file, codes, used, at, first, n as usize)
+            named_at(file, enums, codes, used, at, first, n as usize)
         }
     }
 }
@@ -122,30 +133,34 @@ pub enum Many {
     Ended(u32, usize),
 }
 
-// The readers in order. The codes of the first stand at place 11, those of each other behind those before it.
+// The readers in order. The codes of the first stand behind the prelude, those of each other behind those before it.
 fn readers_at(
     file: &[u8],
-    codes: &mut [u8],
+    enums: &[u8],
+    codes: &mut [u32],
     targets: &mut [u32],
     starts: &mut [u32],
     n: usize,
     at: usize,
 ) -> Many
     requires { ⌜ Sized (now file) n (now codes) (now targets) (now starts) ⌝ }
-    ensures { λ r. ⌜ Ends (now (file .entry)) (now (codes .entry)) (now (codes .exit)) (now (targets .exit)) (now (starts .exit)) n at r ⌝ }
-    ensures { λ r. ⌜ r ≡ readersLeft (now (file .entry)) n at (now (codes .entry)) (now (targets .entry)) (now (starts .entry)) .0 ⌝ }
-    ensures { λ _. ⌜ now (codes .exit) ≡ arraysLeft (now (file .entry)) n at (now (codes .entry)) (now (targets .entry)) (now (starts .entry)) .codes ⌝ }
+    ensures { λ r. ⌜ Ends (enumsOf (now (enums .entry))) (now (file .entry))
+        (now (codes .entry)) (now (codes .exit)) (now (targets .exit)) (now (starts .exit)) n at r ⌝ }
+    ensures { λ r. ⌜ r
+        ≡ readersLeft (enumsOf (now (enums .entry))) (now (file .entry)) n at (now (codes .entry)) (now (targets .entry)) (now (starts .entry)) .0 ⌝ }
+    ensures { λ _. ⌜ now (codes .exit)
+        ≡ arraysLeft (enumsOf (now (enums .entry))) (now (file .entry)) n at (now (codes .entry)) (now (targets .entry)) (now (starts .entry)) .codes ⌝ }
     ensures { λ _. ⌜ now (targets .exit)
-        ≡ arraysLeft (now (file .entry)) n at (now (codes .entry)) (now (targets .entry)) (now (starts .entry)) .targets ⌝ }
+        ≡ arraysLeft (enumsOf (now (enums .entry))) (now (file .entry)) n at (now (codes .entry)) (now (targets .entry)) (now (starts .entry)) .targets ⌝ }
     ensures { λ _. ⌜ now (starts .exit)
-        ≡ arraysLeft (now (file .entry)) n at (now (codes .entry)) (now (targets .entry)) (now (starts .entry)) .starts ⌝ }
+        ≡ arraysLeft (enumsOf (now (enums .entry))) (now (file .entry)) n at (now (codes .entry)) (now (targets .entry)) (now (starts .entry)) .starts ⌝ }
 {
     let mut i = 0;
-    let mut used: usize = 11;
+    let mut used: usize = types::PRELUDE;
     let mut next = at;
     let mut padding = 0;
     while i < n {
-        match reader_at(file, codes, used, next) {
+        match reader_at(file, enums, codes, used, next) {
             One::Refused(number, place) => {
                 return Many::Refused(number, place);
             }
@@ -163,16 +178,18 @@ fn readers_at(
 }
 
 // How many readers there are, the shared count, the padding of both counts and of the names' lengths, and the next place;
-// or a refusal's number and place.
+// or a refusal's number and place; or no room for the codes that so many readers may need.
 pub enum Lists {
     Refused(u32, usize),
     Read(u32, u32, u32, usize),
+    NoRoom,
 }
 
 // The readers and the shared count, behind the reader count, which has this padding.
 fn counted(
     file: &[u8],
-    codes: &mut [u8],
+    enums: &[u8],
+    codes: &mut [u32],
     targets: &mut [u32],
     starts: &mut [u32],
     n: usize,
@@ -180,14 +197,16 @@ fn counted(
     padding: u32,
 ) -> Lists
     requires { ⌜ Sized (now file) n (now codes) (now targets) (now starts) × (padding ≤ 4) ⌝ }
-    ensures { λ r. ⌜ ReadsCounted (now (file .entry)) n at padding (now (codes .entry)) (now (codes .exit)) (now (targets .exit)) (now (starts .exit)) r ⌝ }
-    ensures { λ _. ⌜ now (codes .exit) ≡ arraysLeft (now (file .entry)) n at (now (codes .entry)) (now (targets .entry)) (now (starts .entry)) .codes ⌝ }
+    ensures { λ r. ⌜ ReadsCounted (enumsOf (now (enums .entry))) (now (file .entry)) n at padding
+        (now (codes .entry)) (now (codes .exit)) (now (targets .exit)) (now (starts .exit)) r ⌝ }
+    ensures { λ _. ⌜ now (codes .exit)
+        ≡ arraysLeft (enumsOf (now (enums .entry))) (now (file .entry)) n at (now (codes .entry)) (now (targets .entry)) (now (starts .entry)) .codes ⌝ }
     ensures { λ _. ⌜ now (targets .exit)
-        ≡ arraysLeft (now (file .entry)) n at (now (codes .entry)) (now (targets .entry)) (now (starts .entry)) .targets ⌝ }
+        ≡ arraysLeft (enumsOf (now (enums .entry))) (now (file .entry)) n at (now (codes .entry)) (now (targets .entry)) (now (starts .entry)) .targets ⌝ }
     ensures { λ _. ⌜ now (starts .exit)
-        ≡ arraysLeft (now (file .entry)) n at (now (codes .entry)) (now (targets .entry)) (now (starts .entry)) .starts ⌝ }
+        ≡ arraysLeft (enumsOf (now (enums .entry))) (now (file .entry)) n at (now (codes .entry)) (now (targets .entry)) (now (starts .entry)) .starts ⌝ }
 {
-    match readers_at(file, codes, targets, starts, n, at) {
+    match readers_at(file, enums, codes, targets, starts, n, at) {
         Many::Refused(number, place) => Lists::Refused(number, place),
         Many::Ended(names, end) => match up_to(file, 256, end) {
             Number::Refused(number, place) => Lists::Refused(number, place),
@@ -199,34 +218,63 @@ fn counted(
     }
 }
 
-// The reader list and the shared count at a place. The targets' codes are left in `codes` from place 11 on,
+// How many readers there are, by the count at a place.
+pub fn reader_count(file: &[u8], at: usize) -> Number
+    ensures { λ r. ⌜ told r ≡ upTo 64 (now (file .entry)) at ⌝ }
+{
+    up_to(file, 64, at)
+}
+
+// How many codes so many readers may need.
+fn codes_for(n: usize) -> usize
+    requires { ⌜ n ≤ 64 ⌝ }
+    ensures { λ r. ⌜ r ≡ codesFor n ⌝ }
+{
+    if n == 0 {
+        return types::PRELUDE;
+    }
+    types::PRELUDE + 93 * (n - 1) + 187
+}
+
+// The reader list and the shared count at a place. The targets' codes are left in `codes` behind the prelude,
 // and where they and the names start in `targets` and `starts`.
 pub fn read_lists(
     file: &[u8],
-    codes: &mut [u8; 7168],
+    enums: &[u8],
+    codes: &mut [u32],
     targets: &mut [u32; 64],
     starts: &mut [u32; 64],
     at: usize,
 ) -> Lists
-    ensures { λ r. ⌜ ReadsListsAt (now (file .entry)) at (now (codes .entry)) (now (codes .exit)) (now (targets .exit)) (now (starts .exit)) r ⌝ }
-    ensures { λ _. ⌜ now (codes .exit) ≡ listsLeft (now (file .entry)) at (now (codes .entry)) (now (targets .entry)) (now (starts .entry)) .codes ⌝ }
+    ensures { λ r. ⌜ ReadsListsAt (enumsOf (now (enums .entry))) (now (file .entry)) at
+        (now (codes .entry)) (now (codes .exit)) (now (targets .exit)) (now (starts .exit)) r ⌝ }
+    ensures { λ _. ⌜ now (codes .exit)
+        ≡ listsLeft (enumsOf (now (enums .entry))) (now (file .entry)) at (now (codes .entry)) (now (targets .entry)) (now (starts .entry)) .codes ⌝ }
     ensures { λ _. ⌜ now (targets .exit)
-        ≡ listsLeft (now (file .entry)) at (now (codes .entry)) (now (targets .entry)) (now (starts .entry)) .targets ⌝ }
-    ensures { λ _. ⌜ now (starts .exit) ≡ listsLeft (now (file .entry)) at (now (codes .entry)) (now (targets .entry)) (now (starts .entry)) .starts ⌝ }
+        ≡ listsLeft (enumsOf (now (enums .entry))) (now (file .entry)) at (now (codes .entry)) (now (targets .entry)) (now (starts .entry)) .targets ⌝ }
+    ensures { λ _. ⌜ now (starts .exit)
+        ≡ listsLeft (enumsOf (now (enums .entry))) (now (file .entry)) at (now (codes .entry)) (now (targets .entry)) (now (starts .entry)) .starts ⌝ }
 {
     if 16777216 < file.len() {
         return Lists::Refused(9, 0);
     }
-    match up_to(file, 64, at) {
+    match reader_count(file, at) {
         Number::Refused(number, place) => Lists::Refused(number, place),
-        Number::Read(n, next) => counted(
-            file,
-            codes,
-            targets,
-            starts,
-            n as usize,
-            next,
-            padding_at(file, at),
-        ),
+        Number::Read(count, next) => {
+            let n = count as usize;
+            if codes.len() < codes_for(n) {
+                return Lists::NoRoom;
+            }
+            counted(
+                file,
+                enums,
+                codes,
+                targets,
+                starts,
+                n,
+                next,
+                padding_at(file, at),
+            )
+        }
     }
 }

@@ -1,21 +1,27 @@
 -- The heads of a name pass exactly when it has a target. Assumes nothing.
 use mathlib.Core.Path.{_≡_, refl, sym, ap, _∙_}
 use mathlib.Core.Bool.{Bool, true, false, not, _&&_, _||_, and-true, cond}
-use mathlib.Core.List.{List, [], _++_, append-assoc, append-nil}
-use Prim.Native.Nat.{ℕ, _+_, _*_, _<_}
+use mathlib.Core.List.{List, [], _∷_, _++_, append-assoc, append-nil}
+use mathlib.Core.Logic.{_⊎_, inl, inr}
+use Prim.Native.Nat.{ℕ, suc, _+_, _*_, _%_, _<_, _≤_}
 use native.Mathlib.Omega.{arith}
-use lib.Dec.{eqb, leb}
-use borrow.Author.Tests.{eqb-true, eqb-false, eq-eqb, ne-eqb, lt-ltb, le-ltb, lt-leb}
+use lib.Dec.{eqb, ltb, leb}
+use lib.ListN.{length}
+use borrow.Author.Tests.{eqb-true, eqb-false, eq-eqb, ne-eqb, lt-ltb, le-ltb, ltb-true, lt-leb, le-leb}
+use Rattle.laws.specs.Small.{both}
 use Rattle.layout.specs.Target.{Target, enum, nullable, list, dictionary, kindOf, isValue}
 use Rattle.layout.specs.Name.{Name, simple, one, two}
 use Rattle.layout.specs.Number.{between}
-use Rattle.layout.specs.Kind.{lookup, targets, readers}
-use Rattle.layout.specs.Named.{Typed, unknown, known, fixedKind, plain, nullableOf, wrapped, paired, typeOf, enumOf, arrayOf, readerOf}
-use Rattle.types.specs.Finite.{allBelow, below-is, agrees, agree}
-use Rattle.types.specs.Judge.{isKnown, headOk, valueOk, argumentsOk, enumOk, readerOk}
+use Rattle.layout.specs.Kind.{Entry, entry, alike, lookup, target, targets, reader, readers}
+use Rattle.layout.specs.EnumList.{EnumEntry, EnumSize, sizeIn}
+use Rattle.layout.specs.Named.{Typed, unknown, known, fixedKind, plain, nullableOf, wrapped, paired, listedEnum, typeOf, sizeOrFour, enumOf, arrayOf, readerOf}
 use Rattle.names.specs.Codes.{kind-is-small, codes-append}
-use Rattle.names.specs.Heading.{headings}
-use Rattle.names.specs.Kind.{codes, listed, node}
+use Rattle.names.specs.Heading.{long, headings}
+use Rattle.names.specs.Kind.{node, word, enumKind, kindIn, codes}
+use Rattle.types.specs.Finite.{allBelow, below-is, agrees, agree}
+use Rattle.types.specs.Judge.{isKnown, listedKind, headOk, valueOk, argumentsOk, enumOk, readerOk}
+use Rattle.types.specs.Word.{word-node}
+use Rattle.types.specs.Coded.{kind-taken}
 
 -- 01: "a value type other than Nullable"
 abbrev pub valuable : Typed → Bool
@@ -25,16 +31,16 @@ valuable (known t) = isValue t && not (eqb (kindOf t) 16)
 plain-tested : ℕ → Bool
 plain-tested k = agrees (isKnown (plain k)) (between 1 14 k || between 20 34 k)
 
-pub plain-test : (k : ℕ) → k < 64 → (between 1 14 k || between 20 34 k) ≡ isKnown (plain k)
+pub plain-test : (k : ℕ) → k < 60 → (between 1 14 k || between 20 34 k) ≡ isKnown (plain k)
 unfolding plain-tested agrees allBelow isKnown plain fixedKind
-plain-test k h = agree (isKnown (plain k)) (between 1 14 k || between 20 34 k) (below-is plain-tested 64 k refl h)
+plain-test k h = agree (isKnown (plain k)) (between 1 14 k || between 20 34 k) (below-is plain-tested 60 k refl h)
 
 value-tested : ℕ → Bool
 value-tested k = agrees (valuable (plain k)) (valueOk k)
 
-value-test : (k : ℕ) → k < 64 → valueOk k ≡ valuable (plain k)
-unfolding value-tested agrees allBelow valuable valueOk plain fixedKind isValue kindOf
-value-test k h = agree (valuable (plain k)) (valueOk k) (below-is value-tested 64 k refl h)
+value-test : (k : ℕ) → k < 60 → valueOk k ≡ valuable (plain k)
+unfolding value-tested agrees allBelow valuable valueOk listedKind plain fixedKind isValue kindOf
+value-test k h = agree (valuable (plain k)) (valueOk k) (below-is value-tested 60 k refl h)
 
 eqb-as : (a b c d : ℕ) (x : Bool) → (a ≡ b → c ≡ d) → (c ≡ d → a ≡ b) → eqb c d ≡ x → eqb a b ≡ x
 eqb-as a b c d true f g e = eq-eqb a b (g (eqb-true c d e))
@@ -44,16 +50,19 @@ eqb-as a b c d false f g e = ne-eqb a b (λ q. eqb-false c d e (f q))
 same-node : (k m n : ℕ) → eqb (node k n) (node m n) ≡ eqb k m
 same-node k m n = eqb-as (k + 64 * n) (m + 64 * n) k m (eqb k m) (λ q. omega arith) (λ q. ap (λ (x : ℕ). x + 64 * n) q) refl
 
-module _ (k : ℕ) (small : k < 64) where
+-- no kind of a head that is no enum's is 60 or more
+module _ (k : ℕ) (small : k < 60) where
   none-head : headOk (node k 0) ≡ isKnown (plain k)
   unfolding headOk
-  none-head = let z : k + 64 * 0 ≡ k = omega arith in rw (z, lt-ltb k 64 small)
+  none-head = let z : k + 64 * 0 ≡ k = omega arith in rw (z, lt-ltb k 60 small)
 
   one-head : headOk (node k 1) ≡ cond (eqb k 16) true (eqb k 18)
-  unfolding headOk
+  unfolding headOk listedKind
   one-head =
       rw (
-        le-ltb (k + 64 * 1) 64 (omega arith),
+        le-ltb (k + 64 * 1) 60 (omega arith),
+        le-leb 60 (k + 64 * 1) (omega arith),
+        lt-leb (k + 64 * 1) 63 (omega arith),
         eqb-as (k + 64 * 1) 80 k 16 (eqb k 16) (λ q. omega arith) (λ q. omega arith) refl,
         eqb-as (k + 64 * 1) 82 k 18 (eqb k 18) (λ q. omega arith) (λ q. omega arith) refl,
         ne-eqb (k + 64 * 1) 147 (λ q. omega arith),
@@ -64,10 +73,12 @@ module _ (k : ℕ) (small : k < 64) where
         last false false = refl
 
   two-head : headOk (node k 2) ≡ eqb k 19
-  unfolding headOk
+  unfolding headOk listedKind
   two-head =
       rw (
-        le-ltb (k + 64 * 2) 64 (omega arith),
+        le-ltb (k + 64 * 2) 60 (omega arith),
+        le-leb 60 (k + 64 * 2) (omega arith),
+        lt-leb (k + 64 * 2) 63 (omega arith),
         ne-eqb (k + 64 * 2) 80 (λ q. omega arith),
         ne-eqb (k + 64 * 2) 82 (λ q. omega arith),
         eqb-as (k + 64 * 2) 147 k 19 (eqb k 19) (λ q. omega arith) (λ q. omega arith) refl,
@@ -78,13 +89,17 @@ module _ (k : ℕ) (small : k < 64) where
 
 -- a head with arguments is no value type's but Nullable's
 no-value : (b : ℕ) → 63 < b → valueOk b ≡ false
-unfolding valueOk fixedKind
-no-value b h = rw (lt-leb b 11 (omega arith), lt-leb b 30 (omega arith), ne-eqb b 12 (λ q. omega arith)) (no-both (leb 1 b) (leb 20 b)) where
-  no-both : (x y : Bool) → cond ((x && false) || (y && false)) true false ≡ false
-  no-both true true = refl
-  no-both true false = refl
-  no-both false true = refl
-  no-both false false = refl
+unfolding valueOk fixedKind listedKind
+no-value b h = rw (lt-leb b 11 (omega arith), lt-leb b 30 (omega arith), lt-leb b 63 (omega arith), ne-eqb b 12 (λ q. omega arith)) (no-both (leb 1 b) (leb 20 b) (leb 60 b)) where
+  no-both : (x y z : Bool) → cond ((x && false) || (y && false)) true (cond (z && false) true false) ≡ false
+  no-both true true true = refl
+  no-both true true false = refl
+  no-both true false true = refl
+  no-both true false false = refl
+  no-both false true true = refl
+  no-both false true false = refl
+  no-both false false true = refl
+  no-both false false false = refl
 
 -- an argument's type is known, and a value type other than Nullable where Nullable is before it
 abbrev pub fitting : (after : Bool) → Typed → Bool
@@ -139,83 +154,169 @@ two-is after k more unknown s = none-known after (eqb k 19) more
 two-is after k more (known t) unknown = none-known after (eqb k 19) more
 two-is after k more (known t) (known u) = two-known after (eqb k 19) more t u
 
--- the heads of an argument pass exactly when it has a type that fits
-pub argument-judged : (n : Name) (after : Bool) (r : List ℕ) → argumentsOk after (codes false (headings n) ++ r) ≡ (fitting after (typeOf n) && argumentsOk false r)
-unfolding argumentsOk headings codes listed typeOf fitting
-argument-judged (simple h t) after r =
-    let k = lookup h targets in
-    let b : k < 64 = kind-is-small false h in
-    rw (none-value k b, none-head k b, ne-eqb (k + 64 * 0) 80 (λ q. omega arith))
-argument-judged (one h a t) after r =
-    let k = lookup h targets in
-    let b : k < 64 = kind-is-small false h in
-    rw (no-value (k + 64 * 1) (omega arith), one-head k b, same-node k 16 1, argument-judged a (eqb k 16) r) (one-is after k (argumentsOk false r) (typeOf a))
-argument-judged (two h a c t) after r =
-    let k = lookup h targets in
-    let b : k < 64 = kind-is-small false h in
-    let x = codes false (headings a) in
-    let y = codes false (headings c) in
-    rw (codes-append (headings a) (headings c), append-assoc x y r, no-value (k + 64 * 2) (omega arith), two-head k b, ne-eqb (k + 64 * 2) 80 (λ q. omega arith), argument-judged a false (y ++ r), argument-judged c false r)
-    (two-is after k (argumentsOk false r) (typeOf a) (typeOf c))
+-- the code of a head has its kind and its number of arguments
+module _ (es : List EnumEntry) (own : Bool) (h : List ℕ) (n p : ℕ) where
+  pub node-is : n < 4 → word (kindIn es own h n) n p % 256 ≡ node (kindIn es own h n) n
+  node-is b = word-node (kindIn es own h n) n p (kind-is-small es own h n) b
 
--- the heads of one argument alone
-alone : (n : Name) (after : Bool) → argumentsOk after (codes false (headings n)) ≡ fitting after (typeOf n)
-unfolding argumentsOk
-alone n after = ap (argumentsOk after) (sym (append-nil (codes false (headings n)))) ∙ argument-judged n after [] ∙ and-true (fitting after (typeOf n))
+no-and : (b : Bool) → (false || (b && false)) ≡ false
+no-and true = refl
+no-and false = refl
 
 pick-apart : (p : Bool) (x y : Typed) → isKnown (cond p x y) ≡ cond p (isKnown x) (isKnown y)
 pick-apart true x y = refl
 pick-apart false x y = refl
-
-enum-judged : (n : Name) → enumOk (codes false (headings n)) ≡ isKnown (enumOf n)
-unfolding enumOk headings codes listed enumOf isKnown
-enum-judged (simple h t) =
-    eqb-as (lookup h targets + 64 * 0) 0 (lookup h targets) 0 (eqb (lookup h targets) 0) (λ q. omega arith) (λ q. omega arith) refl ∙ sym (pick-known (eqb (lookup h targets) 0) (enum h))
-enum-judged (one h a t) = ne-eqb (lookup h targets + 64 * 1) 0 (λ q. omega arith)
-enum-judged (two h a b t) = ne-eqb (lookup h targets + 64 * 2) 0 (λ q. omega arith)
 
 array-known : (r : Typed) → isKnown (arrayOf r) ≡ isKnown r
 unfolding arrayOf isKnown
 array-known unknown = refl
 array-known (known t) = refl
 
--- the heads of a reader's name pass exactly when it has a target
-pub reader-judged : (n : Name) → readerOk (codes true (headings n)) ≡ isKnown (readerOf n)
-unfolding readerOk argumentsOk headings codes listed readerOf
-reader-judged (simple h t) =
-    let k = lookup h readers in
-    let b : k < 64 = kind-is-small true h in
-    rw (ne-eqb (k + 64 * 0) 79 (λ q. omega arith), ne-eqb (k + 64 * 0) 81 (λ q. omega arith), none-head k b) (and-true (isKnown (plain k)))
-reader-judged (one h a t) =
-    let k = lookup h readers in
-    let b : k < 64 = kind-is-small true h in
-    let r = typeOf a in
-    let w : (cond (eqb k 16) true (eqb k 18) && fitting (eqb k 16) r) ≡ isKnown (wrapped k r)
-    = ap (λ (y : Bool). cond (eqb k 16) true (eqb k 18) && y) (sym (and-true (fitting (eqb k 16) r))) ∙ one-is false k true r ∙ and-true (isKnown (wrapped k r)) in
-    rw (
-      same-node k 15 1,
-      same-node k 17 1,
-      same-node k 16 1,
-      one-head k b,
-      alone a (eqb k 16),
-      alone a false,
-      enum-judged a,
-      w,
-      pick-apart (eqb k 15) (enumOf a) (cond (eqb k 17) (arrayOf r) (wrapped k r)),
-      pick-apart (eqb k 17) (arrayOf r) (wrapped k r),
-      array-known r,
-    )
-reader-judged (two h a c t) =
-    let k = lookup h readers in
-    let b : k < 64 = kind-is-small true h in
-    let x = codes false (headings a) in
-    rw (
-      ne-eqb (k + 64 * 2) 79 (λ q. omega arith),
-      ne-eqb (k + 64 * 2) 81 (λ q. omega arith),
-      two-head k b,
-      ne-eqb (k + 64 * 2) 80 (λ q. omega arith),
-      codes-append (headings a) (headings c),
-      argument-judged a false (codes false (headings c)),
-      alone c false,
-    )
-    (ap (λ (y : Bool). eqb k 19 && (isKnown (typeOf a) && y)) (sym (and-true (isKnown (typeOf c)))) ∙ two-is false k true (typeOf a) (typeOf c) ∙ and-true (isKnown (paired k (typeOf a) (typeOf c))))
+-- no target name and no reader has a kind of 60 or more
+below-60 : List Entry → Bool
+below-60 [] = true
+below-60 (entry h k ∷ es) = ltb k 60 && below-60 es
+
+found-below : (b : Bool) (k m : ℕ) → k < 60 → m < 60 → cond b k m < 60
+found-below true k m h g = h
+found-below false k m h g = g
+
+lookup-below : (h : List ℕ) (es : List Entry) → below-60 es ≡ true → lookup h es < 60
+unfolding lookup below-60
+lookup-below h [] e = omega arith
+lookup-below h (entry n k ∷ es) e =
+    let q = both (ltb k 60) (below-60 es) e in
+    found-below (alike h n) k (lookup h es) (ltb-true k 60 (q .0)) (lookup-below h es (q .1))
+
+target-below : (h : List ℕ) → lookup h targets < 60
+unfolding below-60 targets target
+target-below h = lookup-below h targets refl
+
+reader-below : (h : List ℕ) → lookup h readers < 60
+unfolding below-60 readers reader
+reader-below h = lookup-below h readers refl
+
+-- a head that is no target name, with no argument: a listed enum type, or nothing known
+listed-judged : (after : Bool) (h : List ℕ) (z : ℕ) → (z ≡ 0) ⊎ EnumSize z
+    → (cond after (valueOk (node (enumKind z) 0)) (headOk (node (enumKind z) 0)) ≡ fitting after (listedEnum h z)) × ((eqb (node (enumKind z) 0) 0 || listedKind (node (enumKind z) 0)) ≡ true)
+unfolding EnumSize listedEnum enumKind fitting isKnown valuable isValue kindOf plain fixedKind headOk valueOk listedKind
+listed-judged true h z (inl w) = rw w (refl, refl)
+listed-judged false h z (inl w) = rw w (refl, refl)
+listed-judged true h z (inr (inl w)) = rw w (refl, refl)
+listed-judged false h z (inr (inl w)) = rw w (refl, refl)
+listed-judged true h z (inr (inr (inl w))) = rw w (refl, refl)
+listed-judged false h z (inr (inr (inl w))) = rw w (refl, refl)
+listed-judged true h z (inr (inr (inr (inl w)))) = rw w (refl, refl)
+listed-judged false h z (inr (inr (inr (inl w)))) = rw w (refl, refl)
+listed-judged true h z (inr (inr (inr (inr w)))) = rw w (refl, refl)
+listed-judged false h z (inr (inr (inr (inr w)))) = rw w (refl, refl)
+
+simple-judged : (after : Bool) (h : List ℕ) (k z : ℕ) → k < 60 → (z ≡ 0) ⊎ EnumSize z → (b : Bool)
+    → cond after (valueOk (node (cond b (enumKind z) k) 0)) (headOk (node (cond b (enumKind z) k) 0)) ≡ fitting after (cond b (listedEnum h z) (plain k))
+unfolding fitting
+simple-judged after h k z s w true = listed-judged after h z w .0
+simple-judged after h k z s w false = rw (none-value k s, none-head k s)
+
+own-judged : (h : List ℕ) (k z : ℕ) → k < 60 → (z ≡ 0) ⊎ EnumSize z → (b : Bool) → eqb k 0 ≡ b
+    → (eqb (node (cond b (enumKind z) k) 0) 0 || listedKind (node (cond b (enumKind z) k) 0)) ≡ isKnown (cond b (known (enum h (sizeOrFour z))) unknown)
+unfolding isKnown listedKind
+own-judged h k z s w true e = listed-judged true h z w .1
+own-judged h k z s w false e =
+    let y : k + 64 * 0 ≡ k = omega arith in
+    rw (y, e, lt-leb 60 k s)
+
+module _ (es : List EnumEntry) (sized : (h : List ℕ) → (sizeIn es h ≡ 0 → ⊥) → EnumSize (sizeIn es h)) where
+  size-is : (h : List ℕ) → (sizeIn es h ≡ 0) ⊎ EnumSize (sizeIn es h)
+  size-is h = go (eqb (sizeIn es h) 0) refl where
+    go : (b : Bool) → eqb (sizeIn es h) 0 ≡ b → (sizeIn es h ≡ 0) ⊎ EnumSize (sizeIn es h)
+    go true e = inl (eqb-true (sizeIn es h) 0 e)
+    go false e = inr (sized h (eqb-false (sizeIn es h) 0 e))
+
+  -- a head with arguments has the kind that it names
+  taken : (h : List ℕ) (n p : ℕ) → n < 3 → word (kindIn es false h (suc n)) (suc n) p % 256 ≡ node (lookup h targets) (suc n)
+  taken h n p b = node-is es false h (suc n) p (omega arith) ∙ ap (λ (k : ℕ). node k (suc n)) (kind-taken es h n)
+
+  -- the heads of an argument pass exactly when it has a type that fits
+  pub argument-judged : (n : Name) (p : ℕ) (after : Bool) (r : List ℕ) → argumentsOk after (codes es false (headings p n) ++ r) ≡ (fitting after (typeOf es n) && argumentsOk false r)
+  unfolding argumentsOk headings codes typeOf fitting kindIn
+  argument-judged (simple h t) p after r =
+      let k = kindIn es false h 0 in
+      let s : k < 64 = kind-is-small es false h 0 in
+      rw (node-is es false h 0 p (omega arith), ne-eqb (k + 64 * 0) 80 (λ q. omega arith), simple-judged after h (lookup h targets) (sizeIn es h) (target-below h) (size-is h) (eqb (lookup h targets) 0))
+  argument-judged (one h a t) p after r =
+      let k = lookup h targets in
+      let s : k < 60 = target-below h in
+      rw (taken h 0 p (omega arith), no-value (k + 64 * 1) (omega arith), one-head k s, same-node k 16 1, argument-judged a (p + (length h + 4)) (eqb k 16) r) (one-is after k (argumentsOk false r) (typeOf es a))
+  argument-judged (two h a c t) p after r =
+      let k = lookup h targets in
+      let s : k < 60 = target-below h in
+      let i = p + (length h + 4) in
+      let j = p + (length h + 4 + long a + 3) in
+      let x = codes es false (headings i a) in
+      let y = codes es false (headings j c) in
+      rw (taken h 1 p (omega arith), codes-append es (headings i a) (headings j c), append-assoc x y r, no-value (k + 64 * 2) (omega arith), two-head k s, ne-eqb (k + 64 * 2) 80 (λ q. omega arith), argument-judged a i false (y ++ r), argument-judged c j false r)
+      (two-is after k (argumentsOk false r) (typeOf es a) (typeOf es c))
+
+  -- the heads of one argument alone
+  alone : (n : Name) (p : ℕ) (after : Bool) → argumentsOk after (codes es false (headings p n)) ≡ fitting after (typeOf es n)
+  unfolding argumentsOk
+  alone n p after = ap (argumentsOk after) (sym (append-nil (codes es false (headings p n)))) ∙ argument-judged n p after [] ∙ and-true (fitting after (typeOf es n))
+
+  enum-judged : (n : Name) (p : ℕ) → enumOk (codes es false (headings p n)) ≡ isKnown (enumOf es n)
+  unfolding enumOk headings codes enumOf isKnown kindIn listedKind
+  enum-judged (simple h t) p = rw (node-is es false h 0 p (omega arith)) (own-judged h (lookup h targets) (sizeIn es h) (target-below h) (size-is h) (eqb (lookup h targets) 0) refl)
+  enum-judged (one h a t) p =
+      let k = lookup h targets in
+      rw (taken h 0 p (omega arith), ne-eqb (k + 64 * 1) 0 (λ q. omega arith), lt-leb (k + 64 * 1) 63 (omega arith)) (no-and (leb 60 (k + 64 * 1)))
+  enum-judged (two h a b t) p =
+      let k = lookup h targets in
+      rw (taken h 1 p (omega arith), ne-eqb (k + 64 * 2) 0 (λ q. omega arith), lt-leb (k + 64 * 2) 63 (omega arith)) (no-and (leb 60 (k + 64 * 2)))
+
+  -- a reader's own head
+  own-node : (h : List ℕ) (n p : ℕ) → n < 4 → word (lookup h readers) n p % 256 ≡ node (lookup h readers) n
+  own-node h n p b = word-node (lookup h readers) n p (omega (arith, reader-below h)) b
+
+  -- the heads of a reader's name pass exactly when it has a target
+  pub reader-judged : (n : Name) (p : ℕ) → readerOk (codes es true (headings p n)) ≡ isKnown (readerOf es n)
+  unfolding readerOk argumentsOk headings codes kindIn readerOf
+  reader-judged (simple h t) p =
+      let k = lookup h readers in
+      let b : k < 60 = reader-below h in
+      rw (own-node h 0 p (omega arith), ne-eqb (k + 64 * 0) 79 (λ q. omega arith), ne-eqb (k + 64 * 0) 81 (λ q. omega arith), none-head k b) (and-true (isKnown (plain k)))
+  reader-judged (one h a t) p =
+      let k = lookup h readers in
+      let b : k < 60 = reader-below h in
+      let i = p + (length h + 4) in
+      let r = typeOf es a in
+      let w : (cond (eqb k 16) true (eqb k 18) && fitting (eqb k 16) r) ≡ isKnown (wrapped k r)
+      = ap (λ (y : Bool). cond (eqb k 16) true (eqb k 18) && y) (sym (and-true (fitting (eqb k 16) r))) ∙ one-is false k true r ∙ and-true (isKnown (wrapped k r)) in
+      rw (
+        own-node h 1 p (omega arith),
+        same-node k 15 1,
+        same-node k 17 1,
+        same-node k 16 1,
+        one-head k b,
+        alone a i (eqb k 16),
+        alone a i false,
+        enum-judged a i,
+        w,
+        pick-apart (eqb k 15) (enumOf es a) (cond (eqb k 17) (arrayOf r) (wrapped k r)),
+        pick-apart (eqb k 17) (arrayOf r) (wrapped k r),
+        array-known r,
+      )
+  reader-judged (two h a c t) p =
+      let k = lookup h readers in
+      let b : k < 60 = reader-below h in
+      let i = p + (length h + 4) in
+      let j = p + (length h + 4 + long a + 3) in
+      rw (
+        own-node h 2 p (omega arith),
+        ne-eqb (k + 64 * 2) 79 (λ q. omega arith),
+        ne-eqb (k + 64 * 2) 81 (λ q. omega arith),
+        two-head k b,
+        ne-eqb (k + 64 * 2) 80 (λ q. omega arith),
+        codes-append es (headings i a) (headings j c),
+        argument-judged a i false (codes es false (headings j c)),
+        alone c j false,
+      )
+      (ap (λ (y : Bool). eqb k 19 && (isKnown (typeOf es a) && y)) (sym (and-true (isKnown (typeOf es c)))) ∙ two-is false k true (typeOf es a) (typeOf es c) ∙ and-true (isKnown (paired k (typeOf es a) (typeOf es c))))

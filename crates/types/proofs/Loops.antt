@@ -1,15 +1,21 @@
 -- Loops over codes. Assumes nothing.
 use mathlib.Core.Path.{_≡_, refl, sym, ap, _∙_}
-use mathlib.Core.Bool.{Bool, true, false, _&&_, cond}
+use mathlib.Core.Bool.{Bool, true, false, _&&_, _||_, cond}
 use mathlib.Core.List.{List, [], _∷_}
-use Prim.Native.Nat.{ℕ, suc, _+_, _-_, _/_, _≤_, _<_}
+use Prim.Native.Nat.{ℕ, suc, _+_, _-_, _%_, _≤_, _<_}
 use native.Mathlib.Omega.{arith}
-use lib.Dec.{eqb}
-use lib.ListN.{length, drop, getD, drop-of-length-le}
-use borrow.Author.Tests.{eq-eqb, ne-eqb}
-use Rattle.names.proofs.Laws.{cons-at}
-use Rattle.types.specs.Place.{extent, agree}
-use Rattle.types.specs.Judge.{headOk, valueOk, argumentsOk, enumOk, readerOk}
+use lib.Dec.{eqb, leb}
+use lib.ListN.{length, take, drop, getD, set, length-drop, drop-of-length-le}
+use borrow.Author.Tests.{eq-eqb, ne-eqb, le-leb, lt-leb}
+use Rattle.layout.specs.Name.{headByte}
+use Rattle.names.specs.Parse.{span}
+use Rattle.names.specs.Sound.{span-le}
+use Rattle.names.proofs.Laws.{cons-at, rest}
+use Rattle.types.specs.Code.{headAt}
+use Rattle.types.specs.Place.{arity, extent, sameCode, agree}
+use Rattle.types.specs.Judge.{listedKind, headOk, valueOk, argumentsOk, enumOk, readerOk}
+use Rattle.types.specs.Contract.{enumWord}
+use Rattle.types.specs.Settling.{isEnums, Settles}
 use Rattle.types.specs.Extent.{no-extent, no-agree}
 
 -- where `need` types from i on are still to be passed, and `all` is the place after them
@@ -25,45 +31,45 @@ module _ (c : List ℕ) (i need : ℕ) {all : ℕ} (e : all ≡ i + extent (drop
       let q : extent (drop i c) need ≡ 0 = ap (λ (l : List ℕ). extent l need) (drop-of-length-le c h) in
       omega arith
 
-  pub extent-step : i < length c → (need ≡ 0 → ⊥) → all ≡ i + 1 + extent (drop (i + 1) c) (need - 1 + getD c i 0 / 64)
+  pub extent-step : i < length c → (need ≡ 0 → ⊥) → all ≡ i + 1 + extent (drop (i + 1) c) (need - 1 + arity (getD c i 0))
   unfolding extent
   extent-step h f =
       let z : need ≡ suc (need - 1) = omega arith in
-      let q : extent (drop i c) need ≡ suc (extent (drop (i + 1) c) (need - 1 + getD c i 0 / 64)) = ap (λ (l : List ℕ). extent l need) (cons-at c i h) ∙ ap (extent (getD c i 0 ∷ drop (i + 1) c)) z in
+      let q : extent (drop i c) need ≡ suc (extent (drop (i + 1) c) (need - 1 + arity (getD c i 0))) = ap (λ (l : List ℕ). extent l need) (cons-at c i h) ∙ ap (extent (getD c i 0 ∷ drop (i + 1) c)) z in
       omega arith
 
 -- where `need` types from i and from j on are still to be compared, and `all` is what comes out
-module _ (c : List ℕ) (i j need : ℕ) {all : Bool} (e : all ≡ agree (drop i c) need (drop j c)) where
+module _ (file c : List ℕ) (i j need : ℕ) {all : Bool} (e : all ≡ agree file (drop i c) need (drop j c)) where
   pub agree-none : need ≤ 0 → true ≡ all
   agree-none h =
       let z : need ≡ 0 = omega arith in
-      sym (e ∙ ap (λ (n : ℕ). agree (drop i c) n (drop j c)) z ∙ no-agree (drop i c) (drop j c))
+      sym (e ∙ ap (λ (n : ℕ). agree file (drop i c) n (drop j c)) z ∙ no-agree file (drop i c) (drop j c))
 
   pub agree-short : 0 < need → length c ≤ i → false ≡ all
   unfolding agree
   agree-short f h =
       let z : need ≡ suc (need - 1) = omega arith in
-      sym (e ∙ ap (λ (l : List ℕ). agree l need (drop j c)) (drop-of-length-le c h) ∙ ap (λ (n : ℕ). agree [] n (drop j c)) z)
+      sym (e ∙ ap (λ (l : List ℕ). agree file l need (drop j c)) (drop-of-length-le c h) ∙ ap (λ (n : ℕ). agree file [] n (drop j c)) z)
 
   module _ (f : 0 < need) (h : i < length c) where
-    one-more : all ≡ agree (getD c i 0 ∷ drop (i + 1) c) (suc (need - 1)) (drop j c)
+    one-more : all ≡ agree file (getD c i 0 ∷ drop (i + 1) c) (suc (need - 1)) (drop j c)
     one-more =
         let z : need ≡ suc (need - 1) = omega arith in
-        e ∙ ap (λ (l : List ℕ). agree l need (drop j c)) (cons-at c i h) ∙ ap (λ (n : ℕ). agree (getD c i 0 ∷ drop (i + 1) c) n (drop j c)) z
+        e ∙ ap (λ (l : List ℕ). agree file l need (drop j c)) (cons-at c i h) ∙ ap (λ (n : ℕ). agree file (getD c i 0 ∷ drop (i + 1) c) n (drop j c)) z
 
     pub agree-short-2 : length c ≤ j → false ≡ all
     unfolding agree
-    agree-short-2 g = sym (one-more ∙ ap (agree (getD c i 0 ∷ drop (i + 1) c) (suc (need - 1))) (drop-of-length-le c g))
+    agree-short-2 g = sym (one-more ∙ ap (agree file (getD c i 0 ∷ drop (i + 1) c) (suc (need - 1))) (drop-of-length-le c g))
 
-    compared : j < length c → all ≡ (eqb (getD c i 0) (getD c j 0) && agree (drop (i + 1) c) (need - 1 + getD c i 0 / 64) (drop (j + 1) c))
+    compared : j < length c → all ≡ (sameCode file (getD c i 0) (getD c j 0) && agree file (drop (i + 1) c) (need - 1 + arity (getD c i 0)) (drop (j + 1) c))
     unfolding agree
-    compared g = one-more ∙ ap (agree (getD c i 0 ∷ drop (i + 1) c) (suc (need - 1))) (cons-at c j g)
+    compared g = one-more ∙ ap (agree file (getD c i 0 ∷ drop (i + 1) c) (suc (need - 1))) (cons-at c j g)
 
-    pub agree-no : j < length c → (getD c i 0 ≡ getD c j 0 → ⊥) → false ≡ all
-    agree-no g d = sym (compared g ∙ rw (ne-eqb (getD c i 0) (getD c j 0) d))
+    pub agree-no : j < length c → sameCode file (getD c i 0) (getD c j 0) ≡ false → false ≡ all
+    agree-no g d = sym (compared g ∙ rw d)
 
-    pub agree-step : j < length c → getD c i 0 ≡ getD c j 0 → all ≡ agree (drop (i + 1) c) (need - 1 + getD c i 0 / 64) (drop (j + 1) c)
-    agree-step g d = compared g ∙ rw (eq-eqb (getD c i 0) (getD c j 0) d)
+    pub agree-step : j < length c → sameCode file (getD c i 0) (getD c j 0) ≡ true → all ≡ agree file (drop (i + 1) c) (need - 1 + arity (getD c i 0)) (drop (j + 1) c)
+    agree-step g d = compared g ∙ rw d
 
 -- where the codes from i on are still to be judged, and `all` is what comes out
 module _ (s : List ℕ) (i : ℕ) (nullable : Bool) {all : Bool} (e : all ≡ argumentsOk nullable (drop i s)) where
@@ -71,14 +77,14 @@ module _ (s : List ℕ) (i : ℕ) (nullable : Bool) {all : Bool} (e : all ≡ ar
   unfolding argumentsOk
   arguments-end h = sym (e ∙ ap (argumentsOk nullable) (drop-of-length-le s h))
 
-  opened : i < length s → all ≡ (cond nullable (valueOk (getD s i 0)) (headOk (getD s i 0)) && argumentsOk (eqb (getD s i 0) 80) (drop (i + 1) s))
+  opened : i < length s → all ≡ (cond nullable (valueOk (getD s i 0 % 256)) (headOk (getD s i 0 % 256)) && argumentsOk (eqb (getD s i 0 % 256) 80) (drop (i + 1) s))
   unfolding argumentsOk
   opened h = e ∙ ap (argumentsOk nullable) (cons-at s i h)
 
-  pub arguments-no : i < length s → cond nullable (valueOk (getD s i 0)) (headOk (getD s i 0)) ≡ false → false ≡ all
+  pub arguments-no : i < length s → cond nullable (valueOk (getD s i 0 % 256)) (headOk (getD s i 0 % 256)) ≡ false → false ≡ all
   arguments-no h d = sym (opened h ∙ rw d)
 
-  pub arguments-step : i < length s → cond nullable (valueOk (getD s i 0)) (headOk (getD s i 0)) ≡ true → all ≡ argumentsOk (eqb (getD s i 0) 80) (drop (i + 1) s)
+  pub arguments-step : i < length s → cond nullable (valueOk (getD s i 0 % 256)) (headOk (getD s i 0 % 256)) ≡ true → all ≡ argumentsOk (eqb (getD s i 0 % 256) 80) (drop (i + 1) s)
   arguments-step h d = opened h ∙ rw d
 
 -- a list of codes by its first
@@ -87,7 +93,7 @@ unfolding enumOk
 enum-none [] e = refl
 enum-none (b ∷ s) e = absurd (omega arith)
 
-pub enum-some : (s : List ℕ) → (length s ≡ 0 → ⊥) → eqb (getD s 0 0) 0 ≡ enumOk s
+pub enum-some : (s : List ℕ) → (length s ≡ 0 → ⊥) → enumOk s ≡ (eqb (getD s 0 0 % 256) 0 || listedKind (getD s 0 0 % 256))
 unfolding enumOk
 enum-some [] f = absurd (f refl)
 enum-some (b ∷ s) f = refl
@@ -98,7 +104,40 @@ reader-none [] e = refl
 reader-none (b ∷ s) e = absurd (omega arith)
 
 pub reader-some : (s : List ℕ) → (length s ≡ 0 → ⊥)
-    → readerOk s ≡ cond (eqb (getD s 0 0) 79) (enumOk (drop 1 s)) (cond (eqb (getD s 0 0) 81) (argumentsOk false (drop 1 s)) (headOk (getD s 0 0) && argumentsOk (eqb (getD s 0 0) 80) (drop 1 s)))
+    → readerOk s ≡ cond (eqb (getD s 0 0 % 256) 79) (enumOk (drop 1 s)) (cond (eqb (getD s 0 0 % 256) 81) (argumentsOk false (drop 1 s)) (headOk (getD s 0 0 % 256) && argumentsOk (eqb (getD s 0 0 % 256) 80) (drop 1 s)))
 unfolding readerOk
 reader-some [] f = absurd (f refl)
 reader-some (b ∷ s) f = refl
+
+-- the head at a place, as the code has it: m bytes from i on
+module _ (file : List ℕ) (a i m : ℕ) (h : i ≤ length file) (e : drop i file ≡ drop a file) (r : m ≡ span headByte (take (length file - i) (drop i file))) where
+  spanned : m ≡ span headByte (drop i file)
+  spanned = r ∙ ap (span headByte) (rest file i)
+
+  pub head-ends : i + m ≤ length file
+  head-ends = omega (arith, span-le headByte (drop i file), length-drop i file, spanned)
+
+  pub head-part : take (i + m - i) (drop i file) ≡ headAt file a
+  unfolding headAt
+  head-part = let z : i + m - i ≡ m = omega arith in rw (z, spanned, e)
+
+-- an enum's target is put in its place, or there is none
+module _ (c : List ℕ) (used end : ℕ) where
+  pub too-few : end < used + 2 → Settles c c used end end
+  unfolding isEnums
+  too-few h = let b = lt-leb (used + 2) end h in record { ends = rw b; writes = rw b }
+
+  module _ (h : used + 2 ≤ end) where
+    pub no-enum : (getD c used 0 % 256 ≡ 79 → ⊥) → Settles c c used end end
+    unfolding isEnums
+    no-enum e =
+        let b = le-leb (used + 2) end h in
+        let d = ne-eqb (getD c used 0 % 256) 79 e in
+        record { ends = rw (b, d); writes = rw (b, d) }
+
+    pub some-enum : {c′ : List ℕ} → getD c used 0 % 256 ≡ 79 → c′ ≡ set c used (enumWord (getD c (used + 1) 0)) → Settles c c′ used end (used + 1)
+    unfolding isEnums
+    some-enum e w =
+        let b = le-leb (used + 2) end h in
+        let d = eq-eqb (getD c used 0 % 256) 79 e in
+        record { ends = rw (b, d); writes = w ∙ rw (b, d) }

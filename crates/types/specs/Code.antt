@@ -1,55 +1,100 @@
--- Targets as codes: a byte for each type, its arguments after it. Assumes nothing.
+-- Targets as codes: a word for each type, its arguments after it. Assumes nothing.
 use mathlib.Core.Path.{_≡_}
 use mathlib.Core.Bool.{true}
 use mathlib.Core.List.{List, [], _∷_, _++_}
-use Prim.Native.Nat.{ℕ}
-use lib.ListN.{drop}
+use Prim.Native.Nat.{ℕ, suc, _+_}
+use lib.ListN.{take, drop}
+use Rattle.layout.specs.Name.{headByte}
 use Rattle.layout.specs.Target.{Target, fixed, char, string, object, texture, texture2D, spriteFont, page, enum, nullable, array, list, dictionary}
+use Rattle.layout.specs.EnumList.{EnumSize}
 use Rattle.layout.specs.Named.{fixedKind}
-use Rattle.names.specs.Kind.{node}
+use Rattle.names.specs.Parse.{span}
+use Rattle.names.specs.Kind.{word, enumKind}
 
--- a type's kind and number of arguments, then the codes of its arguments; the name of an enum is not in its codes
-unfoldable pub code : Target → List ℕ
-code (fixed k) = k ∷ []
-code char = 12 ∷ []
-code string = 13 ∷ []
-code object = 14 ∷ []
-code (enum name) = node 15 1 ∷ 0 ∷ []
-code (nullable t) = node 16 1 ∷ code t
-code (array t) = node 17 1 ∷ code t
-code (list t) = node 18 1 ∷ code t
-code (dictionary k v) = node 19 2 ∷ (code k ++ code v)
-code texture = 31 ∷ []
-code texture2D = 32 ∷ []
-code spriteFont = 33 ∷ []
-code page = 34 ∷ []
+-- the types that fonts and pages declare, and Object, stand in so many codes at the start of the array
+abbrev pub preludeSize : ℕ
+preludeSize = 11
 
--- each `fixed` in a type keeps P, and each enum keeps E
-unfoldable pub Throughout : (P : ℕ → Type 0) (E : Type 0) → Target → Type 0
-Throughout P E (fixed k) = P k
-Throughout P E char = Unit {0}
-Throughout P E string = Unit {0}
-Throughout P E object = Unit {0}
-Throughout P E (enum name) = E
-Throughout P E (nullable t) = Throughout P E t
-Throughout P E (array t) = Throughout P E t
-Throughout P E (list t) = Throughout P E t
-Throughout P E (dictionary k v) = Throughout P E k × Throughout P E v
-Throughout P E texture = Unit {0}
-Throughout P E texture2D = Unit {0}
-Throughout P E spriteFont = Unit {0}
-Throughout P E page = Unit {0}
+-- the head that stands at a place of a file: as many bytes from there on as may stand in a head
+unfoldable pub headAt : (file : List ℕ) (place : ℕ) → List ℕ
+headAt file place = take (span headByte (drop place file)) (drop place file)
 
--- each `fixed` in it has one of the kinds that are `fixed` targets, so that no two types but enums have one code
-abbrev pub Lawful : Target → Type 0
-Lawful t = Throughout (λ k. fixedKind k ≡ true) (Unit {0}) t
+-- the kind of a type in its code: 01's kind, or for an enum the one of its size
+unfoldable pub codeKind : Target → ℕ
+codeKind (fixed k) = k
+codeKind char = 12
+codeKind string = 13
+codeKind object = 14
+codeKind (enum name z) = enumKind z
+codeKind (nullable t) = 16
+codeKind (array t) = 17
+codeKind (list t) = 18
+codeKind (dictionary k v) = 19
+codeKind texture = 31
+codeKind texture2D = 32
+codeKind spriteFont = 33
+codeKind page = 34
 
--- no enum is in it; 01: "Array and enum types are not known as arguments", and no field is an enum, so no declared type has one
-abbrev pub NoEnum : Target → Type 0
-NoEnum t = Throughout (λ k. Unit {0}) ⊥ t
+-- the code of a kind with no argument, at some place
+unfoldable pub Alone : (kind : ℕ) → List ℕ → Type 0
+Alone k ws = (place : ℕ) × (ws ≡ word k 0 place ∷ [])
+
+-- the code of a kind with one argument, at some place, and the argument's codes
+unfoldable pub Before : (kind : ℕ) → (List ℕ → Type 0) → List ℕ → Type 0
+Before k argument ws = (place : ℕ) × (us : List ℕ) × (ws ≡ word k 1 place ∷ us) × argument us
+
+-- the codes of a type: its kind, its number of arguments and a place, then the codes of its arguments; at the place of an enum stands its name in the file
+unfoldable pub Coded : (file : List ℕ) → Target → List ℕ → Type 0
+Coded file (fixed k) ws = Alone k ws
+Coded file char ws = Alone 12 ws
+Coded file string ws = Alone 13 ws
+Coded file object ws = Alone 14 ws
+Coded file (enum name z) ws = (place : ℕ) × (ws ≡ word (enumKind z) 0 place ∷ []) × (headAt file place ≡ name)
+Coded file (nullable t) ws = Before 16 (λ us. Coded file t us) ws
+Coded file (array t) ws = Before 17 (λ us. Coded file t us) ws
+Coded file (list t) ws = Before 18 (λ us. Coded file t us) ws
+Coded file (dictionary k v) ws = (place : ℕ) × (us : List ℕ) × (vs : List ℕ) × (ws ≡ word 19 2 place ∷ (us ++ vs)) × Coded file k us × Coded file v vs
+Coded file texture ws = Alone 31 ws
+Coded file texture2D ws = Alone 32 ws
+Coded file spriteFont ws = Alone 33 ws
+Coded file page ws = Alone 34 ws
+
+-- how many codes a type has
+unfoldable pub codeSize : Target → ℕ
+codeSize (fixed k) = 1
+codeSize char = 1
+codeSize string = 1
+codeSize object = 1
+codeSize (enum name z) = 1
+codeSize (nullable t) = suc (codeSize t)
+codeSize (array t) = suc (codeSize t)
+codeSize (list t) = suc (codeSize t)
+codeSize (dictionary k v) = suc (codeSize k + codeSize v)
+codeSize texture = 1
+codeSize texture2D = 1
+codeSize spriteFont = 1
+codeSize page = 1
+
+-- each `fixed` in it has one of the kinds that are `fixed` targets, and each enum one of 02's sizes, so that no two types have one code
+unfoldable pub Lawful : Target → Type 0
+Lawful (fixed k) = fixedKind k ≡ true
+Lawful char = Unit {0}
+Lawful string = Unit {0}
+Lawful object = Unit {0}
+Lawful (enum name z) = EnumSize z
+Lawful (nullable t) = Lawful t
+Lawful (array t) = Lawful t
+Lawful (list t) = Lawful t
+Lawful (dictionary k v) = Lawful k × Lawful v
+Lawful texture = Unit {0}
+Lawful texture2D = Unit {0}
+Lawful spriteFont = Unit {0}
+Lawful page = Unit {0}
 
 -- a lawful type stands at a place: the codes from there on begin with its codes
-pub record Stands (codes : List ℕ) (place : ℕ) (t : Target) : Type 0 where
+pub record Stands (file codes : List ℕ) (place : ℕ) (t : Target) : Type 0 where
   pub lawful : Lawful t
+  pub words : List ℕ
   pub rest : List ℕ
-  pub there : drop place codes ≡ code t ++ rest
+  pub coded : Coded file t words
+  pub there : drop place codes ≡ words ++ rest

@@ -1,23 +1,32 @@
 -- The heads' codes of a name that has a target are that target's codes. Assumes nothing.
-use mathlib.Core.Path.{_≡_, refl, ap}
-use mathlib.Core.Bool.{true, false, not, _&&_}
-use mathlib.Core.List.{List, [], _∷_, _++_}
-use mathlib.Core.Logic.{_⊎_, inl, inr}
-use Prim.Native.Nat.{ℕ, _+_, _*_}
+use mathlib.Core.Path.{_≡_, refl, sym, ap, _∙_}
+use mathlib.Core.Bool.{Bool, true, false, not, _&&_, cond}
+use mathlib.Core.List.{List, [], _∷_, _++_, append-nil}
+use mathlib.Core.Logic.{inl, inr}
+use Prim.Native.Char.{code}
+use Prim.Native.Nat.{ℕ, zero, suc, _+_, _*_, _%_, _<_}
 use native.Mathlib.Omega.{arith}
 use lib.Dec.{eqb}
-use borrow.Author.Tests.{eqb-true}
+use lib.ListN.{length, take, drop}
+use lib.Seq.{take-append-seam, drop-drop, drop-append-add}
+use borrow.Author.Tests.{eqb-true, eqb-false, eq-eqb, ne-eqb}
 use Rattle.laws.specs.Small.{differ}
 use Rattle.laws.specs.Ok as law
 use Rattle.laws.specs.Ok.{ok-pick}
+use Rattle.layout.specs.Text.{ascii}
 use Rattle.layout.specs.Target.{Target, fixed, char, string, object, texture, texture2D, spriteFont, page, enum, nullable, array, list, dictionary, kindOf, isValue}
-use Rattle.layout.specs.Name.{Name, simple, one, two}
+use Rattle.layout.specs.Name.{Tail, Name, simple, one, two, headByte, Head, writeTail, write, Formed}
 use Rattle.layout.specs.Kind.{lookup, targets, readers}
-use Rattle.layout.specs.Named.{Typed, unknown, known, fixedKind, plain, nullableOf, wrapped, paired, typeOf, enumOf, arrayOf, readerOf}
-use Rattle.types.specs.Code.{code, Throughout}
-use Rattle.names.specs.Codes.{codes-append}
-use Rattle.names.specs.Heading.{headings}
-use Rattle.names.specs.Kind.{codes, listed, node}
+use Rattle.layout.specs.EnumList.{EnumEntry, EnumSize, sizeIn}
+use Rattle.layout.specs.Named.{Typed, unknown, known, fixedKind, plain, nullableOf, wrapped, paired, listedEnum, typeOf, sizeOrFour, enumOf, arrayOf, readerOf}
+use Rattle.names.specs.Parse.{span}
+use Rattle.names.specs.Complete.{bracket, span-all, tail-opens, further}
+use Rattle.names.specs.Heading.{long, headings}
+use Rattle.names.specs.Codes.{codes-append, lookup-is-small}
+use Rattle.names.specs.Kind.{codes, listed, node, word, enumKind, kindIn}
+use Rattle.types.specs.Code.{headAt, Alone, Before, Coded, Lawful}
+use Rattle.types.specs.Contract.{enumWord, settled, settledSize}
+use Rattle.types.specs.Word.{word-node, enum-kind}
 
 -- what holds of a target that is known; nothing stands beside it in the answer
 abbrev pub Ok : (Target → Type 0) → Typed → Type 0
@@ -59,77 +68,191 @@ module _ {P Q : Target → Type 0} (k : ℕ) where
   ok-paired {r = known t} {s = unknown} o p f = none
   ok-paired {r = known t} {s = known u} o p f = ok-pick (eqb k 19) (λ b. some (f t u (eqb-true k 19 b) (o .got refl) (p .got refl))) none
 
+-- by a test, with what each outcome says of it
+pub ok-either : {P : Target → Type 0} (b : Bool) {x y : Typed} → (b ≡ true → Ok P x) → (b ≡ false → Ok P y) → Ok P (cond b x y)
+ok-either true f g = f refl
+ok-either false f g = g refl
+
 pub ok-array : {P Q : Target → Type 0} {r : Typed} → Ok Q r → ((t : Target) → Q t → P (array t)) → Ok P (arrayOf r)
 unfolding arrayOf
 ok-array {r = unknown} o f = none
 ok-array {r = known t} o f = some (f t (o .got refl))
 
--- a head with no argument
-plain-coded : (k : ℕ) → Ok (λ t. node k 0 ∷ [] ≡ code t) (plain k)
-unfolding code
-plain-coded k =
-    ok-plain k (λ _. ap (λ (x : ℕ). x ∷ []) (let z : k + 64 * 0 ≡ k = omega arith in z)) (λ e. rw e) (λ e. rw e) (λ e. rw e) (λ e. rw e) (λ e. rw e) (λ e. rw e) (λ e. rw e)
+-- a head that what follows does not go on stands where it was written
+pub head-stands : (file : List ℕ) (place : ℕ) (h r : List ℕ) → Head h → span headByte r ≡ 0 → drop place file ≡ h ++ r → headAt file place ≡ h
+unfolding headAt
+head-stands file place h r w e q = rw (q, span-all headByte h r (w .bytes) e, take-append-seam h r)
 
-wrapped-coded : (k : ℕ) (s : List ℕ) {r : Typed} → Ok (λ t. s ≡ code t) r → Ok (λ t. node k 1 ∷ s ≡ code t) (wrapped k r)
-unfolding code
-wrapped-coded k s o = ok-wrapped k o (λ t e p. rw (e, p)) (λ t e p. rw (e, p))
+-- a head that takes arguments has the kind that it names
+pub kind-taken : (es : List EnumEntry) (h : List ℕ) (n : ℕ) → kindIn es false h (suc n) ≡ lookup h targets
+unfolding kindIn
+kind-taken es h n = rw (ne-eqb (suc n) 0 (λ q. omega arith)) (go (eqb (lookup h targets) 0) refl) where
+  go : (b : Bool) → eqb (lookup h targets) 0 ≡ b → cond b 0 (lookup h targets) ≡ lookup h targets
+  go true e = sym (eqb-true (lookup h targets) 0 e)
+  go false e = refl
 
-paired-coded : (k : ℕ) (s s₂ : List ℕ) {r r₂ : Typed} → Ok (λ t. s ≡ code t) r → Ok (λ t. s₂ ≡ code t) r₂ → Ok (λ t. node k 2 ∷ (s ++ s₂) ≡ code t) (paired k r r₂)
-unfolding code
-paired-coded k s s₂ o o₂ = ok-paired k o o₂ (λ t u e p q. rw (e, p, q))
+-- under a list whose sizes are 02's
+module _ (file : List ℕ) (es : List EnumEntry) (sized : (h : List ℕ) → (sizeIn es h ≡ 0 → ⊥) → EnumSize (sizeIn es h)) where
+  -- a type that is lawful and has these codes
+  abbrev Is : List ℕ → Target → Type 0
+  Is ws t = Lawful t × Coded file t ws
 
--- the type of an argument
-pub type-coded : (n : Name) → Ok (λ t. codes false (headings n) ≡ code t) (typeOf n)
-unfolding headings codes listed typeOf
-type-coded (simple h t) = plain-coded (lookup h targets)
-type-coded (one h a t) = wrapped-coded (lookup h targets) (codes false (headings a)) (type-coded a)
-type-coded (two h a b t) = rw (codes-append (headings a) (headings b)) (paired-coded (lookup h targets) (codes false (headings a)) (codes false (headings b)) (type-coded a) (type-coded b))
+  -- a head with no argument
+  plain-coded : (k p : ℕ) → Ok (Is (word k 0 p ∷ [])) (plain k)
+  unfolding Lawful Coded Alone
+  plain-coded k p =
+      ok-plain k (λ b. (b, (p, refl))) (λ e. (tt, (p, rw e))) (λ e. (tt, (p, rw e))) (λ e. (tt, (p, rw e))) (λ e. (tt, (p, rw e))) (λ e. (tt, (p, rw e))) (λ e. (tt, (p, rw e))) (λ e. (tt, (p, rw e)))
 
-enum-coded : (n : Name) → Ok (λ t. node 15 1 ∷ codes false (headings n) ≡ code t) (enumOf n)
-unfolding enumOf headings codes listed code
-enum-coded (simple h t) = ok-pick (eqb (lookup h targets) 0) (λ b. some (rw (eqb-true (lookup h targets) 0 b))) none
-enum-coded (one h a t) = none
-enum-coded (two h a b t) = none
+  -- a head that is no target's, with no argument: listed
+  listed-coded : (h : List ℕ) (p : ℕ) → headAt file p ≡ h → Ok (Is (word (enumKind (sizeIn es h)) 0 p ∷ [])) (listedEnum h (sizeIn es h))
+  unfolding listedEnum Lawful Coded
+  listed-coded h p e = ok-either (eqb (sizeIn es h) 0) (λ _. none) (λ b. some (sized h (eqb-false (sizeIn es h) 0 b), (p, refl, e)))
 
--- the target of a reader
-pub reader-coded : (n : Name) → Ok (λ t. codes true (headings n) ≡ code t) (readerOf n)
-unfolding headings codes listed readerOf code
-reader-coded (simple h t) = plain-coded (lookup h readers)
-reader-coded (one h a t) =
-    let k = lookup h readers in
-    ok-pick (eqb k 15) (λ b. rw (eqb-true k 15 b) (enum-coded a))
-    (ok-pick (eqb k 17) (λ b. rw (eqb-true k 17 b) (ok-array (type-coded a) (λ t p. rw p)))
-    (wrapped-coded k (codes false (headings a)) (type-coded a)))
-reader-coded (two h a b t) =
-    rw (codes-append (headings a) (headings b)) (paired-coded (lookup h readers) (codes false (headings a)) (codes false (headings b)) (type-coded a) (type-coded b))
+  wrapped-coded : (k p : ℕ) (us : List ℕ) {r : Typed} → Ok (Is us) r → Ok (Is (word k 1 p ∷ us)) (wrapped k r)
+  unfolding Lawful Coded Before
+  wrapped-coded k p us o = ok-wrapped k o (λ t e w. (w .0, (p, us, rw e, w .1))) (λ t e w. (w .0, (p, us, rw e, w .1)))
 
--- what holds of each `fixed` kind holds throughout an argument's type, which has no enum in it
-module _ {P : ℕ → Type 0} (E : Type 0) (f : (k : ℕ) → fixedKind k ≡ true → P k) where
-  plain-keeps : (k : ℕ) → Ok (Throughout P E) (plain k)
-  unfolding Throughout
-  plain-keeps k = ok-plain k (f k) (λ _. tt) (λ _. tt) (λ _. tt) (λ _. tt) (λ _. tt) (λ _. tt) (λ _. tt)
+  paired-coded : (k p : ℕ) (us vs : List ℕ) {r r₂ : Typed} → Ok (Is us) r → Ok (Is vs) r₂ → Ok (Is (word k 2 p ∷ (us ++ vs))) (paired k r r₂)
+  unfolding Lawful Coded
+  paired-coded k p us vs o o₂ = ok-paired k o o₂ (λ t u e w v. ((w .0, v .0), (p, us, vs, rw e, w .1, v .1)))
 
-  pub type-keeps : (n : Name) → Ok (Throughout P E) (typeOf n)
-  unfolding typeOf Throughout
-  type-keeps (simple h t) = plain-keeps (lookup h targets)
-  type-keeps (one h a t) = ok-wrapped (lookup h targets) (type-keeps a) (λ t _ p. p) (λ t _ p. p)
-  type-keeps (two h a b t) = ok-paired (lookup h targets) (type-keeps a) (type-keeps b) (λ t u _ p q. (p, q))
+  -- a name that stands at a place, and the bracket behind it
+  abbrev Nested : (at : ℕ) → Name → Type 0
+  Nested at n = (r : List ℕ) × (drop at file ≡ write n (code "]" ∷ r))
 
-  -- a reader's target keeps it too, unless it is an enum
-  enum-is : (n : Name) → Ok (λ t. Throughout P E t ⊎ ((name : List ℕ) × (t ≡ enum name))) (enumOf n)
-  unfolding enumOf
-  enum-is (simple h t) = ok-pick (eqb (lookup h targets) 0) (λ _. some {t = enum h} (inr (h, refl))) none
-  enum-is (one h a t) = none
-  enum-is (two h a b t) = none
+  -- where the arguments stand
+  only-stands : (at : ℕ) (h : List ℕ) (a : Name) (t : Tail) (rest : List ℕ) → drop at file ≡ write (one h a t) rest → Nested (at + (length h + 4)) a
+  unfolding write ascii
+  only-stands at h a t rest e =
+      let r₂ = ascii "]]" ++ writeTail t rest in
+      (ascii "]" ++ writeTail t rest, sym (drop-drop (length h + 4) at file) ∙ ap (drop (length h + 4)) e ∙ drop-append-add h (ascii "`1[[" ++ write a r₂) 4)
 
-  plain-is : (k : ℕ) → Ok (λ t. Throughout P E t ⊎ ((name : List ℕ) × (t ≡ enum name))) (plain k)
-  unfolding Throughout
-  plain-is k = ok-plain k (λ b. inl (f k b)) (λ _. inl tt) (λ _. inl tt) (λ _. inl tt) (λ _. inl tt) (λ _. inl tt) (λ _. inl tt) (λ _. inl tt)
+  module _ (at : ℕ) (h : List ℕ) (a b : Name) (t : Tail) (rest : List ℕ) (e : drop at file ≡ write (two h a b t) rest) where
+    opens : drop (at + (length h + 4)) file ≡ write a (ascii "],[" ++ write b (ascii "]]" ++ writeTail t rest))
+    unfolding write ascii
+    opens = sym (drop-drop (length h + 4) at file) ∙ ap (drop (length h + 4)) e ∙ drop-append-add h (ascii "`2[[" ++ write a (ascii "],[" ++ write b (ascii "]]" ++ writeTail t rest))) 4
 
-  pub reader-keeps : (n : Name) → Ok (λ t. Throughout P E t ⊎ ((name : List ℕ) × (t ≡ enum name))) (readerOf n)
-  unfolding readerOf Throughout
-  reader-keeps (simple h t) = plain-is (lookup h readers)
-  reader-keeps (one h a t) =
-      let k = lookup h readers in
-      ok-pick (eqb k 15) (λ _. enum-is a) (ok-pick (eqb k 17) (λ _. ok-array (type-keeps a) (λ t p. inl p)) (ok-wrapped k (type-keeps a) (λ t _ p. inl p) (λ t _ p. inl p)))
-  reader-keeps (two h a b t) = ok-paired (lookup h readers) (type-keeps a) (type-keeps b) (λ t u _ p q. inl (p, q))
+    first-stands : Nested (at + (length h + 4)) a
+    unfolding ascii
+    first-stands = (ascii ",[" ++ write b (ascii "]]" ++ writeTail t rest), opens)
+
+    second-stands : Nested (at + (length h + 4 + long a + 3)) b
+    unfolding ascii
+    second-stands =
+        let q = further file (at + (length h + 4)) a (ascii "],[" ++ write b (ascii "]]" ++ writeTail t rest)) opens in
+        let z : at + (length h + 4) + long a + 3 ≡ at + (length h + 4 + long a + 3) = omega arith in
+        (ascii "]" ++ writeTail t rest, ap (λ (k : ℕ). drop k file) (sym z) ∙ sym (drop-drop 3 (at + (length h + 4) + long a) file) ∙ ap (drop 3) q)
+
+  -- the type of an argument
+  pub type-coded : (l at : ℕ) (n : Name) → Formed l n → Nested at n → Ok (Is (codes es false (headings at n))) (typeOf es n)
+  unfolding Formed headings codes kindIn typeOf write
+  type-coded zero at n f s = absurd f
+  type-coded (suc l) at (simple h t) f s =
+      ok-either (eqb (lookup h targets) 0)
+      (λ b. rw b (listed-coded h at (head-stands file at h (writeTail t (code "]" ∷ s .0)) (f .0) (tail-opens t (bracket {r = s .0}) .0) (s .1))))
+      (λ b. rw b (plain-coded (lookup h targets) at))
+  type-coded (suc l) at (one h a t) f s =
+      let p = at + (length h + 4) in
+      rw (kind-taken es h 0) (wrapped-coded (lookup h targets) at (codes es false (headings p a)) (type-coded l p a (f .1) (only-stands at h a t (code "]" ∷ s .0) (s .1))))
+  type-coded (suc l) at (two h a b t) f s =
+      let p = at + (length h + 4) in
+      let q = at + (length h + 4 + long a + 3) in
+      rw (kind-taken es h 1, codes-append es (headings p a) (headings q b))
+      (paired-coded (lookup h targets) at (codes es false (headings p a)) (codes es false (headings q b)) (type-coded l p a (f .1) (first-stands at h a b t (code "]" ∷ s .0) (s .1))) (type-coded l q b (f .2) (second-stands at h a b t (code "]" ∷ s .0) (s .1))))
+
+-- the codes that are left begin with the target's
+pub record Leaves (file cs : List ℕ) (t : Target) : Type 0 where
+  pub words : List ℕ
+  pub more : List ℕ
+  pub parts : settled cs ≡ words ++ more
+  pub sized : length words ≡ settledSize cs
+  pub lawful : Lawful t
+  pub coded : Coded file t words
+
+settled-alone : (w : ℕ) (us : List ℕ) → (w % 256 ≡ 79 → ⊥) → settled (w ∷ us) ≡ w ∷ us
+unfolding settled
+settled-alone w [] e = refl
+settled-alone w (v ∷ us) e = rw (ne-eqb (w % 256) 79 e)
+
+size-alone : (w : ℕ) (us : List ℕ) → (w % 256 ≡ 79 → ⊥) → length (w ∷ us) ≡ settledSize (w ∷ us)
+unfolding settledSize
+size-alone w [] e = refl
+size-alone w (v ∷ us) e = rw (ne-eqb (w % 256) 79 e) (let z : suc (suc (length us)) ≡ 2 + length us = omega arith in z)
+
+module _ (file : List ℕ) (es : List EnumEntry) (sized : (h : List ℕ) → (sizeIn es h ≡ 0 → ⊥) → EnumSize (sizeIn es h)) where
+  -- a reader that is no enum's: its own codes are left
+  as-they-are : {w : ℕ} {us : List ℕ} → (w % 256 ≡ 79 → ⊥) → (t : Target) → Lawful t × Coded file t (w ∷ us) → Leaves file (w ∷ us) t
+  as-they-are {w} {us} e t i = record { words = w ∷ us; more = []; parts = settled-alone w us e ∙ sym (append-nil (w ∷ us)); sized = size-alone w us e; lawful = i .0; coded = i .1 }
+
+  -- the argument of an enum's reader, which is listed or not
+  enum-word : (z p : ℕ) (b : Bool) → eqb z 0 ≡ b → (b ≡ false → EnumSize z) → (enumWord (word (enumKind z) 0 p) ≡ word (enumKind (cond b 4 z)) 0 p) × EnumSize (cond b 4 z)
+  unfolding enumWord EnumSize enumKind
+  enum-word z p true e f =
+      let y : z ≡ 0 = eqb-true z 0 e in
+      let m : word 0 0 p % 256 ≡ 0 = omega arith in
+      let a : word 0 0 p + 62 ≡ word 62 0 p = omega arith in
+      (rw (y, eq-eqb (word 0 0 p % 256) 0 m, a), inr (inr (inl refl)))
+  enum-word z p false e f = (go (f refl), f refl) where
+    go : EnumSize z → enumWord (word (enumKind z) 0 p) ≡ word (enumKind z) 0 p
+    go s =
+        let k = enum-kind z s in
+        let m : word (enumKind z) 0 p % 256 ≡ 0 → ⊥ = λ q. omega (arith, word-node (enumKind z) 0 p (k .1) (omega arith), k .0) in
+        rw (ne-eqb (word (enumKind z) 0 p % 256) 0 m)
+
+  enum-left : (w p : ℕ) (h : List ℕ) → w % 256 ≡ 79 → headAt file p ≡ h → Leaves file (w ∷ word (enumKind (sizeIn es h)) 0 p ∷ []) (enum h (sizeOrFour (sizeIn es h)))
+  unfolding settled settledSize sizeOrFour Lawful Coded
+  enum-left w p h e s =
+      let z = sizeIn es h in
+      let g = enum-word z p (eqb z 0) refl (λ b. sized h (eqb-false z 0 b)) in
+      record {
+        words = word (enumKind (cond (eqb z 0) 4 z)) 0 p ∷ [];
+        more = word (enumKind z) 0 p ∷ [];
+        parts = rw (eq-eqb (w % 256) 79 e, g .0);
+        sized = rw (eq-eqb (w % 256) 79 e);
+        lawful = g .1;
+        coded = (p, refl, s);
+      }
+
+  enum-coded : (w : ℕ) → w % 256 ≡ 79 → (l at : ℕ) (n : Name) → Formed l n → Nested file es sized at n → Ok (Leaves file (w ∷ codes es false (headings at n))) (enumOf es n)
+  unfolding Formed headings codes kindIn enumOf write
+  enum-coded w e zero at n f s = absurd f
+  enum-coded w e (suc l) at (simple h t) f s =
+      ok-pick (eqb (lookup h targets) 0)
+      (λ b. some (rw b (enum-left w at h e (head-stands file at h (writeTail t (code "]" ∷ s .0)) (f .0) (tail-opens t (bracket {r = s .0}) .0) (s .1)))))
+      none
+  enum-coded w e (suc l) at (one h a t) f s = none
+  enum-coded w e (suc l) at (two h a b t) f s = none
+
+  -- by what is known of the codes
+  kept-left : {w : ℕ} {us : List ℕ} {r : Typed} → (w % 256 ≡ 79 → ⊥) → Ok (λ t. Lawful t × Coded file t (w ∷ us)) r → Ok (Leaves file (w ∷ us)) r
+  kept-left e o = record { got = λ {a} {b} q. as-they-are e a (o .got q) }
+
+  module _ (at : ℕ) (h : List ℕ) where
+    -- the reader's own code has its kind and its number of arguments
+    other : (n : ℕ) → n < 4 → ((lookup h readers + 64 * n ≡ 79) → ⊥) → word (lookup h readers) n at % 256 ≡ 79 → ⊥
+    unfolding listed
+    other n b f q = f (sym (word-node (lookup h readers) n at (lookup-is-small true h) b) ∙ q)
+
+    only-coded : (k : ℕ) → k ≡ lookup h readers → (a : Name) (p l : ℕ) → Formed l a → Nested file es sized p a
+        → Ok (Leaves file (word k 1 at ∷ codes es false (headings p a))) (cond (eqb k 15) (enumOf es a) (cond (eqb k 17) (arrayOf (typeOf es a)) (wrapped k (typeOf es a))))
+    unfolding Lawful Coded Before
+    only-coded k i a p l f s =
+        let us = codes es false (headings p a) in
+        let o = type-coded file es sized l p a f s in
+        ok-either (eqb k 15)
+        (λ b. enum-coded (word k 1 at) (rw (eqb-true k 15 b) (word-node 15 1 at (omega arith) (omega arith))) l p a f s)
+        (λ b. kept-left (rw i (other 1 (omega arith) (λ q. eqb-false k 15 b (omega arith))))
+        (ok-pick (eqb k 17) (λ c. ok-array o (λ t w. (w .0, (at, us, rw (eqb-true k 17 c), w .1)))) (wrapped-coded file es sized k at us o)))
+
+  -- the target of a reader whose name stands in the file
+  pub reader-coded : (l at : ℕ) (n : Name) (rest : List ℕ) → Formed l n → drop at file ≡ write n rest → Ok (Leaves file (codes es true (headings at n))) (readerOf es n)
+  unfolding Formed headings codes kindIn listed readerOf
+  reader-coded zero at n rest f s = absurd f
+  reader-coded (suc l) at (simple h t) rest f s = kept-left (other at h 0 (omega arith) (λ q. omega (arith, lookup-is-small true h))) (plain-coded file es sized (lookup h readers) at)
+  reader-coded (suc l) at (one h a t) rest f s = only-coded at h (lookup h readers) refl a (at + (length h + 4)) l (f .1) (only-stands file es sized at h a t rest s)
+  reader-coded (suc l) at (two h a b t) rest f s =
+      let p = at + (length h + 4) in
+      let q = at + (length h + 4 + long a + 3) in
+      rw (codes-append es (headings p a) (headings q b))
+      (kept-left (other at h 2 (omega arith) (λ q. omega arith))
+      (paired-coded file es sized (lookup h readers) at (codes es false (headings p a)) (codes es false (headings q b)) (type-coded file es sized l p a (f .1) (first-stands file es sized at h a b t rest s)) (type-coded file es sized l q b (f .2) (second-stands file es sized at h a b t rest s))))

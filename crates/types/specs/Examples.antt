@@ -8,9 +8,10 @@ use Rattle.layout.specs.Target.{Target, fixed, char, string, object, texture, t
 use Rattle.layout.specs.Number.{between}
 use Rattle.layout.specs.Name.{headByte, tailByte}
 use Rattle.layout.specs.Kind.{lookup, alike, reader, readers, target as target-entry, targets}
-use Rattle.layout.specs.Named.{Typed, unknown, known, fixedKind, plain, nullableOf, wrapped, paired, typeOf, enumOf, arrayOf, readerOf}
+use Rattle.layout.specs.Named.{Typed, unknown, known, fixedKind, plain, nullableOf, wrapped, paired, listedEnum, typeOf, sizeOrFour, enumOf, arrayOf, readerOf}
+use Rattle.layout.specs.EnumList.{sizeIn}
 use Rattle.names.specs.Parse.{Read, broken, name, span, starts, tailSize, tailOf, closed, opening, onOnly, onSecond, onFirst, afterHead, headed, nameIn, whole, nameOf}
-use Rattle.names.specs.Heading.{headings}
+use Rattle.names.specs.Heading.{headings, long, longTail}
 use Rattle.names.specs.Kind.{listed}
 
 -- refused with a number, or the reader's target
@@ -24,11 +25,11 @@ typed (known t) = target t
 
 abbrev pub outcome : Read → Outcome
 outcome (broken hs) = refused 10
-outcome (name n k) = typed (readerOf n)
+outcome (name n k) = typed (readerOf [] n)
 
 abbrev pub outcomes : List String → List Outcome
 outcomes [] = []
-outcomes (s ∷ ss) = outcome (nameOf (ascii s)) ∷ outcomes ss
+outcomes (s ∷ ss) = outcome (nameOf 0 (ascii s)) ∷ outcomes ss
 
 unfoldable pub names : List String
 names =
@@ -74,7 +75,7 @@ pub examples : outcomes names ≡
     ∷ target (nullable char)
     ∷ target (array (list texture))
     ∷ target (dictionary string (dictionary (fixed 5) object))
-    ∷ target (enum (ascii "My.Game+Color"))
+    ∷ target (enum (ascii "My.Game+Color") 4)
     ∷ refused 10
     ∷ refused 10
     ∷ refused 10
@@ -97,5 +98,5 @@ pub examples : outcomes names ≡
     ∷ target (list (list (list (list (list (list (list char)))))))
     ∷ refused 10
     ∷ []
-unfolding names ascii nameOf whole nameIn headed afterHead onFirst onSecond onOnly closed opening starts span headByte tailByte tailOf tailSize headings readerOf typeOf enumOf arrayOf plain fixedKind wrapped nullableOf paired isValue kindOf lookup alike listed readers reader targets target-entry
+unfolding names ascii nameOf whole nameIn headed afterHead onFirst onSecond onOnly closed opening starts span headByte tailByte tailOf tailSize headings long longTail readerOf typeOf listedEnum sizeIn sizeOrFour enumOf arrayOf plain fixedKind wrapped nullableOf paired isValue kindOf lookup alike listed readers reader targets target-entry
 examples = refl

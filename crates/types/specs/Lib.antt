@@ -3,11 +3,13 @@ pub mod Code
 pub mod Place
 pub mod Judge
 pub mod Finite
+pub mod Contract
+pub mod Settling
+pub mod Word
 pub mod Coded
 pub mod Decode
 pub mod Extent
 pub mod Laws
-pub mod Contract
 pub mod Short
 pub mod Meaning
 pub mod Examples

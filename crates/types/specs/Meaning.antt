@@ -1,111 +1,142 @@
 -- What an answer of `resolve` says of the name: exactly which names are refused 10 and 11, and what stands in the codes otherwise. Assumes nothing.
 use mathlib.Core.Path.{_≡_, refl, sym, ap, _∙_}
-use mathlib.Core.Bool.{Bool, true, false}
-use mathlib.Core.List.{List}
-use Prim.Native.Nat.{ℕ, _+_, _≤_, _<_}
+use mathlib.Core.Bool.{Bool, true, false, _&&_, cond}
+use mathlib.Core.List.{List, [], _∷_, _++_}
+use Prim.Native.Nat.{ℕ, _+_, _*_, _%_, _≤_, _<_}
 use native.Mathlib.Omega.{arith}
-use lib.ListN.{length}
+use lib.Dec.{leb, eqb}
+use lib.ListN.{length, drop}
 use lib.Seq.{sets}
-use borrow.Author.Tests.{leb-true, leb-false}
-use Rattle.laws.specs.Small.{differ}
+use borrow.Author.Tests.{leb-true, leb-false, le-leb}
+use Rattle.laws.specs.Small.{differ, both}
 use Rattle.layout.specs.Target.{Target}
-use Rattle.layout.specs.Name.{Name, text, Formed}
+use Rattle.layout.specs.Name.{Name, text, write, Formed}
+use Rattle.layout.specs.EnumList.{EnumEntry, EnumSize, sizeIn}
 use Rattle.layout.specs.Named.{Typed, unknown, known, readerOf}
 use Rattle.names.specs.Parse.{Read, broken, name, nameOf}
+use Rattle.names.specs.Complete.{write-append}
 use Rattle.names.specs.Laws.{read-is-text, broken-is-no-text}
-use Rattle.names.specs.Codes.{read-has-room, codes-length}
-use Rattle.names.specs.Contract.{coded, refused, no-room, roomy}
-use Rattle.types.specs.declared.Resolved.{Resolved}
-use Rattle.types.specs.Code.{code, Stands}
-use Rattle.types.specs.Coded.{reader-coded}
-use Rattle.types.specs.Laws.{reader-is-lawful, written-stands}
-use Rattle.types.specs.Contract.{told, judged, resolution, left, content, Resolves}
+use Rattle.names.specs.Codes.{read-is-few, codes-length}
+use Rattle.names.specs.Contract.{Answer, coded, refused, no-room, placed, ending}
 use Rattle.names.specs.Heading.{headings}
+use Rattle.names.specs.Kind.{codes}
+use Rattle.types.specs.declared.Resolved.{Resolved}
+use Rattle.types.specs.Code.{codeSize, Stands}
+use Rattle.types.specs.Coded.{reader-coded}
+use Rattle.types.specs.Laws.{written-stands}
+use Rattle.types.specs.Contract.{told, judged, resolution, enumWord, settled, left, content, Resolves}
 
--- a lawful name with a target: its text is s, and its target's codes stand from `used` to `end`
-pub record HasTarget (s c c′ : List ℕ) (used end : ℕ) : Type 0 where
+pub settled-length : (ws : List ℕ) → length (settled ws) ≡ length ws
+unfolding settled
+settled-length [] = refl
+settled-length (w ∷ []) = refl
+settled-length (w ∷ v ∷ ws) = go (eqb (w % 256) 79) (enumWord v) where
+  go : (b : Bool) (x : ℕ) → length (cond b (x ∷ v ∷ ws) (w ∷ v ∷ ws)) ≡ length (w ∷ v ∷ ws)
+  go true x = refl
+  go false x = refl
+
+-- a lawful name with a target: its text is s, and where it stands in a file at `at`, its target's codes stand from `used` to `end`
+pub record HasTarget (es : List EnumEntry) (s : List ℕ) (at : ℕ) (c c′ : List ℕ) (used end : ℕ) : Type 0 where
   pub n : Name
   pub t : Target
+  pub words : List ℕ
   pub formed : Formed 8 n
   pub writes : s ≡ text n
-  pub target : readerOf n ≡ known t
-  pub ends : end ≡ used + length (code t)
-  pub room : end ≤ length c
-  pub content : c′ ≡ sets c used (code t)
-  pub stands : Stands c′ used t
+  pub target : readerOf es n ≡ known t
+  pub ends : end ≡ used + codeSize t
+  pub content : c′ ≡ sets c used words
+  pub stands : (file rest : List ℕ) → drop at file ≡ s ++ rest → Stands file c′ used t
 
-module _ (s c c′ : List ℕ) (used : ℕ) where
-  known-as : (end : ℕ) (n : Name) (j : ℕ) → roomy s c used ≡ true → nameOf s ≡ name n j → (k : Typed) → readerOf n ≡ k → coded end ≡ judged used k → c′ ≡ sets c used (left k (headings n)) → HasTarget s c c′ used end
-  unfolding roomy judged left
-  known-as end n j q i unknown e a w = differ cc
-  known-as end n j q i (known t) e a w =
-      let g = read-is-text s n j i in
-      let z : end ≡ used + length (code t) = cc in
-      let l : length (headings n) ≡ length (code t) = sym (codes-length true (headings n)) ∙ ap length (reader-coded n .got e) in
-      let h : used + length (code t) ≤ length c = omega (arith, leb-true (used + length s) (length c) q, read-has-room s n j i) in
+module _ (es : List EnumEntry) (sized : (h : List ℕ) → (sizeIn es h ≡ 0 → ⊥) → EnumSize (sizeIn es h)) (s : List ℕ) (at : ℕ) (c c′ : List ℕ) (used : ℕ) where
+  known-as : (end : ℕ) (n : Name) (j : ℕ) → nameOf at s ≡ name n j → used + length (headings at n) ≤ length c → (k : Typed) → readerOf es n ≡ k → coded end ≡ judged used k
+      → c′ ≡ sets c used (left k (codes es true (headings at n))) → HasTarget es s at c c′ used end
+  unfolding judged left
+  known-as end n j i h unknown e a w = differ cc
+  known-as end n j i h (known t) e a w =
+      let g = read-is-text at s n j i in
+      let cs = codes es true (headings at n) in
+      let z : end ≡ used + codeSize t = cc in
+      let l : used + length (settled cs) ≤ length c = omega (arith, settled-length cs, codes-length es true (headings at n)) in
       record {
         n = n;
         t = t;
+        words = settled cs;
         formed = g .0;
         writes = g .1;
         target = e;
         ends = z;
-        room = omega arith;
         content = w;
-        stands = rw w (written-stands c used t (reader-is-lawful n t e) h);
+        stands = λ file rest q. rw w (written-stands file c used cs t (reader-coded file es sized 8 at n rest (g .0) (q ∙ ap (λ (l : List ℕ). l ++ rest) (g .1) ∙ write-append n [] rest) .got e) l);
       }
 
-  named-as : (end : ℕ) (b : Bool) (r : Read) → roomy s c used ≡ b → nameOf s ≡ r → coded end ≡ resolution b used r → c′ ≡ content b c used r → HasTarget s c c′ used end
-  unfolding resolution content
-  named-as end false r q i a w = differ cc
-  named-as end true (broken hs) q i a w = differ cc
-  named-as end true (name n j) q i a w = known-as end n j q i (readerOf n) refl a w
+  -- by the room for the codes
+  roomy-as : (end : ℕ) (n : Name) (j : ℕ) (b : Bool) → nameOf at s ≡ name n j → leb (used + length (headings at n)) (length c) ≡ b → coded end ≡ cond b (judged used (readerOf es n)) no-room
+      → c′ ≡ cond b (sets c used (left (readerOf es n) (codes es true (headings at n)))) (sets c used (codes es true (headings at n))) → HasTarget es s at c c′ used end
+  roomy-as end n j true i q a w = known-as end n j i (leb-true (used + length (headings at n)) (length c) q) (readerOf es n) refl a w
+  roomy-as end n j false i q a w = differ cc
+
+  named-as : (end : ℕ) (b : Bool) (r : Read) → nameOf at s ≡ r → coded end ≡ resolution es b (length c) at used r → c′ ≡ content es b c at used r → HasTarget es s at c c′ used end
+  unfolding resolution content ending
+  named-as end false r i a w = differ cc
+  named-as end true (broken hs) i a w = differ cc
+  named-as end true (name n j) i a w = roomy-as end n j (leb (used + length (headings at n)) (length c)) i refl a w
 
   -- an answer with codes: the name is lawful and has a target, whose codes were written
-  pub target-is : {r : Resolved} (end : ℕ) → Resolves s c c′ used r → told r ≡ coded end → HasTarget s c c′ used end
-  target-is end p e = named-as end (roomy s c used) (nameOf s) refl refl (sym e ∙ p .answers) (p .writes)
+  pub target-is : {r : Resolved} (end : ℕ) → Resolves es s at c c′ used r → told r ≡ coded end → HasTarget es s at c c′ used end
+  target-is end p e = named-as end (placed s at used) (nameOf at s) refl (sym e ∙ p .answers) (p .writes)
 
-  unknown-as : (n : Name) (j : ℕ) → nameOf s ≡ name n j → (k : Typed) → readerOf n ≡ k → refused 11 ≡ judged used k → (n : Name) × Formed 8 n × (s ≡ text n) × (readerOf n ≡ unknown)
+module _ (es : List EnumEntry) (s : List ℕ) (at : ℕ) (c c′ : List ℕ) (used : ℕ) where
+  -- a well-formed name without a target
+  abbrev Untyped : Type 0
+  Untyped = (n : Name) × Formed 8 n × (s ≡ text n) × (readerOf es n ≡ unknown)
+
+  unknown-as : (n : Name) (j : ℕ) → nameOf at s ≡ name n j → (b : Bool) (k : Typed) → readerOf es n ≡ k → refused 11 ≡ cond b (judged used k) no-room → Untyped
   unfolding judged
-  unknown-as n j i unknown e a = let g = read-is-text s n j i in (n, g .0, g .1, e)
-  unknown-as n j i (known t) e a = differ cc
+  unknown-as n j i true unknown e a = let g = read-is-text at s n j i in (n, g .0, g .1, e)
+  unknown-as n j i true (known t) e a = differ cc
+  unknown-as n j i false k e a = differ cc
 
-  eleven-as : (b : Bool) (r : Read) → nameOf s ≡ r → refused 11 ≡ resolution b used r → (n : Name) × Formed 8 n × (s ≡ text n) × (readerOf n ≡ unknown)
-  unfolding resolution
+  eleven-as : (b : Bool) (r : Read) → nameOf at s ≡ r → refused 11 ≡ resolution es b (length c) at used r → Untyped
+  unfolding resolution ending
   eleven-as false r i a = differ cc
   eleven-as true (broken hs) i a = absurd (let z : _≡_ {A = ℕ} 11 10 = cc in omega arith)
-  eleven-as true (name n j) i a = unknown-as n j i (readerOf n) refl a
+  eleven-as true (name n j) i a = unknown-as n j i (leb (used + length (headings at n)) (length c)) (readerOf es n) refl a
 
   -- 11: the name is lawful and has no target
-  pub eleven-is : {r : Resolved} → Resolves s c c′ used r → told r ≡ refused 11 → (n : Name) × Formed 8 n × (s ≡ text n) × (readerOf n ≡ unknown)
-  eleven-is p e = eleven-as (roomy s c used) (nameOf s) refl (sym e ∙ p .answers)
+  pub eleven-is : {r : Resolved} → Resolves es s at c c′ used r → told r ≡ refused 11 → Untyped
+  eleven-is p e = eleven-as (placed s at used) (nameOf at s) refl (sym e ∙ p .answers)
 
-  not-ten : (k : Typed) → refused 10 ≡ judged used k → ⊥
+  not-ten : (b : Bool) (k : Typed) → refused 10 ≡ cond b (judged used k) no-room → ⊥
   unfolding judged
-  not-ten unknown a = let z : _≡_ {A = ℕ} 10 11 = cc in omega arith
-  not-ten (known t) a = differ cc
+  not-ten true unknown a = let z : _≡_ {A = ℕ} 10 11 = cc in omega arith
+  not-ten true (known t) a = differ cc
+  not-ten false k a = differ cc
 
-  ten-as : (b : Bool) (r : Read) → nameOf s ≡ r → refused 10 ≡ resolution b used r → (n : Name) → Formed 8 n → s ≡ text n → ⊥
-  unfolding resolution
+  ten-as : (b : Bool) (r : Read) → nameOf at s ≡ r → refused 10 ≡ resolution es b (length c) at used r → (n : Name) → Formed 8 n → s ≡ text n → ⊥
+  unfolding resolution ending
   ten-as false r i a = differ cc
-  ten-as true (broken hs) i a = broken-is-no-text s hs i
-  ten-as true (name n j) i a = absurd (not-ten (readerOf n) a)
+  ten-as true (broken hs) i a = broken-is-no-text at s hs i
+  ten-as true (name n j) i a = absurd (not-ten (leb (used + length (headings at n)) (length c)) (readerOf es n) a)
 
   -- 10: no lawful name has this text
-  pub ten-is : {r : Resolved} → Resolves s c c′ used r → told r ≡ refused 10 → (n : Name) → Formed 8 n → s ≡ text n → ⊥
-  ten-is p e = ten-as (roomy s c used) (nameOf s) refl (sym e ∙ p .answers)
+  pub ten-is : {r : Resolved} → Resolves es s at c c′ used r → told r ≡ refused 10 → (n : Name) → Formed 8 n → s ≡ text n → ⊥
+  ten-is p e = ten-as (placed s at used) (nameOf at s) refl (sym e ∙ p .answers)
 
-  some-room : (k : Typed) → no-room ≡ judged used k → ⊥
+  -- by the room for the codes: a name of so many bytes has few
+  full-as : (n : Name) (j : ℕ) → nameOf at s ≡ name n j → (b : Bool) (k : Typed) → leb (used + length (headings at n)) (length c) ≡ b → no-room ≡ cond b (judged used k) no-room
+      → 11 * length c < 11 * used + 2 * length s + 9
   unfolding judged
-  some-room unknown a = differ cc
-  some-room (known t) a = differ cc
+  full-as n j i true unknown q a = differ cc
+  full-as n j i true (known t) q a = differ cc
+  full-as n j i false k q a = omega (arith, leb-false (used + length (headings at n)) (length c) q, read-is-few at s n j i)
 
-  no-room-as : (b : Bool) (r : Read) → roomy s c used ≡ b → no-room ≡ resolution b used r → length c < used + length s
-  unfolding roomy resolution
-  no-room-as false r q a = leb-false (used + length s) (length c) q
-  no-room-as true (broken hs) q a = differ cc
-  no-room-as true (name n j) q a = absurd (some-room (readerOf n) a)
+  no-room-as : (b : Bool) (r : Read) → placed s at used ≡ b → nameOf at s ≡ r → no-room ≡ resolution es b (length c) at used r → used ≤ 16777216 → at + length s ≤ 16777216
+      → 11 * length c < 11 * used + 2 * length s + 9
+  unfolding placed resolution ending
+  no-room-as false r q i a u h = absurd (let z : (leb used 16777216 && leb (at + length s) 16777216) ≡ true = rw (le-leb used 16777216 u, le-leb (at + length s) 16777216 h) in differ cc)
+  no-room-as true (broken hs) q i a u h = differ cc
+  no-room-as true (name n j) q i a u h = full-as n j i (leb (used + length (headings at n)) (length c)) (readerOf es n) refl a
 
-  -- no room: the codes from `used` on are fewer than the name's bytes
-  pub no-room-is : {r : Resolved} → Resolves s c c′ used r → told r ≡ no-room → length c < used + length s
-  no-room-is p e = no-room-as (roomy s c used) (nameOf s) refl (sym e ∙ p .answers)
+  -- no room, though the places fit: there are fewer codes from `used` on than 2 for each 11 bytes of the name
+  pub no-room-is : {r : Resolved} → Resolves es s at c c′ used r → told r ≡ no-room → used ≤ 16777216 → at + length s ≤ 16777216 → 11 * length c < 11 * used + 2 * length s + 9
+  no-room-is p e = no-room-as (placed s at used) (nameOf at s) refl refl (sym e ∙ p .answers)

@@ -1,11 +1,11 @@
 -- `readers::counted` meets its contract. Assumes nothing.
-use mathlib.Core.Path.{sym, ap, _∙_}
+use mathlib.Core.Path.{refl, sym, ap, _∙_}
 use native.Mathlib.Omega.{arith}
 use Rattle.answers.specs.Told.{told}
 use Rattle.reading.specs.Reads.{small-by-index}
 use Rattle.places.specs.Padding.{pad-few}
 use Rattle.readers.specs.Contract.{countedTotal}
-use Rattle.readers.specs.Passed.{Passed, all-passed}
+use Rattle.readers.specs.Passed.{all-passed}
 use Rattle.readers.proofs.Parts.{up-to-bound}
 use Rattle.readers.proofs.Whole.{readers-refused, shared-refused, shared-read}
 use borrow.Author.Needs.{needs}
@@ -30,27 +30,23 @@ enum-known-number-2 c = search needs
 enum-known-shared : tie.Need-enum-known-shared
 enum-known-shared c = search needs
 
--- the readers were read, with the padding of their names' lengths
-passed : (c : tie.After-known-told2) → Passed (c .before .before .before .before .before .before .before .before .before .before .before .before .before .before .before .before .before .args .file .now) (c .before .before .before .before .before .before .before .before .before .before .before .before .before .before .before .before .before .args .n) (c .before .before .before .before .before .before .before .before .before .before .before .before .before .before .before .before .before .args .at) (c .before .before .before .before .before .before .before .before .before .before .before .before .before .before .before .before .before .args .n) (c .before .names .given .0 .1 .0) (c .before .names .given .0 .0)
-passed c = (rw (c .before .names .given .1) at (c .before .before .before .before .before .before .before .before .before .readers-at .ensures .0)) .1
-
 add-total : tie.Need-add-total
-add-total c = omega (arith, passed (c .before .before .before .before) .few, c .before .before .before .before .before .before .before .before .before .before .before .before .before .before .before .before .before .before .before .before .before .pre .0 .1, c .before .before .before .before .before .before .before .before .before .before .before .before .before .before .before .before .before .before .before .before .before .pre .1)
+add-total c = omega (arith, (rw ((c .before .before .before .before .before .names) .given .1) at ((c .before .before .before .before .before .before .before .before .before .before .before .before .before .readers-at) .ensures .0)) .1 .few, (c .before .before .before .before .before .before .before .before .before .before .before .before .before .before .before .before .before .before .before .before .before .before .pre) .0 .1, (c .before .before .before .before .before .before .before .before .before .before .before .before .before .before .before .before .before .before .before .before .before .before .pre) .1)
 
 padding-at-requires : tie.Need-padding-at-requires
 padding-at-requires c κs = search needs
 
 add-total-2 : tie.Need-add-total-2
 add-total-2 c =
-    let file = c .before .before .before .before .before .before .before .before .before .before .before .before .before .before .before .before .before .before .before .before .before .before .args .file .now in
-    let small = small-by-index file (λ i h. omega (arith, c .before .before .before .before .before .before .before .before .before .before .before .before .before .before .before .before .before .before .before .before .before .shared-slice-known .given i)) in
-    omega (arith, passed (c .before .before .before .before .before) .few, c .before .before .before .before .before .before .before .before .before .before .before .before .before .before .before .before .before .before .before .before .before .before .pre .0 .1, c .before .before .before .before .before .before .before .before .before .before .before .before .before .before .before .before .before .before .before .before .before .before .pre .1, c .padding-at .ensures, pad-few file small (c .before .before .before .before .before .before .names .given .0 .1 .0))
-
-cast-t27 : tie.Need-cast-t27
-cast-t27 c = search needs
+    let file = (c .before .before .before .before .before .before .before .before .before .before .before .before .before .before .before .before .before .before .before .before .before .before .before .args) .file .now in
+    let small = small-by-index file (λ i h. omega (arith, (c .before .before .before .before .before .before .before .before .before .before .before .before .before .before .before .before .before .before .before .before .before .before .shared-slice-known) .given i)) in
+    omega (arith, (rw ((c .before .before .before .before .before .before .names) .given .1) at ((c .before .before .before .before .before .before .before .before .before .before .before .before .before .before .readers-at) .ensures .0)) .1 .few, (c .before .before .before .before .before .before .before .before .before .before .before .before .before .before .before .before .before .before .before .before .before .before .before .pre) .0 .1, (c .before .before .before .before .before .before .before .before .before .before .before .before .before .before .before .before .before .before .before .before .before .before .before .pre) .1, (c .padding-at) .ensures, pad-few file small ((c .before .before .before .before .before .before .names) .given .0 .1 .0))
 
 cast-t28 : tie.Need-cast-t28
-cast-t28 c = omega (arith, up-to-bound _ _ _ (sym (c .before .before .before .before .up-to .ensures) ∙ ap told (c .before .before .shared .given .1)))
+cast-t28 c = omega (arith, (c .before .before .before .before .before .before .before .before .before .before .before .before .before .before .before .before .before .before .before .before .before .before .before .pre) .0 .1)
+
+cast-t29 : tie.Need-cast-t29
+cast-t29 c = omega (arith, up-to-bound _ _ _ (sym ((c .before .before .before .before .up-to) .ensures) ∙ ap told ((c .before .before .shared) .given .1)))
 
 same-length : tie.Need-same-length
 same-length c = search needs
@@ -63,8 +59,8 @@ same-length-3 c = search needs
 
 returns : tie.Need-returns
 returns c =
-    let e = c .before .before .before .before .before .before .before .before .before .readers-at .ensures in
-    (readers-refused _ _ _ (rw (c .before .number .given .1) at (e .0)), e .1 .1)
+    let e = (c .before .before .before .before .before .before .before .before .before .readers-at) .ensures in
+    ((refl, readers-refused _ _ _ _ (rw ((c .before .number) .given .1) at (e .0))), e .1 .1)
 
 same-length-4 : tie.Need-same-length-4
 same-length-4 c = search needs
@@ -77,8 +73,8 @@ same-length-6 c = search needs
 
 returns-2 : tie.Need-returns-2
 returns-2 c =
-    let e = c .before .before .before .before .before .before .before .before .before .before .before .before .before .readers-at .ensures in
-    (shared-refused _ _ _ ((rw (c .before .before .before .before .before .names .given .1) at (e .0)) .0) (sym (c .before .before .before .up-to .ensures) ∙ ap told (c .before .number2 .given .1)), e .1 .1)
+    let e = (c .before .before .before .before .before .before .before .before .before .before .before .before .before .readers-at) .ensures in
+    ((refl, shared-refused _ _ _ _ ((rw ((c .before .before .before .before .before .names) .given .1) at (e .0)) .0) (sym ((c .before .before .before .up-to) .ensures) ∙ ap told ((c .before .number2) .given .1))), e .1 .1)
 
 same-length-7 : tie.Need-same-length-7
 same-length-7 c = search needs
@@ -92,13 +88,14 @@ same-length-9 c = search needs
 returns-3 : tie.Need-returns-3
 unfolding countedTotal
 returns-3 c =
-    let p = c .before .before .before .before .before .before .before .before .before .before .before .before .before .before .before .before .before .before .before .before .before .before .pre .0 in
-    let e = c .before .before .before .before .before .before .before .before .before .before .before .before .before .before .readers-at .ensures in
-    let r = rw (c .before .before .before .before .before .before .names .given .1) at (e .0) in
-    let a = all-passed (c .before .before .before .before .before .before .before .before .before .before .before .before .before .before .before .before .before .before .before .before .before .before .args .file .now) (c .before .before .before .before .before .before .before .before .before .before .before .before .before .before .before .before .before .before .before .before .before .before .args .n) (c .before .before .before .before .before .before .before .before .before .before .before .before .before .before .before .before .before .before .before .before .before .before .args .at) (c .before .before .before .before .before .before .names .given .0 .1 .0) (c .before .before .before .before .before .before .names .given .0 .0) (r .1) in (
+    let p = (c .before .before .before .before .before .before .before .before .before .before .before .before .before .before .before .before .before .before .before .before .before .before .before .pre) .0 in
+    let e = (c .before .before .before .before .before .before .before .before .before .before .before .before .before .before .readers-at) .ensures in
+    let r = rw ((c .before .before .before .before .before .before .names) .given .1) at (e .0) in
+    let a = all-passed ((c .before .before .before .before .before .before .before .before .before .before .before .before .before .before .before .before .before .before .before .before .before .before .before .args) .file .now) ((c .before .before .before .before .before .before .before .before .before .before .before .before .before .before .before .before .before .before .before .before .before .before .before .args) .n) ((c .before .before .before .before .before .before .before .before .before .before .before .before .before .before .before .before .before .before .before .before .before .before .before .args) .at) ((c .before .before .before .before .before .before .names) .given .0 .1 .0) ((c .before .before .before .before .before .before .names) .given .0 .0) (r .1) in (
       (
-        shared-read _ _ _ (r .0) (p .1) (c .before .before .before .before .before .before .before .before .before .before .before .before .before .codes .given ∙ p .2) (c .before .before .before .before .before .before .before .before .before .before .before .targets .given ∙ p .3) (c .before .before .before .before .before .before .before .before .before .starts .given ∙ p .4) (sym (c .before .before .before .before .up-to .ensures) ∙ ap told (c .before .before .shared .given .1)),
-        rw (c .padding-at .ensures, a .1, ← a .0),
+        refl,
+        shared-read _ _ _ _ (r .0) (p .1) ((c .before .before .before .before .before .before .before .before .before .before .before .before .before .codes) .given) ((c .before .before .before .before .before .before .before .before .before .before .before .targets) .given ∙ p .3) ((c .before .before .before .before .before .before .before .before .before .starts) .given ∙ p .4) (sym ((c .before .before .before .before .up-to) .ensures) ∙ ap told ((c .before .before .shared) .given .1)),
+        rw ((c .padding-at) .ensures, a .1, ← a .0),
       ),
       e .1 .1,
     )
@@ -116,8 +113,8 @@ counted-spec =
     add-total
     padding-at-requires
     add-total-2
-    cast-t27
     cast-t28
+    cast-t29
     same-length
     same-length-2
     same-length-3

@@ -1,44 +1,25 @@
 -- `readers::named_at` meets its contract. Assumes nothing.
-use mathlib.Core.Path.{_≡_}
-use mathlib.Core.Bool.{true}
-use Prim.Native.Nat.{_+_, _-_, _≤_}
-use lib.Dec.{leb}
-use lib.ListN.{length, take, drop, length-drop}
-use borrow.Author.Tests.{leb-true, not-true, not-false}
-use Rattle.types.specs.Contract.{told as resolved}
-use Rattle.types.specs.Meaning.{target-is}
 use mathlib.Core.Path.{sym, ap, _∙_}
 use native.Mathlib.Omega.{arith}
-use Rattle.readers.proofs.Parts.{named-missing, named-room, named-ten, named-eleven, named-target}
+use lib.ListN.{length, drop, length-drop}
+use borrow.Author.Tests.{leb-true, not-true, not-false}
+use Rattle.names.specs.Entries.{enums-sized}
+use Rattle.types.specs.Contract.{told as resolved}
+use Rattle.types.specs.Meaning.{target-is}
+use Rattle.readers.proofs.Parts.{name-part, named-missing, named-room, named-ten, named-eleven, named-target}
 use Rattle.readers.specs.Left.{name-missing, name-resolved}
 use borrow.Author.Needs.{needs}
 use Rattle.readers.proofs.named_at.Statement.{statement}
 use Rattle.readers.proofs.named_at.Tie as tie
-
-there : (c : tie.Else1) → leb (c .before .before .before .before .args .n) (length (drop (c .before .before .before .before .args .first) (c .before .before .before .before .args .file .now))) ≡ true
-there c = sym (c .before .has-bytes .ensures) ∙ not-false _ (c .if1 .left)
-
--- the name's bytes are in the file
-inside : (c : tie.Else1) → c .before .before .before .before .args .first + c .before .before .before .before .args .n ≤ length (c .before .before .before .before .args .file .now)
-inside c =
-    let a = c .before .before .before .before .args in
-    omega (arith, leb-true (a .n) (length (drop (a .first) (a .file .now))) (there c), length-drop (a .first) (a .file .now), c .before .before .before .before .pre .0)
-
--- the part of the file that is resolved is the name
-part : (c : tie.Else1) → take (c .before .before .before .before .args .first + c .before .before .before .before .args .n - c .before .before .before .before .args .first) (drop (c .before .before .before .before .args .first) (c .before .before .before .before .args .file .now)) ≡ take (c .before .before .before .before .args .n) (drop (c .before .before .before .before .args .first) (c .before .before .before .before .args .file .now))
-part c =
-    let a = c .before .before .before .before .args in
-    let e : a .first + a .n - a .first ≡ a .n = omega arith in
-    rw e
 
 has-bytes-requires : tie.Need-has-bytes-requires
 has-bytes-requires c κs = search needs
 
 returns : tie.Need-returns
 returns c =
-    let a = c .before .before .before .before .args in
-    let t = sym (c .before .has-bytes .ensures) ∙ not-true _ (c .if1 .taken) in
-    (named-missing (a .file .now) (a .n) (a .at) (a .first) t, name-missing (a .file .now) (a .codes .now) (a .used) (a .at) (a .first) (a .n) t)
+    let a = (c .before .before .before .before .before .args) in
+    let t = sym ((c .before .has-bytes) .ensures) ∙ not-true _ ((c .if1) .taken) in
+    (named-missing _ (a .file .now) (a .n) (a .at) (a .first) t, name-missing _ (a .file .now) (a .codes .now) (a .used) (a .at) (a .first) (a .n) t)
 
 add-version : tie.Need-add-version
 add-version c = search needs
@@ -50,7 +31,9 @@ part-resolve-start : tie.Need-part-resolve-start
 part-resolve-start c = search needs
 
 part-resolve-end : tie.Need-part-resolve-end
-part-resolve-end c = omega (arith, inside c)
+part-resolve-end c =
+    let a = (c .before .before .before .before .before .args) in
+    omega (arith, leb-true (a .n) (length (drop (a .first) (a .file .now))) (sym ((c .before .has-bytes) .ensures) ∙ not-false _ ((c .if1) .left)), length-drop (a .first) (a .file .now), (c .before .before .before .before .before .pre) .0)
 
 resolve-requires : tie.Need-resolve-requires
 resolve-requires c κs = search needs
@@ -75,21 +58,19 @@ same-length c = search needs
 
 returns-2 : tie.Need-returns-2
 returns-2 c =
-    absurd (let e = c .before .before .before .before .before .before .before in
-    let a = e .before .before .before .before .args in
-    let pre = e .before .before .before .before .pre in
-    named-room (a .file .now) (a .n) (a .at) (a .first) (there e) _ _ _ (a .used) (part e) (pre .1) (pre .2) (pre .0) (c .before .before .before .before .resolve .ensures) (ap resolved (c .enum-told .given .1)))
+    let a = (c .before .before .before .before .before .before .before .before .before .before .before .before .args) in
+    let pre = (c .before .before .before .before .before .before .before .before .before .before .before .before .pre) in
+    absurd (named-room _ (a .file .now) (a .n) (a .at) (a .first) (sym ((c .before .before .before .before .before .before .before .before .has-bytes) .ensures) ∙ not-false _ ((c .before .before .before .before .before .before .before .if1) .left)) _ _ _ (a .used) (name-part (a .file .now) (a .first) (a .n)) (pre .1) (pre .2 .2) (pre .2 .1) (pre .0) (pre .2 .0) ((c .before .before .before .before .resolve) .ensures) (ap resolved ((c .enum-told) .given .1)))
 
 same-length-2 : tie.Need-same-length-2
 same-length-2 c = search needs
 
 returns-3 : tie.Need-returns-3
 returns-3 c =
-    let e = c .before .before .before .before .before .before .before in
-    let a = e .before .before .before .before .args in
-    let pre = e .before .before .before .before .pre in (
-      named-ten (a .file .now) (a .n) (a .at) (a .first) (there e) _ _ _ (a .used) (part e) (pre .1) (pre .2) (pre .0) (c .before .before .before .before .resolve .ensures) (ap resolved (c .enum-told2 .given .1)),
-      rw (c .enum-told2 .given .1) at (name-resolved (a .file .now) (a .codes .now) (a .used) (a .at) (a .first) (a .n) (there e) _ _ _ (part e) (c .before .before .before .before .resolve .ensures)),
+    let a = (c .before .before .before .before .before .before .before .before .before .before .before .before .args) in
+    let pre = (c .before .before .before .before .before .before .before .before .before .before .before .before .pre) in (
+      named-ten _ (a .file .now) (a .n) (a .at) (a .first) (sym ((c .before .before .before .before .before .before .before .before .has-bytes) .ensures) ∙ not-false _ ((c .before .before .before .before .before .before .before .if1) .left)) _ _ _ (a .used) (name-part (a .file .now) (a .first) (a .n)) (pre .1) (pre .2 .2) (pre .2 .1) (pre .0) (pre .2 .0) ((c .before .before .before .before .resolve) .ensures) (ap resolved ((c .enum-told2) .given .1)),
+      rw ((c .enum-told2) .given .1) at (name-resolved _ (a .file .now) (a .codes .now) (a .used) (a .at) (a .first) (a .n) (sym ((c .before .before .before .before .before .before .before .before .has-bytes) .ensures) ∙ not-false _ ((c .before .before .before .before .before .before .before .if1) .left)) _ _ _ (name-part (a .file .now) (a .first) (a .n)) ((c .before .before .before .before .resolve) .ensures)),
     )
 
 same-length-3 : tie.Need-same-length-3
@@ -97,11 +78,10 @@ same-length-3 c = search needs
 
 returns-4 : tie.Need-returns-4
 returns-4 c =
-    let e = c .before .before .before .before .before .before .before in
-    let a = e .before .before .before .before .args in
-    let pre = e .before .before .before .before .pre in (
-      named-eleven (a .file .now) (a .n) (a .at) (a .first) (there e) _ _ _ (a .used) (part e) (pre .1) (pre .2) (pre .0) (c .before .before .before .before .resolve .ensures) (ap resolved (c .enum-told3 .given .1)),
-      rw (c .enum-told3 .given .1) at (name-resolved (a .file .now) (a .codes .now) (a .used) (a .at) (a .first) (a .n) (there e) _ _ _ (part e) (c .before .before .before .before .resolve .ensures)),
+    let a = (c .before .before .before .before .before .before .before .before .before .before .before .before .args) in
+    let pre = (c .before .before .before .before .before .before .before .before .before .before .before .before .pre) in (
+      named-eleven _ (a .file .now) (a .n) (a .at) (a .first) (sym ((c .before .before .before .before .before .before .before .before .has-bytes) .ensures) ∙ not-false _ ((c .before .before .before .before .before .before .before .if1) .left)) _ _ _ (a .used) (name-part (a .file .now) (a .first) (a .n)) (pre .1) (pre .2 .2) (pre .2 .1) (pre .0) (pre .2 .0) ((c .before .before .before .before .resolve) .ensures) (ap resolved ((c .enum-told3) .given .1)),
+      rw ((c .enum-told3) .given .1) at (name-resolved _ (a .file .now) (a .codes .now) (a .used) (a .at) (a .first) (a .n) (sym ((c .before .before .before .before .before .before .before .before .has-bytes) .ensures) ∙ not-false _ ((c .before .before .before .before .before .before .before .if1) .left)) _ _ _ (name-part (a .file .now) (a .first) (a .n)) ((c .before .before .before .before .resolve) .ensures)),
     )
 
 same-length-4 : tie.Need-same-length-4
@@ -109,12 +89,11 @@ same-length-4 c = search needs
 
 returns-5 : tie.Need-returns-5
 returns-5 c =
-    let e = c .before .before .before .before .before .before .before .before .before in
-    let a = e .before .before .before .before .args in
-    let pre = e .before .before .before .before .pre in
-    rw (c .versioned .ensures) (
-      named-target (a .file .now) (a .n) (a .at) (a .first) (there e) _ _ _ (a .used) (part e) (pre .1) (pre .2) (pre .0) _ (target-is _ _ _ _ _ (c .before .before .before .before .before .before .resolve .ensures) (ap resolved (c .before .before .end .given .1))),
-      rw (c .before .before .end .given .1) at (name-resolved (a .file .now) (a .codes .now) (a .used) (a .at) (a .first) (a .n) (there e) _ _ _ (part e) (c .before .before .before .before .before .before .resolve .ensures)),
+    let a = (c .before .before .before .before .before .before .before .before .before .before .before .before .before .before .args) in
+    let pre = (c .before .before .before .before .before .before .before .before .before .before .before .before .before .before .pre) in
+    rw ((c .versioned) .ensures) (
+      named-target _ (a .file .now) (a .n) (a .at) (a .first) (sym ((c .before .before .before .before .before .before .before .before .before .before .has-bytes) .ensures) ∙ not-false _ ((c .before .before .before .before .before .before .before .before .before .if1) .left)) _ _ _ (a .used) (name-part (a .file .now) (a .first) (a .n)) (pre .1) (pre .2 .2) (pre .2 .1) (pre .0) (pre .2 .0) _ (target-is _ (enums-sized _) _ _ _ _ _ _ ((c .before .before .before .before .before .before .resolve) .ensures) (ap resolved ((c .before .before .end) .given .1))),
+      rw ((c .before .before .end) .given .1) at (name-resolved _ (a .file .now) (a .codes .now) (a .used) (a .at) (a .first) (a .n) (sym ((c .before .before .before .before .before .before .before .before .before .before .has-bytes) .ensures) ∙ not-false _ ((c .before .before .before .before .before .before .before .before .before .if1) .left)) _ _ _ (name-part (a .file .now) (a .first) (a .n)) ((c .before .before .before .before .before .before .resolve) .ensures)),
     )
 
 pub named-at-spec : {M : Type 1} → statement M

@@ -21,40 +21,39 @@ enum-known-n c = search needs
 
 returns : tie.Need-returns
 returns c =
-    let a = c .before .before .before .before .before .before .before .args in
-    let n = sym (c .before .before .before .before .seven-at .ensures) ∙ ap told (c .before .before .n .given .1) in
-    (reader-empty (a .file .now) (a .at) n (c .if1 .taken), count-empty (a .file .now) (a .codes .now) (a .used) (a .at) n (c .if1 .taken))
+    let a = (c .before .before .before .before .before .before .before .before .args) in
+    let n = sym ((c .before .before .before .before .seven-at) .ensures) ∙ ap told ((c .before .before .n) .given .1) in
+    (reader-empty _ (a .file .now) (a .at) n ((c .if1) .taken), count-empty _ (a .file .now) (a .codes .now) (a .used) (a .at) n ((c .if1) .taken))
 
 returns-2 : tie.Need-returns-2
 returns-2 c =
-    let a = c .before .before .before .before .before .before .before .before .args in
-    let n = sym (c .before .before .before .before .before .seven-at .ensures) ∙ ap told (c .before .before .before .n .given .1) in
-    (reader-long (a .file .now) (a .at) n (c .if2 .taken), count-long (a .file .now) (a .codes .now) (a .used) (a .at) n (c .before .if1 .left) (c .if2 .taken))
+    let a = (c .before .before .before .before .before .before .before .before .before .args) in
+    let n = sym ((c .before .before .before .before .before .seven-at) .ensures) ∙ ap told ((c .before .before .before .n) .given .1) in
+    (reader-long _ (a .file .now) (a .at) n ((c .if2) .taken), count-long _ (a .file .now) (a .codes .now) (a .used) (a .at) n ((c .before .if1) .left) ((c .if2) .taken))
 
 named-at-requires : tie.Need-named-at-requires
 named-at-requires c κs =
-    let start = c .before .before .before .before .before .before .before .before in
-    let s = start .before .args .file .now in
-    let n = seven-next s (small-by-index s (λ i h. omega (arith, start .shared-slice-known .given i))) _ (sym (c .before .before .before .before .before .before .seven-at .ensures) ∙ ap told (c .before .before .before .before .n .given .1)) in
-    (n .1, c .before .if2 .left, start .before .pre)
+    let s = (c .before .before .before .before .before .before .before .before .before .before .args) .file .now in
+    let n = seven-next s (small-by-index s (λ i h. omega (arith, (c .before .before .before .before .before .before .before .before .before .shared-slice-known) .given i))) _ (sym ((c .before .before .before .before .before .before .seven-at) .ensures) ∙ ap told ((c .before .before .before .before .n) .given .1)) in
+    (n .1, (c .before .if2) .left, (c .before .before .before .before .before .before .before .before .before .before .pre))
 
 returns-3 : tie.Need-returns-3
 returns-3 c =
-    let a = c .before .before .before .before .before .before .args in
-    let n = sym (c .before .before .before .seven-at .ensures) ∙ ap told (c .before .number .given .1) in
-    (reader-refused (a .file .now) (a .at) n, count-refused (a .file .now) (a .codes .now) (a .used) (a .at) n)
+    let a = (c .before .before .before .before .before .before .before .args) in
+    let n = sym ((c .before .before .before .seven-at) .ensures) ∙ ap told ((c .before .number) .given .1) in
+    (reader-refused _ (a .file .now) (a .at) n, count-refused _ (a .file .now) (a .codes .now) (a .used) (a .at) n)
 
 same-length : tie.Need-same-length
 same-length c = search needs
 
 returns-4 : tie.Need-returns-4
 returns-4 c =
-    let a = c .before .before .before .before .before .before .before .before .before .before .before .before .args in
-    let n = sym (c .before .before .before .before .before .before .before .before .before .seven-at .ensures) ∙ ap told (c .before .before .before .before .before .before .before .n .given .1) in
-    let z = c .before .before .before .before .before .if1 .left in
-    let l = c .before .before .before .before .if2 .left in
-    let e = c .before .before .named-at .ensures in
-    (rw (reader-named (a .file .now) (a .at) n z l) (e .0), count-fits (a .file .now) (a .codes .now) (a .used) (a .at) n z l ∙ e .1)
+    let a = (c .before .before .before .before .before .before .before .before .before .before .before .before .before .args) in
+    let n = sym ((c .before .before .before .before .before .before .before .before .before .seven-at) .ensures) ∙ ap told ((c .before .before .before .before .before .before .before .n) .given .1) in
+    let z = (c .before .before .before .before .before .if1) .left in
+    let l = (c .before .before .before .before .if2) .left in
+    let e = (c .before .before .named-at) .ensures in
+    (rw (reader-named _ (a .file .now) (a .at) n z l) (e .0), count-fits _ (a .file .now) (a .codes .now) (a .used) (a .at) n z l ∙ e .1)
 
 pub reader-at-spec : {M : Type 1} → statement M
 reader-at-spec =

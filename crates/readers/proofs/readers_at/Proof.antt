@@ -3,30 +3,35 @@ use mathlib.Core.Path.{_≡_, refl, sym, ap, subst, _∙_}
 use Prim.Native.Nat.{_-_}
 use native.Mathlib.Omega.{arith}
 use lib.ListN.{length}
+use Rattle.names.specs.Entries.{enumsOf}
 use Rattle.readers.specs.Turns.{Reached}
 use Rattle.readers.specs.Passed.{Passed, none-passed, one-passed}
 use Rattle.readers.proofs.Turns.{start, refuse, stop, turn}
 use Rattle.reading.specs.Reads.{small-by-index}
 use Rattle.places.specs.Padding.{pad-few}
-use Rattle.readers.specs.Left.{readersFrom, readersLeft, readers-start, reader-turn, readers-end, each-part}
+use Rattle.readers.specs.Left.{codes-enough, readersFrom, readersLeft, readers-start, reader-turn, readers-end, each-part}
 use borrow.Author.Needs.{needs}
 use Rattle.readers.proofs.readers_at.Statement.{statement}
 use Rattle.readers.proofs.readers_at.Tie as tie
 
 abbrev Inv-loop : tie.InvT-loop
-Inv-loop file codes₀ targets₀ starts₀ n at i₀ used₀ next₀ padding₀ codes targets starts i used next padding =
-    (length codes ≡ length codes₀) × (length targets ≡ length targets₀) × (length starts ≡ length starts₀) × Reached file codes₀ codes targets starts n at i used next
-    × (readersFrom file (n - i) i used next padding codes targets starts ≡ readersLeft file n at codes₀ targets₀ starts₀)
+Inv-loop file enums codes₀ targets₀ starts₀ n at i₀ used₀ next₀ padding₀ codes targets starts i used next padding =
+    (length codes ≡ length codes₀) × (length targets ≡ length targets₀) × (length starts ≡ length starts₀) × Reached (enumsOf enums) file codes₀ codes targets starts n at i used next
+    × (readersFrom (enumsOf enums) file (n - i) i used next padding codes targets starts ≡ readersLeft (enumsOf enums) file n at codes₀ targets₀ starts₀)
     × Passed file n at i next padding
 
 abbrev μ-loop : tie.MeasureT-loop
-μ-loop file codes₀ targets₀ starts₀ n at i₀ used₀ next₀ padding₀ codes targets starts i used next padding = n - i
+μ-loop file enums codes₀ targets₀ starts₀ n at i₀ used₀ next₀ padding₀ codes targets starts i used next padding = n - i
 
 loop-holds : tie.Need-loop-holds Inv-loop μ-loop
-loop-holds c = (refl, refl, refl, start _ _ _ _ _ _, readers-start _ _ _ _ _ _, none-passed _ _ _)
+loop-holds c = (refl, refl, refl, start _ _ _ _ _ _ _, readers-start _ _ _ _ _ _ _, none-passed _ _ _)
 
 reader-at-requires : tie.Need-reader-at-requires Inv-loop μ-loop
-reader-at-requires c κs = search needs
+reader-at-requires c κs =
+    let v = (c .before .before .loop) .inv in
+    let p = (c .before .before .before .before .before .before .before .before .pre) in
+    let e = codes-enough ((c .before .before .before .before .before .before .before .before .args) .n) ((c .before .before .loop) .i) ((c .before .loop-test) .taken) in
+    (p .0, omega (arith, v .3 .room, v .3 .few, p .1), omega (arith, v .0, v .3 .room, p .2))
 
 enum-known-number : tie.Need-enum-known-number Inv-loop μ-loop
 enum-known-number c = search needs
@@ -42,15 +47,15 @@ same-length-3 c = search needs
 
 returns : tie.Need-returns Inv-loop μ-loop
 returns c =
-    let e = c .before .before .before .before .before .reader-at .ensures in
-    let one = sym (c .before .number .given .1) ∙ ap (λ o. o .0) (sym (e .1)) in
-    (refuse (c .before .before .before .before .before .before .before .before .loop .inv .3) (c .before .before .before .before .before .before .before .loop-test .taken) (rw (c .before .number .given .1) at (e .0)), each-part (sym (c .before .before .before .before .before .before .before .before .loop .inv .4) ∙ reader-turn _ _ _ _ _ _ _ _ _ _ _ (c .before .before .before .before .before .before .before .loop-test .taken) one (ap (λ o. o .1) (sym (e .1)))))
+    let e = (c .before .before .before .before .before .reader-at) .ensures in
+    let one = sym ((c .before .number) .given .1) ∙ ap (λ o. o .0) (sym (e .1)) in
+    (refuse ((c .before .before .before .before .before .before .before .before .loop) .inv .3) ((c .before .before .before .before .before .before .before .loop-test) .taken) (rw ((c .before .number) .given .1) at (e .0)), each-part (sym ((c .before .before .before .before .before .before .before .before .loop) .inv .4) ∙ reader-turn _ _ _ _ _ _ _ _ _ _ _ _ ((c .before .before .before .before .before .before .before .loop-test) .taken) one (ap (λ o. o .1) (sym (e .1)))))
 
 enum-known-first : tie.Need-enum-known-first Inv-loop μ-loop
 enum-known-first c = search needs
 
 cast-targets : tie.Need-cast-targets Inv-loop μ-loop
-cast-targets c = search needs
+cast-targets c = omega (arith, (c .before .before .before .before .before .before .before .before .loop) .inv .3 .room, (c .before .before .before .before .before .before .before .before .loop) .inv .3 .few, (c .before .before .before .before .before .before .before .before .before .before .before .before .before .before .pre) .1)
 
 mul-targets : tie.Need-mul-targets Inv-loop μ-loop
 mul-targets c = search needs
@@ -60,8 +65,8 @@ slice-write-targets c = search needs
 
 cast-starts : tie.Need-cast-starts Inv-loop μ-loop
 cast-starts c =
-    let t = rw (c .before .first .given .1) at (c .before .before .before .before .before .reader-at .ensures .0) in
-    omega (arith, t .inside, c .before .before .before .before .before .before .before .before .before .before .before .before .before .pre .0)
+    let t = rw ((c .before .first) .given .1) at ((c .before .before .before .before .before .reader-at) .ensures .0) in
+    omega (arith, t .inside, (c .before .before .before .before .before .before .before .before .before .before .before .before .before .before .pre) .0)
 
 mul-starts : tie.Need-mul-starts Inv-loop μ-loop
 mul-starts c = search needs
@@ -72,12 +77,11 @@ slice-write-starts c = search needs
 padding-at-requires : tie.Need-padding-at-requires Inv-loop μ-loop
 padding-at-requires c κs = search needs
 
--- the readers up to this one have few bytes more
 add-padding : tie.Need-add-padding Inv-loop μ-loop
 add-padding c =
-    let file = c .before .before .before .before .before .before .before .before .before .before .before .before .before .before .args .file .now in
-    let small = small-by-index file (λ i h. omega (arith, c .before .before .before .before .before .before .before .before .before .before .before .before .before .shared-slice-known .given i)) in
-    omega (arith, c .padding-at .ensures, pad-few file small (c .before .before .before .before .before .before .before .before .before .loop .next), c .before .before .before .before .before .before .before .before .before .loop .inv .5 .few, c .before .before .before .before .before .before .before .before .loop-test .taken, c .before .before .before .before .before .before .before .before .before .before .before .before .before .before .pre .1)
+    let file = (c .before .before .before .before .before .before .before .before .before .before .before .before .before .before .before .args) .file .now in
+    let small = small-by-index file (λ i h. omega (arith, (c .before .before .before .before .before .before .before .before .before .before .before .before .before .before .shared-slice-known) .given i)) in
+    omega (arith, (c .padding-at) .ensures, pad-few file small ((c .before .before .before .before .before .before .before .before .before .loop) .next), (c .before .before .before .before .before .before .before .before .before .loop) .inv .5 .few, (c .before .before .before .before .before .before .before .before .loop-test) .taken, (c .before .before .before .before .before .before .before .before .before .before .before .before .before .before .before .pre) .1)
 
 add-i : tie.Need-add-i Inv-loop μ-loop
 add-i c = search needs
@@ -87,21 +91,21 @@ loop-less c = search needs
 
 loop-again : tie.Need-loop-again Inv-loop μ-loop
 loop-again c =
-    let file = c .before .before .before .before .before .before .before .before .before .before .before .before .before .before .args .file .now in
-    let small = small-by-index file (λ i h. omega (arith, c .before .before .before .before .before .before .before .before .before .before .before .before .before .shared-slice-known .given i)) in
-    let h = c .before .before .before .before .before .before .before .before .loop-test .taken in
-    let v = c .before .before .before .before .before .before .before .before .before .loop .inv in
-    let p = c .before .before .before .before .before .before .before .before .before .before .before .before .before .before .pre in
-    let e = c .before .before .before .before .before .before .reader-at .ensures in
-    let t = rw (c .before .before .first .given .1) at (e .0) in
-    let one = sym (c .before .before .first .given .1) ∙ ap (λ o. o .0) (sym (e .1)) in
-    rw (c .padding-at .ensures) (
+    let file = (c .before .before .before .before .before .before .before .before .before .before .before .before .before .before .before .args) .file .now in
+    let small = small-by-index file (λ i h. omega (arith, (c .before .before .before .before .before .before .before .before .before .before .before .before .before .before .shared-slice-known) .given i)) in
+    let h = (c .before .before .before .before .before .before .before .before .loop-test) .taken in
+    let v = (c .before .before .before .before .before .before .before .before .before .loop) .inv in
+    let p = (c .before .before .before .before .before .before .before .before .before .before .before .before .before .before .before .pre) in
+    let e = (c .before .before .before .before .before .before .reader-at) .ensures in
+    let t = rw ((c .before .before .first) .given .1) at (e .0) in
+    let one = sym ((c .before .before .first) .given .1) ∙ ap (λ o. o .0) (sym (e .1)) in
+    rw ((c .padding-at) .ensures) (
       search needs,
       search needs,
       search needs,
       turn (v .3) t h (omega (arith, v .1, p .1, p .3)) (omega (arith, v .2, p .1, p .4)),
-      sym (reader-turn _ _ _ _ _ _ _ _ _ _ _ h one (ap (λ o. o .1) (sym (e .1)))) ∙ v .4,
-      one-passed file _ _ _ _ _ small h (t .answer) (v .5),
+      sym (reader-turn _ _ _ _ _ _ _ _ _ _ _ _ h one (ap (λ o. o .1) (sym (e .1)))) ∙ v .4,
+      one-passed file _ _ _ _ _ _ small h (t .answer) (v .5),
     )
 
 same-length-4 : tie.Need-same-length-4 Inv-loop μ-loop
@@ -115,10 +119,9 @@ same-length-6 c = search needs
 
 returns-2 : tie.Need-returns-2 Inv-loop μ-loop
 returns-2 c =
-    let v = c .before .loop .inv in
-    let z = c .before .before .before .before .before .before .args .n in
-    let all : c .before .loop .i ≡ c .before .before .before .before .before .before .args .n = omega (arith, v .3 .few, c .loop-test .left) in
-    ((stop (v .3) (c .loop-test .left), subst (λ k. Passed (c .before .before .before .before .before .before .args .file .now) (c .before .before .before .before .before .before .args .n) (c .before .before .before .before .before .before .args .at) k (c .before .loop .next) (c .before .loop .padding)) all (v .5)), each-part (sym (v .4) ∙ readers-end _ _ _ _ _ _ _ _ _ (c .loop-test .left)))
+    let v = (c .before .loop) .inv in
+    let all : (c .before .loop) .i ≡ (c .before .before .before .before .before .before .before .args) .n = omega (arith, v .3 .few, (c .loop-test) .left) in
+    ((stop (v .3) ((c .loop-test) .left), subst (λ k. Passed ((c .before .before .before .before .before .before .before .args) .file .now) ((c .before .before .before .before .before .before .before .args) .n) ((c .before .before .before .before .before .before .before .args) .at) k ((c .before .loop) .next) ((c .before .loop) .padding)) all (v .5)), each-part (sym (v .4) ∙ readers-end _ _ _ _ _ _ _ _ _ _ ((c .loop-test) .left)))
 
 pub readers-at-spec : {M : Type 1} → statement M
 readers-at-spec =

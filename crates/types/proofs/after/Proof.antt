@@ -24,14 +24,17 @@ returns c = extent-none _ _ _ ((c .before .before .loop) .inv .0) ((c .if1) .tak
 sub-need : tie.Need-sub-need Inv-loop μ-loop
 sub-need c = search needs
 
+mul-need : tie.Need-mul-need Inv-loop μ-loop
+mul-need c = search needs
+
 shared-slice-read-need : tie.Need-shared-slice-read-need Inv-loop μ-loop
 shared-slice-read-need c = search needs
 
 cast-need : tie.Need-cast-need Inv-loop μ-loop
-cast-need c = omega (arith, (c .shared-slice-known) .given ((c .before .before .before .loop) .i))
+cast-need c = search needs
 
 add-need : tie.Need-add-need Inv-loop μ-loop
-add-need c = omega (arith, (c .shared-slice-known) .given ((c .before .before .before .loop) .i), (c .before .before .before .loop) .inv .1, (c .before .before .before .before .good))
+add-need c = omega (arith, (c .before .before .before .loop) .inv .1, (c .before .before .before .before .good))
 
 add-i : tie.Need-add-i Inv-loop μ-loop
 add-i c = search needs
@@ -40,7 +43,7 @@ loop-less : tie.Need-loop-less Inv-loop μ-loop
 loop-less c = search needs
 
 loop-again : tie.Need-loop-again Inv-loop μ-loop
-loop-again c = (extent-step _ _ _ ((c .before .before .before .loop) .inv .0) ((c .before .before .loop-test) .taken) ((c .before .if1) .left), omega (arith, (c .shared-slice-known) .given ((c .before .before .before .loop) .i), (c .before .before .before .loop) .inv .1))
+loop-again c = (extent-step _ _ _ ((c .before .before .before .loop) .inv .0) ((c .before .before .loop-test) .taken) ((c .before .if1) .left), omega (arith, (c .before .before .before .loop) .inv .1))
 
 returns-2 : tie.Need-returns-2 Inv-loop μ-loop
 returns-2 c = extent-end _ _ _ ((c .before .loop) .inv .0) ((c .loop-test) .left)
@@ -54,6 +57,7 @@ after-spec =
     loop-holds
     returns
     sub-need
+    mul-need
     shared-slice-read-need
     cast-need
     add-need

@@ -17,6 +17,9 @@ abbrev μ-loop : tie.MeasureT-loop
 loop-holds : tie.Need-loop-holds Inv-loop μ-loop
 loop-holds c = (search needs, refl)
 
+mul-b : tie.Need-mul-b Inv-loop μ-loop
+mul-b c = search needs
+
 shared-slice-read-b : tie.Need-shared-slice-read-b Inv-loop μ-loop
 shared-slice-read-b c = search needs
 
@@ -45,6 +48,7 @@ arguments-ok-spec =
     Inv-loop
     μ-loop
     loop-holds
+    mul-b
     shared-slice-read-b
     argument-ok-requires
     returns

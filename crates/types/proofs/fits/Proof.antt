@@ -1,7 +1,7 @@
-use borrow.Author.Needs.{needs}
 use mathlib.Core.Path.{sym, _∙_}
 use borrow.Author.Tests.{eq-eqb, ne-eqb}
 use Rattle.types.specs.Place.{fitsAt}
+use borrow.Author.Needs.{needs}
 use Rattle.types.proofs.fits.Statement.{statement}
 use Rattle.types.proofs.fits.Tie as tie
 

@@ -1,12 +1,13 @@
-use borrow.Author.Needs.{needs}
 use mathlib.Core.Bool.{false}
 use mathlib.Core.Path.{sym, ap, _∙_}
+use Prim.Native.Nat.{_%_}
 use borrow.Author.Tests.{eq-eqb, ne-eqb, not-true, not-false}
 use lib.Dec.{eqb}
 use lib.ListN.{getD}
 use Rattle.names.proofs.Laws.{rest}
 use Rattle.types.specs.Judge.{enumOk, argumentsOk}
 use Rattle.types.proofs.Loops.{reader-none, reader-some}
+use borrow.Author.Needs.{needs}
 use Rattle.types.proofs.reader_ok.Statement.{statement}
 use Rattle.types.proofs.reader_ok.Tie as tie
 
@@ -73,7 +74,7 @@ arguments-ok-requires-2 c κs = search needs
 returns-5 : tie.Need-returns-5
 returns-5 c =
     let s = (c .before .before .before .before .before .before .before .before .before .args) .s .now in
-    sym (reader-some s ((c .before .before .before .before .before .before .before .if1) .left) ∙ rw (ne-eqb _ _ ((c .before .before .before .before .before .if2) .left), ne-eqb _ _ ((c .before .before .before .before .if3) .left), sym ((c .before .before .before .head-ok) .ensures) ∙ not-false _ ((c .before .before .if4) .left)) (ap (argumentsOk (eqb (getD s 0 0) 80)) (sym (rest s 1)) ∙ sym ((c .arguments-ok2) .ensures)))
+    sym (reader-some s ((c .before .before .before .before .before .before .before .if1) .left) ∙ rw (ne-eqb _ _ ((c .before .before .before .before .before .if2) .left), ne-eqb _ _ ((c .before .before .before .before .if3) .left), sym ((c .before .before .before .head-ok) .ensures) ∙ not-false _ ((c .before .before .if4) .left)) (ap (argumentsOk (eqb (getD s 0 0 % 256) 80)) (sym (rest s 1)) ∙ sym ((c .arguments-ok2) .ensures)))
 
 pub reader-ok-spec : {M : Type 1} → statement M
 reader-ok-spec =

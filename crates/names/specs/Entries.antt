@@ -1,0 +1,121 @@
+-- The entries that bytes hold, whatever the bytes are: a name length byte, the name, a byte; and so on. Assumes nothing.
+use mathlib.Core.Path.{_≡_, refl, ap, _∙_}
+use mathlib.Core.Bool.{Bool, true, false, cond}
+use mathlib.Core.List.{List, [], _∷_, _++_}
+use mathlib.Core.Logic.{_⊎_, inl, inr}
+use Prim.Native.Nat.{ℕ, zero, suc, _+_, _≤_}
+use native.Mathlib.Omega.{arith}
+use lib.Dec.{eqb, ltb}
+use lib.ListN.{length, take, drop, getD, length-append}
+use lib.Seq.{take-append-seam, drop-append-add, getD-append-seam}
+use borrow.Author.Tests.{lt-ltb}
+use Rattle.layout.specs.Kind as K
+use Rattle.layout.specs.Kind.{Entry, alike, lookup}
+use Rattle.layout.specs.EnumList.{EnumEntry, entry, writeEnums, EnumSize, Enums, sizeIn}
+use Rattle.names.specs.Kind.{enumKind}
+
+-- at most so many whole entries
+unfoldable pub entriesIn : (most : ℕ) → List ℕ → List EnumEntry
+entriesIn zero s = []
+entriesIn (suc m) [] = []
+entriesIn (suc m) (l ∷ s) = cond (ltb l (length s)) (entry (take l s) (getD s l 0) ∷ entriesIn m (drop (suc l) s)) []
+
+-- all whole entries from the first on
+unfoldable pub entriesOf : List ℕ → List EnumEntry
+entriesOf s = entriesIn (length s) s
+
+-- a size, or 0 for a number that is none
+unfoldable pub lawfulSize : ℕ → ℕ
+lawfulSize z = cond (eqb z 1) 1 (cond (eqb z 2) 2 (cond (eqb z 4) 4 (cond (eqb z 8) 8 0)))
+
+unfoldable pub lawfully : List EnumEntry → List EnumEntry
+lawfully [] = []
+lawfully (entry h z ∷ es) = entry h (lawfulSize z) ∷ lawfully es
+
+-- the enum types of a lent list, whatever its bytes are: a name with a size that is none counts as not listed
+unfoldable pub enumsOf : List ℕ → List EnumEntry
+enumsOf enums = lawfully (entriesOf enums)
+
+written-from : (es : List EnumEntry) (m : ℕ) → length (writeEnums es) ≤ m → entriesIn m (writeEnums es) ≡ es
+unfolding entriesIn writeEnums
+written-from [] zero h = refl
+written-from [] (suc m) h = refl
+written-from (entry n z ∷ es) zero h = absurd (omega arith)
+written-from (entry n z ∷ es) (suc m) h =
+    let r = z ∷ writeEnums es in
+    let l : length (n ++ r) ≡ length n + suc (length (writeEnums es)) = length-append n r in
+    let d : drop (suc (length n)) (n ++ r) ≡ writeEnums es = ap (λ (k : ℕ). drop k (n ++ r)) (let q : suc (length n) ≡ length n + 1 = omega arith in q) ∙ drop-append-add n r 1 in
+    rw (lt-ltb (length n) (length (n ++ r)) (omega arith), take-append-seam n r, getD-append-seam n z (writeEnums es) 0, d, written-from es m (omega arith))
+
+-- what was written is read back
+pub entries-written : (es : List EnumEntry) → entriesOf (writeEnums es) ≡ es
+unfolding entriesOf
+entries-written es = written-from es (length (writeEnums es)) (omega arith)
+
+lawful-is : (z : ℕ) → EnumSize z → lawfulSize z ≡ z
+unfolding EnumSize lawfulSize
+lawful-is z (inl e) = rw e
+lawful-is z (inr (inl e)) = rw e
+lawful-is z (inr (inr (inl e))) = rw e
+lawful-is z (inr (inr (inr e))) = rw e
+
+all-lawful : (es : List EnumEntry) → Enums es → lawfully es ≡ es
+unfolding lawfully Enums
+all-lawful [] w = refl
+all-lawful (entry n z ∷ es) w = rw (lawful-is z (w .0 .sized), all-lawful es (w .2))
+
+-- a list that 32 does not refuse holds what was written
+pub enums-written : (es : List EnumEntry) → Enums es → enumsOf (writeEnums es) ≡ es
+unfolding enumsOf
+enums-written es w = ap lawfully (entries-written es) ∙ all-lawful es w
+
+pick-lawful : (b : Bool) (z x : ℕ) → lawfulSize (cond b z x) ≡ cond b (lawfulSize z) (lawfulSize x)
+pick-lawful true z x = refl
+pick-lawful false z x = refl
+
+size-lawful : (es : List EnumEntry) (h : List ℕ) → sizeIn (lawfully es) h ≡ lawfulSize (sizeIn es h)
+unfolding lawfully sizeIn lawfulSize
+size-lawful [] h = refl
+size-lawful (entry n z ∷ es) h = rw (size-lawful es h, pick-lawful (alike h n) z (sizeIn es h))
+
+lawful-size : (z : ℕ) → (lawfulSize z ≡ 0 → ⊥) → EnumSize (lawfulSize z)
+unfolding lawfulSize EnumSize
+lawful-size z f = go (eqb z 1) (eqb z 2) (eqb z 4) (eqb z 8) f where
+  go : (a b c d : Bool) → (_≡_ {A = ℕ} (cond a 1 (cond b 2 (cond c 4 (cond d 8 0)))) 0 → ⊥) → EnumSize (cond a 1 (cond b 2 (cond c 4 (cond d 8 0))))
+  go true b c d f = inl refl
+  go false true c d f = inr (inl refl)
+  go false false true d f = inr (inr (inl refl))
+  go false false false true f = inr (inr (inr refl))
+  go false false false false f = absurd (f refl)
+
+-- a listed name has one of 02's sizes
+pub enums-sized : (enums h : List ℕ) → (sizeIn (enumsOf enums) h ≡ 0 → ⊥) → EnumSize (sizeIn (enumsOf enums) h)
+unfolding enumsOf
+enums-sized enums h f =
+    let e = size-lawful (entriesOf enums) h in
+    rw e (lawful-size (sizeIn (entriesOf enums) h) (λ q. f (e ∙ q)))
+
+by-size : (a b c d : Bool) → enumKind (cond a 1 (cond b 2 (cond c 4 (cond d 8 0)))) ≡ cond a 60 (cond b 61 (cond c 62 (cond d 63 0)))
+unfolding enumKind
+by-size true b c d = refl
+by-size false true c d = refl
+by-size false false true d = refl
+by-size false false false true = refl
+by-size false false false false = refl
+
+-- the kind of a listed name goes by the byte that the list has for it
+pub kind-listed : (enums h : List ℕ) → enumKind (sizeIn (enumsOf enums) h) ≡ enumKind (sizeIn (entriesOf enums) h)
+unfolding enumsOf lawfulSize enumKind
+kind-listed enums h = ap enumKind (size-lawful (entriesOf enums) h) ∙ by-size (eqb z 1) (eqb z 2) (eqb z 4) (eqb z 8) where
+  z : ℕ
+  z = sizeIn (entriesOf enums) h
+
+-- a table of heads and kinds in the same form
+unfoldable pub listing : List Entry → List EnumEntry
+listing [] = []
+listing (K.entry h k ∷ es) = entry h k ∷ listing es
+
+pub listing-is : (es : List Entry) (h : List ℕ) → sizeIn (listing es) h ≡ lookup h es
+unfolding listing sizeIn lookup
+listing-is [] h = refl
+listing-is (K.entry n k ∷ es) h = rw (listing-is es h)
