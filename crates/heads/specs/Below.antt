@@ -9,7 +9,7 @@ use lib.ListN.{length, drop, getD, replicate, length-drop, length-append}
 use lib.Seq.{drop-cons}
 use borrow.Author.Tests.{lt-leb, leb-true}
 use Rattle.laws.specs.Small.{differ}
-use Rattle.layout.specs.Target.{Target, fixed, char, string, object as anything, texture, texture2D, spriteFont, page, enum, nullable, array, list, dictionary, kindOf}
+use Rattle.layout.specs.Target.{Target, fixed, char, string, object as anything, texture, texture2D, spriteFont, page, enum, nullable, array, list, dictionary}
 use Rattle.layout.specs.Slot as L
 use Rattle.layout.specs.Slot.{stop, each, raw, slotOf, pairs, fontSlots, pageSlots}
 use Rattle.reading.specs.Answer.{Answer, refused, read, bind, check}
@@ -30,33 +30,33 @@ use Rattle.reading.specs.Seven.{sevenAt}
 use Rattle.reading.specs.Utf8.{utf8s, charAt}
 use Rattle.reading.specs.Fixed.{fixedAt}
 use Rattle.reading.specs.Heads.{whole, ownAt, fixedHeadAt, textAt}
-use Rattle.types.specs.Code.{code, Stands, NoEnum, Throughout}
+use Rattle.types.specs.Word.{enum-kind}
+use Rattle.types.specs.Code.{codeKind, codeSize, Lawful, Stands}
 use Rattle.types.specs.Place.{placeAfter}
-use Rattle.types.specs.Laws.{nullable-argument, array-argument, list-argument, dictionary-key, dictionary-value}
-use Rattle.heads.specs.Slots.{fixed-sized}
-use Rattle.heads.specs.Opens.{Opens, Stopping, Leafy, of-fixed, of-enum, of-char, of-string, Arguments}
+use Rattle.types.specs.Laws.{size-is, fixed-has-size, nullable-argument, array-argument, list-argument, dictionary-key, dictionary-value}
+use Rattle.heads.specs.Opens.{Opens, Stopping, Leafy, of-fixed, of-enum, of-char, of-string}
 
-pub alone-refused : (codes : List ℕ) (x : Answer Opening) {n p : ℕ} → refused n p ≡ mute x → Opens codes x (Refused n p)
+pub alone-refused : (file codes : List ℕ) (x : Answer Opening) {n p : ℕ} → refused n p ≡ mute x → Opens file codes x (Refused n p)
 unfolding mute
-alone-refused codes (refused m q) {n} {p} e =
+alone-refused file codes (refused m q) {n} {p} e =
     let e₁ : n ≡ m = cc in
     let e₂ : p ≡ q = cc in
     rw (e₁, e₂)
-alone-refused codes (read o e′) e = differ cc
+alone-refused file codes (read o e′) e = differ cc
 
-pub alone-read : (codes : List ℕ) (x : Answer Opening) (padding : ℕ) {e : ℕ} → read tt e ≡ mute x → Stopping x → Opens codes x (Head e (Nothing padding))
+pub alone-read : (file codes : List ℕ) (x : Answer Opening) (padding : ℕ) {e : ℕ} → read tt e ≡ mute x → Stopping x → Opens file codes x (Head e (Nothing padding))
 unfolding mute each
-alone-read codes (refused m q) padding q′ s = differ cc
-alone-read codes (read o f) padding {e} q s =
+alone-read file codes (refused m q) padding q′ s = differ cc
+alone-read file codes (read o f) padding {e} q s =
     let e₁ : e ≡ f = cc in
     rw e₁ (record { below = Nothing padding; is = refl; slots = []; plan = s o f refl; stands = refl })
 
 -- an answer that is known
-pub opens-refused : (codes : List ℕ) (x : Answer Opening) {n p : ℕ} → x ≡ refused n p → Opens codes x (Refused n p)
-opens-refused codes x e = rw e refl
+pub opens-refused : (file codes : List ℕ) (x : Answer Opening) {n p : ℕ} → x ≡ refused n p → Opens file codes x (Refused n p)
+opens-refused file codes x e = rw e refl
 
-pub opens-head : (codes : List ℕ) (x : Answer Opening) {own : List ℕ} (slots : List L.Slot) {e : ℕ} (below : Below) → x ≡ read (own, each slots) e → BelowIs codes below slots → Opens codes x (Head e below)
-opens-head codes x {own} slots {e} below q b = rw q (record { below = below; is = refl; slots = slots; plan = refl; stands = b })
+pub opens-head : (file codes : List ℕ) (x : Answer Opening) {own : List ℕ} (slots : List L.Slot) {e : ℕ} (below : Below) → x ≡ read (own, each slots) e → BelowIs file codes below slots → Opens file codes x (Head e below)
+opens-head file codes x {own} slots {e} below q b = rw q (record { below = below; is = refl; slots = slots; plan = refl; stands = b })
 
 module _ (file : List ℕ) (at : ℕ) where
   count-refused : (slots : ℕ → List L.Slot) {n p : ℕ} → littleAt file 4 at at ≡ refused n p → countAt file slots at ≡ refused n p
@@ -169,38 +169,38 @@ text-stops file at (read n f) o e q = field-stops file (some file n at f) at o e
 pub leaf-stops : (file : List ℕ) (at : ℕ) {t : Target} → Leafy t → Stopping (headAt file t at)
 unfolding headAt fixedHeadAt textAt
 leaf-stops file at (of-fixed {k = k} s) = check-stops (ltb 0 (getD sizes k 0)) 15 at _ (whole-stops file (fixedAt file k (getD sizes k 0) at))
-leaf-stops file at of-enum = check-stops (ltb 0 (getD sizes 15 0)) 15 at _ (whole-stops file (fixedAt file 15 (getD sizes 15 0) at))
+leaf-stops file at (of-enum {z = z} s) = whole-stops file (some file z at at)
 leaf-stops file at of-char = whole-stops file (ownAt file (charAt file) at)
 leaf-stops file at of-string = text-stops file at (sevenAt file at)
 
 -- by the kind of a type whose reader is invoked
 module _ (file codes : List ℕ) (t at : ℕ) (r : Opened) where
-  pub by-kind : (x : Target) → Stands codes t x → Arguments x
-      → (kindOf x ≡ 14 → Opens codes (refused 13 at) r)
-      → (kindOf x ≡ 31 → Opens codes (refused 13 at) r)
-      → (kindOf x ≡ 16 → (u : Target) → Stands codes (t + 1) u → NoEnum u → Opens codes (headAt file (nullable u) at) r)
-      → (kindOf x ≡ 17 → (u : Target) → Stands codes (t + 1) u → NoEnum u → Opens codes (headAt file (list u) at) r)
-      → (kindOf x ≡ 18 → (u : Target) → Stands codes (t + 1) u → NoEnum u → Opens codes (headAt file (list u) at) r)
-      → (kindOf x ≡ 19 → (u v : Target) → Stands codes (t + 1) u → NoEnum u → Stands codes (placeAfter codes (t + 1)) v → NoEnum v → Opens codes (headAt file (dictionary u v) at) r)
-      → (kindOf x ≡ 32 → Opens codes (headAt file texture2D at) r)
-      → (kindOf x ≡ 33 → Opens codes (headAt file spriteFont at) r)
-      → (kindOf x ≡ 34 → Opens codes (headAt file page at) r)
-      → (Leafy x → Opens codes (headAt file x at) r)
-      → Opens codes (headAt file x at) r
-  unfolding kindOf headAt Arguments Throughout
-  by-kind (fixed k) s a o x n m l d i f p e = e (of-fixed (fixed-sized k (s .lawful)))
-  by-kind char s a o x n m l d i f p e = e of-char
-  by-kind string s a o x n m l d i f p e = e of-string
-  by-kind anything s a o x n m l d i f p e = o refl
-  by-kind (enum name) s a o x n m l d i f p e = e of-enum
-  by-kind (nullable u) s a o x n m l d i f p e = n refl u (nullable-argument s) a
-  by-kind (array u) s a o x n m l d i f p e = rw (array-list file at u) (m refl u (array-argument s) a)
-  by-kind (list u) s a o x n m l d i f p e = l refl u (list-argument s) a
-  by-kind (dictionary u w) s a o x n m l d i f p e = d refl u w (dictionary-key s) (a .0) (dictionary-value s) (a .1)
-  by-kind texture s a o x n m l d i f p e = x refl
-  by-kind texture2D s a o x n m l d i f p e = i refl
-  by-kind spriteFont s a o x n m l d i f p e = f refl
-  by-kind page s a o x n m l d i f p e = p refl
+  pub by-kind : (x : Target) → Stands file codes t x
+      → (codeKind x ≡ 14 → Opens file codes (refused 13 at) r)
+      → (codeKind x ≡ 31 → Opens file codes (refused 13 at) r)
+      → (codeKind x ≡ 16 → (u : Target) → Stands file codes (t + 1) u → Opens file codes (headAt file (nullable u) at) r)
+      → (codeKind x ≡ 17 → (u : Target) → Stands file codes (t + 1) u → Opens file codes (headAt file (list u) at) r)
+      → (codeKind x ≡ 18 → (u : Target) → Stands file codes (t + 1) u → Opens file codes (headAt file (list u) at) r)
+      → (codeKind x ≡ 19 → (u v : Target) → Stands file codes (t + 1) u → Stands file codes (placeAfter codes (t + 1)) v → Opens file codes (headAt file (dictionary u v) at) r)
+      → (codeKind x ≡ 32 → Opens file codes (headAt file texture2D at) r)
+      → (codeKind x ≡ 33 → Opens file codes (headAt file spriteFont at) r)
+      → (codeKind x ≡ 34 → Opens file codes (headAt file page at) r)
+      → (Leafy x → Opens file codes (headAt file x at) r)
+      → Opens file codes (headAt file x at) r
+  unfolding codeKind headAt Lawful
+  by-kind (fixed k) s o x n m l d i f p e = e (of-fixed (fixed-has-size k (s .lawful)))
+  by-kind char s o x n m l d i f p e = e of-char
+  by-kind string s o x n m l d i f p e = e of-string
+  by-kind anything s o x n m l d i f p e = o refl
+  by-kind (enum name z) s o x n m l d i f p e = e (of-enum (s .lawful))
+  by-kind (nullable u) s o x n m l d i f p e = n refl u (nullable-argument s)
+  by-kind (array u) s o x n m l d i f p e = rw (array-list file at u) (m refl u (array-argument s))
+  by-kind (list u) s o x n m l d i f p e = l refl u (list-argument s)
+  by-kind (dictionary u w) s o x n m l d i f p e = d refl u w (dictionary-key s) (dictionary-value s)
+  by-kind texture s o x n m l d i f p e = x refl
+  by-kind texture2D s o x n m l d i f p e = i refl
+  by-kind spriteFont s o x n m l d i f p e = f refl
+  by-kind page s o x n m l d i f p e = p refl
 
 pub font-head : (file : List ℕ) (at : ℕ) → headAt file spriteFont at ≡ read ([], each fontSlots) at
 unfolding headAt
@@ -210,40 +210,41 @@ pub page-head : (file : List ℕ) (at : ℕ) → headAt file page at ≡ read ([
 unfolding headAt
 page-head file at = refl
 
+-- a leaf's kind: one whose size 01 fixes, an enum's, a character's or a text's
+leaf-kind : {x : Target} (n : ℕ) → codeKind x ≡ n → n < 60 → (n ≡ 12 → ⊥) → (n ≡ 13 → ⊥) → getD sizes n 0 ≡ 0 → Leafy x → ⊥
+unfolding codeKind
+leaf-kind n e h c t z (of-fixed {k = k} s) = let s′ = rw e at s in omega (arith, s′, z)
+leaf-kind n e h c t z (of-enum {z = y} s) = omega (arith, e, enum-kind y s)
+leaf-kind n e h c t z of-char = c (sym e)
+leaf-kind n e h c t z of-string = t (sym e)
+
 -- a kind whose values have children is no leaf's
-pub leafless : {x : Target} (n : ℕ) → getD sizes n 0 ≡ 0 → 15 < n → kindOf x ≡ n → Leafy x → ⊥
-unfolding kindOf
-leafless n z h e (of-fixed {k = k} s) = let s′ = rw e at s in omega (arith, s′, z)
-leafless n z h e of-enum = omega (arith, e)
-leafless n z h e of-char = omega (arith, e)
-leafless n z h e of-string = omega (arith, e)
+pub leafless : {x : Target} (n : ℕ) → getD sizes n 0 ≡ 0 → 15 < n → n < 60 → codeKind x ≡ n → Leafy x → ⊥
+leafless n z h b e l = leaf-kind n e b (λ q. omega arith) (λ q. omega arith) z l
 
 -- nor is Object's
-pub never-leaf : {x : Target} → kindOf x ≡ 14 → Leafy x → ⊥
-unfolding kindOf sizes
-never-leaf e (of-fixed {k = k} s) = let s′ = rw e at s in omega (arith, s′)
-never-leaf e of-enum = omega (arith, e)
-never-leaf e of-char = omega (arith, e)
-never-leaf e of-string = omega (arith, e)
+pub never-leaf : {x : Target} → codeKind x ≡ 14 → Leafy x → ⊥
+unfolding sizes
+never-leaf e l = leaf-kind 14 e (omega arith) (λ q. omega arith) (λ q. omega arith) refl l
 
 -- a type stands inside the codes
-code-some : (t : Target) → 0 < length (code t)
-unfolding code
-code-some (fixed k) = omega arith
-code-some char = omega arith
-code-some string = omega arith
-code-some anything = omega arith
-code-some (enum name) = omega arith
-code-some (nullable t) = omega arith
-code-some (array t) = omega arith
-code-some (list t) = omega arith
-code-some (dictionary k v) = omega arith
-code-some texture = omega arith
-code-some texture2D = omega arith
-code-some spriteFont = omega arith
-code-some page = omega arith
+size-some : (t : Target) → 0 < codeSize t
+unfolding codeSize
+size-some (fixed k) = omega arith
+size-some char = omega arith
+size-some string = omega arith
+size-some anything = omega arith
+size-some (enum name z) = omega arith
+size-some (nullable t) = omega arith
+size-some (array t) = omega arith
+size-some (list t) = omega arith
+size-some (dictionary k v) = omega arith
+size-some texture = omega arith
+size-some texture2D = omega arith
+size-some spriteFont = omega arith
+size-some page = omega arith
 
-pub stands-inside : {codes : List ℕ} {place : ℕ} {t : Target} → Stands codes place t → place < length codes
-stands-inside {codes} {place} {t} s =
-    let l : length codes - place ≡ length (code t) + length (s .rest) = sym (length-drop place codes) ∙ ap length (s .there) ∙ length-append (code t) (s .rest) in
-    omega (arith, code-some t)
+pub stands-inside : {file codes : List ℕ} {place : ℕ} {t : Target} → Stands file codes place t → place < length codes
+stands-inside {file} {codes} {place} {t} s =
+    let l : length codes - place ≡ length (s .words) + length (s .rest) = sym (length-drop place codes) ∙ ap length (s .there) ∙ length-append (s .words) (s .rest) in
+    omega (arith, size-some t, size-is s)

@@ -2,6 +2,7 @@
 use mathlib.Core.Path.{_≡_, refl, sym, ap, _∙_}
 use mathlib.Core.Bool.{Bool, true, false}
 use mathlib.Core.List.{List}
+use mathlib.Core.Logic.{inl, inr}
 use Prim.Native.Nat.{ℕ, zero, suc, _*_, _-_, _/_, _≤_, _<_, _^_, max}
 use native.Mathlib.Omega.{arith}
 use native.Mathlib.Nat.{pow-succ'}
@@ -9,14 +10,16 @@ use lib.Dec.{leb}
 use lib.ListN.{getD, take, drop}
 use borrow.Author.Tests.{le-leb, lt-leb, leb-true, lt-ltb}
 use Rattle.laws.specs.Small.{differ}
-use Rattle.layout.specs.Target.{Target, fixed, char, string, texture2D, enum, kindOf}
+use Rattle.layout.specs.Target.{Target, fixed, char, string, texture2D, enum}
+use Rattle.layout.specs.EnumList.{EnumSize}
 use Rattle.layout.specs.Image.{levels, digits}
 use Rattle.layout.specs.Fixed.{sizes}
 use Rattle.layout.specs.Slot.{stop, each, leaves}
 use Rattle.reading.specs.Answer.{Answer, refused, read, bind, check, within}
 use Rattle.reading.specs.Little.{littleAt}
 use Rattle.reading.specs.Utf8.{charAt}
-use Rattle.reading.specs.Fixed.{fixedAt, sized}
+use Rattle.reading.specs.Reads.{some, field}
+use Rattle.reading.specs.Fixed.{rule, fixedAt, sized}
 use Rattle.reading.specs.Heads.{Opening, headAt, imageAt, fixedHeadAt, textAt, whole, ownAt}
 use Rattle.numbers.specs.Padded.{beside}
 use Rattle.table.specs.Leaf.{mute}
@@ -25,6 +28,11 @@ use Rattle.leaves.specs.declared.run.Run.the-variants.{Levels}
 use Rattle.heads.specs.declared.nest.Below.the-variants.{Simple}
 use Rattle.heads.specs.declared.open.Opened.{Opened}
 use Rattle.heads.specs.declared.open.Opened.the-variants.{Refused, Head}
+use Rattle.leaves.specs.Like.{alike-same}
+use Rattle.names.specs.Kind.{enumKind}
+use Rattle.types.specs.Word.{enum-kind}
+use Rattle.types.specs.Code.{codeKind}
+use Rattle.heads.specs.Slots.{bytesOf, bytes-below, sized-small}
 use Rattle.heads.specs.Opens.{Opens, Leafy, of-fixed, of-enum, of-char, of-string, rangedAt, levelsAt, heightAt, widthAt}
 
 -- a number below 2 to the k has at most k binary digits
@@ -43,13 +51,13 @@ pub chain-bound : (w h : ℕ) → w ≤ 4096 → h ≤ 4096 → digits 32 (max w
 chain-bound w h p q = digits-few 32 13 (max w h) (omega arith)
 
 -- a step that was refused, or after which the next one opens
-pub opens-refused : (codes : List ℕ) (k : ℕ → ℕ → Answer Opening) {x : Answer ℕ} {n p : ℕ} → x ≡ refused n p → Opens codes (bind x k) (Refused n p)
+pub opens-refused : (file codes : List ℕ) (k : ℕ → ℕ → Answer Opening) {x : Answer ℕ} {n p : ℕ} → x ≡ refused n p → Opens file codes (bind x k) (Refused n p)
 unfolding bind
-opens-refused codes k e = rw e refl
+opens-refused file codes k e = rw e refl
 
-pub opens-read : (codes : List ℕ) (k : ℕ → ℕ → Answer Opening) (r : Opened) {x : Answer ℕ} {n e : ℕ} → x ≡ read n e → Opens codes (k n e) r → Opens codes (bind x k) r
+pub opens-read : (file codes : List ℕ) (k : ℕ → ℕ → Answer Opening) (r : Opened) {x : Answer ℕ} {n e : ℕ} → x ≡ read n e → Opens file codes (k n e) r → Opens file codes (bind x k) r
 unfolding bind
-opens-read codes k r q o = rw q o
+opens-read file codes k r q o = rw q o
 
 bind-same : {A B : Type 0} (x : Answer A) {k l : A → ℕ → Answer B} → ((a : A) (e : ℕ) → k a e ≡ l a e) → bind x k ≡ bind x l
 unfolding bind
@@ -129,7 +137,7 @@ module _ (file : List ℕ) where
 
   -- an image's levels stand in a run
   pub levels-open : (codes : List ℕ) (f w h at n e : ℕ) → f ≤ 18 → 1 ≤ w → w ≤ 4096 → 1 ≤ h → h ≤ 4096 → rangedAt file 1 (digits 32 (max w h)) at ≡ read n e
-      → Opens codes (levelsAt file f w h at) (Head e (Simple (Levels f w h n)))
+      → Opens file codes (levelsAt file f w h at) (Head e (Simple (Levels f w h n)))
   unfolding levelsAt bind
   levels-open codes f w h at n e a b c d g q =
       let z = ranged-bounds 1 (digits 32 (max w h)) at q in
@@ -138,7 +146,7 @@ module _ (file : List ℕ) where
         is = refl;
         slots = leaves (levels f w h n);
         plan = refl;
-        stands = (refl, (a, b, c, d, g, omega (arith, chain-bound w h c g)));
+        stands = (alike-same (leaves (levels f w h n)), (a, b, c, d, g, omega (arith, chain-bound w h c g)));
       })
 
 -- the padding of a count, the number of own bytes, or that nothing stands below, matters to no end
@@ -164,32 +172,48 @@ own-mute file r at = go (r at) where
   go (refused n p) = refl
   go (read c e) = refl
 
--- the bytes of a value without children, by its kind
+-- the bytes of a value without children, by the kind of its type's code
 module _ (file : List ℕ) (at : ℕ) where
-  pub char-leaf : (t : Target) → Leafy t → kindOf t ≡ 12 → mute (charAt file at) ≡ mute (headAt file t at)
-  unfolding headAt kindOf sizes
-  char-leaf (fixed k) (of-fixed s) e = absurd (let z : 0 < getD sizes 12 0 = rw e at s in omega arith)
-  char-leaf (enum name) of-enum e = absurd (omega arith)
-  char-leaf char of-char e = own-mute file (charAt file) at
-  char-leaf string of-string e = absurd (omega arith)
-
-  pub text-leaf : (t : Target) → Leafy t → kindOf t ≡ 13 → mute (ownSize (textAt file at)) ≡ mute (headAt file t at)
-  unfolding headAt kindOf sizes
-  text-leaf (fixed k) (of-fixed s) e = absurd (let z : 0 < getD sizes 13 0 = rw e at s in omega arith)
-  text-leaf (enum name) of-enum e = absurd (omega arith)
-  text-leaf char of-char e = absurd (omega arith)
-  text-leaf string of-string e = own-size-mute (textAt file at)
+  -- a kind without a rule
+  plain-mute : (k z : ℕ) → ((own : List ℕ) → rule k own ≡ true) → mute (sized (fixedAt file k z at)) ≡ mute (whole file (some file z at at))
+  unfolding mute sized fixedAt field whole bind check
+  plain-mute k z r = go (some file z at at) where
+    go : (x : Answer (List ℕ)) → mute (sized (bind x (λ own e. check (rule k own) 15 at (read own e)))) ≡ mute {A = Opening} (bind x (λ own e. read (own, stop) e))
+    go (refused n p) = refl
+    go (read own e) = rw (r own)
 
   sized-leaf : (k : ℕ) → 0 < getD sizes k 0 → mute (sized (fixedAt file k (getD sizes k 0) at)) ≡ mute (fixedHeadAt file k at)
   unfolding fixedHeadAt check
   sized-leaf k s = rw (lt-ltb 0 (getD sizes k 0) s) (whole-mute file (fixedAt file k (getD sizes k 0) at))
 
-  kind-leaf : (t : Target) → Leafy t → (kindOf t ≡ 12 → ⊥) → (kindOf t ≡ 13 → ⊥) → mute (sized (fixedAt file (kindOf t) (getD sizes (kindOf t) 0) at)) ≡ mute (headAt file t at)
-  unfolding headAt kindOf sizes
-  kind-leaf (fixed k) (of-fixed s) c d = sized-leaf k s
-  kind-leaf (enum name) of-enum c d = sized-leaf 15 (omega arith)
+  -- an enum of a size
+  enum-leaf : (name : List ℕ) (z : ℕ) → EnumSize z → mute (sized (fixedAt file (enumKind z) (bytesOf (enumKind z)) at)) ≡ mute (headAt file (enum name z) at)
+  unfolding headAt EnumSize enumKind bytesOf rule
+  enum-leaf name z (inl e) = rw e (plain-mute 60 1 (λ own. refl))
+  enum-leaf name z (inr (inl e)) = rw e (plain-mute 61 2 (λ own. refl))
+  enum-leaf name z (inr (inr (inl e))) = rw e (plain-mute 62 4 (λ own. refl))
+  enum-leaf name z (inr (inr (inr e))) = rw e (plain-mute 63 8 (λ own. refl))
+
+  pub char-leaf : (t : Target) → Leafy t → codeKind t ≡ 12 → mute (charAt file at) ≡ mute (headAt file t at)
+  unfolding headAt codeKind sizes
+  char-leaf (fixed k) (of-fixed s) e = absurd (let z : 0 < getD sizes 12 0 = rw e at s in omega arith)
+  char-leaf (enum name z) (of-enum s) e = absurd (omega (arith, enum-kind z s))
+  char-leaf char of-char e = own-mute file (charAt file) at
+  char-leaf string of-string e = absurd (omega arith)
+
+  pub text-leaf : (t : Target) → Leafy t → codeKind t ≡ 13 → mute (ownSize (textAt file at)) ≡ mute (headAt file t at)
+  unfolding headAt codeKind sizes
+  text-leaf (fixed k) (of-fixed s) e = absurd (let z : 0 < getD sizes 13 0 = rw e at s in omega arith)
+  text-leaf (enum name z) (of-enum s) e = absurd (omega (arith, enum-kind z s))
+  text-leaf char of-char e = absurd (omega arith)
+  text-leaf string of-string e = own-size-mute (textAt file at)
+
+  kind-leaf : (t : Target) → Leafy t → (codeKind t ≡ 12 → ⊥) → (codeKind t ≡ 13 → ⊥) → mute (sized (fixedAt file (codeKind t) (bytesOf (codeKind t)) at)) ≡ mute (headAt file t at)
+  unfolding headAt codeKind
+  kind-leaf (fixed k) (of-fixed s) c d = rw (bytes-below k (sized-small k s)) (sized-leaf k s)
+  kind-leaf (enum name z) (of-enum s) c d = enum-leaf name z s
   kind-leaf char of-char c d = absurd (c refl)
   kind-leaf string of-string c d = absurd (d refl)
 
-  pub fixed-leaf : (t : Target) (k z : ℕ) → Leafy t → kindOf t ≡ k → z ≡ getD sizes k 0 → (k ≡ 12 → ⊥) → (k ≡ 13 → ⊥) → mute (sized (fixedAt file k z at)) ≡ mute (headAt file t at)
+  pub fixed-leaf : (t : Target) (k z : ℕ) → Leafy t → codeKind t ≡ k → z ≡ bytesOf k → (k ≡ 12 → ⊥) → (k ≡ 13 → ⊥) → mute (sized (fixedAt file k z at)) ≡ mute (headAt file t at)
   fixed-leaf t k z l e s c d = rw (s, ← e) (kind-leaf t l (λ q. c (sym e ∙ q)) (λ q. d (sym e ∙ q)))

@@ -5,7 +5,8 @@ use Prim.Native.Nat.{ℕ, _+_, _<_, max}
 use lib.Dec.{leb}
 use lib.ListN.{getD}
 use Rattle.layout.specs.Number.{little}
-use Rattle.layout.specs.Target.{Target, fixed, char, string, object as anything, texture, texture2D, spriteFont, page, enum, nullable, array, list, dictionary}
+use Rattle.layout.specs.Target.{Target, fixed, char, string, enum}
+use Rattle.layout.specs.EnumList.{EnumSize}
 use Rattle.layout.specs.Image.{levels, digits}
 use Rattle.layout.specs.Fixed.{sizes}
 use Rattle.layout.specs.Slot as L
@@ -13,23 +14,22 @@ use Rattle.layout.specs.Slot.{stop, each, leaves}
 use Rattle.reading.specs.Answer.{Answer, refused, read, bind, check, within}
 use Rattle.reading.specs.Little.{littleAt}
 use Rattle.reading.specs.Heads.{Opening}
-use Rattle.types.specs.Code.{NoEnum}
 use Rattle.heads.specs.declared.nest.Below.{Below}
 use Rattle.heads.specs.declared.open.Opened.{Opened}
 use Rattle.heads.specs.declared.open.Opened.the-variants.{Refused, Head}
 use Rattle.heads.specs.Nests.{BelowIs}
 
 -- a head was read: where it ends, and the slots of what stands below it
-pub record OpenIs (codes : List ℕ) (o : Opening) (e : ℕ) (r : Opened) : Type 0 where
+pub record OpenIs (file codes : List ℕ) (o : Opening) (e : ℕ) (r : Opened) : Type 0 where
   pub below : Below
   pub is : r ≡ Head e below
   pub slots : List L.Slot
   pub plan : o .1 ≡ each slots
-  pub stands : BelowIs codes below slots
+  pub stands : BelowIs file codes below slots
 
-abbrev pub Opens : List ℕ → Answer Opening → Opened → Type 0
-Opens codes (refused n p) r = r ≡ Refused n p
-Opens codes (read o e) r = OpenIs codes o e r
+abbrev pub Opens : (file codes : List ℕ) → Answer Opening → Opened → Type 0
+Opens file codes (refused n p) r = r ≡ Refused n p
+Opens file codes (read o e) r = OpenIs file codes o e r
 
 -- nothing stands below
 abbrev pub Stopping : Answer Opening → Type 0
@@ -38,25 +38,9 @@ Stopping x = (o : Opening) (e : ℕ) → x ≡ read o e → o .1 ≡ stop
 -- the types without children
 pub data Leafy : Target → Type 0 where
   of-fixed : {k : ℕ} → 0 < getD sizes k 0 → Leafy (fixed k)
-  of-enum : {name : List ℕ} → Leafy (enum name)
+  of-enum : {name : List ℕ} {z : ℕ} → EnumSize z → Leafy (enum name z)
   of-char : Leafy char
   of-string : Leafy string
-
--- no enum is an argument
-unfoldable pub Arguments : Target → Type 0
-Arguments (fixed k) = Unit {0}
-Arguments char = Unit {0}
-Arguments string = Unit {0}
-Arguments anything = Unit {0}
-Arguments (enum name) = Unit {0}
-Arguments (nullable t) = NoEnum t
-Arguments (array t) = NoEnum t
-Arguments (list t) = NoEnum t
-Arguments (dictionary k v) = NoEnum k × NoEnum v
-Arguments texture = Unit {0}
-Arguments texture2D = Unit {0}
-Arguments spriteFont = Unit {0}
-Arguments page = Unit {0}
 
 module _ (file : List ℕ) where
   -- a field of four bytes within bounds

@@ -4,10 +4,10 @@ use mathlib.Core.Bool.{Bool, true, false, cond}
 use mathlib.Core.List.{List}
 use Prim.Native.Nat.{ℕ, _+_, max}
 use lib.Dec.{leb, eqb}
-use lib.ListN.{length, getD}
-use borrow.Author.Tests.{eqb-true}
+use lib.ListN.{length}
+use native.Mathlib.Omega.{arith}
+use borrow.Author.Tests.{eqb-true, ne-eqb, leb-true}
 use Rattle.laws.specs.Small.{differ}
-use Rattle.layout.specs.Fixed.{sizes}
 use Rattle.layout.specs.Image.{digits}
 use Rattle.reading.specs.Answer.{Answer, refused, read}
 use Rattle.reading.specs.Seven.{sevenAt}
@@ -28,6 +28,7 @@ use Rattle.heads.specs.declared.nest.Below.the-variants.{Nothing, Nested
 use Rattle.heads.specs.declared.nest.Below.the-variants.{Simple as SimpleRun}
 use Rattle.heads.specs.declared.open.Opened.{Opened}
 use Rattle.heads.specs.declared.open.Opened.the-variants.{Refused, Head}
+use Rattle.heads.specs.Slots.{bytesOf, rowKind}
 use Rattle.heads.specs.Opens.{rangedAt}
 use Rattle.heads.specs.Total.{rawAs, slotAs, eachAs, pairsAs, aloneAs, leafAs, flagAs, listAs, dictionaryAs, levelsAs, heightAs, widthAs, imageAs, kindAs, openAs}
 
@@ -113,12 +114,12 @@ module _ (file codes : List ℕ) where
     unfolding leafAs
     leaf-tells = go (eqb kind 12) (eqb kind 13) refl refl where
       go : (b c : Bool) → eqb kind 12 ≡ b → eqb kind 13 ≡ c
-          → Tells pad (aloneAs (cond b (beside 0 (charAt file at)) (cond c (beside (padOf (sevenAt file at) at) (ownSize (textAt file at))) (beside 0 (sized (fixedAt file kind (getD sizes kind 0) at))))))
+          → Tells pad (aloneAs (cond b (beside 0 (charAt file at)) (cond c (beside (padOf (sevenAt file at) at) (ownSize (textAt file at))) (beside 0 (sized (fixedAt file kind (bytesOf kind) at))))))
       go true c e f =
           let k : eqb kind 13 ≡ false = rw (eqb-true kind 12 e) in
           rw (without-count file kind at k) (alone-tells 0 (charAt file at))
       go false true e f = rw (with-count file kind at f) (alone-tells (padOf (sevenAt file at) at) (ownSize (textAt file at)))
-      go false false e f = rw (without-count file kind at f) (alone-tells 0 (sized (fixedAt file kind (getD sizes kind 0) at)))
+      go false false e f = rw (without-count file kind at f) (alone-tells 0 (sized (fixedAt file kind (bytesOf kind) at)))
 
     kind-tells : Tells pad (kindAs file codes kind a at)
     unfolding kindAs
@@ -133,10 +134,18 @@ module _ (file codes : List ℕ) where
         (other 33 refl _ _ refl
         (other 34 refl _ _ refl leaf-tells))))))))
 
+  -- the count is a text's alone, whichever of an enum's kinds is asked for
+  row-count : (k at : ℕ) → countPlaces file (rowKind k) at ≡ countPlaces file k at
+  unfolding countPlaces rowKind
+  row-count k at = go (leb 60 k) refl where
+    go : (b : Bool) → leb 60 k ≡ b → countPlaces file (cond b 15 k) at ≡ countPlaces file k at
+    go true e = let z : eqb k 13 ≡ false = ne-eqb k 13 (λ q. omega (arith, leb-true 60 k e)) in rw z
+    go false e = refl
+
   -- a head that was opened tells the padding of its kind's count
-  pub open-pads : (t at : ℕ) {e : ℕ} {below : Below} → openAs file codes t at ≡ Head e below → belowPad below ≡ padding file (countPlaces file (kindAt codes t) at)
+  pub open-pads : (t at : ℕ) {e : ℕ} {below : Below} → openAs file codes t at ≡ Head e below → belowPad below ≡ padding file (countPlaces file (rowKind (kindAt codes t)) at)
   unfolding openAs
-  open-pads t at {e} {below} q = told (openAs file codes t at) (tells-if (padding file (countPlaces file (kindAt codes t) at)) (leb (length codes) t) (Refused 13 at) (kindAs file codes (kindAt codes t) (t + 1) at) tt (kind-tells (kindAt codes t) (t + 1) at)) q where
+  open-pads t at {e} {below} q = rw (row-count (kindAt codes t) at) (told (openAs file codes t at) (tells-if (padding file (countPlaces file (kindAt codes t) at)) (leb (length codes) t) (Refused 13 at) (kindAs file codes (kindAt codes t) (t + 1) at) tt (kind-tells (kindAt codes t) (t + 1) at)) q) where
     told : (o : Opened) → Tells (padding file (countPlaces file (kindAt codes t) at)) o → o ≡ Head e below → belowPad below ≡ padding file (countPlaces file (kindAt codes t) at)
     told (Refused n p) w z = differ cc
     told (Head f b) w z =

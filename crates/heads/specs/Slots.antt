@@ -1,151 +1,178 @@
 -- Slots in code, whose types are places in an array of codes, and the layout's slots that they are. Assumes nothing.
-use mathlib.Core.Path.{_≡_, refl}
-use mathlib.Core.Bool.{Bool, true, false, _&&_}
-use mathlib.Core.List.{List}
+use mathlib.Core.Path.{_≡_, refl, sym, _∙_}
+use mathlib.Core.Bool.{Bool, true, false, cond}
+use mathlib.Core.List.{List, []}
+use mathlib.Core.Logic.{inl, inr}
 use Prim.Native.Nat.{ℕ, zero, suc, _<_}
 use native.Mathlib.Omega.{arith}
-use lib.Dec.{eqb, ltb}
-use lib.ListN.{getD}
-use borrow.Author.Tests.{eqb-true, eqb-false, ltb-true}
-use Rattle.laws.specs.Small.{differ, both}
-use Rattle.types.specs.Decode.{fixed-small}
+use lib.Dec.{eqb, leb, ltb}
+use lib.ListN.{getD, List·getD-eq-default}
+use borrow.Author.Tests.{eqb-false, ne-eqb, le-leb, lt-leb, ltb-true, ltb-false}
 use Rattle.layout.specs.Target.{Target, fixed, char, string, object as anything, texture, texture2D, spriteFont, page, enum, nullable, array, list, dictionary, kindOf, isValue}
 use Rattle.layout.specs.Fixed.{sizes}
+use Rattle.layout.specs.EnumList.{EnumSize}
 use Rattle.layout.specs.Slot.{raw, object, slotOf, rawOrObject}
 use Rattle.layout.specs.Slot as L
-use Rattle.layout.specs.Number.{between}
-use Rattle.layout.specs.Named.{fixedKind}
-use Rattle.types.specs.Code.{Stands, NoEnum, Lawful as LawfulTarget, Throughout}
+use Rattle.names.specs.Kind.{enumKind}
+use Rattle.types.specs.Word.{fixed-small, enum-kind}
+use Rattle.types.specs.Code.{Stands, Lawful as LawfulTarget, codeKind}
+use Rattle.types.specs.Place.{kindAt}
+use Rattle.types.specs.Laws.{kind-is, kind-of-code, fixed-has-size}
+use Rattle.leaves.specs.declared.plain.Plain.{Plain}
+use Rattle.leaves.specs.declared.plain.Plain.the-variants.{Fixed, Enum, Char}
 use Rattle.leaves.specs.Plain.{plainSlot, Lawful}
+use Rattle.leaves.specs.Like.{Like, same, enums}
 use Rattle.heads.specs.declared.slot.Slot.{Slot}
 use Rattle.heads.specs.declared.slot.Slot.the-variants.{Simple, Raw, Object}
 
--- a raw value or an object of a type, which stands at a place of the codes and has no enum in it
-pub record RawIs (codes : List ℕ) (place : ℕ) (x : L.Slot) : Type 0 where
+-- a raw value or an object of a type, which stands at a place of the codes
+pub record RawIs (file codes : List ℕ) (place : ℕ) (x : L.Slot) : Type 0 where
   pub type : Target
   pub is : x ≡ raw type
-  pub stands : Stands codes place type
-  pub plain : NoEnum type
+  pub stands : Stands file codes place type
 
-pub record ObjectIs (codes : List ℕ) (place : ℕ) (x : L.Slot) : Type 0 where
+pub record ObjectIs (file codes : List ℕ) (place : ℕ) (x : L.Slot) : Type 0 where
   pub type : Target
   pub is : x ≡ object type
-  pub stands : Stands codes place type
-  pub plain : NoEnum type
+  pub stands : Stands file codes place type
 
--- the slot that a slot of the code is
-abbrev pub SlotIs : List ℕ → Slot → L.Slot → Type 0
-SlotIs codes (Simple p) x = (x ≡ plainSlot p) × Lawful p
-SlotIs codes (Raw a) x = RawIs codes a x
-SlotIs codes (Object a) x = ObjectIs codes a x
+-- the slot that a slot of the code is; one of enums stands for those of every name
+abbrev pub SlotIs : (file codes : List ℕ) → Slot → L.Slot → Type 0
+SlotIs file codes (Simple p) x = Like x (plainSlot p) × Lawful p
+SlotIs file codes (Raw a) x = RawIs file codes a x
+SlotIs file codes (Object a) x = ObjectIs file codes a x
 
--- a test that holds of each number below a bound
-unfoldable allBelow : ℕ → (ℕ → Bool) → Bool
-allBelow zero P = true
-allBelow (suc n) P = P n && allBelow n P
+-- how many bytes a value of a kind has, as a type's code has the kind: 01's size, or an enum's; 0 where none is fixed
+unfoldable pub bytesOf : (kind : ℕ) → ℕ
+bytesOf k = cond (eqb k 60) 1 (cond (eqb k 61) 2 (cond (eqb k 62) 4 (cond (eqb k 63) 8 (getD sizes k 0))))
 
-at-each : (n : ℕ) (P : ℕ → Bool) → allBelow n P ≡ true → (k : ℕ) → k < n → P k ≡ true
-unfolding allBelow
-at-each zero P t k h = absurd (omega arith)
-at-each (suc n) P t k h = go (eqb k n) refl (both (P n) (allBelow n P) t) (at-each n P) where
-  go : (b : Bool) → eqb k n ≡ b → (P n ≡ true) × (allBelow n P ≡ true) → (allBelow n P ≡ true → (k : ℕ) → k < n → P k ≡ true) → P k ≡ true
-  go true e w rest = rw (eqb-true k n e) (w .0)
-  go false e w rest = rest (w .1) k (omega (arith, eqb-false k n e))
+-- a value of such a kind without children
+unfoldable pub plainOf : (kind : ℕ) → Plain
+plainOf k = cond (leb 60 k) (Enum (bytesOf k)) (Fixed k (bytesOf k))
 
-sizedIf : Bool → ℕ → Bool
-sizedIf true k = ltb 0 (getD sizes k 0)
-sizedIf false k = true
+-- a raw value, and an element or a field, of a type whose code has a kind and stands at a place
+unfoldable pub rawOf : (kind a : ℕ) → Slot
+rawOf k a = cond (eqb k 12) (Simple Char) (cond (eqb (bytesOf k) 0) (Raw a) (Simple (plainOf k)))
 
--- each kind of a fixed type has a size
-pub fixed-sized : (k : ℕ) → fixedKind k ≡ true → 0 < getD sizes k 0
-unfolding sizedIf allBelow fixedKind sizes
-fixed-sized k f =
-    let small : k < 64 = fixed-small k f in
-    let t : sizedIf (fixedKind k) k ≡ true = at-each 64 (λ n. sizedIf (fixedKind n) n) refl k small in
-    ltb-true 0 (getD sizes k 0) (rw f at t)
+unfoldable pub slotBy : (kind a : ℕ) → Slot
+slotBy k a = cond (eqb k 12) (Simple Char) (cond (eqb k 16) (Raw a) (cond (eqb (bytesOf k) 0) (Object a) (Simple (plainOf k))))
 
--- by the kind of a lawful type: a character
-pub raw-char : (t : Target) → LawfulTarget t → kindOf t ≡ 12 → t ≡ char
-unfolding Throughout kindOf fixedKind
-raw-char (fixed k) l e = absurd (let q : _≡_ {A = Bool} false true = rw e at l in differ cc)
-raw-char char l e = refl
-raw-char string l e = absurd (omega arith)
-raw-char anything l e = absurd (omega arith)
-raw-char (enum name) l e = absurd (omega arith)
-raw-char (nullable t) l e = absurd (omega arith)
-raw-char (array t) l e = absurd (omega arith)
-raw-char (list t) l e = absurd (omega arith)
-raw-char (dictionary k v) l e = absurd (omega arith)
-raw-char texture l e = absurd (omega arith)
-raw-char texture2D l e = absurd (omega arith)
-raw-char spriteFont l e = absurd (omega arith)
-raw-char page l e = absurd (omega arith)
+-- 01's kind of a type by the kind of its code: every enum's is 15
+unfoldable pub rowKind : (kind : ℕ) → ℕ
+rowKind k = cond (leb 60 k) 15 k
 
--- by the kind of a lawful type without enums, how it stands as an element or a field
-pub char-slot : (t : Target) → LawfulTarget t → kindOf t ≡ 12 → slotOf t ≡ raw char
-unfolding slotOf rawOrObject isValue
-char-slot t l e = rw (raw-char t l e)
+-- the sorts of types, by the kinds of their codes: characters, nullables, other values of a size, and what stands as an object
+data Sort : Target → Type 0 where
+  a-char : Sort char
+  a-nullable : {t : Target} → Sort (nullable t)
+  a-plain : {t : Target} → (codeKind t ≡ 12 → ⊥) → (codeKind t ≡ 16 → ⊥) → (bytesOf (codeKind t) ≡ 0 → ⊥) → isValue t ≡ true
+      → Like (raw t) (plainSlot (plainOf (codeKind t))) → Lawful (plainOf (codeKind t)) → Sort t
+  a-boxed : {t : Target} → (codeKind t ≡ 12 → ⊥) → (codeKind t ≡ 16 → ⊥) → bytesOf (codeKind t) ≡ 0 → isValue t ≡ false → Sort t
 
-pub nullable-slot : {codes : List ℕ} {a : ℕ} (t : Target) → Stands codes a t → NoEnum t → kindOf t ≡ 16 → RawIs codes a (slotOf t)
-unfolding Throughout kindOf slotOf rawOrObject isValue fixedKind
-nullable-slot (fixed k) s n e = absurd (let q : _≡_ {A = Bool} false true = rw e at (s .lawful) in differ cc)
-nullable-slot char s n e = absurd (omega arith)
-nullable-slot string s n e = absurd (omega arith)
-nullable-slot anything s n e = absurd (omega arith)
-nullable-slot (enum name) s n e = absurd (omega arith)
-nullable-slot (nullable t) s n e = record { type = nullable t; is = refl; stands = s; plain = n }
-nullable-slot (array t) s n e = absurd (omega arith)
-nullable-slot (list t) s n e = absurd (omega arith)
-nullable-slot (dictionary k v) s n e = absurd (omega arith)
-nullable-slot texture s n e = absurd (omega arith)
-nullable-slot texture2D s n e = absurd (omega arith)
-nullable-slot spriteFont s n e = absurd (omega arith)
-nullable-slot page s n e = absurd (omega arith)
+-- a kind below 60 has the bytes that 01 says
+pub bytes-below : (k : ℕ) → k < 60 → bytesOf k ≡ getD sizes k 0
+unfolding bytesOf
+bytes-below k h =
+    rw (ne-eqb k 60 (λ e. omega arith), ne-eqb k 61 (λ e. omega arith), ne-eqb k 62 (λ e. omega arith), ne-eqb k 63 (λ e. omega arith))
 
-pub object-slot : (t : Target) → LawfulTarget t → NoEnum t → (kindOf t ≡ 12 → ⊥) → (kindOf t ≡ 16 → ⊥) → getD sizes (kindOf t) 0 ≡ 0 → slotOf t ≡ object t
-unfolding Throughout kindOf slotOf rawOrObject isValue
-object-slot (fixed k) l n c o e = absurd (omega (arith, fixed-sized k l))
-object-slot char l n c o e = absurd (c refl)
-object-slot string l n c o e = refl
-object-slot anything l n c o e = refl
-object-slot (enum name) l n c o e = absurd n
-object-slot (nullable t) l n c o e = absurd (o refl)
-object-slot (array t) l n c o e = refl
-object-slot (list t) l n c o e = refl
-object-slot (dictionary k v) l n c o e = refl
-object-slot texture l n c o e = refl
-object-slot texture2D l n c o e = refl
-object-slot spriteFont l n c o e = refl
-object-slot page l n c o e = refl
+-- a kind with a size is one of 01's
+pub sized-small : (k : ℕ) → 0 < getD sizes k 0 → k < 60
+unfolding sizes
+sized-small k h = go (ltb k 60) refl where
+  go : (b : Bool) → ltb k 60 ≡ b → k < 60
+  go true e = ltb-true k 60 e
+  go false e = absurd (let z : getD sizes k 0 ≡ 0 = List·getD-eq-default sizes 0 {n = k} (omega (arith, ltb-false k 60 e)) in omega arith)
 
-pub fixed-slot : (t : Target) → NoEnum t → (kindOf t ≡ 12 → ⊥) → (kindOf t ≡ 16 → ⊥) → (getD sizes (kindOf t) 0 ≡ 0 → ⊥) → slotOf t ≡ raw (fixed (kindOf t))
-unfolding Throughout kindOf slotOf rawOrObject isValue sizes
-fixed-slot (fixed k) n c o e = refl
-fixed-slot char n c o e = absurd (c refl)
-fixed-slot string n c o e = absurd (e refl)
-fixed-slot anything n c o e = absurd (e refl)
-fixed-slot (enum name) n c o e = absurd n
-fixed-slot (nullable t) n c o e = absurd (o refl)
-fixed-slot (array t) n c o e = absurd (e refl)
-fixed-slot (list t) n c o e = absurd (e refl)
-fixed-slot (dictionary k v) n c o e = absurd (e refl)
-fixed-slot texture n c o e = absurd (e refl)
-fixed-slot texture2D n c o e = absurd (e refl)
-fixed-slot spriteFont n c o e = absurd (e refl)
-fixed-slot page n c o e = absurd (e refl)
+fixed-plain : (k : ℕ) → k < 60 → plainOf k ≡ Fixed k (getD sizes k 0)
+unfolding plainOf
+fixed-plain k h = rw (lt-leb 60 k h, bytes-below k h)
 
-pub raw-fixed : (t : Target) → NoEnum t → (getD sizes (kindOf t) 0 ≡ 0 → ⊥) → t ≡ fixed (kindOf t)
-unfolding Throughout kindOf sizes
-raw-fixed (fixed k) n e = refl
-raw-fixed char n e = absurd (e refl)
-raw-fixed string n e = absurd (e refl)
-raw-fixed anything n e = absurd (e refl)
-raw-fixed (enum name) n e = absurd n
-raw-fixed (nullable t) n e = absurd (e refl)
-raw-fixed (array t) n e = absurd (e refl)
-raw-fixed (list t) n e = absurd (e refl)
-raw-fixed (dictionary k v) n e = absurd (e refl)
-raw-fixed texture n e = absurd (e refl)
-raw-fixed texture2D n e = absurd (e refl)
-raw-fixed spriteFont n e = absurd (e refl)
-raw-fixed page n e = absurd (e refl)
+-- a kind with a size is not this one, which has none
+sized-other : (k j : ℕ) → 0 < getD sizes k 0 → getD sizes j 0 ≡ 0 → k ≡ j → ⊥
+sized-other k j h z e = let q : getD sizes k 0 ≡ 0 = rw e z in omega arith
+
+fixed-sort : (k : ℕ) → LawfulTarget (fixed k) → Sort (fixed k)
+unfolding LawfulTarget codeKind isValue sizes
+fixed-sort k l =
+    let h = fixed-small k l in
+    let z = fixed-has-size k l in
+    let b = bytes-below k h in
+    let p = fixed-plain k h in
+    a-plain {t = fixed k} (sized-other k 12 z refl) (sized-other k 16 z refl) (λ e. let q : bytesOf k ≡ 0 = e in omega arith) refl (rw p same) (rw p (refl, z))
+
+-- an enum's bytes are its size
+pub enum-bytes : (z : ℕ) → EnumSize z → bytesOf (enumKind z) ≡ z
+unfolding EnumSize enumKind bytesOf
+enum-bytes z (inl e) = rw e
+enum-bytes z (inr (inl e)) = rw e
+enum-bytes z (inr (inr (inl e))) = rw e
+enum-bytes z (inr (inr (inr e))) = rw e
+
+size-some : (z : ℕ) → EnumSize z → z ≡ 0 → ⊥
+unfolding EnumSize
+size-some z (inl e) q = omega arith
+size-some z (inr (inl e)) q = omega arith
+size-some z (inr (inr (inl e))) q = omega arith
+size-some z (inr (inr (inr e))) q = omega arith
+
+enum-plain : (z : ℕ) → EnumSize z → plainOf (enumKind z) ≡ Enum z
+unfolding plainOf
+enum-plain z l = rw (le-leb 60 (enumKind z) (enum-kind z l .0), enum-bytes z l)
+
+enum-sort : (name : List ℕ) (z : ℕ) → LawfulTarget (enum name z) → Sort (enum name z)
+unfolding LawfulTarget codeKind isValue
+enum-sort name z l =
+    let k = enum-kind z l in
+    let p = enum-plain z l in
+    a-plain {t = enum name z} (λ q. let e : enumKind z ≡ 12 = q in omega arith) (λ q. let e : enumKind z ≡ 16 = q in omega arith) (λ q. size-some z l (sym (enum-bytes z l) ∙ q)) refl (rw p enums) (rw p tt)
+
+sort-of : (t : Target) → LawfulTarget t → Sort t
+unfolding codeKind isValue bytesOf sizes
+sort-of (fixed k) l = fixed-sort k l
+sort-of char l = a-char
+sort-of string l = a-boxed {t = string} (eqb-false 13 12 refl) (eqb-false 13 16 refl) refl refl
+sort-of anything l = a-boxed {t = anything} (eqb-false 14 12 refl) (eqb-false 14 16 refl) refl refl
+sort-of (enum name z) l = enum-sort name z l
+sort-of (nullable t) l = a-nullable
+sort-of (array t) l = a-boxed {t = array t} (eqb-false 17 12 refl) (eqb-false 17 16 refl) refl refl
+sort-of (list t) l = a-boxed {t = list t} (eqb-false 18 12 refl) (eqb-false 18 16 refl) refl refl
+sort-of (dictionary k v) l = a-boxed {t = dictionary k v} (eqb-false 19 12 refl) (eqb-false 19 16 refl) refl refl
+sort-of texture l = a-boxed {t = texture} (eqb-false 31 12 refl) (eqb-false 31 16 refl) refl refl
+sort-of texture2D l = a-boxed {t = texture2D} (eqb-false 32 12 refl) (eqb-false 32 16 refl) refl refl
+sort-of spriteFont l = a-boxed {t = spriteFont} (eqb-false 33 12 refl) (eqb-false 33 16 refl) refl refl
+sort-of page l = a-boxed {t = page} (eqb-false 34 12 refl) (eqb-false 34 16 refl) refl refl
+
+-- an element or a field of a type, and a raw value of it, by the kind of its code
+module _ {file codes : List ℕ} {a : ℕ} where
+  slot-sort : {t : Target} → Stands file codes a t → Sort t → SlotIs file codes (slotBy (codeKind t) a) (slotOf t)
+  unfolding slotBy slotOf rawOrObject isValue codeKind
+  slot-sort s a-char = (same, tt)
+  slot-sort {t = t} s a-nullable = record { type = t; is = refl; stands = s }
+  slot-sort {t = t} s (a-plain c n z v l w) = rw (ne-eqb (codeKind t) 12 c, ne-eqb (codeKind t) 16 n, ne-eqb (bytesOf (codeKind t)) 0 z, v) (l, w)
+  slot-sort {t = t} s (a-boxed c n z v) = rw (ne-eqb (codeKind t) 12 c, ne-eqb (codeKind t) 16 n, z, v) (record { type = t; is = refl; stands = s })
+
+  raw-sort : {t : Target} → Stands file codes a t → Sort t → SlotIs file codes (rawOf (codeKind t) a) (raw t)
+  unfolding rawOf codeKind bytesOf sizes
+  raw-sort s a-char = (same, tt)
+  raw-sort {t = t} s a-nullable = record { type = t; is = refl; stands = s }
+  raw-sort {t = t} s (a-plain c n z v l w) = rw (ne-eqb (codeKind t) 12 c, ne-eqb (bytesOf (codeKind t)) 0 z) (l, w)
+  raw-sort {t = t} s (a-boxed c n z v) = rw (ne-eqb (codeKind t) 12 c, z) (record { type = t; is = refl; stands = s })
+
+  pub slot-is : (t : Target) → Stands file codes a t → SlotIs file codes (slotBy (kindAt codes a) a) (slotOf t)
+  slot-is t s = rw (kind-is s) (slot-sort s (sort-of t (s .lawful)))
+
+  pub raw-is : (t : Target) → Stands file codes a t → SlotIs file codes (rawOf (kindAt codes a) a) (raw t)
+  raw-is t s = rw (kind-is s) (raw-sort s (sort-of t (s .lawful)))
+
+-- 01's kind of the type at a place
+pub row-kind : {file codes : List ℕ} {a : ℕ} {t : Target} → Stands file codes a t → rowKind (kindAt codes a) ≡ kindOf t
+unfolding rowKind
+row-kind {t = t} s = rw (kind-is s) (sym (kind-of-code t (s .lawful)))
+
+-- only an enum's kind is another than that of its code
+pub kind-kept : (k j : ℕ) → (j ≡ 15 → ⊥) → rowKind k ≡ j → k ≡ j
+unfolding rowKind
+kind-kept k j n e = go (leb 60 k) e where
+  go : (b : Bool) → cond b 15 k ≡ j → k ≡ j
+  go true q = absurd (n (sym q))
+  go false q = q

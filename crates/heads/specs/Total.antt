@@ -3,8 +3,7 @@ use mathlib.Core.Bool.{cond}
 use mathlib.Core.List.{List}
 use Prim.Native.Nat.{ℕ, _+_, max}
 use lib.Dec.{leb, eqb}
-use lib.ListN.{length, getD}
-use Rattle.layout.specs.Fixed.{sizes}
+use lib.ListN.{length}
 use Rattle.layout.specs.Image.{digits}
 use Rattle.reading.specs.Answer.{Answer, refused, read}
 use Rattle.reading.specs.Seven.{sevenAt}
@@ -14,7 +13,6 @@ use Rattle.reading.specs.Utf8.{charAt}
 use Rattle.reading.specs.Fixed.{fixedAt, sized}
 use Rattle.reading.specs.Heads.{textAt}
 use Rattle.types.specs.Place.{kindAt, placeAfter}
-use Rattle.leaves.specs.declared.plain.Plain.the-variants.{Fixed, Char}
 use Rattle.leaves.specs.declared.run.Run.the-variants.{Same, Turns, Levels}
 use Rattle.leaves.specs.Text.{ownSize}
 use Rattle.heads.specs.declared.slot.Slot.{Slot}
@@ -25,19 +23,15 @@ use Rattle.heads.specs.declared.nest.Below.the-variants.{Nothing, Nested
 use Rattle.heads.specs.declared.nest.Below.the-variants.{Simple as SimpleRun}
 use Rattle.heads.specs.declared.open.Opened.{Opened}
 use Rattle.heads.specs.declared.open.Opened.the-variants.{Refused, Head}
+use Rattle.heads.specs.Slots.{bytesOf, rawOf, slotBy}
 use Rattle.heads.specs.Opens.{rangedAt}
 
 -- a raw value, and an element or a field, of the type at a place
-unfoldable pub rawAs : (codes : List ℕ) (a : ℕ) → Slot
-rawAs codes a =
-    cond (eqb (kindAt codes a) 12) (Simple Char)
-    (cond (eqb (getD sizes (kindAt codes a) 0) 0) (Raw a) (Simple (Fixed (kindAt codes a) (getD sizes (kindAt codes a) 0))))
+abbrev pub rawAs : (codes : List ℕ) (a : ℕ) → Slot
+rawAs codes a = rawOf (kindAt codes a) a
 
-unfoldable pub slotAs : (codes : List ℕ) (a : ℕ) → Slot
-slotAs codes a =
-    cond (eqb (kindAt codes a) 12) (Simple Char)
-    (cond (eqb (kindAt codes a) 16) (Raw a)
-    (cond (eqb (getD sizes (kindAt codes a) 0) 0) (Object a) (Simple (Fixed (kindAt codes a) (getD sizes (kindAt codes a) 0)))))
+abbrev pub slotAs : (codes : List ℕ) (a : ℕ) → Slot
+slotAs codes a = slotBy (kindAt codes a) a
 
 -- n values that stand alike, and n keys and values in turn
 abbrev pub eachAs : Slot → ℕ → Below
@@ -60,7 +54,7 @@ aloneAs (read a next) = Head next (Nothing (a .1))
 unfoldable pub leafAs : (file : List ℕ) (kind at : ℕ) → Answer (ℕ × ℕ)
 leafAs file kind at =
     cond (eqb kind 12) (beside 0 (charAt file at))
-    (cond (eqb kind 13) (beside (padOf (sevenAt file at) at) (ownSize (textAt file at))) (beside 0 (sized (fixedAt file kind (getD sizes kind 0) at))))
+    (cond (eqb kind 13) (beside (padOf (sevenAt file at) at) (ownSize (textAt file at))) (beside 0 (sized (fixedAt file kind (bytesOf kind) at))))
 
 -- a nullable, by its first byte; a list and a dictionary, by their counts
 abbrev pub flagAs : (codes : List ℕ) (a at : ℕ) → Answer ℕ → Opened

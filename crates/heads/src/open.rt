@@ -13,7 +13,8 @@ ghost use Rattle.answers.specs.Told.{told};
 ghost use Rattle.numbers.specs.Padded.{beside, toldPadded};
 ghost use Rattle.layout.specs.Slot as L;
 ghost use Rattle.layout.specs.Slot.{pairs};
-ghost use Rattle.layout.specs.Target.{Target, nullable, list, texture2D, kindOf};
+ghost use Rattle.layout.specs.Target.{Target, nullable, list, texture2D};
+ghost use Rattle.types.specs.Code.{codeKind};
 ghost use Rattle.layout.specs.Image.{digits};
 ghost use Rattle.reading.specs.Answer.{Answer};
 ghost use Rattle.reading.specs.Little.{littleAt};
@@ -32,7 +33,7 @@ pub enum Opened {
 
 // A value without children, once its bytes are read.
 fn alone(read: Padded) -> Opened
-    ensures { λ r. ⌜ ((codes : List ℕ) (x : Answer Opening) → mute (toldPadded read) ≡ mute x → Stopping x → Opens codes x r) ⌝ }
+    ensures { λ r. ⌜ ((file codes : List ℕ) (x : Answer Opening) → mute (toldPadded read) ≡ mute x → Stopping x → Opens file codes x r) ⌝ }
     ensures { λ r. ⌜ r ≡ aloneAs (toldPadded read) ⌝ }
 {
     match read {
@@ -53,19 +54,19 @@ fn unpadded(read: Number) -> Padded
 
 // The bytes of a value of a kind without children, and the padding of its count.
 fn leaf_at(file: &[u8], kind: u32, at: usize) -> Padded
-    ensures { λ r. ⌜ ((t : Target) → Leafy t → kindOf t ≡ kind → mute (toldPadded r) ≡ mute (headAt (now (file .entry)) t at)) ⌝ }
+    ensures { λ r. ⌜ ((t : Target) → Leafy t → codeKind t ≡ kind → mute (toldPadded r) ≡ mute (headAt (now (file .entry)) t at)) ⌝ }
     ensures { λ r. ⌜ toldPadded r ≡ leafAs (now (file .entry)) kind at ⌝ }
 {
     match kind {
         12 => unpadded(text::char_at(file, at)),
         13 => leaves::read::text_at(file, at),
-        _ => unpadded(values::fixed_at(file, kind, values::size_of_kind(kind), at)),
+        _ => unpadded(values::fixed_at(file, kind, crate::slot::bytes_of(kind), at)),
     }
 }
 
 // n values that stand alike.
 fn each_of(slot: Slot, n: u32) -> Below
-    ensures { λ r. ⌜ ((codes : List ℕ) (x : L.Slot) → SlotIs codes slot x → BelowIs codes r (replicate n x)) ⌝ }
+    ensures { λ r. ⌜ ((file codes : List ℕ) (x : L.Slot) → SlotIs file codes slot x → BelowIs file codes r (replicate n x)) ⌝ }
     ensures { λ r. ⌜ r ≡ eachAs slot n ⌝ }
 {
     match slot {
@@ -77,7 +78,7 @@ fn each_of(slot: Slot, n: u32) -> Below
 
 // n keys and values in turn.
 fn pairs_of(key: Slot, value: Slot, n: u32) -> Below
-    ensures { λ r. ⌜ ((codes : List ℕ) (x y : L.Slot) → SlotIs codes key x → SlotIs codes value y → BelowIs codes r (pairs n x y)) ⌝ }
+    ensures { λ r. ⌜ ((file codes : List ℕ) (x y : L.Slot) → SlotIs file codes key x → SlotIs file codes value y → BelowIs file codes r (pairs n x y)) ⌝ }
     ensures { λ r. ⌜ r ≡ pairsAs key value n ⌝ }
 {
     match key {
@@ -92,7 +93,7 @@ fn pairs_of(key: Slot, value: Slot, n: u32) -> Below
 }
 
 // A nullable of the type at `a`: its first byte, and perhaps the value.
-fn nullable_head(file: &[u8], codes: &[u8], a: usize, at: usize) -> Opened
+fn nullable_head(file: &[u8], codes: &[u32], a: usize, at: usize) -> Opened
     ensures { λ r. ⌜ OpensOf (now (file .entry)) (now (codes .entry)) nullable a at r ⌝ }
     ensures { λ r. ⌜ r ≡ flagAs (now (codes .entry)) a at (littleAt (now (file .entry)) 1 at at) ⌝ }
 {
@@ -111,7 +112,7 @@ fn nullable_head(file: &[u8], codes: &[u8], a: usize, at: usize) -> Opened
 }
 
 // An array or a list of the type at `a`: its count.
-fn list_head(file: &[u8], codes: &[u8], a: usize, at: usize) -> Opened
+fn list_head(file: &[u8], codes: &[u32], a: usize, at: usize) -> Opened
     ensures { λ r. ⌜ OpensOf (now (file .entry)) (now (codes .entry)) list a at r ⌝ }
     ensures { λ r. ⌜ r ≡ listAs (now (codes .entry)) a (littleAt (now (file .entry)) 4 at at) ⌝ }
 {
@@ -125,7 +126,7 @@ fn list_head(file: &[u8], codes: &[u8], a: usize, at: usize) -> Opened
 }
 
 // A dictionary of the types at `a` and `b`: its count.
-fn dictionary_head(file: &[u8], codes: &[u8], a: usize, b: usize, at: usize) -> Opened
+fn dictionary_head(file: &[u8], codes: &[u32], a: usize, b: usize, at: usize) -> Opened
     ensures { λ r. ⌜ OpensDictionary (now (file .entry)) (now (codes .entry)) a b at r ⌝ }
     ensures { λ r. ⌜ r ≡ dictionaryAs (now (codes .entry)) a b (littleAt (now (file .entry)) 4 at at) ⌝ }
 {
@@ -163,7 +164,7 @@ fn ranged(file: &[u8], low: u64, high: u64, at: usize) -> Number
 // An image's level count.
 fn image_levels(file: &[u8], format: u32, width: u32, height: u32, at: usize) -> Opened
     requires { ⌜ (format ≤ 18) × (1 ≤ width) × (width ≤ 4096) × (1 ≤ height) × (height ≤ 4096) ⌝ }
-    ensures { λ r. ⌜ ((codes : List ℕ) → Opens codes (levelsAt (now (file .entry)) format width height at) r) ⌝ }
+    ensures { λ r. ⌜ ((codes : List ℕ) → Opens (now (file .entry)) codes (levelsAt (now (file .entry)) format width height at) r) ⌝ }
     ensures { λ r. ⌜ r ≡ levelsAs format width height (rangedAt (now (file .entry)) 1 (digits 32 (max width height)) at) ⌝ }
 {
     let most = images::longest_chain(width, height) as u64;
@@ -182,7 +183,7 @@ fn image_levels(file: &[u8], format: u32, width: u32, height: u32, at: usize) ->
 // An image's height, and what follows it.
 fn image_height(file: &[u8], format: u32, width: u32, at: usize) -> Opened
     requires { ⌜ (format ≤ 18) × (1 ≤ width) × (width ≤ 4096) ⌝ }
-    ensures { λ r. ⌜ ((codes : List ℕ) → Opens codes (heightAt (now (file .entry)) format width at) r) ⌝ }
+    ensures { λ r. ⌜ ((codes : List ℕ) → Opens (now (file .entry)) codes (heightAt (now (file .entry)) format width at) r) ⌝ }
     ensures { λ r. ⌜ r ≡ heightAs (now (file .entry)) format width (rangedAt (now (file .entry)) 1 4096 at) ⌝ }
 {
     match ranged(file, 1, 4096, at) {
@@ -194,7 +195,7 @@ fn image_height(file: &[u8], format: u32, width: u32, at: usize) -> Opened
 // An image's width, and what follows it.
 fn image_width(file: &[u8], format: u32, at: usize) -> Opened
     requires { ⌜ format ≤ 18 ⌝ }
-    ensures { λ r. ⌜ ((codes : List ℕ) → Opens codes (widthAt (now (file .entry)) format at) r) ⌝ }
+    ensures { λ r. ⌜ ((codes : List ℕ) → Opens (now (file .entry)) codes (widthAt (now (file .entry)) format at) r) ⌝ }
     ensures { λ r. ⌜ r ≡ widthAs (now (file .entry)) format (rangedAt (now (file .entry)) 1 4096 at) ⌝ }
 {
     match ranged(file, 1, 4096, at) {
@@ -205,7 +206,7 @@ fn image_width(file: &[u8], format: u32, at: usize) -> Opened
 
 // An image: format, width, height and level count, each judged before the next.
 fn image_head(file: &[u8], at: usize) -> Opened
-    ensures { λ r. ⌜ ((codes : List ℕ) → Opens codes (headAt (now (file .entry)) texture2D at) r) ⌝ }
+    ensures { λ r. ⌜ ((codes : List ℕ) → Opens (now (file .entry)) codes (headAt (now (file .entry)) texture2D at) r) ⌝ }
     ensures { λ r. ⌜ r ≡ imageAs (now (file .entry)) (rangedAt (now (file .entry)) 0 18 at) ⌝ }
 {
     match ranged(file, 0, 18, at) {
@@ -215,14 +216,14 @@ fn image_head(file: &[u8], at: usize) -> Opened
 }
 
 // The head of a raw value of the type at `t`; Object and Texture have no raw values.
-pub fn open(file: &[u8], codes: &[u8], t: usize, at: usize) -> Opened
+pub fn open(file: &[u8], codes: &[u32], t: usize, at: usize) -> Opened
     ensures { λ r. ⌜ OpensAt (now (file .entry)) (now (codes .entry)) t at r ⌝ }
     ensures { λ r. ⌜ r ≡ openAs (now (file .entry)) (now (codes .entry)) t at ⌝ }
 {
     if codes.len() <= t {
         return Opened::Refused(13, at);
     }
-    let kind = types::kind_at(codes, t) as u32;
+    let kind = types::kind_at(codes, t);
     let first = t + 1;
     match kind {
         14 => Opened::Refused(13, at),

@@ -1,11 +1,8 @@
 // How a value stands below another: without need of the reader list, raw, or as an object; types are places in an array of codes.
 use leaves::plain::Plain;
 ghost use mathlib.Core.Path.{_≡_};
-ghost use Rattle.layout.specs.Target.{Target};
-ghost use Rattle.layout.specs.Slot.{slotOf, raw};
-ghost use Rattle.types.specs.Code.{Stands, NoEnum};
-ghost use Rattle.heads.specs.Slots.{SlotIs};
-ghost use Rattle.heads.specs.Total.{slotAs, rawAs};
+ghost use Rattle.types.specs.Place.{kindAt};
+ghost use Rattle.heads.specs.Slots.{bytesOf, rowKind, plainOf, rawOf, slotBy};
 
 pub enum Slot {
     Simple(Plain),
@@ -13,37 +10,68 @@ pub enum Slot {
     Object(usize),
 }
 
-// An element or a field of the type at a place: raw if it is a value type, else an object.
-pub fn slot_of(codes: &[u8], a: usize) -> Slot
-    ensures { λ r. ⌜ ((t : Target) → Stands (now (codes .entry)) a t → NoEnum t → SlotIs (now (codes .entry)) r (slotOf t)) ⌝ }
-    ensures { λ r. ⌜ r ≡ slotAs (now (codes .entry)) a ⌝ }
+// How many bytes a value of a kind has, as a type's code has the kind: 60 to 63 are enums by their sizes. 0 where none is fixed.
+pub fn bytes_of(kind: u32) -> usize
+    ensures { λ r. ⌜ r ≡ bytesOf kind ⌝ }
 {
-    let kind = types::kind_at(codes, a) as u32;
+    match kind {
+        60 => 1,
+        61 => 2,
+        62 => 4,
+        63 => 8,
+        _ => values::size_of_kind(kind),
+    }
+}
+
+// 01's kind of the type at a place: every enum's is 15.
+pub fn row_kind(codes: &[u32], a: usize) -> u32
+    ensures { λ r. ⌜ r ≡ rowKind (kindAt (now (codes .entry)) a) ⌝ }
+{
+    let kind = types::kind_at(codes, a);
+    if 60 <= kind {
+        return 15;
+    }
+    kind
+}
+
+// A value of such a kind without children.
+fn plain_of(kind: u32) -> Plain
+    ensures { λ r. ⌜ r ≡ plainOf kind ⌝ }
+{
+    let size = bytes_of(kind);
+    if 60 <= kind {
+        return Plain::Enum(size);
+    }
+    Plain::Fixed(kind, size)
+}
+
+// An element or a field of the type at a place: raw if it is a value type, else an object.
+pub fn slot_of(codes: &[u32], a: usize) -> Slot
+    ensures { λ r. ⌜ r ≡ slotBy (kindAt (now (codes .entry)) a) a ⌝ }
+{
+    let kind = types::kind_at(codes, a);
     if kind == 12 {
         return Slot::Simple(Plain::Char);
     }
     if kind == 16 {
         return Slot::Raw(a);
     }
-    let size = values::size_of_kind(kind);
-    if size == 0 {
+    if bytes_of(kind) == 0 {
         return Slot::Object(a);
     }
-    Slot::Simple(Plain::Fixed(kind, size))
+    Slot::Simple(plain_of(kind))
 }
 
 // A raw value of the type at a place.
-pub fn raw_of(codes: &[u8], a: usize) -> Slot
-    ensures { λ r. ⌜ ((t : Target) → Stands (now (codes .entry)) a t → NoEnum t → SlotIs (now (codes .entry)) r (raw t)) ⌝ }
-    ensures { λ r. ⌜ r ≡ rawAs (now (codes .entry)) a ⌝ }
+pub fn raw_of(codes: &[u32], a: usize) -> Slot
+    ensures { λ r. ⌜ r ≡ rawOf (kindAt (now (codes .entry)) a) a ⌝ }
 {
-    let kind = types::kind_at(codes, a) as u32;
+    let kind = types::kind_at(codes, a);
     if kind == 12 {
         return Slot::Simple(Plain::Char);
     }
-    let size = values::size_of_kind(kind);
-    if size == 0 {
+    if bytes_of(kind) == 0 {
         return Slot::Raw(a);
     }
-    Slot::Simple(Plain::Fixed(kind, size))
+    Slot::Simple(plain_of(kind))
 }

@@ -1,3 +1,4 @@
 pub mod Text
 pub mod Plain
+pub mod Like
 pub mod Run

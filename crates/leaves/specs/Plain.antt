@@ -7,7 +7,7 @@ use native.Mathlib.Omega.{arith}
 use lib.Dec.{leb, ltb, eqb}
 use lib.ListN.{length, getD, take, drop}
 use borrow.Author.Tests.{lt-ltb, le-ltb, ltb-true, le-leb, lt-leb}
-use Rattle.layout.specs.Target.{Target, fixed, char, texture2D, page, kindOf, spriteFont}
+use Rattle.layout.specs.Target.{Target, fixed, char, texture2D, page, enum, kindOf, spriteFont}
 use Rattle.layout.specs.Tree.{none, tree, count}
 use Rattle.layout.specs.Fixed.{sizes}
 use Rattle.layout.specs.Slot.{Slot, raw, reference, leaf, level, Plan, stop}
@@ -15,11 +15,11 @@ use Rattle.layout.specs.Rows.{row, width}
 use Rattle.reading.specs.Answer.{Answer, refused, read, bind, check}
 use Rattle.reading.specs.Seven.{sevenAt, seven-next}
 use Rattle.reading.specs.Utf8.{charAt, char-reads}
-use Rattle.reading.specs.Reads.{Small, Reads, reads-bounds}
-use Rattle.reading.specs.Fixed.{fixedAt, sized, fixed-reads}
+use Rattle.reading.specs.Reads.{Small, Reads, reads-bounds, some, some-reads, here-reads, field, field-reads}
+use Rattle.reading.specs.Fixed.{rule, fixedAt, sized, fixed-reads}
 use Rattle.reading.specs.Rules.{same, decided}
 use Rattle.reading.specs.Font.{fontOk, fontIf}
-use Rattle.reading.specs.Heads.{headAt, leafAt, whole, ownAt, fixedHeadAt, leaf-reads as level-reads}
+use Rattle.reading.specs.Heads.{Opening, headAt, leafAt, whole, ownAt, fixedHeadAt, leaf-reads as level-reads}
 use Rattle.reading.specs.Walk.{Outcome, done, sequence, rawAt, valueAt, walk}
 use Rattle.table.specs.declared.Head.{Head}
 use Rattle.table.specs.Contract.{Seen, seen, Free, Ahead, Walked}
@@ -30,7 +30,7 @@ use Rattle.places.specs.Word.{inWord, in-word}
 use Rattle.places.specs.Places.{numbered}
 use Rattle.places.specs.Padding.{no-number, id-alone, reference-numbered, sized-plain, pad-few}
 use Rattle.leaves.specs.declared.plain.Plain.{Plain}
-use Rattle.leaves.specs.declared.plain.Plain.the-variants.{Fixed, Char, Level, Reference}
+use Rattle.leaves.specs.declared.plain.Plain.the-variants.{Fixed, Enum, Char, Level, Reference}
 use Rattle.reading.specs.Drafts.{nothing, resource, drafted}
 use Rattle.ids.specs.declared.Grid.{Grid}
 
@@ -38,9 +38,10 @@ use Rattle.ids.specs.declared.Grid.{Grid}
 unfoldable pub referenced : ℕ → Target
 referenced wanted = cond (eqb wanted 32) texture2D page
 
--- how the value stands
+-- how the value stands; an enum's name makes no difference to its values, so it stands for those of every name
 abbrev pub plainSlot : Plain → Slot
 plainSlot (Fixed kind size) = raw (fixed kind)
+plainSlot (Enum size) = raw (enum [] size)
 plainSlot Char = raw char
 plainSlot (Level size) = leaf (level size)
 plainSlot (Reference wanted) = reference (referenced wanted)
@@ -48,6 +49,7 @@ plainSlot (Reference wanted) = reference (referenced wanted)
 -- the size is that of the kind, and a reference wants a kind that a reference can want
 abbrev pub Lawful : Plain → Type 0
 Lawful (Fixed kind size) = (size ≡ getD sizes kind 0) × (0 < size)
+Lawful (Enum size) = Unit {0}
 Lawful Char = Unit {0}
 Lawful (Level size) = Unit {0}
 Lawful (Reference wanted) = kindOf (referenced wanted) ≡ wanted
@@ -66,6 +68,7 @@ headOf used at parent id padding = record { row = record { 0 = used }; first = a
 -- the bytes of the value at a place, and the number that they hold or how many they are
 unfoldable pub plainAt : List ℕ → (shared : ℕ) → Plain → (at : ℕ) → Answer ℕ
 plainAt file shared (Fixed kind size) at = sized (fixedAt file kind size at)
+plainAt file shared (Enum size) at = sized (fixedAt file 15 size at)
 plainAt file shared Char at = charAt file at
 plainAt file shared (Level size) at = sized (leafAt file (level size) at)
 plainAt file shared (Reference wanted) at = bind (sevenAt file at) (λ id next. check (leb id shared) 16 at (read id next))
@@ -73,6 +76,7 @@ plainAt file shared (Reference wanted) at = bind (sevenAt file at) (λ id next. 
 -- the padding of its number, which a reference alone has; else that of its id
 unfoldable pub plainPad : List ℕ → Plain → (padding at : ℕ) → ℕ
 plainPad file (Fixed kind size) padding at = padding
+plainPad file (Enum size) padding at = padding
 plainPad file Char padding at = padding
 plainPad file (Level size) padding at = padding
 plainPad file (Reference wanted) padding at = padOf (sevenAt file at) at
@@ -90,6 +94,7 @@ named h (read id next) = headOf (h .row .0) (h .first) (h .parent) id (h .paddin
 -- the words once its bytes are read, or refused
 abbrev pub plainWords : Grid → List ℕ → Plain → Head → Answer ℕ → List ℕ
 plainWords g w (Fixed kind size) h x = leafWords g w h kind 0 x
+plainWords g w (Enum size) h x = leafWords g w h 15 0 x
 plainWords g w Char h x = leafWords g w h 12 0 x
 plainWords g w (Level size) h x = leafWords g w h 35 0 x
 plainWords g w (Reference wanted) h x = leafWords g w (named h x) 36 wanted x
@@ -104,6 +109,7 @@ valueLeft g file words shared p at used depth parent = plainWords g words p (hea
 
 pub kept : (g : Grid) (w : List ℕ) (p : Plain) (h : Head) (n q : ℕ) → plainWords g w p h (refused n q) ≡ w
 kept g w (Fixed kind size) h n q = refl
+kept g w (Enum size) h n q = refl
 kept g w Char h n q = refl
 kept g w (Level size) h n q = refl
 kept g w (Reference wanted) h n q = refl
@@ -111,6 +117,7 @@ kept g w (Reference wanted) h n q = refl
 -- the value's row
 abbrev pub plainSeen : Plain → Head → Answer ℕ → Answer Seen
 plainSeen (Fixed kind size) h x = leafOf h kind nothing x
+plainSeen (Enum size) h x = leafOf h 15 nothing x
 plainSeen Char h x = leafOf h 12 nothing x
 plainSeen (Level size) h x = leafOf h 35 nothing x
 plainSeen (Reference wanted) h x = leafOf (named h x) 36 (resource wanted) x
@@ -132,6 +139,7 @@ module _ (file : List ℕ) (small : Small file) (used at parent : ℕ) where
   plain-written g w (Fixed kind size) l x f a =
       let s = sized-plain kind (omega (arith, l)) in
       leaf-walked g file w (headOf used at parent 0 0) kind nothing x f a (plain-pads kind (s .0) (s .1))
+  plain-written g w (Enum size) l x f a = leaf-walked g file w (headOf used at parent 0 0) 15 nothing x f a (plain-pads 15 refl refl)
   plain-written g w Char l x f a = leaf-walked g file w (headOf used at parent 0 0) 12 nothing x f a (plain-pads 12 refl refl)
   plain-written g w (Level size) l x f a = leaf-walked g file w (headOf used at parent 0 0) 35 nothing x f a (plain-pads 35 refl refl)
   plain-written g w (Reference wanted) l (refused n p) f a = record { answers = refl; writes = refl }
@@ -140,6 +148,10 @@ module _ (file : List ℕ) (small : Small file) (used at parent : ℕ) where
 fixed-none : (k : ℕ) → same (fixed k) spriteFont ≡ false
 unfolding same decided
 fixed-none k = refl
+
+enum-none : (name : List ℕ) (z : ℕ) → same (enum name z) spriteFont ≡ false
+unfolding same decided
+enum-none name z = refl
 
 char-none : same char spriteFont ≡ false
 unfolding same decided
@@ -150,6 +162,14 @@ unfolding headAt fixedHeadAt check
 fixed-head file k z l at =
     let p : 0 < getD sizes k 0 = omega arith in
     rw (lt-ltb 0 (getD sizes k 0) p, l .0)
+
+-- an enum has no rule
+enum-head : (file name : List ℕ) (z at : ℕ) → headAt file (enum name z) at ≡ whole file (fixedAt file 15 z at)
+unfolding headAt fixedAt field whole bind check rule
+enum-head file name z at = go (some file z at at) where
+  go : (x : Answer (List ℕ)) → _≡_ {A = Answer Opening} (bind x (λ own e. read (own, stop) e)) (bind (bind x (λ own e. read own e)) (λ own e. read (own, stop) e))
+  go (refused n p) = refl
+  go (read own e) = refl
 
 char-head : (file : List ℕ) (at : ℕ) → headAt file char at ≡ whole file (ownAt file (charAt file) at)
 unfolding headAt
@@ -205,6 +225,8 @@ module _ (file : List ℕ) (readers : List Target) (shared room : ℕ) (below : 
   unfolding valueAt plainAt kindOf
   plain-seen (Fixed kind size) l at used parent =
       raw-leaf (fixed kind) (fixed-none kind) (fixedAt file kind size at) at at used parent 0 0 (fixed-head file kind size l at) ∙ sized-leaf (headOf used at parent 0 0) kind (fixedAt file kind size at)
+  plain-seen (Enum size) l at used parent =
+      raw-leaf (enum [] size) (enum-none [] size) (fixedAt file 15 size at) at at used parent 0 0 (enum-head file [] size at) ∙ sized-leaf (headOf used at parent 0 0) 15 (fixedAt file 15 size at)
   plain-seen Char l at used parent =
       raw-leaf char char-none (ownAt file (charAt file) at) at at used parent 0 0 (char-head file at) ∙ char-own at (headOf used at parent 0 0) 12
   plain-seen (Level size) l at used parent = leaf-seen (leafAt file (level size) at) at used parent ∙ sized-leaf (headOf used at parent 0 0) 35 (leafAt file (level size) at)
@@ -224,8 +246,10 @@ ahead-sized at (refused n p) h = h
 ahead-sized at (read own e) h = h
 
 plain-ahead : (file : List ℕ) → Small file → (shared : ℕ) (p : Plain) → Lawful p → (at : ℕ) → at ≤ length file → length file < 2 ^ 32 → Ahead at (plainAt file shared p at)
-unfolding plainAt bind check
+unfolding plainAt bind check fixedAt
 plain-ahead file s shared (Fixed kind size) l at h f = rw (l .0) (ahead-sized at (fixedAt file kind (getD sizes kind 0) at) (ahead-read (fixed-reads file kind (omega arith)) s at h f))
+plain-ahead file s shared (Enum size) l at h f =
+    ahead-sized at (fixedAt file 15 size at) (ahead-read (here-reads file (λ p. field-reads file (rule 15) (λ own. own) p (some-reads file size p))) s at h f)
 plain-ahead file s shared Char l at h f = ahead-read (char-reads file) s at h f
 plain-ahead file s shared (Level size) l at h f = ahead-sized at (leafAt file (level size) at) (ahead-read (level-reads file (level size)) s at h f)
 plain-ahead file s shared (Reference wanted) l at h f = go (sevenAt file at) refl where

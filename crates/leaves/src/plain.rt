@@ -12,9 +12,11 @@ ghost use lib.Dec.{ltb};
 ghost use Rattle.table.specs.Leaf.{leafAnswer};
 ghost use Rattle.leaves.specs.Plain.{plainAt, plainPad, plainValue, plainLeft, valueLeft};
 
-// How such a value stands: raw of a kind of fixed size, with the size; a raw character; an image level of a size; a reference that wants a kind.
+// How such a value stands: raw of a kind of fixed size, with the size; a raw enum of a size; a raw character; an image level of a size;
+// a reference that wants a kind.
 pub enum Plain {
     Fixed(u32, usize),
+    Enum(usize),
     Char,
     Level(u64),
     Reference(u32),
@@ -82,6 +84,14 @@ fn plain_value(
             kind,
             0,
             values::fixed_at(file, kind, size, at),
+        ),
+        Plain::Enum(size) => table::leaf(
+            words,
+            grid,
+            h,
+            15,
+            0,
+            values::fixed_at(file, 15, size, at),
         ),
         Plain::Char => table::leaf(words, grid, h, 12, 0, text::char_at(file, at)),
         Plain::Level(size) => table::leaf(

@@ -16,9 +16,9 @@ use Rattle.objects.specs.Start.{Has, Ided, positionOfSlot}
 use Rattle.ids.specs.declared.Grid.{Grid}
 
 -- the codes hold the types of some readers and those that fonts and pages declare
-pub record Known (codes : List ℕ) (rd : Readers) : Type 0 where
+pub record Known (file codes : List ℕ) (rd : Readers) : Type 0 where
   pub readers : List Target
-  pub listed : Listed codes rd readers
+  pub listed : Listed file codes rd readers
   pub prelude : Prelude codes
 
 -- the codes hold the types of a reader list with so many readers, and the type that a slot's type id names is at a place
@@ -26,15 +26,15 @@ pub record KnownTarget (file codes : List ℕ) (slot : Slot) (at count target : 
   pub rd : Readers
   pub readers : List Target
   pub has : Has rd count (positionOfSlot file slot at) target
-  pub listed : Listed codes rd readers
+  pub listed : Listed file codes rd readers
 
-pub record KnownSlot (codes : List ℕ) (slot : Slot) : Type 0 where
+pub record KnownSlot (file codes : List ℕ) (slot : Slot) : Type 0 where
   pub x : L.Slot
-  pub is : SlotIs codes slot x
+  pub is : SlotIs file codes slot x
 
-pub record KnownNest (codes : List ℕ) (nest : Nest) : Type 0 where
+pub record KnownNest (file codes : List ℕ) (nest : Nest) : Type 0 where
   pub plan : L.Plan
-  pub is : NestIs codes nest plan
+  pub is : NestIs file codes nest plan
 
 -- a raw value has its row and stands behind its id, and all numbers fit
 pub record Ready (file words : List ℕ) (g : Grid) (h : Head) (at : ℕ) : Type 0 where

@@ -2,11 +2,12 @@
 use mathlib.Core.Path.{_≡_, refl, sym, ap, subst, _∙_}
 use mathlib.Core.Bool.{Bool, true, false}
 use mathlib.Core.List.{List, [], _∷_, _++_, map}
-use Prim.Native.Nat.{ℕ, _+_, _*_, _-_, _≤_}
+use Prim.Native.Nat.{ℕ, zero, suc, _+_, _*_, _-_, _≤_}
 use native.Mathlib.Omega.{arith}
 use native.Mathlib.Numerals.{add-one}
+use lib.Dec.{leb}
 use lib.ListN.{length, take, drop, replicate, set, length-append, length-drop, take-append-drop}
-use borrow.Author.Tests.{eq-eqb, ne-eqb}
+use borrow.Author.Tests.{eq-eqb, ne-eqb, le-leb, leb-true}
 use Rattle.laws.specs.Small.{differ}
 use Rattle.layout.specs.Target.{Target, object as anything}
 use Rattle.layout.specs.Slot as L
@@ -15,9 +16,11 @@ use Rattle.layout.specs.Rows.{Row, words, flat, width}
 use Rattle.layout.specs.File.{objectsPlan, header}
 use Rattle.layout.specs.Text.{ascii}
 use Rattle.layout.specs.Number.{little}
+use Rattle.layout.specs.EnumList.{EnumEntry}
 use Rattle.layout.specs.Named.{named}
 use Rattle.reading.specs.Answer.{Answer, refused, read, bind, check}
 use Rattle.reading.specs.Reads.{Small, reads-bounds}
+use Rattle.reading.specs.Seven.{sevenAt}
 use Rattle.reading.specs.References.{length-flat}
 use Rattle.reading.specs.Walk.{Taken, sequence, walk}
 use Rattle.reading.specs.Grid.{shapeOf, cell, writtenRows}
@@ -51,6 +54,11 @@ use Rattle.load.specs.declared.walk.Children.the-variants.{Done as Child
 use Rattle.load.specs.Turns.{Counts, whole as whole-nest, counts-walked, counts-refused}
 use Rattle.load.specs.Loads.{Total, fileTotal, Loads, behindHeader, answerOf}
 use Rattle.readers.specs.Judged.{judgedName, judges}
+use Rattle.readers.specs.Parts.{upTo}
+use Rattle.readers.specs.Left.{codesFor, enough, enough-for}
+use Rattle.enums.specs.Judge.{Judgement, lawful, enumsAt}
+use Rattle.enums.specs.Judge.{refused as list-refused}
+use Rattle.load.specs.Under.{underList, fileUnder, loadUnder}
 use Rattle.readers.specs.Contract.{listsTotal}
 use Rattle.reading.specs.Theorems.{accepted-is, rows-fit}
 use Rattle.table.specs.Contract.{padded}
@@ -125,8 +133,8 @@ module _ (g : Grid) (file : List ℕ) (small : Small file) (codes : List ℕ) (s
   abbrev pub roots : List L.Slot
   roots = replicate (shared + 1) (object anything)
 
-  pub roots-are : Prelude codes → NestIs codes (Each (Object 10) (shared + 1)) (each roots)
-  roots-are p = begins codes (Each (Object 10) (shared + 1)) roots (record { slot = object anything; are = refl; is = object-at codes p })
+  pub roots-are : Prelude codes → NestIs file codes (Each (Object 10) (shared + 1)) (each roots)
+  roots-are p = begins file codes (Each (Object 10) (shared + 1)) roots (record { slot = object anything; are = refl; is = object-at file codes p })
 
   objects-are : (readers : List Target) → sequence (λ y b v. walk file readers shared (g .room) 32 y b v 0) (each roots) at 0 ≡ objectsAt file (g .room) readers shared at
   unfolding objectsAt objectsPlan
@@ -171,8 +179,8 @@ pub kept-prelude : (codes : List ℕ) → take 11 codes ≡ prelude → Prelude 
 kept-prelude codes e = record { rest = drop 11 codes; begins = sym (take-append-drop 11 codes) ∙ ap (λ (x : List ℕ). x ++ drop 11 codes) e }
 
 -- where the lists end
-pub lists-inside : (file : List ℕ) → Small file → (at : ℕ) → at ≤ length file → {l : List (List ℕ) × List Target × ℕ} {e : ℕ} → listsAt judgedName file at ≡ read l e → e ≤ length file
-lists-inside file s at h q = reads-bounds (lists-reads named judgedName judges file) s at h q .1
+pub lists-inside : (es : List EnumEntry) (file : List ℕ) → Small file → (at : ℕ) → at ≤ length file → {l : List (List ℕ) × List Target × ℕ} {e : ℕ} → listsAt (judgedName es) file at ≡ read l e → e ≤ length file
+lists-inside es file s at h q = reads-bounds (lists-reads (named es) (judgedName es) (judges es) file) s at h q .1
 
 header-length : (platform flags n : ℕ) → length (header platform flags n) ≡ 10
 unfolding header ascii little
@@ -196,29 +204,58 @@ header-read file s {v} {at} e = go (headerAt file) refl e where
       record { h = h; is = q ∙ ap (read h) z; short = v .1 .short; ten = sym z ∙ v .0; inside = omega (arith, z, v .0, ap length (v .1 .parts) ∙ length-append (header (h .0) (h .1) (length file)) (drop 10 file), header-length (h .0) (h .1) (length file)) }
 
 -- the file, by its header
-pub header-refused : (file : List ℕ) (room : ℕ) {n p : ℕ} → Header-refused n p ≡ headerOf file → fileAt judgedName file room ≡ refused n p
+pub header-refused : (es : List EnumEntry) (file : List ℕ) (room : ℕ) {n p : ℕ} → Header-refused n p ≡ headerOf file → fileAt (judgedName es) file room ≡ refused n p
 unfolding fileAt bind
-header-refused file room {n} {p} e = go (headerAt file) refl e where
-  go : (x : Answer (ℕ × ℕ)) → headerAt file ≡ x → Header-refused n p ≡ toHeader x → fileAt judgedName file room ≡ refused n p
+header-refused es file room {n} {p} e = go (headerAt file) refl e where
+  go : (x : Answer (ℕ × ℕ)) → headerAt file ≡ x → Header-refused n p ≡ toHeader x → fileAt (judgedName es) file room ≡ refused n p
   go (refused m q) h e =
       let e₁ : n ≡ m = cc in
       let e₂ : p ≡ q = cc in
       rw (h, e₁, e₂)
   go (read h f) q e = differ cc
 
-pub file-behind : (file : List ℕ) (room : ℕ) {at : ℕ} (h : HeaderRead file at) → fileAt judgedName file room ≡ behindHeader file room (h .h .0) (h .h .1) at
+pub file-behind : (es : List EnumEntry) (file : List ℕ) (room : ℕ) {at : ℕ} (h : HeaderRead file at) → fileAt (judgedName es) file room ≡ behindHeader es file room (h .h .0) (h .h .1) at
 unfolding fileAt behindHeader bind
-file-behind file room h = rw (h .is)
+file-behind es file room h = rw (h .is)
 
 -- the lists, by what reading them answers
-pub lists-refused : (file : List ℕ) (room platform flags at : ℕ) {n p : ℕ} → listsAt judgedName file at ≡ refused n p → behindHeader file room platform flags at ≡ refused n p
+pub lists-refused : (es : List EnumEntry) (file : List ℕ) (room platform flags at : ℕ) {n p : ℕ} → listsAt (judgedName es) file at ≡ refused n p → behindHeader es file room platform flags at ≡ refused n p
 unfolding behindHeader bind
-lists-refused file room platform flags at e = rw e
+lists-refused es file room platform flags at e = rw e
 
-pub behind-lists : (file : List ℕ) (room platform flags at : ℕ) {names : List (List ℕ)} {readers : List Target} {shared first : ℕ} → listsAt judgedName file at ≡ read (names, readers, shared) first
-    → behindHeader file room platform flags at ≡ bind (objectsAt file room readers shared first) (λ a e. finished file platform flags names (length readers) shared a e)
+pub behind-lists : (es : List EnumEntry) (file : List ℕ) (room platform flags at : ℕ) {names : List (List ℕ)} {readers : List Target} {shared first : ℕ} → listsAt (judgedName es) file at ≡ read (names, readers, shared) first
+    → behindHeader es file room platform flags at ≡ bind (objectsAt file room readers shared first) (λ a e. finished file platform flags names (length readers) shared a e)
 unfolding behindHeader bind
-behind-lists file room platform flags at e = rw e
+behind-lists es file room platform flags at e = rw e
+
+-- codes that suffice are not too few
+pub not-lacking : (file : List ℕ) (at m n : ℕ) → m ≡ n → enough file at n ≡ true → enough file at m ≡ false → ⊥
+not-lacking file at m n e t f = let q : enough file at m ≡ true = rw e t in differ cc
+
+codes-more : (n m : ℕ) → n ≤ m → codesFor n ≤ codesFor m
+unfolding codesFor
+codes-more zero zero h = omega arith
+codes-more zero (suc m) h = omega arith
+codes-more (suc n) zero h = absurd (omega arith)
+codes-more (suc n) (suc m) h = omega arith
+
+-- the codes that so many readers need suffice, also where the reader count is refused
+pub suffice : (file : List ℕ) (at most : ℕ) {n next : ℕ} → length file ≤ 16777216 → upTo 64 file at ≡ read n next → n ≤ most → enough file at (codesFor most) ≡ true
+suffice file at most {n} s e h = enough-for file at (codesFor most) s true (rw e (le-leb (codesFor n) (codesFor most) (codes-more n most h)))
+
+-- a count that was read is within its bound
+pub at-most : (file : List ℕ) (most at : ℕ) {n next : ℕ} → upTo most file at ≡ read n next → n ≤ most
+unfolding upTo bind check
+at-most file most at {n} {next} e = go (sevenAt file at) e where
+  go : (x : Answer ℕ) → bind x (λ m e. check (leb m most) 9 at (read m e)) ≡ read n next → n ≤ most
+  go (refused a b) q = differ cc
+  go (read m f) q = test (leb m most) refl q where
+    test : (b : Bool) → leb m most ≡ b → check b 9 at (read m f) ≡ read n next → n ≤ most
+    test true t r = let z : m ≡ n = cc in omega (arith, leb-true m most t, z)
+    test false t r = differ cc
+
+pub suffice-refused : (file : List ℕ) (at room : ℕ) {n p : ℕ} → length file ≤ 16777216 → upTo 64 file at ≡ refused n p → enough file at room ≡ true
+suffice-refused file at room s e = enough-for file at room s true (rw e refl)
 
 -- the stores that make the start of the codes
 pub prelude-stored : (l : List ℕ) → 11 ≤ length l → take 11 (set (set (set (set (set (set (set (set (set (set (set l 0 32) 1 82) 2 30) 3 82) 4 12) 5 82) 6 24) 7 13) 8 80) 9 12) 10 14) ≡ prelude
@@ -248,38 +285,46 @@ unfolding listsTotal
 lists-padded file count at padding readers t c p rows = ap inWord (rw (p, t, c) (sym (file-padding file (length readers) rows)))
 
 -- a file that is accepted has few numbers, so its padding fits a word
-total-fits : (file : List ℕ) (words : ℕ) → Small file → (rows : List Row) (readers shared : ℕ) → loadOf judgedName file words ≡ accepted rows readers shared → inWord (filePadding file readers rows) ≡ filePadding file readers rows
+listed-fits : (es : List EnumEntry) (file : List ℕ) (words : ℕ) → Small file → (rows : List Row) (readers shared : ℕ) → loadOf (judgedName es) file words ≡ accepted rows readers shared → inWord (filePadding file readers rows) ≡ filePadding file readers rows
 unfolding roomOf
-total-fits file words small rows readers shared e =
-    let a = accepted-is named judgedName judges file words small rows readers shared e in
+listed-fits es file words small rows readers shared e =
+    let a = accepted-is (named es) (judgedName es) (judges es) file words small rows readers shared e in
     let f = a .0 in
-    let n : length rows ≤ 65536 = omega (arith, ap length (a .1), rows-fit named judgedName judges file words f .0, f .room) in
+    let n : length rows ≤ 65536 = omega (arith, ap length (a .1), rows-fit (named es) (judgedName es) (judges es) file words f .0, f .room) in
     in-word (filePadding file readers rows) (omega (arith, file-few file small readers rows, a .2, f .lays .lists .not-many))
 
+-- under a lent list
+total-fits : (enums file : List ℕ) (words : ℕ) → Small file → (rows : List Row) (readers shared : ℕ) → loadUnder enums file words ≡ accepted rows readers shared → inWord (filePadding file readers rows) ≡ filePadding file readers rows
+unfolding loadUnder fileUnder underList toLoad loadOf
+total-fits enums file words small rows readers shared e = go (enumsAt enums) e where
+  go : (j : Judgement) → toLoad (underList j (λ es. fileAt (judgedName es) file (roomOf words))) ≡ accepted rows readers shared → inWord (filePadding file readers rows) ≡ filePadding file readers rows
+  go (list-refused n i) q = differ cc
+  go (lawful es) q = listed-fits es file words small rows readers shared q
+
 -- the whole: what is answered, and what the words hold at the end
-module _ (file entry : List ℕ) (columns : Bool) where
+module _ (enums file entry : List ℕ) (columns : Bool) where
   abbrev loads : (exit : List ℕ) → Loading → Type 0
-  loads exit r = Loads (gridOf (length entry) columns) (fileTotal file) (fileAt judgedName file (roomOf (length entry))) entry exit r
+  loads exit r = Loads (gridOf (length entry) columns) (fileTotal file) (fileUnder enums file (roomOf (length entry))) entry exit r
 
   pub load-refused : (mid : List ℕ) {exit : List ℕ} {n p : ℕ} → loads mid (Refused n p) → length mid ≡ length entry → exit ≡ cleared mid 0
-      → (Refused n p ≡ answerOf file (loadOf judgedName file (length entry))) × (exit ≡ tableIn columns (loadOf judgedName file (length entry)) (length entry))
-  unfolding loadOf toLoad tableOf columnsTableOf cleared
-  load-refused mid {exit} {n} {p} l m e = go columns (fileAt judgedName file (roomOf (length entry))) l where
+      → (Refused n p ≡ answerOf file (loadUnder enums file (length entry))) × (exit ≡ tableIn columns (loadUnder enums file (length entry)) (length entry))
+  unfolding loadUnder toLoad tableOf columnsTableOf cleared
+  load-refused mid {exit} {n} {p} l m e = go columns (fileUnder enums file (roomOf (length entry))) l where
     go : (b : Bool) (x : Answer FileLoaded) → Loads (gridOf (length entry) b) (fileTotal file) x entry mid (Refused n p) → (Refused n p ≡ answerOf file (toLoad x)) × (exit ≡ tableIn b (toLoad x) (length entry))
     go false (refused a b) l = (l, e ∙ none-kept mid (length entry) m)
     go true (refused a b) l = (l, e ∙ none-kept mid (length entry) m)
     go b (read a f) l = absurd (let q : Refused n p ≡ Loaded (length (a .rows)) (a .readers) (a .shared) (fileTotal file (a .readers) (bare (a .rows))) = l .0 in differ cc)
 
   pub load-loaded : Small file → {exit : List ℕ} {rows readers shared padding : ℕ} → loads exit (Loaded rows readers shared padding)
-      → (Loaded rows readers shared padding ≡ answerOf file (loadOf judgedName file (length entry))) × (exit ≡ tableIn columns (loadOf judgedName file (length entry)) (length entry))
-  unfolding loadOf toLoad tableOf columnsTableOf
-  load-loaded small {exit} {rows} {readers} {shared} {padding} l = go columns (fileAt judgedName file (roomOf (length entry))) refl l where
-    go : (b : Bool) (x : Answer FileLoaded) → fileAt judgedName file (roomOf (length entry)) ≡ x → Loads (gridOf (length entry) b) (fileTotal file) x entry exit (Loaded rows readers shared padding)
+      → (Loaded rows readers shared padding ≡ answerOf file (loadUnder enums file (length entry))) × (exit ≡ tableIn columns (loadUnder enums file (length entry)) (length entry))
+  unfolding loadUnder toLoad tableOf columnsTableOf
+  load-loaded small {exit} {rows} {readers} {shared} {padding} l = go columns (fileUnder enums file (roomOf (length entry))) refl l where
+    go : (b : Bool) (x : Answer FileLoaded) → fileUnder enums file (roomOf (length entry)) ≡ x → Loads (gridOf (length entry) b) (fileTotal file) x entry exit (Loaded rows readers shared padding)
         → (Loaded rows readers shared padding ≡ answerOf file (toLoad x)) × (exit ≡ tableIn b (toLoad x) (length entry))
     go b (refused c d) q l = differ cc
     go false (read a f) q l =
-        let t = total-fits file (length entry) small (bare (a .rows)) (a .readers) (a .shared) (ap toLoad q) in
+        let t = total-fits enums file (length entry) small (bare (a .rows)) (a .readers) (a .shared) (ap toLoad q) in
         (l .0 ∙ rw (length-bare (a .rows), t), l .1)
     go true (read a f) q l =
-        let t = total-fits file (length entry) small (bare (a .rows)) (a .readers) (a .shared) (ap toLoad q) in
+        let t = total-fits enums file (length entry) small (bare (a .rows)) (a .readers) (a .shared) (ap toLoad q) in
         (l .0 ∙ rw (length-bare (a .rows), t), l .1)

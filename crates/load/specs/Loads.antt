@@ -8,6 +8,7 @@ use Rattle.columns.specs.Columns.{rowsIn}
 use Rattle.reading.specs.Answer.{Answer, refused, read, bind}
 use Rattle.reading.specs.File as File
 use Rattle.reading.specs.File.{Loaded as FileLoaded, refusal, accepted, listsAt, objectsAt, finished}
+use Rattle.layout.specs.EnumList.{EnumEntry}
 use Rattle.layout.specs.Rows.{Row}
 use Rattle.places.specs.Word.{inWord}
 use Rattle.places.specs.Padding.{filePadding}
@@ -34,7 +35,7 @@ abbrev pub Loads : Grid → Total → Answer FileLoaded → (entry exit : List �
 Loads g total (refused n p) entry exit r = r ≡ Refused n p
 Loads g total (read a e) entry exit r = (r ≡ Loaded (length (a .rows)) (a .readers) (a .shared) (total (a .readers) (bare (a .rows)))) × (exit ≡ rowsIn (g .columns) (g .room) (bare (a .rows)) (length entry))
 
--- what stands behind the header
-unfoldable pub behindHeader : (file : List ℕ) (room platform flags at : ℕ) → Answer FileLoaded
-behindHeader file room platform flags at =
-    bind (listsAt judgedName file at) (λ l first. bind (objectsAt file room (l .1) (l .2) first) (λ a e. finished file platform flags (l .0) (length (l .1)) (l .2) a e))
+-- what stands behind the header, under a list of enum types
+unfoldable pub behindHeader : List EnumEntry → (file : List ℕ) (room platform flags at : ℕ) → Answer FileLoaded
+behindHeader es file room platform flags at =
+    bind (listsAt (judgedName es) file at) (λ l first. bind (objectsAt file room (l .1) (l .2) first) (λ a e. finished file platform flags (l .0) (length (l .1)) (l .2) a e))

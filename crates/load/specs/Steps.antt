@@ -34,17 +34,18 @@ use Rattle.places.specs.Places.{numbered}
 use Rattle.places.specs.Padding.{no-rows, id-alone, pad-few}
 use Rattle.table.specs.Loop.{Got, refusing}
 use Rattle.leaves.specs.Plain.{headOf}
-use Rattle.types.specs.Code.{Lawful}
+use Rattle.types.specs.Code.{Lawful, Stands}
 use Rattle.types.specs.Place.{kindAt}
 use Rattle.heads.specs.declared.nest.Nest.{Nest}
 use Rattle.heads.specs.declared.nest.Below.{Below}
 use Rattle.heads.specs.declared.nest.Nest.the-variants.{Font}
 use Rattle.heads.specs.declared.nest.Below.the-variants.{Nothing, Simple, Nested as Nested-below}
 use Rattle.heads.specs.declared.open.Opened.the-variants.{Head as Opened-head, Refused as Opened-refused}
+use Rattle.heads.specs.Slots.{rowKind, kind-kept}
 use Rattle.heads.specs.Total.{openAs, kindAs}
 use Rattle.heads.specs.Pads.{belowPad}
 use Rattle.fonts.specs.Bridge.{other-kind}
-use Rattle.objects.specs.Start.{Invoked, Begins, under}
+use Rattle.objects.specs.Start.{Begins, under}
 use Rattle.objects.specs.Close.{closeAnswer, closeWords, keeps, row-padding, raw-closed, slots-counted}
 use Rattle.load.specs.declared.walk.Stepped.{Stepped}
 use Rattle.load.specs.declared.walk.Stepped.the-variants.{Done, Refused, Nested}
@@ -80,15 +81,15 @@ font-below file codes place at {next} {below} k e = go (leb (length codes) place
   go true q = differ cc
   go false q = cc
 
-pub no-rule : (file codes : List ℕ) (place at kind : ℕ) {next : ℕ} (below : Below) → kind ≡ kindAt codes place → openAs file codes place at ≡ Opened-head next below → NoRule kind below
-no-rule file codes place at kind (Nothing padding) k e = λ q. absurd (let z = font-below file codes place at (sym k ∙ q) e in differ cc)
-no-rule file codes place at kind (Simple run) k e = λ q. absurd (let z = font-below file codes place at (sym k ∙ q) e in differ cc)
+pub no-rule : (file codes : List ℕ) (place at kind : ℕ) {next : ℕ} (below : Below) → kind ≡ rowKind (kindAt codes place) → openAs file codes place at ≡ Opened-head next below → NoRule kind below
+no-rule file codes place at kind (Nothing padding) k e = λ q. absurd (let z = font-below file codes place at (kind-kept (kindAt codes place) 33 (λ r. omega arith) (sym k ∙ q)) e in differ cc)
+no-rule file codes place at kind (Simple run) k e = λ q. absurd (let z = font-below file codes place at (kind-kept (kindAt codes place) 33 (λ r. omega arith) (sym k ∙ q)) e in differ cc)
 no-rule file codes place at kind (Nested-below nest) k e = tt
 
 -- a raw value's head was read, and its children need the reader list
 pub record KnownRaw (file codes : List ℕ) (place at next : ℕ) (nest : Nest) : Type 0 where
   pub type : Target
-  pub is : Invoked codes place type
+  pub is : Stands file codes place type
   pub opened : OpenedAs file codes type at next (Nested-below nest)
 
 pub record RawLeft (file codes : List ℕ) (t : Target) (place : ℕ) (h : Head) (at : ℕ) (entry exit : List ℕ) (id padding from there next : ℕ) (nest : Nest) : Type 0 where

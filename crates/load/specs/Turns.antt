@@ -73,11 +73,11 @@ module _ (g : Grid) (file codes : List ℕ) (readers : List Target) (shared dept
     -- the values before the stage's next are walked
     pub record Standing (w : List ℕ) (stage : Stage) (next row sum : ℕ) : Type 0 where
       pub plan : Plan
-      pub is : StageIs codes nest stage plan
+      pub is : StageIs file codes nest stage plan
       pub read-so : Reading g file step plan₀ w₀ at used w plan next row sum (stage .next)
       pub ahead : used + stage .next ≤ row
 
-    pub standing : NestIs codes nest plan₀ → Standing w₀ (beginOf nest) at used 0
+    pub standing : NestIs file codes nest plan₀ → Standing w₀ (beginOf nest) at used 0
     standing w = record { plan = plan₀; is = w; read-so = start g file step plan₀ w₀ at used; ahead = omega arith }
 
     pub standing-begin : {w : List ℕ} {stage : Stage} {next row sum : ℕ} → Begin file w₀ g at used → Standing w stage next row sum → Begin file w g next row
@@ -87,21 +87,21 @@ module _ (g : Grid) (file codes : List ℕ) (readers : List Target) (shared dept
     pub record Next (w : List ℕ) (stage : Stage) (next row sum : ℕ) : Type 0 where
       pub x : L.Slot
       pub go : ℕ → Plan
-      pub is : SlotIs codes (slotAt nest (stage .next)) x
-      pub left : stage .next + 1 < 2 ^ 32 → (n : ℕ) → StageIs codes nest (afterOf stage) (go n)
+      pub is : SlotIs file codes (slotAt nest (stage .next)) x
+      pub left : stage .next + 1 < 2 ^ 32 → (n : ℕ) → StageIs file codes nest (afterOf stage) (go n)
       pub read-so : Reading g file step plan₀ w₀ at used w (put x go) next row sum (stage .next)
       pub ahead : used + stage .next ≤ row
 
     pub value-next : {w : List ℕ} {stage : Stage} {next row sum : ℕ} → Prelude codes → Standing w stage next row sum → stage .next < stage .count → Next w stage next row sum
     value-next {w} {stage} {next} {row} {sum} p s h =
-        let q = goes codes nest stage (s .plan) (s .is) p h in
+        let q = goes file codes nest stage (s .plan) (s .is) p h in
         record { x = q .x; go = q .go; is = q .is; left = q .left; read-so = subst (λ y. Reading g file step plan₀ w₀ at used w y next row sum (stage .next)) (q .puts) (s .read-so); ahead = s .ahead }
 
     -- nothing stands next: all values are walked
     pub nothing-next : {w : List ℕ} {stage : Stage} {next row sum : ℕ} → Standing w stage next row sum → stage .count ≤ stage .next
         → Counts g file w₀ w used whole (Done (stage .next) (record { used = row; padding = sum; next = next }))
     nothing-next {w} {stage} {next} {row} {sum} s h =
-        let r : Reading g file step plan₀ w₀ at used w stop next row sum (stage .next) = subst (λ y. Reading g file step plan₀ w₀ at used w y next row sum (stage .next)) (ends codes nest stage (s .plan) (s .is) h) (s .read-so) in
+        let r : Reading g file step plan₀ w₀ at used w stop next row sum (stage .next) = subst (λ y. Reading g file step plan₀ w₀ at used w y next row sum (stage .next)) (ends file codes nest stage (s .plan) (s .is) h) (s .read-so) in
         let c = ended g file step plan₀ w₀ at used r in
         rw (c .0, c .2) (record { answers = refl; writes = c .1 })
 

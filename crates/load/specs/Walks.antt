@@ -38,27 +38,27 @@ pub record OpenedAs (file codes : List ℕ) (t : Target) (at next : ℕ) (below 
   pub is : headAt file t at ≡ read o next
   pub slots : List L.Slot
   pub plan : o .1 ≡ each slots
-  pub stands : BelowIs codes below slots
+  pub stands : BelowIs file codes below slots
   pub pads : belowPad below ≡ padding file (countPlaces file (kindOf t) at)
 
-pub opened-as : (file codes : List ℕ) (t : Target) (at : ℕ) {next : ℕ} {below : Below} {r : Opened} → Opens codes (headAt file t at) r → r ≡ Opened-head next below
+pub opened-as : (file codes : List ℕ) (t : Target) (at : ℕ) {next : ℕ} {below : Below} {r : Opened} → Opens file codes (headAt file t at) r → r ≡ Opened-head next below
     → belowPad below ≡ padding file (countPlaces file (kindOf t) at) → OpenedAs file codes t at next below
 opened-as file codes t at {next} {below} {r} w e p = go (headAt file t at) refl w where
-  go : (x : Answer Opening) → headAt file t at ≡ x → Opens codes x r → OpenedAs file codes t at next below
+  go : (x : Answer Opening) → headAt file t at ≡ x → Opens file codes x r → OpenedAs file codes t at next below
   go (refused n q) h w = differ cc
   go (read o f) h w =
       let q : Opened-head f (w .below) ≡ Opened-head next below = sym (w .is) ∙ e in
       let e₁ : f ≡ next = cc in
       let e₂ : w .below ≡ below = cc in
-      record { o = o; is = h ∙ ap (read o) e₁; slots = w .slots; plan = w .plan; stands = subst (λ b. BelowIs codes b (w .slots)) e₂ (w .stands); pads = p }
+      record { o = o; is = h ∙ ap (read o) e₁; slots = w .slots; plan = w .plan; stands = subst (λ b. BelowIs file codes b (w .slots)) e₂ (w .stands); pads = p }
 
-pub refused-as : (codes : List ℕ) {n p : ℕ} {r : Opened} (x : Answer Opening) → Opens codes x r → r ≡ Opened-refused n p → x ≡ refused n p
-refused-as codes {n} {p} (refused m q) w e =
+pub refused-as : (file codes : List ℕ) {n p : ℕ} {r : Opened} (x : Answer Opening) → Opens file codes x r → r ≡ Opened-refused n p → x ≡ refused n p
+refused-as file codes {n} {p} (refused m q) w e =
     let z : Opened-refused m q ≡ Opened-refused n p = sym w ∙ e in
     let e₁ : m ≡ n = cc in
     let e₂ : q ≡ p = cc in
     rw (e₁, e₂)
-refused-as codes {n} {p} (read o f) w e =
+refused-as file codes {n} {p} (read o f) w e =
     let q : Opened-head f (w .below) ≡ Opened-refused n p = sym (w .is) ∙ e in
     differ cc
 

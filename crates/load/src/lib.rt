@@ -2,6 +2,7 @@
 mod walk;
 
 use answers::Number;
+use enums::Judged;
 use heads::nest::Nest;
 use heads::slot::Slot;
 use ids::Grid;
@@ -11,17 +12,21 @@ use readers::Readers;
 use resources::Settled;
 use walk::Children;
 ghost use mathlib.Core.Path.{_≡_};
+ghost use mathlib.Core.Bool.{true};
 ghost use Prim.Native.Nat.{_*_, _≤_};
 ghost use lib.ListN.{length, take};
 ghost use Rattle.layout.specs.Rows.{width};
-ghost use Rattle.reading.specs.File.{loadOf, tableOf};
+ghost use Rattle.reading.specs.File.{tableOf};
+ghost use Rattle.names.specs.Entries.{enumsOf};
+ghost use Rattle.types.specs.Code.{preludeSize};
+ghost use Rattle.readers.specs.Left.{codesFor, enough};
 ghost use Rattle.columns.specs.Columns.{columnsTableOf, tableIn};
-ghost use Rattle.readers.specs.Judged.{judgedName};
 ghost use Rattle.leaves.specs.Plain.{Begin};
 ghost use Rattle.heads.specs.Nests.{prelude};
 ghost use Rattle.load.specs.Known.{Known};
+ghost use Rattle.load.specs.Under.{loadUnder};
 ghost use Rattle.load.specs.Loads.{answerOf};
-ghost use Rattle.load.specs.Contracts.{Finishes, ObjectsLoad, ListsLoad, FileLoads};
+ghost use Rattle.load.specs.Contracts.{Finishes, ObjectsLoad, Behind, ListsLoad, FileLoads, UnderLoads};
 
 // A refusal's number and place; or the number of rows used, the number of readers, the shared count,
 // and how many bytes the seven-bit numbers of the file have beyond their shortest forms.
@@ -77,7 +82,7 @@ fn finish(
 // The primary and the shared objects, and the end of the file; the numbers before them have this padding.
 fn objects(
     file: &[u8],
-    codes: &[u8],
+    codes: &[u32],
     rd: Readers,
     words: &mut [u32],
     grid: Grid,
@@ -85,7 +90,7 @@ fn objects(
     padding: u32,
     at: usize,
 ) -> Loading
-    requires { ⌜ Begin (now file) (now words) grid at 0 × Known (now codes) rd × (shared ≤ 256) ⌝ }
+    requires { ⌜ Begin (now file) (now words) grid at 0 × Known (now file) (now codes) rd × (shared ≤ 256) ⌝ }
     ensures { λ r. ⌜ ObjectsLoad grid (now (file .entry)) (now (codes .entry)) rd shared padding at (now (words .entry)) (now (words .exit)) r ⌝ }
 {
     let n = shared + 1;
@@ -106,9 +111,9 @@ fn objects(
 }
 
 // The types that fonts and pages declare, and Object, at the start of the codes.
-fn put_prelude(codes: &mut [u8])
-    requires { ⌜ 11 ≤ length (now codes) ⌝ }
-    ensures { λ _. ⌜ take 11 (now (codes .exit)) ≡ prelude ⌝ }
+fn put_prelude(codes: &mut [u32])
+    requires { ⌜ preludeSize ≤ length (now codes) ⌝ }
+    ensures { λ _. ⌜ take preludeSize (now (codes .exit)) ≡ prelude ⌝ }
 {
     codes[0] = 32;
     codes[1] = 82;
@@ -123,16 +128,26 @@ fn put_prelude(codes: &mut [u8])
     codes[10] = 14;
 }
 
-// What stands behind the header.
-fn lists(file: &[u8], words: &mut [u32], grid: Grid, at: usize) -> Loading
-    requires { ⌜ (length (now file) ≤ 16777216) × (at ≤ length (now file)) × (width * grid .room ≤ length (now words)) × (at ≡ 10) ⌝ }
-    ensures { λ r. ⌜ ListsLoad grid (now (file .entry)) at (now (words .entry)) (now (words .exit)) r ⌝ }
+// What stands behind the header, where the codes suffice for the file's readers.
+fn listed(
+    file: &[u8],
+    enums: &[u8],
+    codes: &mut [u32],
+    words: &mut [u32],
+    grid: Grid,
+    at: usize,
+) -> Loading
+    requires { ⌜ Behind (now file) (now words) grid at × (preludeSize ≤ length (now codes)) × (enough (now file) at (length (now codes)) ≡ true) ⌝ }
+    ensures { λ r. ⌜ ListsLoad grid (enumsOf (now (enums .entry))) (now (file .entry)) at (now (words .entry)) (now (words .exit)) r ⌝ }
 {
-    let mut codes = [0u8; 7168];
     let mut targets = [0u32; 64];
     let mut starts = [0u32; 64];
-    put_prelude(&mut codes);
-    match readers::read_lists(file, &mut codes, &mut targets, &mut starts, at) {
+    put_prelude(codes);
+    match readers::read_lists(file, enums, codes, &mut targets, &mut starts, at) {
+        Lists::NoRoom => Loading::Refused {
+            number: 1,
+            place: at,
+        },
         Lists::Refused(number, place) => Loading::Refused { number, place },
         Lists::Read(count, shared, padding, next) => {
             let rd = Readers {
@@ -140,30 +155,88 @@ fn lists(file: &[u8], words: &mut [u32], grid: Grid, at: usize) -> Loading
                 starts,
                 count,
             };
-            objects(file, &codes, rd, words, grid, shared, padding, next)
+            objects(file, codes, rd, words, grid, shared, padding, next)
         }
     }
 }
 
-// The file, where the words have room for so many rows.
-fn load_rows(file: &[u8], words: &mut [u32], grid: Grid) -> Loading
-    requires { ⌜ width * grid .room ≤ length (now words) ⌝ }
-    ensures { λ r. ⌜ FileLoads grid (now (file .entry)) (now (words .entry)) (now (words .exit)) r ⌝ }
+// The same with no readers, with at most 8, and with at most 64: no more codes are cleared than so many readers need.
+fn none_listed(file: &[u8], enums: &[u8], words: &mut [u32], grid: Grid, at: usize) -> Loading
+    requires { ⌜ Behind (now file) (now words) grid at × (enough (now file) at (codesFor 0) ≡ true) ⌝ }
+    ensures { λ r. ⌜ ListsLoad grid (enumsOf (now (enums .entry))) (now (file .entry)) at (now (words .entry)) (now (words .exit)) r ⌝ }
 {
-    match header::header(file) {
-        Number::Refused(number, place) => Loading::Refused { number, place },
-        Number::Read(_, at) => lists(file, words, grid, at),
+    let mut codes = [0u32; 11];
+    listed(file, enums, &mut codes, words, grid, at)
+}
+
+fn few_listed(file: &[u8], enums: &[u8], words: &mut [u32], grid: Grid, at: usize) -> Loading
+    requires { ⌜ Behind (now file) (now words) grid at × (enough (now file) at (codesFor 8) ≡ true) ⌝ }
+    ensures { λ r. ⌜ ListsLoad grid (enumsOf (now (enums .entry))) (now (file .entry)) at (now (words .entry)) (now (words .exit)) r ⌝ }
+{
+    let mut codes = [0u32; 849];
+    listed(file, enums, &mut codes, words, grid, at)
+}
+
+fn many_listed(file: &[u8], enums: &[u8], words: &mut [u32], grid: Grid, at: usize) -> Loading
+    requires { ⌜ Behind (now file) (now words) grid at × (enough (now file) at (codesFor 64) ≡ true) ⌝ }
+    ensures { λ r. ⌜ ListsLoad grid (enumsOf (now (enums .entry))) (now (file .entry)) at (now (words .entry)) (now (words .exit)) r ⌝ }
+{
+    let mut codes = [0u32; 6057];
+    listed(file, enums, &mut codes, words, grid, at)
+}
+
+// What stands behind the header.
+fn lists(file: &[u8], enums: &[u8], words: &mut [u32], grid: Grid, at: usize) -> Loading
+    requires { ⌜ Behind (now file) (now words) grid at ⌝ }
+    ensures { λ r. ⌜ ListsLoad grid (enumsOf (now (enums .entry))) (now (file .entry)) at (now (words .entry)) (now (words .exit)) r ⌝ }
+{
+    match readers::reader_count(file, at) {
+        Number::Refused(_, _) => none_listed(file, enums, words, grid, at),
+        Number::Read(n, _) => {
+            if n == 0 {
+                return none_listed(file, enums, words, grid, at);
+            }
+            if n <= 8 {
+                return few_listed(file, enums, words, grid, at);
+            }
+            many_listed(file, enums, words, grid, at)
+        }
     }
 }
 
-// Loads a file into the words, by rows or in columns: its rows, and zeros elsewhere; only zeros after a refusal.
-pub fn load_in(file: &[u8], words: &mut [u32], columns: bool) -> Loading
-    ensures { λ r. ⌜ r ≡ answerOf (now (file .entry)) (loadOf judgedName (now (file .entry)) (length (now (words .entry)))) ⌝ }
+// The file, where the words have room for so many rows; of the list of enum types nothing is judged.
+fn load_rows(file: &[u8], enums: &[u8], words: &mut [u32], grid: Grid) -> Loading
+    requires { ⌜ width * grid .room ≤ length (now words) ⌝ }
+    ensures { λ r. ⌜ FileLoads grid (enumsOf (now (enums .entry))) (now (file .entry)) (now (words .entry)) (now (words .exit)) r ⌝ }
+{
+    match header::header(file) {
+        Number::Refused(number, place) => Loading::Refused { number, place },
+        Number::Read(_, at) => lists(file, enums, words, grid, at),
+    }
+}
+
+// The list of enum types, and the file under it.
+fn load_under(file: &[u8], enums: &[u8], words: &mut [u32], grid: Grid) -> Loading
+    requires { ⌜ width * grid .room ≤ length (now words) ⌝ }
+    ensures { λ r. ⌜ UnderLoads grid (now (enums .entry)) (now (file .entry)) (now (words .entry)) (now (words .exit)) r ⌝ }
+{
+    match enums::judge(enums) {
+        Judged::Refused(number, entry) => Loading::Refused {
+            number,
+            place: entry,
+        },
+        Judged::Lawful => load_rows(file, enums, words, grid),
+    }
+}
+
+// Loads a file into the words, by rows or in columns, under a list of enum types: its rows, and zeros elsewhere; only zeros after a refusal.
+pub fn load_in(file: &[u8], enums: &[u8], words: &mut [u32], columns: bool) -> Loading
+    ensures { λ r. ⌜ r ≡ answerOf (now (file .entry)) (loadUnder (now (enums .entry)) (now (file .entry)) (length (now (words .entry)))) ⌝ }
     ensures { λ _. ⌜ now (words .exit)
-        ≡ tableIn columns (loadOf judgedName (now (file .entry)) (length (now (words .entry)))) (length (now (words .entry))) ⌝ }
+        ≡ tableIn columns (loadUnder (now (enums .entry)) (now (file .entry)) (length (now (words .entry)))) (length (now (words .entry))) ⌝ }
 {
     let grid = words::shaped(words.len(), columns);
-    match load_rows(file, words, grid) {
+    match load_under(file, enums, words, grid) {
         Loading::Refused { number, place } => {
             fill::clear(words, 0);
             Loading::Refused { number, place }
@@ -182,19 +255,20 @@ pub fn load_in(file: &[u8], words: &mut [u32], columns: bool) -> Loading
     }
 }
 
-// Loads a file into the words: its rows, then zeros; only zeros after a refusal.
-pub fn load(file: &[u8], words: &mut [u32]) -> Loading
-    ensures { λ r. ⌜ r ≡ answerOf (now (file .entry)) (loadOf judgedName (now (file .entry)) (length (now (words .entry)))) ⌝ }
-    ensures { λ _. ⌜ now (words .exit) ≡ tableOf (loadOf judgedName (now (file .entry)) (length (now (words .entry)))) (length (now (words .entry))) ⌝ }
+// Loads a file into the words, under a list of enum types: its rows, then zeros; only zeros after a refusal.
+pub fn load(file: &[u8], enums: &[u8], words: &mut [u32]) -> Loading
+    ensures { λ r. ⌜ r ≡ answerOf (now (file .entry)) (loadUnder (now (enums .entry)) (now (file .entry)) (length (now (words .entry)))) ⌝ }
+    ensures { λ _. ⌜ now (words .exit)
+        ≡ tableOf (loadUnder (now (enums .entry)) (now (file .entry)) (length (now (words .entry)))) (length (now (words .entry))) ⌝ }
 {
-    load_in(file, words, false)
+    load_in(file, enums, words, false)
 }
 
 // Loads a file into the words in columns: all kinds, then all first bytes, and so on; only zeros after a refusal.
-pub fn load_columns(file: &[u8], words: &mut [u32]) -> Loading
-    ensures { λ r. ⌜ r ≡ answerOf (now (file .entry)) (loadOf judgedName (now (file .entry)) (length (now (words .entry)))) ⌝ }
+pub fn load_columns(file: &[u8], enums: &[u8], words: &mut [u32]) -> Loading
+    ensures { λ r. ⌜ r ≡ answerOf (now (file .entry)) (loadUnder (now (enums .entry)) (now (file .entry)) (length (now (words .entry)))) ⌝ }
     ensures { λ _. ⌜ now (words .exit)
-        ≡ columnsTableOf (loadOf judgedName (now (file .entry)) (length (now (words .entry)))) (length (now (words .entry))) ⌝ }
+        ≡ columnsTableOf (loadUnder (now (enums .entry)) (now (file .entry)) (length (now (words .entry)))) (length (now (words .entry))) ⌝ }
 {
-    load_in(file, words, true)
+    load_in(file, enums, words, true)
 }

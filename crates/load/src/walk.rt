@@ -140,7 +140,7 @@ fn close_flat(
 // A raw value of the type at `place`, as far as it needs no reader list.
 fn raw_step(
     file: &[u8],
-    codes: &[u8],
+    codes: &[u32],
     words: &mut [u32],
     grid: Grid,
     shared: u32,
@@ -158,7 +158,7 @@ fn raw_step(
             place: from,
         },
         Opened::Head(next, below) => {
-            let kind = types::kind_at(codes, place) as u32;
+            let kind = heads::slot::row_kind(codes, place);
             close_flat(
                 file,
                 words,
@@ -180,7 +180,7 @@ fn raw_step(
 // there are and the place of the type that the value's type id names.
 fn value(
     file: &[u8],
-    codes: &[u8],
+    codes: &[u32],
     words: &mut [u32],
     count: u32,
     target: u32,
@@ -192,7 +192,7 @@ fn value(
     depth: u32,
     parent: u32,
 ) -> Stepped
-    requires { ⌜ Begin (now file) (now words) grid at used × KnownTarget (now file) (now codes) slot at count target × KnownSlot (now codes) slot ⌝ }
+    requires { ⌜ Begin (now file) (now words) grid at used × KnownTarget (now file) (now codes) slot at count target × KnownSlot (now file) (now codes) slot ⌝ }
     ensures { λ r. ⌜ ValueSteps grid (now (file .entry)) (now (codes .entry)) (now (words .entry)) (now (words .exit)) r
         count target shared slot at used depth parent ⌝ }
 {
@@ -236,7 +236,7 @@ fn value(
 // A raw value of the type at `place`, whose head ends at `next` and whose children need the reader list and have the depth left.
 fn raw(
     file: &[u8],
-    codes: &[u8],
+    codes: &[u32],
     rd: Readers,
     words: &mut [u32],
     grid: Grid,
@@ -248,7 +248,7 @@ fn raw(
     nest: Nest,
     depth: u32,
 ) -> Walk
-    requires { ⌜ Ready (now file) (now words) grid h at × Known (now codes) rd × KnownRaw (now file) (now codes) place at next nest ⌝ }
+    requires { ⌜ Ready (now file) (now words) grid h at × Known (now file) (now codes) rd × KnownRaw (now file) (now codes) place at next nest ⌝ }
     ensures { λ r. ⌜ RawWalks grid (now (file .entry)) (now (codes .entry)) rd shared place h at next nest depth
         (now (words .entry)) (now (words .exit)) r ⌝ }
 {
@@ -267,7 +267,7 @@ fn raw(
     ) {
         Children::Refused { number, place: q } => Walk::Refused { number, place: q },
         Children::Done { count, reached } => {
-            let kind = types::kind_at(codes, place) as u32;
+            let kind = heads::slot::row_kind(codes, place);
             objects::close::close(file, words, grid, h, kind, count, at, Walk::Done(reached))
         }
     }
@@ -276,7 +276,7 @@ fn raw(
 // Objects and raw values one after the other, as a nest says. Their parent is the row before the first of theirs, or none if that is row 0.
 pub(crate) fn nested(
     file: &[u8],
-    codes: &[u8],
+    codes: &[u32],
     rd: Readers,
     words: &mut [u32],
     grid: Grid,
@@ -286,7 +286,7 @@ pub(crate) fn nested(
     used: u32,
     depth: u32,
 ) -> Children
-    requires { ⌜ Begin (now file) (now words) grid at used × Known (now codes) rd × KnownNest (now codes) nest ⌝ }
+    requires { ⌜ Begin (now file) (now words) grid at used × Known (now file) (now codes) rd × KnownNest (now file) (now codes) nest ⌝ }
     ensures { λ r. ⌜ NestWalks grid (now (file .entry)) (now (codes .entry)) rd shared nest at used depth
         (now (words .entry)) (now (words .exit)) r ⌝ }
 {

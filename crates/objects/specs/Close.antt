@@ -4,7 +4,7 @@ use mathlib.Core.Bool.{Bool, true, false, cond}
 use mathlib.Core.List.{List, [], _∷_}
 use Prim.Native.Nat.{ℕ, suc, _+_, _*_, _-_, _≤_, _<_, _^_}
 use native.Mathlib.Omega.{arith}
-use lib.Dec.{eqb}
+use lib.Dec.{eqb, leb}
 use lib.ListN.{length}
 use borrow.Author.Tests.{eqb-true, eqb-false}
 use Rattle.layout.specs.Target.{Target, fixed, char, string, object as anything, texture, texture2D, spriteFont, page, enum, nullable, array, list, dictionary, kindOf}
@@ -24,8 +24,8 @@ use Rattle.reading.specs.Walk.{Taken, Outcome, point, sequence, rawAt, walk}
 use Rattle.reading.specs.Sound.{walks-sound}
 use Rattle.reading.specs.Bounds.{sequence-bounds}
 use Rattle.reading.specs.Drafts.{Draft, drafted, bare}
-use Rattle.types.specs.Code.{Lawful, Throughout}
-use Rattle.types.specs.Laws.{of-kind}
+use Rattle.types.specs.Code.{codeKind, Lawful}
+use Rattle.types.specs.Laws.{of-kind, kind-of-code, fixed-has-size}
 use Rattle.fonts.specs.FontWords.{fontWords}
 use Rattle.fonts.specs.Bridge.{font-judged, other-kind}
 use Rattle.table.specs.declared.Head.{Head}
@@ -36,7 +36,6 @@ use Rattle.table.specs.Written.{written, putRow, written-under, length-written}
 use Rattle.table.specs.Contract.{seen, reaching, atop, padded, Walked, Free, put-leaf}
 use Rattle.table.specs.Leaf.{valueRow, value-row}
 use Rattle.table.specs.Loop.{Got, got, lost, refusing, reading}
-use Rattle.heads.specs.Slots.{fixed-sized}
 use Rattle.heads.specs.Below.{font-head}
 use Rattle.places.specs.Word.{inWord, word-more}
 use Rattle.places.specs.Places.{numbered, countPlaces}
@@ -72,14 +71,21 @@ laid-count readers refers (x ∷ slots) (tree k i own cs rest) bs w =
     let r = laid-count readers refers slots rest (w .1) (w .4) in
     (ap suc (r .0), omega (arith, r .1))
 
+-- a kind other than an enum's is that of the type's code
+code-of-kind : (t : Target) → Lawful t → (k : ℕ) → (k ≡ 15 → ⊥) → kindOf t ≡ k → codeKind t ≡ k
+code-of-kind t l k n e = go (leb 60 (codeKind t)) (sym (kind-of-code t l) ∙ e) where
+  go : (b : Bool) → cond b 15 (codeKind t) ≡ k → codeKind t ≡ k
+  go true q = absurd (n (sym q))
+  go false q = q
+
 -- no type's raw values are null or shared references
 pub unnumbered : (t : Target) → Lawful t → numbered (kindOf t) 0 ≡ false
-unfolding numbered kindOf Throughout
-unnumbered (fixed k) l = sized-plain k (fixed-sized k l) .0
+unfolding numbered kindOf Lawful
+unnumbered (fixed k) l = sized-plain k (fixed-has-size k l) .0
 unnumbered char l = refl
 unnumbered string l = refl
 unnumbered anything l = refl
-unnumbered (enum name) l = refl
+unnumbered (enum name z) l = refl
 unnumbered (nullable t) l = refl
 unnumbered (array t) l = refl
 unnumbered (list t) l = refl
@@ -126,7 +132,7 @@ module _ (g : Grid) (file : List ℕ) (small : Small file) (readers : List Targe
       unfolding plain fixedKind
       rule a e w₁ q words false z = other-kind t (a .2) (eqb-false (kindOf t) 33 z)
       rule a e w₁ q words true z =
-          let s : t ≡ spriteFont = of-kind t spriteFont 33 lawful (eqb-true (kindOf t) 33 z) refl in
+          let s : t ≡ spriteFont = of-kind t spriteFont 33 lawful (code-of-kind t lawful 33 (λ q. omega arith) (eqb-true (kindOf t) 33 z)) refl in
           let op : headAt file spriteFont at ≡ read o next = rw s at opened in
           let y : _≡_ {A = Answer Opening} (read ([], each fontSlots) at) (read o next) = sym (font-head file at) ∙ op in
           let o₁ : ([], each fontSlots) ≡ o = cc in

@@ -6,7 +6,7 @@ use Rattle.layout.specs.Target.{Target}
 use Rattle.layout.specs.Slot as L
 use Rattle.layout.specs.Slot.{object}
 use Rattle.reading.specs.Seven.{sevenAt}
-use Rattle.types.specs.Code.{Stands, NoEnum}
+use Rattle.types.specs.Code.{Stands}
 use Rattle.readers.specs.declared.Readers.{Readers}
 use Rattle.readers.specs.Listed.{Listed}
 use Rattle.heads.specs.declared.slot.Slot.{Slot}
@@ -16,16 +16,16 @@ use Rattle.objects.specs.declared.start.Started.{Started}
 use Rattle.objects.specs.Start.{Has, positionIn, positionBy, positionOfSlot, Identifies, ObjectStarts, Starts}
 
 -- a type id is identified for an object declared as the type at `declared`
-abbrev pub IdentifiesAs : (codes : List ℕ) (count target declared id : ℕ) → Identified → Type 0
-IdentifiesAs codes count target declared id r =
-    (rd : Readers) (readers : List Target) (d : Target) → Has rd count (positionIn id) target → Listed codes rd readers → Stands codes declared d → NoEnum d → Identifies codes readers d id r
+abbrev pub IdentifiesAs : (file codes : List ℕ) (count target declared id : ℕ) → Identified → Type 0
+IdentifiesAs file codes count target declared id r =
+    (rd : Readers) (readers : List Target) (d : Target) → Has rd count (positionIn id) target → Listed file codes rd readers → Stands file codes declared d → Identifies file codes readers d id r
 
 -- an object declared as the type at `declared` starts
 abbrev pub ObjectStartsAs : (file codes : List ℕ) (count target declared at : ℕ) → Started → Type 0
 ObjectStartsAs file codes count target declared at r =
-    (rd : Readers) (readers : List Target) (d : Target) → Has rd count (positionBy (sevenAt file at)) target → Listed codes rd readers → Stands codes declared d → NoEnum d → ObjectStarts file codes readers (object d) at r
+    (rd : Readers) (readers : List Target) (d : Target) → Has rd count (positionBy (sevenAt file at)) target → Listed file codes rd readers → Stands file codes declared d → ObjectStarts file codes readers (object d) at r
 
 -- the value in a slot starts
 abbrev pub StartsAs : (file codes : List ℕ) (count target room : ℕ) → Slot → (at used depth : ℕ) → Started → Type 0
 StartsAs file codes count target room slot at used depth r =
-    (rd : Readers) (readers : List Target) (x : L.Slot) → Has rd count (positionOfSlot file slot at) target → Listed codes rd readers → SlotIs codes slot x → at ≤ length file → Starts file codes readers room depth x at used r
+    (rd : Readers) (readers : List Target) (x : L.Slot) → Has rd count (positionOfSlot file slot at) target → Listed file codes rd readers → SlotIs file codes slot x → at ≤ length file → Starts file codes readers room depth x at used r

@@ -8,7 +8,7 @@ use native.Mathlib.Omega.{arith}
 use lib.ListN.{length, getD}
 use borrow.Author.Tests.{lt-ltb, le-ltb}
 use Rattle.laws.specs.Small.{differ}
-use Rattle.layout.specs.Target.{Target, fixed, char, string, object as anything, texture, texture2D, spriteFont, page, enum, nullable, array, list, dictionary, kindOf}
+use Rattle.layout.specs.Target.{Target, fixed, char, string, object as anything, texture, texture2D, spriteFont, page, enum, nullable, array, list, dictionary}
 use Rattle.layout.specs.Tree.{none, tree}
 use Rattle.layout.specs.Slot as L
 use Rattle.layout.specs.Slot.{Plan, raw, object}
@@ -24,13 +24,13 @@ use Rattle.ids.specs.Position.{positionOf, typeId}
 use Rattle.ids.specs.declared.Position.the-variants.{Null as Null-position, At}
 use Rattle.reading.specs.Rules.{missing, found, invoked, reader, serves, serves-complete, serves-sound}
 use Rattle.reading.specs.Walk.{Outcome, done, sequence, rawAt, byReader, objectAt, valueAt, walk}
-use Rattle.types.specs.Code.{Stands, NoEnum, Throughout}
+use Rattle.types.specs.Code.{codeKind, Stands}
 use Rattle.types.specs.Place.{kindAt, fitsAt}
 use Rattle.types.specs.Laws.{kind-is, fits-then, then-fits, of-kind}
 use Rattle.readers.specs.declared.Readers.{Readers}
 use Rattle.readers.specs.Listed.{Listed}
 use Rattle.leaves.specs.Plain.{plainSlot, Lawful}
-use Rattle.heads.specs.Opens.{Arguments}
+use Rattle.leaves.specs.Like.{Like}
 use Rattle.heads.specs.declared.slot.Slot.{Slot}
 use Rattle.heads.specs.declared.slot.Slot.the-variants.{Object}
 use Rattle.heads.specs.declared.slot.Slot.the-variants.{Simple as SimpleSlot, Raw as RawSlot}
@@ -74,22 +74,17 @@ position-in-list file (Object a) at = go (sevenAt file at) where
   go (refused n p) = omega arith
   go (read id next) = in-list id
 
--- a type without enums in its arguments stands at a place
-pub record Invoked (codes : List ℕ) (place : ℕ) (t : Target) : Type 0 where
-  pub stands : Stands codes place t
-  pub plain : Arguments t
-
 -- what a type id comes to, for an object declared as d
-pub record ReadBy (codes : List ℕ) (readers : List Target) (d : Target) (id place : ℕ) : Type 0 where
+pub record ReadBy (file codes : List ℕ) (readers : List Target) (d : Target) (id place : ℕ) : Type 0 where
   pub type : Target
-  pub at : Invoked codes place type
+  pub at : Stands file codes place type
   pub named : reader readers id ≡ found type
   pub serving : serves d type ≡ true
 
-abbrev pub Identifies : List ℕ → List Target → Target → ℕ → Identified → Type 0
-Identifies codes readers d id Null = id ≡ 0
-Identifies codes readers d id (Refused n) = ((n ≡ 13) × (0 < id) × (reader readers id ≡ missing)) ⊎ ((n ≡ 14) × (0 < id) × ((u : Target) × (reader readers id ≡ found u) × (serves d u ≡ false)))
-Identifies codes readers d id (Reader place) = (0 < id) × ReadBy codes readers d id place
+abbrev pub Identifies : (file codes : List ℕ) → List Target → Target → ℕ → Identified → Type 0
+Identifies file codes readers d id Null = id ≡ 0
+Identifies file codes readers d id (Refused n) = ((n ≡ 13) × (0 < id) × (reader readers id ≡ missing)) ⊎ ((n ≡ 14) × (0 < id) × ((u : Target) × (reader readers id ≡ found u) × (serves d u ≡ false)))
+Identifies file codes readers d id (Reader place) = (0 < id) × ReadBy file codes readers d id place
 
 -- 14 unless the reader serves
 abbrev pub by : Bool → (place : ℕ) → Identified
@@ -110,13 +105,13 @@ no-reader (t ∷ readers) zero h = absurd (omega arith)
 no-reader (t ∷ readers) (suc i) h = no-reader readers i (omega arith)
 
 -- 01: "Object and Texture readers are never invoked", all others are
-always : (t : Target) → (kindOf t ≡ 14 → ⊥) → (kindOf t ≡ 31 → ⊥) → invoked t ≡ found t
-unfolding invoked kindOf
+always : (t : Target) → (codeKind t ≡ 14 → ⊥) → (codeKind t ≡ 31 → ⊥) → invoked t ≡ found t
+unfolding invoked codeKind
 always (fixed k) a b = refl
 always char a b = refl
 always string a b = refl
 always anything a b = absurd (a refl)
-always (enum name) a b = refl
+always (enum name z) a b = refl
 always (nullable t) a b = refl
 always (array t) a b = refl
 always (list t) a b = refl
@@ -126,34 +121,12 @@ always texture2D a b = refl
 always spriteFont a b = refl
 always page a b = refl
 
--- no enum is an argument
-no-enum : (t : Target) → NoEnum t → Arguments t
-unfolding Arguments Throughout
-no-enum (fixed k) n = tt
-no-enum char n = tt
-no-enum string n = tt
-no-enum anything n = tt
-no-enum (enum name) n = tt
-no-enum (nullable t) n = n
-no-enum (array t) n = n
-no-enum (list t) n = n
-no-enum (dictionary t u) n = n
-no-enum texture n = tt
-no-enum texture2D n = tt
-no-enum spriteFont n = tt
-no-enum page n = tt
-
-arguments : (t : Target) → NoEnum t ⊎ ((name : List ℕ) × (t ≡ enum name)) → Arguments t
-unfolding Arguments
-arguments t (inl n) = no-enum t n
-arguments t (inr e) = rw (e .1) tt
-
 -- the reader at place i of a list that the code has
-module _ {codes : List ℕ} {rd : Readers} {count i target : ℕ} (has : Has rd count (positionIn (suc i)) target) {readers : List Target} {declared : ℕ} {d : Target} (l : Listed codes rd readers) (s : Stands codes declared d) (n : NoEnum d) where
-  pub beyond-list : count ≤ i → Identifies codes readers d (suc i) (Refused 13)
+module _ {file codes : List ℕ} {rd : Readers} {count i target : ℕ} (has : Has rd count (positionIn (suc i)) target) {readers : List Target} {declared : ℕ} {d : Target} (l : Listed file codes rd readers) (s : Stands file codes declared d) where
+  pub beyond-list : count ≤ i → Identifies file codes readers d (suc i) (Refused 13)
   beyond-list h = inl (refl, omega arith, no-reader readers i (omega (arith, l .counts, has .counts)))
 
-  pub beyond-most : 64 ≤ i → Identifies codes readers d (suc i) (Refused 13)
+  pub beyond-most : 64 ≤ i → Identifies file codes readers d (suc i) (Refused 13)
   beyond-most h = inl (refl, omega arith, no-reader readers i (omega (arith, l .few)))
 
   -- where the list has the reader
@@ -162,13 +135,13 @@ module _ {codes : List ℕ} {rd : Readers} {count i target : ℕ} (has : Has rd 
       let p : i % 64 ≡ i = omega (arith, l .counts, l .few, has .counts) in
       rw p at (has .at)
 
-  pub never-called : {k : ℕ} → i < count → k ≡ kindAt codes target → (k ≡ 14) ⊎ (k ≡ 31) → Identifies codes readers d (suc i) (Refused 13)
+  pub never-called : {k : ℕ} → i < count → k ≡ kindAt codes target → (k ≡ 14) ⊎ (k ≡ 31) → Identifies file codes readers d (suc i) (Refused 13)
   unfolding plain fixedKind invoked
   never-called {k} h q w = inl (refl, omega arith, reader-at readers i g ∙ go w) where
     g : i < length readers
     g = omega (arith, l .counts, has .counts)
 
-    kind : kindOf (getD readers i anything) ≡ k
+    kind : codeKind (getD readers i anything) ≡ k
     kind = sym (kind-is (l .stands i g)) ∙ ap (kindAt codes) (here h) ∙ sym q
 
     go : (k ≡ 14) ⊎ (k ≡ 31) → invoked (getD readers i anything) ≡ missing
@@ -176,7 +149,7 @@ module _ {codes : List ℕ} {rd : Readers} {count i target : ℕ} (has : Has rd 
     go (inr y) = rw (of-kind (getD readers i anything) texture 31 (l .stands i g .lawful) (kind ∙ y) refl)
 
   pub called-by : {k : ℕ} → i < count → k ≡ kindAt codes target → (k ≡ 14 → ⊥) → (k ≡ 31 → ⊥)
-      → (b : Bool) → fitsAt codes declared target ≡ b → Identifies codes readers d (suc i) (by b target)
+      → (b : Bool) → fitsAt file codes declared target ≡ b → Identifies file codes readers d (suc i) (by b target)
   called-by {k} h q x y b f = go b f where
     g : i < length readers
     g = omega (arith, l .counts, has .counts)
@@ -184,11 +157,11 @@ module _ {codes : List ℕ} {rd : Readers} {count i target : ℕ} (has : Has rd 
     t : Target
     t = getD readers i anything
 
-    kind : kindOf t ≡ k
+    kind : codeKind t ≡ k
     kind = sym (kind-is (l .stands i g)) ∙ ap (kindAt codes) (here h) ∙ sym q
 
-    there : Stands codes target t
-    there = subst (λ a. Stands codes a t) (here h) (l .stands i g)
+    there : Stands file codes target t
+    there = subst (λ a. Stands file codes a t) (here h) (l .stands i g)
 
     called : invoked t ≡ found t
     called = always t (λ z. x (sym kind ∙ z)) (λ z. y (sym kind ∙ z))
@@ -196,14 +169,14 @@ module _ {codes : List ℕ} {rd : Readers} {count i target : ℕ} (has : Has rd 
     named : reader readers (suc i) ≡ found t
     named = reader-at readers i g ∙ called
 
-    serving : (b c : Bool) → fitsAt codes declared target ≡ b → serves d t ≡ c → c ≡ b
+    serving : (b c : Bool) → fitsAt file codes declared target ≡ b → serves d t ≡ c → c ≡ b
     serving true true f c = refl
     serving false false f c = refl
-    serving true false f c = absurd (let z : _≡_ {A = Bool} true false = sym (serves-complete (fits-then n s there f)) ∙ c in differ cc)
-    serving false true f c = absurd (let z : _≡_ {A = Bool} true false = sym (then-fits n s there (serves-sound d t c)) ∙ f in differ cc)
+    serving true false f c = absurd (let z : _≡_ {A = Bool} true false = sym (serves-complete (fits-then s there f)) ∙ c in differ cc)
+    serving false true f c = absurd (let z : _≡_ {A = Bool} true false = sym (then-fits s there (serves-sound d t c)) ∙ f in differ cc)
 
-    go : (b : Bool) → fitsAt codes declared target ≡ b → Identifies codes readers d (suc i) (by b target)
-    go true f = (omega arith, record { type = t; at = record { stands = there; plain = arguments t (l .plain i g) }; named = named; serving = serving true (serves d t) f refl })
+    go : (b : Bool) → fitsAt file codes declared target ≡ b → Identifies file codes readers d (suc i) (by b target)
+    go true f = (omega arith, record { type = t; at = there; named = named; serving = serving true (serves d t) f refl })
     go false f = inr (refl, omega arith, (t, named, serving false (serves d t) f refl))
 
 -- an id and its position
@@ -227,7 +200,7 @@ pub record Ided (file : List ℕ) (first from id padding : ℕ) : Type 0 where
 -- what stands after an object's type id
 pub record Invokes (file codes : List ℕ) (readers : List Target) (x : L.Slot) (at place from id padding : ℕ) : Type 0 where
   pub type : Target
-  pub stands : Invoked codes place type
+  pub stands : Stands file codes place type
   pub ided : Ided file at from id padding
   pub ahead : at ≤ from
   pub inside : from ≤ length file
@@ -272,12 +245,12 @@ module _ (file codes : List ℕ) (readers : List Target) (d : Target) (at : ℕ)
     by-id zero h shared room below used parent = absurd (omega arith)
     by-id (suc i) h shared room below used parent = refl
 
-    pub unread : {n : ℕ} → Identifies codes readers d id (Refused n) → ObjectStarts file codes readers (object d) at (RefusedValue n at)
+    pub unread : {n : ℕ} → Identifies file codes readers d id (Refused n) → ObjectStarts file codes readers (object d) at (RefusedValue n at)
     unfolding valueAt bind byReader check
     unread (inl w) shared room below used parent = rw (e, by-id id (w .1) shared room below used parent, w .2, w .0)
     unread (inr w) shared room below used parent = rw (e, by-id id (w .1) shared room below used parent, w .2 .1, w .2 .2, w .0)
 
-    pub read-starts : {place : ℕ} → (0 < id) × ReadBy codes readers d id place → ObjectStarts file codes readers (object d) at (Raw place next (typeId id) padding)
+    pub read-starts : {place : ℕ} → (0 < id) × ReadBy file codes readers d id place → ObjectStarts file codes readers (object d) at (Raw place next (typeId id) padding)
     unfolding valueAt bind byReader check
     read-starts w =
         let b = seven-next file small at e in
@@ -297,7 +270,7 @@ under file readers shared room below used = λ plan a u. sequence (λ y b v. wal
 -- what a value begins with, where it may have a row
 pub record Begins (file codes : List ℕ) (readers : List Target) (room depth : ℕ) (x : L.Slot) (at used place from id padding : ℕ) : Type 0 where
   pub type : Target
-  pub stands : Invoked codes place type
+  pub stands : Stands file codes place type
   pub ided : Ided file at from id padding
   pub ahead : at ≤ from
   pub inside : from ≤ length file
@@ -314,7 +287,7 @@ pub record BeginsNull (file : List ℕ) (readers : List Target) (room depth : �
 
 abbrev pub Starts : (file codes : List ℕ) → List Target → (room depth : ℕ) → L.Slot → (at used : ℕ) → Started → Type 0
 Starts file codes readers room depth x at used (RefusedValue n p) = (shared parent : ℕ) → walk file readers shared room depth x at used parent ≡ refused n p
-Starts file codes readers room depth x at used (Plain p) = (x ≡ plainSlot p) × Lawful p
+Starts file codes readers room depth x at used (Plain p) = Like x (plainSlot p) × Lawful p
 Starts file codes readers room depth x at used (NullValue next padding) = BeginsNull file readers room depth x at used next padding
 Starts file codes readers room depth x at used (Raw place from id padding) = Begins file codes readers room depth x at used place from (id .0) padding
 
@@ -341,7 +314,7 @@ module _ (file codes : List ℕ) (readers : List Target) (room : ℕ) (x : L.Slo
   some-depth (suc d) z = (d, refl)
 
   -- a slot of raw values
-  pub raw-starts : {depth place : ℕ} → (depth ≡ 0 → ⊥) → used < room → at ≤ length file → (t : Target) → x ≡ raw t → Invoked codes place t → Starts file codes readers room depth x at used (Raw place at (typeId 0) 0)
+  pub raw-starts : {depth place : ℕ} → (depth ≡ 0 → ⊥) → used < room → at ≤ length file → (t : Target) → x ≡ raw t → Stands file codes place t → Starts file codes readers room depth x at used (Raw place at (typeId 0) 0)
   unfolding valueAt idEnd idPad
   raw-starts {depth} z h p t e i =
       let d = some-depth depth z in
@@ -383,7 +356,3 @@ module _ (file codes : List ℕ) (readers : List Target) (room : ℕ) (x : L.Slo
         deep = omega (arith, d .1);
         is = λ shared below parent q. walked shared depth below parent q h ∙ s .is shared room (under file readers shared room below used) used parent;
       }
-
--- a raw slot's type
-pub raw-invoked : {codes : List ℕ} {place : ℕ} {t : Target} → Stands codes place t → NoEnum t → Invoked codes place t
-raw-invoked {t = t} s n = record { stands = s; plain = no-enum t n }

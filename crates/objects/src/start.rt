@@ -57,9 +57,16 @@ pub fn reader_position(file: &[u8], slot: Slot, at: usize) -> usize
 }
 
 // Reader i of a list with so many readers, if the type of that reader is at `target`, for an object declared as the type at `declared`: 13 before 14.
-fn reader_for(codes: &[u8], count: u32, target: usize, declared: usize, i: u32) -> Identified
-    ensures { λ r. ⌜ IdentifiesAs (now (codes .entry)) count target declared (suc i) r ⌝ }
-    ensures { λ r. ⌜ r ≡ readerAs (now (codes .entry)) count target declared i ⌝ }
+fn reader_for(
+    file: &[u8],
+    codes: &[u32],
+    count: u32,
+    target: usize,
+    declared: usize,
+    i: u32,
+) -> Identified
+    ensures { λ r. ⌜ IdentifiesAs (now (file .entry)) (now (codes .entry)) count target declared (suc i) r ⌝ }
+    ensures { λ r. ⌜ r ≡ readerAs (now (file .entry)) (now (codes .entry)) count target declared i ⌝ }
 {
     if count <= i {
         return Identified::Refused(13);
@@ -74,40 +81,47 @@ fn reader_for(codes: &[u8], count: u32, target: usize, declared: usize, i: u32) 
     if kind == 31 {
         return Identified::Refused(13);
     }
-    if types::fits(codes, declared, target) {
+    if types::fits(file, codes, declared, target) {
         return Identified::Reader(target);
     }
     Identified::Refused(14)
 }
 
 // The type that a type id names, for an object declared as the type at `declared`.
-fn identify(codes: &[u8], count: u32, target: usize, declared: usize, id: TypeId) -> Identified
-    ensures { λ r. ⌜ IdentifiesAs (now (codes .entry)) count target declared (id .0) r ⌝ }
-    ensures { λ r. ⌜ r ≡ identifyAs (now (codes .entry)) count target declared (positionOf (id .0)) ⌝ }
+fn identify(
+    file: &[u8],
+    codes: &[u32],
+    count: u32,
+    target: usize,
+    declared: usize,
+    id: TypeId,
+) -> Identified
+    ensures { λ r. ⌜ IdentifiesAs (now (file .entry)) (now (codes .entry)) count target declared (id .0) r ⌝ }
+    ensures { λ r. ⌜ r ≡ identifyAs (now (file .entry)) (now (codes .entry)) count target declared (positionOf (id .0)) ⌝ }
 {
     match id.position() {
         Position::Null => Identified::Null,
-        Position::At(i) => reader_for(codes, count, target, declared, i),
+        Position::At(i) => reader_for(file, codes, count, target, declared, i),
     }
 }
 
 // An object declared as the type at `declared`: its type id.
 fn object_start(
     file: &[u8],
-    codes: &[u8],
+    codes: &[u32],
     count: u32,
     target: usize,
     declared: usize,
     at: usize,
 ) -> Started
     ensures { λ r. ⌜ ObjectStartsAs (now (file .entry)) (now (codes .entry)) count target declared at r ⌝ }
-    ensures { λ r. ⌜ r ≡ objectAs (now (codes .entry)) count target declared at (sevenAt (now (file .entry)) at) ⌝ }
+    ensures { λ r. ⌜ r ≡ objectAs (now (file .entry)) (now (codes .entry)) count target declared at (sevenAt (now (file .entry)) at) ⌝ }
 {
     match numbers::seven::seven_padded(file, at) {
         Padded::Refused(number, place) => Started::Refused(number, place),
         Padded::Read(value, next, padding) => {
             let id = value as u32;
-            match identify(codes, count, target, declared, TypeId(id)) {
+            match identify(file, codes, count, target, declared, TypeId(id)) {
                 Identified::Null => Started::Null(next, padding),
                 Identified::Reader(place) => Started::Raw(place, next, TypeId(id), padding),
                 Identified::Refused(number) => Started::Refused(number, at),
@@ -120,7 +134,7 @@ fn object_start(
 // The reader list has so many readers, and the type of the one that the type id names is at `target`.
 pub fn start(
     file: &[u8],
-    codes: &[u8],
+    codes: &[u32],
     count: u32,
     target: usize,
     room: u32,

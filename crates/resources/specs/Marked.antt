@@ -36,7 +36,7 @@ head-kind (fixed k) own plan bs h e = let s : 0 < getD sizes 36 0 = rw e at (h .
 head-kind char own plan bs h e = omega arith
 head-kind string own plan bs h e = omega arith
 head-kind object own plan bs h e = omega arith
-head-kind (enum name) own plan bs h e = omega arith
+head-kind (enum name z) own plan bs h e = omega arith
 head-kind (nullable t) own plan bs h e = omega arith
 head-kind (array t) own plan bs h e = omega arith
 head-kind (list t) own plan bs h e = omega arith

@@ -1,73 +1,81 @@
-use mathlib.Core.Path.{sym, _∙_}
+use mathlib.Core.Path.{sym, ap, _∙_}
 use native.Mathlib.Omega.{arith}
-use Rattle.reading.specs.Reads.{small-by-index}
-use Rattle.readers.specs.Contract.{short-file}
-use Rattle.load.specs.Loads.{fileTotal}
-use Rattle.load.specs.Laws.{kept-prelude, lists-inside, lists-refused, behind-lists, lists-padded, loads-refused}
+use Rattle.answers.specs.Told.{told}
+use Rattle.load.specs.Laws.{suffice, suffice-refused, at-most}
 use borrow.Author.Needs.{needs}
 use Rattle.load.proofs.lists.Statement.{statement}
 use Rattle.load.proofs.lists.Tie as tie
 
-slice-aggregate-put-prelude : tie.Need-slice-aggregate-put-prelude
-slice-aggregate-put-prelude c = search needs
+reader-count-requires : tie.Need-reader-count-requires
+reader-count-requires c κs = search needs
 
-put-prelude-requires : tie.Need-put-prelude-requires
-put-prelude-requires c κs = search needs
+enum-told : tie.Need-enum-told
+enum-told c = search needs
 
-read-lists-requires : tie.Need-read-lists-requires
-read-lists-requires c κs = search needs
+none-listed-requires : tie.Need-none-listed-requires
+none-listed-requires c κs =
+    let p = c .before .before .before .before .before .before .before .pre in
+    (p, suffice-refused _ _ _ (p .short) (sym (c .before .before .before .reader-count .ensures) ∙ ap told (c .before .enum-told .given .1)))
 
-enum-known-number : tie.Need-enum-known-number
-enum-known-number c = search needs
+enum-known-n : tie.Need-enum-known-n
+enum-known-n c = search needs
 
-enum-known-count : tie.Need-enum-known-count
-enum-known-count c = search needs
-
-slice-aggregate-objects : tie.Need-slice-aggregate-objects
-slice-aggregate-objects c =
-    let l = (rw (c .before .before .count .given .1) at (c .before .before .before .before .read-lists .ensures .0)) .0 in
-    sym (l .codes-size)
-
-objects-requires : tie.Need-objects-requires
-objects-requires c κs =
-    let a = c .before .before .before .before .before .before .before .before .before .before .before .before .before .before .args in
-    let file = a .file .now in
-    let small = small-by-index file (λ i h. omega (arith, c .before .before .before .before .before .before .before .before .before .before .before .before .before .shared-slice-known .given i)) in
-    let l = (rw (c .before .before .before .count .given .1) at (c .before .before .before .before .before .read-lists .ensures .0)) .0 in
-    let q = sym (short-file file (a .at) (c .before .before .before .before .before .before .before .before .before .before .before .before .before .before .pre .0)) ∙ l .answer in
-    (record { long = c .before .before .before .before .before .before .before .before .before .before .before .before .before .before .pre .2; few = omega arith; rows = omega arith; place = lists-inside file small (a .at) (c .before .before .before .before .before .before .before .before .before .before .before .before .before .before .pre .1) q; short = omega (arith, c .before .before .before .before .before .before .before .before .before .before .before .before .before .before .pre .0) }, record { readers = l .readers; listed = l .listed; prelude = kept-prelude _ (l .kept ∙ c .before .before .before .before .before .before .before .before .before .before .put-prelude .ensures) }, l .shared-few)
-
-returns : tie.Need-returns
-returns c =
-    λ platform flags.
-    let a = c .before .before .before .before .before .before .before .before .before .before .before .before .args in
-    let file = a .file .now in
-    let l = rw (c .before .number .given .1) at (c .before .before .before .read-lists .ensures .0) in
-    loads-refused _ _ _ (a .words .now) _ (lists-refused file (a .grid .room) platform flags (a .at) (sym (short-file file (a .at) (c .before .before .before .before .before .before .before .before .before .before .before .before .pre .0)) ∙ l))
+none-listed-requires-2 : tie.Need-none-listed-requires-2
+none-listed-requires-2 c κs =
+    let p = c .before .before .before .before .before .before .before .before .before .pre in
+    (p, suffice _ _ 0 (p .short) (sym (c .before .before .before .before .before .reader-count .ensures) ∙ ap told (c .before .before .before .n .given .1)) (omega (arith, c .before .if1 .taken)))
 
 same-length : tie.Need-same-length
 same-length c = search needs
 
+returns : tie.Need-returns
+returns c = search needs
+
+few-listed-requires : tie.Need-few-listed-requires
+few-listed-requires c κs =
+    let p = c .before .before .before .before .before .before .before .before .before .before .pre in
+    (p, suffice _ _ 8 (p .short) (sym (c .before .before .before .before .before .before .reader-count .ensures) ∙ ap told (c .before .before .before .before .n .given .1)) (c .before .if2 .taken))
+
+same-length-2 : tie.Need-same-length-2
+same-length-2 c = search needs
+
 returns-2 : tie.Need-returns-2
-returns-2 c =
-    λ platform flags.
-    let a = c .before .before .before .before .before .before .before .before .before .before .before .before .before .before .before .before .before .args in
-    let file = a .file .now in
-    let v = rw (c .before .before .before .before .before .before .count .given .1) at (c .before .before .before .before .before .before .before .before .read-lists .ensures .0) in
-    let l = v .0 in
-    rw (behind-lists file (a .grid .room) platform flags (a .at) (sym (short-file file (a .at) (c .before .before .before .before .before .before .before .before .before .before .before .before .before .before .before .before .before .pre .0)) ∙ l .answer)) (c .before .before .objects .ensures (fileTotal file) platform flags (l .names) (l .readers) (l .listed) (lists-padded file _ (a .at) _ (l .readers) (c .before .before .before .before .before .before .before .before .before .before .before .before .before .before .before .before .before .pre .3) (l .listed .counts) (v .1)))
+returns-2 c = search needs
+
+many-listed-requires : tie.Need-many-listed-requires
+many-listed-requires c κs =
+    let p = c .before .before .before .before .before .before .before .before .before .before .pre in
+    let e = sym (c .before .before .before .before .before .before .reader-count .ensures) ∙ ap told (c .before .before .before .before .n .given .1) in
+    (p, suffice _ _ 64 (p .short) e (at-most _ 64 _ e))
+
+same-length-3 : tie.Need-same-length-3
+same-length-3 c = search needs
+
+returns-3 : tie.Need-returns-3
+returns-3 c = search needs
+
+same-length-4 : tie.Need-same-length-4
+same-length-4 c = search needs
+
+returns-4 : tie.Need-returns-4
+returns-4 c = search needs
 
 pub lists-spec : {M : Type 1} → statement M
 lists-spec =
     tie.close
     (tie.spec
-    slice-aggregate-put-prelude
-    put-prelude-requires
-    read-lists-requires
-    enum-known-number
-    enum-known-count
-    slice-aggregate-objects
-    objects-requires
-    returns
+    reader-count-requires
+    enum-told
+    none-listed-requires
+    enum-known-n
+    none-listed-requires-2
     same-length
-    returns-2)
+    returns
+    few-listed-requires
+    same-length-2
+    returns-2
+    many-listed-requires
+    same-length-3
+    returns-3
+    same-length-4
+    returns-4)

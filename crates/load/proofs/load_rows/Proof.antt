@@ -1,3 +1,4 @@
+use Rattle.names.specs.Entries.{enumsOf}
 use native.Mathlib.Omega.{arith}
 use Rattle.reading.specs.Reads.{small-by-index}
 use Rattle.load.specs.Laws.{header-read, header-refused, file-behind, loads-refused}
@@ -16,25 +17,25 @@ enum-known-at c = search needs
 
 lists-requires : tie.Need-lists-requires
 lists-requires c κs =
-    let file = c .before .before .before .before .before .before .before .args .file .now in
-    let small = small-by-index file (λ i h. omega (arith, c .before .before .before .before .before .before .shared-slice-known .given i)) in
+    let file = c .before .before .before .before .before .before .before .before .args .file .now in
+    let small = small-by-index file (λ i h. omega (arith, c .before .before .before .before .before .before .before .shared-slice-known .given i)) in
     let h = header-read file small (rw (c .before .before .at .given .1) at (c .before .before .before .before .header .ensures)) in
-    (h .short, h .inside, c .before .before .before .before .before .before .before .pre, h .ten)
+    record { short = h .short; inside = h .inside; long = c .before .before .before .before .before .before .before .before .pre; ten = h .ten }
 
 returns : tie.Need-returns
 returns c =
-    let file = c .before .before .before .before .before .before .args .file .now in
-    loads-refused _ _ _ (c .before .before .before .before .before .before .args .words .now) _ (header-refused file (c .before .before .before .before .before .before .args .grid .room) (rw (c .before .number .given .1) at (c .before .before .before .header .ensures)))
+    let file = c .before .before .before .before .before .before .before .args .file .now in
+    loads-refused _ _ _ (c .before .before .before .before .before .before .before .args .words .now) _ (header-refused (enumsOf (c .before .before .before .before .before .before .before .args .enums .now)) file (c .before .before .before .before .before .before .before .args .grid .room) (rw (c .before .number .given .1) at (c .before .before .before .header .ensures)))
 
 same-length : tie.Need-same-length
 same-length c = search needs
 
 returns-2 : tie.Need-returns-2
 returns-2 c =
-    let file = c .before .before .before .before .before .before .before .before .before .before .args .file .now in
-    let small = small-by-index file (λ i h. omega (arith, c .before .before .before .before .before .before .before .before .before .shared-slice-known .given i)) in
+    let file = c .before .before .before .before .before .before .before .before .before .before .before .args .file .now in
+    let small = small-by-index file (λ i h. omega (arith, c .before .before .before .before .before .before .before .before .before .before .shared-slice-known .given i)) in
     let h = header-read file small (rw (c .before .before .before .before .before .at .given .1) at (c .before .before .before .before .before .before .before .header .ensures)) in
-    rw (file-behind file (c .before .before .before .before .before .before .before .before .before .before .args .grid .room) h) (c .before .before .lists .ensures (h .h .0) (h .h .1))
+    rw (file-behind (enumsOf (c .before .before .before .before .before .before .before .before .before .before .before .args .enums .now)) file (c .before .before .before .before .before .before .before .before .before .before .before .args .grid .room) h) (c .before .before .lists .ensures (h .h .0) (h .h .1))
 
 pub load-rows-spec : {M : Type 1} → statement M
 load-rows-spec =

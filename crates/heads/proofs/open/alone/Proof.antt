@@ -13,14 +13,14 @@ enum-known-read-2 c = search needs
 returns : tie.Need-returns
 unfolding mute
 returns c = (
-  λ codes x e st. alone-refused codes x (rw (c .before .read .given .1) at e),
+  λ file codes x e st. alone-refused file codes x (rw (c .before .read .given .1) at e),
   rw (c .before .read .given .1),
 )
 
 returns-2 : tie.Need-returns-2
 unfolding mute
 returns-2 c = (
-  λ codes x e st. alone-read codes x (c .before .read2 .given .0 .1 .1 .0) (rw (c .before .read2 .given .1) at e) st,
+  λ file codes x e st. alone-read file codes x (c .before .read2 .given .0 .1 .1 .0) (rw (c .before .read2 .given .1) at e) st,
   rw (c .before .read2 .given .1),
 )
 

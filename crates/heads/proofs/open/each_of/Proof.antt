@@ -1,5 +1,6 @@
 use mathlib.Core.Path.{refl}
 use borrow.Author.Needs.{needs}
+use Rattle.leaves.specs.Like.{alike-each}
 use Rattle.heads.proofs.open.each_of.Statement.{statement}
 use Rattle.heads.proofs.open.each_of.Tie as tie
 
@@ -14,21 +15,21 @@ enum-known-slot-3 c = search needs
 
 returns : tie.Need-returns
 returns c = (
-  λ codes x s.
+  λ file codes x s.
       let w = rw (c .before .slot .given .1) at s in
-      (rw (w .0), w .1),
+      (alike-each (c .before .before .before .args .n) (w .0), w .1),
   rw (c .before .slot .given .1),
 )
 
 returns-2 : tie.Need-returns-2
 returns-2 c = (
-  λ codes x s. record { slot = x; are = refl; is = rw (c .before .slot2 .given .1) at s },
+  λ file codes x s. record { slot = x; are = refl; is = rw (c .before .slot2 .given .1) at s },
   rw (c .before .slot2 .given .1),
 )
 
 returns-3 : tie.Need-returns-3
 returns-3 c = (
-  λ codes x s. record { slot = x; are = refl; is = rw (c .before .slot3 .given .1) at s },
+  λ file codes x s. record { slot = x; are = refl; is = rw (c .before .slot3 .given .1) at s },
   rw (c .before .slot3 .given .1),
 )
 

@@ -36,7 +36,7 @@ returns : tie.Need-returns
 returns c = (
   λ codes.
       let a = c .before .before .before .before .before .args in
-      rw (image-fields (a .file .now) (a .at)) (opens-refused codes (λ n e. widthAt (a .file .now) n e) (sym (c .before .before .before .ranged .ensures) ∙ ap told (c .before .number .given .1))),
+      rw (image-fields (a .file .now) (a .at)) (opens-refused (a .file .now) codes (λ n e. widthAt (a .file .now) n e) (sym (c .before .before .before .ranged .ensures) ∙ ap told (c .before .number .given .1))),
   rw (sym (c .before .before .before .ranged .ensures) ∙ ap told (c .before .number .given .1)),
 )
 
@@ -44,7 +44,7 @@ returns-2 : tie.Need-returns-2
 returns-2 c = (
   λ codes.
       let a = c .before .before .before .before .before .before .args in
-      rw (image-fields (a .file .now) (a .at)) (opens-read codes (λ n e. widthAt (a .file .now) n e) (c .image-width .result) (field (c .before)) (c .image-width .ensures .0 codes)),
+      rw (image-fields (a .file .now) (a .at)) (opens-read (a .file .now) codes (λ n e. widthAt (a .file .now) n e) (c .image-width .result) (field (c .before)) (c .image-width .ensures .0 codes)),
   rw (field (c .before)) (c .image-width .ensures .1),
 )
 

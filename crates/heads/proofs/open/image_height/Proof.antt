@@ -38,7 +38,7 @@ unfolding heightAt
 returns c = (
   λ codes.
       let a = c .before .before .before .before .before .args in
-      opens-refused codes (λ n e. levelsAt (a .file .now) (a .format) (a .width) n e) (sym (c .before .before .before .ranged .ensures) ∙ ap told (c .before .number .given .1)),
+      opens-refused (a .file .now) codes (λ n e. levelsAt (a .file .now) (a .format) (a .width) n e) (sym (c .before .before .before .ranged .ensures) ∙ ap told (c .before .number .given .1)),
   rw (sym (c .before .before .before .ranged .ensures) ∙ ap told (c .before .number .given .1)),
 )
 
@@ -47,7 +47,7 @@ unfolding heightAt
 returns-2 c = (
   λ codes.
       let a = c .before .before .before .before .before .before .args in
-      opens-read codes (λ n e. levelsAt (a .file .now) (a .format) (a .width) n e) (c .image-levels .result) (field (c .before)) (c .image-levels .ensures .0 codes),
+      opens-read (a .file .now) codes (λ n e. levelsAt (a .file .now) (a .format) (a .width) n e) (c .image-levels .result) (field (c .before)) (c .image-levels .ensures .0 codes),
   rw (field (c .before)) (c .image-levels .ensures .1),
 )
 

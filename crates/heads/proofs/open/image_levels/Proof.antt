@@ -33,8 +33,9 @@ returns : tie.Need-returns
 unfolding levelsAt
 returns c = (
   λ codes.
+      let a = c .before .before .before .before .before .before .args in
       let most = c .before .before .before .before .longest-chain .ensures in
-      opens-refused codes _ (rw (← most) (sym (c .before .before .before .ranged .ensures) ∙ ap told (c .before .number .given .1))),
+      opens-refused (a .file .now) codes _ (rw (← most) (sym (c .before .before .before .ranged .ensures) ∙ ap told (c .before .number .given .1))),
   rw (rw (c .before .before .before .before .longest-chain .ensures) at (sym (c .before .before .before .ranged .ensures) ∙ ap told (c .before .number .given .1))),
 )
 

@@ -37,7 +37,7 @@ unfolding widthAt
 returns c = (
   λ codes.
       let a = c .before .before .before .before .before .args in
-      opens-refused codes (λ n e. heightAt (a .file .now) (a .format) n e) (sym (c .before .before .before .ranged .ensures) ∙ ap told (c .before .number .given .1)),
+      opens-refused (a .file .now) codes (λ n e. heightAt (a .file .now) (a .format) n e) (sym (c .before .before .before .ranged .ensures) ∙ ap told (c .before .number .given .1)),
   rw (sym (c .before .before .before .ranged .ensures) ∙ ap told (c .before .number .given .1)),
 )
 
@@ -46,7 +46,7 @@ unfolding widthAt
 returns-2 c = (
   λ codes.
       let a = c .before .before .before .before .before .before .args in
-      opens-read codes (λ n e. heightAt (a .file .now) (a .format) n e) (c .image-height .result) (field (c .before)) (c .image-height .ensures .0 codes),
+      opens-read (a .file .now) codes (λ n e. heightAt (a .file .now) (a .format) n e) (c .image-height .result) (field (c .before)) (c .image-height .ensures .0 codes),
   rw (field (c .before)) (c .image-height .ensures .1),
 )
 

@@ -17,8 +17,8 @@ unpadded-requires c κs = search needs
 text-at-requires : tie.Need-text-at-requires
 text-at-requires c κs = search needs
 
-size-of-kind-requires : tie.Need-size-of-kind-requires
-size-of-kind-requires c κs = search needs
+bytes-of-requires : tie.Need-bytes-of-requires
+bytes-of-requires c κs = search needs
 
 fixed-at-requires : tie.Need-fixed-at-requires
 fixed-at-requires c κs = search needs
@@ -50,8 +50,8 @@ returns-3 c = (
   λ t l e.
       let a = c .before .before .before .before .before .args in
       let rest = c .before .before .before .match .rest in
-      ap mute (c .unpadded2 .ensures) ∙ beside-mute 0 _ ∙ ap mute (c .before .fixed-at .ensures) ∙ fixed-leaf (a .file .now) (a .at) t _ _ l e (c .before .before .size-of-kind .ensures) (rest .0 .1) (rest .1),
-  rw (ne-eqb _ 12 (c .before .before .before .match .rest .0 .1), ne-eqb _ 13 (c .before .before .before .match .rest .1), ← c .before .before .size-of-kind .ensures) (c .unpadded2 .ensures ∙ ap (beside 0) (c .before .fixed-at .ensures)),
+      ap mute (c .unpadded2 .ensures) ∙ beside-mute 0 _ ∙ ap mute (c .before .fixed-at .ensures) ∙ fixed-leaf (a .file .now) (a .at) t _ _ l e (c .before .before .bytes-of .ensures) (rest .0 .1) (rest .1),
+  rw (ne-eqb _ 12 (c .before .before .before .match .rest .0 .1), ne-eqb _ 13 (c .before .before .before .match .rest .1), ← c .before .before .bytes-of .ensures) (c .unpadded2 .ensures ∙ ap (beside 0) (c .before .fixed-at .ensures)),
 )
 
 pub leaf-at-spec : {M : Type 1} → statement M
@@ -61,7 +61,7 @@ leaf-at-spec =
     char-at-requires
     unpadded-requires
     text-at-requires
-    size-of-kind-requires
+    bytes-of-requires
     fixed-at-requires
     unpadded-requires-2
     returns

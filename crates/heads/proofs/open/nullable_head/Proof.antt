@@ -4,6 +4,7 @@ use mathlib.Core.List.{[]}
 use Rattle.heads.specs.declared.nest.Below.the-variants.{Nothing}
 use Rattle.answers.specs.Told.{told}
 use Rattle.heads.specs.Below.{opens-refused, opens-head, flag-refused, flag-zero, flag-one, flag-other}
+use Rattle.heads.specs.Slots.{raw-is}
 use borrow.Author.Needs.{needs}
 use Rattle.heads.proofs.open.nullable_head.Statement.{statement}
 use Rattle.heads.proofs.open.nullable_head.Tie as tie
@@ -19,7 +20,7 @@ enum-known-flag c = search needs
 
 returns : tie.Need-returns
 returns c = (
-  λ t s n. opens-head _ _ [] (Nothing 0) (flag-zero _ _ t (sym (c .before .before .before .before .little1 .ensures) ∙ ap told (c .before .before .flag .given .1)) (c .if1 .taken)) refl,
+  λ t s. opens-head _ _ _ [] (Nothing 0) (flag-zero _ _ t (sym (c .before .before .before .before .little1 .ensures) ∙ ap told (c .before .before .flag .given .1)) (c .if1 .taken)) refl,
   rw (sym (c .before .before .before .before .little1 .ensures) ∙ ap told (c .before .before .flag .given .1), eq-eqb _ 0 (c .if1 .taken)),
 )
 
@@ -31,19 +32,19 @@ each-of-requires c κs = search needs
 
 returns-2 : tie.Need-returns-2
 returns-2 c = (
-  λ t s n. opens-head _ _ _ _ (flag-one _ _ t (sym (c .before .before .before .before .before .before .before .little1 .ensures) ∙ ap told (c .before .before .before .before .before .flag .given .1)) (c .before .before .if2 .taken)) (c .each-of .ensures .0 _ _ (c .before .raw-of .ensures .0 t s n)),
-  rw (sym (c .before .before .before .before .before .before .before .little1 .ensures) ∙ ap told (c .before .before .before .before .before .flag .given .1), ne-eqb _ 0 (c .before .before .before .if1 .left), eq-eqb _ 1 (c .before .before .if2 .taken), c .each-of .ensures .1, c .before .raw-of .ensures .1),
+  λ t s. opens-head _ _ _ _ _ (flag-one _ _ t (sym (c .before .before .before .before .before .before .before .little1 .ensures) ∙ ap told (c .before .before .before .before .before .flag .given .1)) (c .before .before .if2 .taken)) (c .each-of .ensures .0 _ _ _ (rw (c .before .raw-of .ensures) (raw-is t s))),
+  rw (sym (c .before .before .before .before .before .before .before .little1 .ensures) ∙ ap told (c .before .before .before .before .before .flag .given .1), ne-eqb _ 0 (c .before .before .before .if1 .left), eq-eqb _ 1 (c .before .before .if2 .taken), c .each-of .ensures .1, c .before .raw-of .ensures),
 )
 
 returns-3 : tie.Need-returns-3
 returns-3 c = (
-  λ t s n. opens-refused _ _ (flag-refused _ _ t (sym (c .before .before .before .little1 .ensures) ∙ ap told (c .before .number .given .1))),
+  λ t s. opens-refused _ _ _ (flag-refused _ _ t (sym (c .before .before .before .little1 .ensures) ∙ ap told (c .before .number .given .1))),
   rw (sym (c .before .before .before .little1 .ensures) ∙ ap told (c .before .number .given .1)),
 )
 
 returns-4 : tie.Need-returns-4
 returns-4 c = (
-  λ t s n. opens-refused _ _ (flag-other _ _ t (sym (c .before .before .before .before .before .little1 .ensures) ∙ ap told (c .before .before .before .flag .given .1)) (c .before .if1 .left) (c .if2 .left)),
+  λ t s. opens-refused _ _ _ (flag-other _ _ t (sym (c .before .before .before .before .before .little1 .ensures) ∙ ap told (c .before .before .before .flag .given .1)) (c .before .if1 .left) (c .if2 .left)),
   rw (sym (c .before .before .before .before .before .little1 .ensures) ∙ ap told (c .before .before .before .flag .given .1), ne-eqb _ 0 (c .before .if1 .left), ne-eqb _ 1 (c .if2 .left)),
 )
 

@@ -13,9 +13,6 @@ use Rattle.heads.proofs.open.open.Tie as tie
 kind-at-requires : tie.Need-kind-at-requires
 kind-at-requires c κs = search needs
 
-cast-kind : tie.Need-cast-kind
-cast-kind c = search needs
-
 add-first : tie.Need-add-first
 add-first c = search needs
 
@@ -46,7 +43,7 @@ alone-requires c κs = search needs
 returns : tie.Need-returns
 unfolding openAs kindAs
 returns c = (
-  λ x s a.
+  λ x s.
       absurd (omega (arith, stands-inside s, c .if1 .taken)),
   rw (le-leb _ _ (c .if1 .taken)),
 )
@@ -54,110 +51,110 @@ returns c = (
 returns-2 : tie.Need-returns-2
 unfolding sizes openAs kindAs
 returns-2 c = (
-  λ x s a.
+  λ x s.
       let args = c .before .before .before .before .before .args in
       let kind = sym (kind-is s) ∙ sym (c .before .kind-at .ensures) in
       let k = kind ∙ c .match .keys1 in
-      by-kind (args .file .now) (args .codes .now) (args .t) (args .at) _ x s a (λ _. refl) (λ e. absurd (omega (arith, e, k))) (λ e. absurd (omega (arith, e, k))) (λ e. absurd (omega (arith, e, k))) (λ e. absurd (omega (arith, e, k))) (λ e. absurd (omega (arith, e, k))) (λ e. absurd (omega (arith, e, k))) (λ e. absurd (omega (arith, e, k))) (λ e. absurd (omega (arith, e, k))) (λ l. absurd (never-leaf k l)),
+      by-kind (args .file .now) (args .codes .now) (args .t) (args .at) _ x s (λ _. refl) (λ e. absurd (omega (arith, e, k))) (λ e. absurd (omega (arith, e, k))) (λ e. absurd (omega (arith, e, k))) (λ e. absurd (omega (arith, e, k))) (λ e. absurd (omega (arith, e, k))) (λ e. absurd (omega (arith, e, k))) (λ e. absurd (omega (arith, e, k))) (λ e. absurd (omega (arith, e, k))) (λ l. absurd (never-leaf k l)),
   rw (lt-leb _ _ (c .before .before .if1 .left), ← c .before .kind-at .ensures, c .match .keys1) refl,
 )
 
 returns-3 : tie.Need-returns-3
 unfolding sizes openAs kindAs
 returns-3 c = (
-  λ x s a.
+  λ x s.
       let args = c .before .before .before .before .before .before .args in
       let kind = sym (kind-is s) ∙ sym (c .before .before .kind-at .ensures) in
       let k = kind ∙ c .before .match .keys2 in
-      by-kind (args .file .now) (args .codes .now) (args .t) (args .at) _ x s a (λ e. absurd (omega (arith, e, k))) (λ e. absurd (omega (arith, e, k))) (λ _ u p n. c .nullable-head .ensures .0 u p n) (λ e. absurd (omega (arith, e, k))) (λ e. absurd (omega (arith, e, k))) (λ e. absurd (omega (arith, e, k))) (λ e. absurd (omega (arith, e, k))) (λ e. absurd (omega (arith, e, k))) (λ e. absurd (omega (arith, e, k))) (λ l. absurd (leafless 16 refl (omega arith) k l)),
+      by-kind (args .file .now) (args .codes .now) (args .t) (args .at) _ x s (λ e. absurd (omega (arith, e, k))) (λ e. absurd (omega (arith, e, k))) (λ _ u p. c .nullable-head .ensures .0 u p) (λ e. absurd (omega (arith, e, k))) (λ e. absurd (omega (arith, e, k))) (λ e. absurd (omega (arith, e, k))) (λ e. absurd (omega (arith, e, k))) (λ e. absurd (omega (arith, e, k))) (λ e. absurd (omega (arith, e, k))) (λ l. absurd (leafless 16 refl (omega arith) (omega arith) k l)),
   rw (lt-leb _ _ (c .before .before .before .if1 .left), ← c .before .before .kind-at .ensures, c .before .match .keys2) (c .nullable-head .ensures .1),
 )
 
 returns-4 : tie.Need-returns-4
 unfolding sizes openAs kindAs
 returns-4 c = (
-  λ x s a.
+  λ x s.
       let args = c .before .before .before .before .before .before .args in
       let kind = sym (kind-is s) ∙ sym (c .before .before .kind-at .ensures) in
       let k = kind ∙ c .before .match .keys3 in
-      by-kind (args .file .now) (args .codes .now) (args .t) (args .at) _ x s a (λ e. absurd (omega (arith, e, k))) (λ e. absurd (omega (arith, e, k))) (λ e. absurd (omega (arith, e, k))) (λ _ u p n. c .list-head .ensures .0 u p n) (λ e. absurd (omega (arith, e, k))) (λ e. absurd (omega (arith, e, k))) (λ e. absurd (omega (arith, e, k))) (λ e. absurd (omega (arith, e, k))) (λ e. absurd (omega (arith, e, k))) (λ l. absurd (leafless 17 refl (omega arith) k l)),
+      by-kind (args .file .now) (args .codes .now) (args .t) (args .at) _ x s (λ e. absurd (omega (arith, e, k))) (λ e. absurd (omega (arith, e, k))) (λ e. absurd (omega (arith, e, k))) (λ _ u p. c .list-head .ensures .0 u p) (λ e. absurd (omega (arith, e, k))) (λ e. absurd (omega (arith, e, k))) (λ e. absurd (omega (arith, e, k))) (λ e. absurd (omega (arith, e, k))) (λ e. absurd (omega (arith, e, k))) (λ l. absurd (leafless 17 refl (omega arith) (omega arith) k l)),
   rw (lt-leb _ _ (c .before .before .before .if1 .left), ← c .before .before .kind-at .ensures, c .before .match .keys3) (c .list-head .ensures .1),
 )
 
 returns-5 : tie.Need-returns-5
 unfolding sizes openAs kindAs
 returns-5 c = (
-  λ x s a.
+  λ x s.
       let args = c .before .before .before .before .before .before .args in
       let kind = sym (kind-is s) ∙ sym (c .before .before .kind-at .ensures) in
       let k = kind ∙ c .before .match .keys4 in
-      by-kind (args .file .now) (args .codes .now) (args .t) (args .at) _ x s a (λ e. absurd (omega (arith, e, k))) (λ e. absurd (omega (arith, e, k))) (λ e. absurd (omega (arith, e, k))) (λ e. absurd (omega (arith, e, k))) (λ _ u p n. c .list-head2 .ensures .0 u p n) (λ e. absurd (omega (arith, e, k))) (λ e. absurd (omega (arith, e, k))) (λ e. absurd (omega (arith, e, k))) (λ e. absurd (omega (arith, e, k))) (λ l. absurd (leafless 18 refl (omega arith) k l)),
+      by-kind (args .file .now) (args .codes .now) (args .t) (args .at) _ x s (λ e. absurd (omega (arith, e, k))) (λ e. absurd (omega (arith, e, k))) (λ e. absurd (omega (arith, e, k))) (λ e. absurd (omega (arith, e, k))) (λ _ u p. c .list-head2 .ensures .0 u p) (λ e. absurd (omega (arith, e, k))) (λ e. absurd (omega (arith, e, k))) (λ e. absurd (omega (arith, e, k))) (λ e. absurd (omega (arith, e, k))) (λ l. absurd (leafless 18 refl (omega arith) (omega arith) k l)),
   rw (lt-leb _ _ (c .before .before .before .if1 .left), ← c .before .before .kind-at .ensures, c .before .match .keys4) (c .list-head2 .ensures .1),
 )
 
 returns-6 : tie.Need-returns-6
 unfolding sizes openAs kindAs
 returns-6 c = (
-  λ x s a.
+  λ x s.
       let args = c .before .before .before .before .before .before .before .args in
       let kind = sym (kind-is s) ∙ sym (c .before .before .before .kind-at .ensures) in
       let k = kind ∙ c .before .before .match .keys5 in
-      by-kind (args .file .now) (args .codes .now) (args .t) (args .at) _ x s a (λ e. absurd (omega (arith, e, k))) (λ e. absurd (omega (arith, e, k))) (λ e. absurd (omega (arith, e, k))) (λ e. absurd (omega (arith, e, k))) (λ e. absurd (omega (arith, e, k))) (λ _ u w p n q m. c .dictionary-head .ensures .0 u w p n (subst (λ b. Stands (args .codes .now) b w) (sym (c .before .after .ensures)) q) m) (λ e. absurd (omega (arith, e, k))) (λ e. absurd (omega (arith, e, k))) (λ e. absurd (omega (arith, e, k))) (λ l. absurd (leafless 19 refl (omega arith) k l)),
+      by-kind (args .file .now) (args .codes .now) (args .t) (args .at) _ x s (λ e. absurd (omega (arith, e, k))) (λ e. absurd (omega (arith, e, k))) (λ e. absurd (omega (arith, e, k))) (λ e. absurd (omega (arith, e, k))) (λ e. absurd (omega (arith, e, k))) (λ _ u w p q. c .dictionary-head .ensures .0 u w p (subst (λ b. Stands (args .file .now) (args .codes .now) b w) (sym (c .before .after .ensures)) q)) (λ e. absurd (omega (arith, e, k))) (λ e. absurd (omega (arith, e, k))) (λ e. absurd (omega (arith, e, k))) (λ l. absurd (leafless 19 refl (omega arith) (omega arith) k l)),
   rw (lt-leb _ _ (c .before .before .before .before .if1 .left), ← c .before .before .before .kind-at .ensures, c .before .before .match .keys5, ← c .before .after .ensures) (c .dictionary-head .ensures .1),
 )
 
 returns-7 : tie.Need-returns-7
 unfolding sizes openAs kindAs
 returns-7 c = (
-  λ x s a.
+  λ x s.
       let args = c .before .before .before .before .before .args in
       let kind = sym (kind-is s) ∙ sym (c .before .kind-at .ensures) in
       let k = kind ∙ c .match .keys6 in
-      by-kind (args .file .now) (args .codes .now) (args .t) (args .at) _ x s a (λ e. absurd (omega (arith, e, k))) (λ _. refl) (λ e. absurd (omega (arith, e, k))) (λ e. absurd (omega (arith, e, k))) (λ e. absurd (omega (arith, e, k))) (λ e. absurd (omega (arith, e, k))) (λ e. absurd (omega (arith, e, k))) (λ e. absurd (omega (arith, e, k))) (λ e. absurd (omega (arith, e, k))) (λ l. absurd (leafless 31 refl (omega arith) k l)),
+      by-kind (args .file .now) (args .codes .now) (args .t) (args .at) _ x s (λ e. absurd (omega (arith, e, k))) (λ _. refl) (λ e. absurd (omega (arith, e, k))) (λ e. absurd (omega (arith, e, k))) (λ e. absurd (omega (arith, e, k))) (λ e. absurd (omega (arith, e, k))) (λ e. absurd (omega (arith, e, k))) (λ e. absurd (omega (arith, e, k))) (λ e. absurd (omega (arith, e, k))) (λ l. absurd (leafless 31 refl (omega arith) (omega arith) k l)),
   rw (lt-leb _ _ (c .before .before .if1 .left), ← c .before .kind-at .ensures, c .match .keys6) refl,
 )
 
 returns-8 : tie.Need-returns-8
 unfolding sizes openAs kindAs
 returns-8 c = (
-  λ x s a.
+  λ x s.
       let args = c .before .before .before .before .before .before .args in
       let kind = sym (kind-is s) ∙ sym (c .before .before .kind-at .ensures) in
       let k = kind ∙ c .before .match .keys7 in
-      by-kind (args .file .now) (args .codes .now) (args .t) (args .at) _ x s a (λ e. absurd (omega (arith, e, k))) (λ e. absurd (omega (arith, e, k))) (λ e. absurd (omega (arith, e, k))) (λ e. absurd (omega (arith, e, k))) (λ e. absurd (omega (arith, e, k))) (λ e. absurd (omega (arith, e, k))) (λ _. c .image-head .ensures .0 _) (λ e. absurd (omega (arith, e, k))) (λ e. absurd (omega (arith, e, k))) (λ l. absurd (leafless 32 refl (omega arith) k l)),
+      by-kind (args .file .now) (args .codes .now) (args .t) (args .at) _ x s (λ e. absurd (omega (arith, e, k))) (λ e. absurd (omega (arith, e, k))) (λ e. absurd (omega (arith, e, k))) (λ e. absurd (omega (arith, e, k))) (λ e. absurd (omega (arith, e, k))) (λ e. absurd (omega (arith, e, k))) (λ _. c .image-head .ensures .0 _) (λ e. absurd (omega (arith, e, k))) (λ e. absurd (omega (arith, e, k))) (λ l. absurd (leafless 32 refl (omega arith) (omega arith) k l)),
   rw (lt-leb _ _ (c .before .before .before .if1 .left), ← c .before .before .kind-at .ensures, c .before .match .keys7) (c .image-head .ensures .1),
 )
 
 returns-9 : tie.Need-returns-9
 unfolding sizes openAs kindAs
 returns-9 c = (
-  λ x s a.
+  λ x s.
       let args = c .before .before .before .before .before .args in
       let kind = sym (kind-is s) ∙ sym (c .before .kind-at .ensures) in
       let k = kind ∙ c .match .keys8 in
-      by-kind (args .file .now) (args .codes .now) (args .t) (args .at) _ x s a (λ e. absurd (omega (arith, e, k))) (λ e. absurd (omega (arith, e, k))) (λ e. absurd (omega (arith, e, k))) (λ e. absurd (omega (arith, e, k))) (λ e. absurd (omega (arith, e, k))) (λ e. absurd (omega (arith, e, k))) (λ e. absurd (omega (arith, e, k))) (λ _. opens-head _ _ _ _ (font-head _ _) refl) (λ e. absurd (omega (arith, e, k))) (λ l. absurd (leafless 33 refl (omega arith) k l)),
+      by-kind (args .file .now) (args .codes .now) (args .t) (args .at) _ x s (λ e. absurd (omega (arith, e, k))) (λ e. absurd (omega (arith, e, k))) (λ e. absurd (omega (arith, e, k))) (λ e. absurd (omega (arith, e, k))) (λ e. absurd (omega (arith, e, k))) (λ e. absurd (omega (arith, e, k))) (λ e. absurd (omega (arith, e, k))) (λ _. opens-head _ _ _ _ _ (font-head _ _) refl) (λ e. absurd (omega (arith, e, k))) (λ l. absurd (leafless 33 refl (omega arith) (omega arith) k l)),
   rw (lt-leb _ _ (c .before .before .if1 .left), ← c .before .kind-at .ensures, c .match .keys8) refl,
 )
 
 returns-10 : tie.Need-returns-10
 unfolding sizes openAs kindAs
 returns-10 c = (
-  λ x s a.
+  λ x s.
       let args = c .before .before .before .before .before .args in
       let kind = sym (kind-is s) ∙ sym (c .before .kind-at .ensures) in
       let k = kind ∙ c .match .keys9 in
-      by-kind (args .file .now) (args .codes .now) (args .t) (args .at) _ x s a (λ e. absurd (omega (arith, e, k))) (λ e. absurd (omega (arith, e, k))) (λ e. absurd (omega (arith, e, k))) (λ e. absurd (omega (arith, e, k))) (λ e. absurd (omega (arith, e, k))) (λ e. absurd (omega (arith, e, k))) (λ e. absurd (omega (arith, e, k))) (λ e. absurd (omega (arith, e, k))) (λ _. opens-head _ _ _ _ (page-head _ _) refl) (λ l. absurd (leafless 34 refl (omega arith) k l)),
+      by-kind (args .file .now) (args .codes .now) (args .t) (args .at) _ x s (λ e. absurd (omega (arith, e, k))) (λ e. absurd (omega (arith, e, k))) (λ e. absurd (omega (arith, e, k))) (λ e. absurd (omega (arith, e, k))) (λ e. absurd (omega (arith, e, k))) (λ e. absurd (omega (arith, e, k))) (λ e. absurd (omega (arith, e, k))) (λ e. absurd (omega (arith, e, k))) (λ _. opens-head _ _ _ _ _ (page-head _ _) refl) (λ l. absurd (leafless 34 refl (omega arith) (omega arith) k l)),
   rw (lt-leb _ _ (c .before .before .if1 .left), ← c .before .kind-at .ensures, c .match .keys9) refl,
 )
 
 returns-11 : tie.Need-returns-11
 unfolding openAs kindAs
 returns-11 c = (
-  λ x s a.
+  λ x s.
       let args = c .before .before .before .before .before .before .before .args in
       let kind = sym (kind-is s) ∙ sym (c .before .before .before .kind-at .ensures) in
       let rest = c .before .before .match .rest in
-      by-kind (args .file .now) (args .codes .now) (args .t) (args .at) _ x s a (λ e. absurd (rest .0 .0 .0 .0 .0 .0 .0 .0 .1 (sym kind ∙ e))) (λ e. absurd (rest .0 .0 .0 .1 (sym kind ∙ e))) (λ e. absurd (rest .0 .0 .0 .0 .0 .0 .0 .1 (sym kind ∙ e))) (λ e. absurd (rest .0 .0 .0 .0 .0 .0 .1 (sym kind ∙ e))) (λ e. absurd (rest .0 .0 .0 .0 .0 .1 (sym kind ∙ e))) (λ e. absurd (rest .0 .0 .0 .0 .1 (sym kind ∙ e))) (λ e. absurd (rest .0 .0 .1 (sym kind ∙ e))) (λ e. absurd (rest .0 .1 (sym kind ∙ e))) (λ e. absurd (rest .1 (sym kind ∙ e))) (λ l. c .alone .ensures .0 _ _ (c .before .leaf-at .ensures .0 x l kind) (leaf-stops _ _ l)),
+      by-kind (args .file .now) (args .codes .now) (args .t) (args .at) _ x s (λ e. absurd (rest .0 .0 .0 .0 .0 .0 .0 .0 .1 (sym kind ∙ e))) (λ e. absurd (rest .0 .0 .0 .1 (sym kind ∙ e))) (λ e. absurd (rest .0 .0 .0 .0 .0 .0 .0 .1 (sym kind ∙ e))) (λ e. absurd (rest .0 .0 .0 .0 .0 .0 .1 (sym kind ∙ e))) (λ e. absurd (rest .0 .0 .0 .0 .0 .1 (sym kind ∙ e))) (λ e. absurd (rest .0 .0 .0 .0 .1 (sym kind ∙ e))) (λ e. absurd (rest .0 .0 .1 (sym kind ∙ e))) (λ e. absurd (rest .0 .1 (sym kind ∙ e))) (λ e. absurd (rest .1 (sym kind ∙ e))) (λ l. c .alone .ensures .0 _ _ _ (c .before .leaf-at .ensures .0 x l kind) (leaf-stops _ _ l)),
   rw (lt-leb _ _ (c .before .before .before .before .if1 .left), ← c .before .before .before .kind-at .ensures, ne-eqb _ 14 (c .before .before .match .rest .0 .0 .0 .0 .0 .0 .0 .0 .1), ne-eqb _ 16 (c .before .before .match .rest .0 .0 .0 .0 .0 .0 .0 .1), ne-eqb _ 17 (c .before .before .match .rest .0 .0 .0 .0 .0 .0 .1), ne-eqb _ 18 (c .before .before .match .rest .0 .0 .0 .0 .0 .1), ne-eqb _ 19 (c .before .before .match .rest .0 .0 .0 .0 .1), ne-eqb _ 31 (c .before .before .match .rest .0 .0 .0 .1), ne-eqb _ 32 (c .before .before .match .rest .0 .0 .1), ne-eqb _ 33 (c .before .before .match .rest .0 .1), ne-eqb _ 34 (c .before .before .match .rest .1), c .alone .ensures .1, c .before .leaf-at .ensures .1),
 )
 
@@ -167,7 +164,6 @@ open-spec =
     (tie.spec
     returns
     kind-at-requires
-    cast-kind
     add-first
     nullable-head-requires
     list-head-requires

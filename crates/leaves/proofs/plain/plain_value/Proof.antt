@@ -12,26 +12,35 @@ fixed-at-requires c κs = search needs
 leaf-requires : tie.Need-leaf-requires
 leaf-requires c κs = search needs
 
+enum-known-slot-2 : tie.Need-enum-known-slot-2
+enum-known-slot-2 c = search needs
+
+fixed-at-requires-2 : tie.Need-fixed-at-requires-2
+fixed-at-requires-2 c κs = search needs
+
+leaf-requires-2 : tie.Need-leaf-requires-2
+leaf-requires-2 c κs = search needs
+
 enum-told : tie.Need-enum-told
 enum-told c = search needs
 
 char-at-requires : tie.Need-char-at-requires
 char-at-requires c κs = search needs
 
-leaf-requires-2 : tie.Need-leaf-requires-2
-leaf-requires-2 c κs = search needs
-
-enum-known-slot-2 : tie.Need-enum-known-slot-2
-enum-known-slot-2 c = search needs
-
-level-at-requires : tie.Need-level-at-requires
-level-at-requires c κs = search needs
-
 leaf-requires-3 : tie.Need-leaf-requires-3
 leaf-requires-3 c κs = search needs
 
 enum-known-slot-3 : tie.Need-enum-known-slot-3
 enum-known-slot-3 c = search needs
+
+level-at-requires : tie.Need-level-at-requires
+level-at-requires c κs = search needs
+
+leaf-requires-4 : tie.Need-leaf-requires-4
+leaf-requires-4 c κs = search needs
+
+enum-known-slot-4 : tie.Need-enum-known-slot-4
+enum-known-slot-4 c = search needs
 
 reference-requires : tie.Need-reference-requires
 reference-requires c κs = search needs
@@ -41,31 +50,34 @@ same-length c = search needs
 
 returns : tie.Need-returns
 unfolding plainAt plainPad
-returns c =
-    rw (c .before .before .before .before .before .before .slot .given .1, ← c .before .before .before .fixed-at .ensures) (c .before .before .leaf .ensures)
+returns c = rw (c .before .before .before .before .before .before .slot .given .1, ← c .before .before .before .fixed-at .ensures) (c .before .before .leaf .ensures)
 
 same-length-2 : tie.Need-same-length-2
 same-length-2 c = search needs
 
 returns-2 : tie.Need-returns-2
 unfolding plainAt plainPad
-returns-2 c =
-    rw (c .before .before .before .before .before .enum-told .given .1, ← c .before .before .before .char-at .ensures) (c .before .before .leaf2 .ensures)
+returns-2 c = rw (c .before .before .before .before .before .before .slot2 .given .1, ← c .before .before .before .fixed-at2 .ensures) (c .before .before .leaf2 .ensures)
 
 same-length-3 : tie.Need-same-length-3
 same-length-3 c = search needs
 
 returns-3 : tie.Need-returns-3
 unfolding plainAt plainPad
-returns-3 c =
-    rw (c .before .before .before .before .before .before .slot2 .given .1, ← c .before .before .before .level-at .ensures) (c .before .before .leaf3 .ensures)
+returns-3 c = rw (c .before .before .before .before .before .enum-told .given .1, ← c .before .before .before .char-at .ensures) (c .before .before .leaf3 .ensures)
 
 same-length-4 : tie.Need-same-length-4
 same-length-4 c = search needs
 
 returns-4 : tie.Need-returns-4
-returns-4 c =
-    rw (c .before .before .before .before .before .slot3 .given .1) (c .before .before .reference .ensures)
+unfolding plainAt plainPad
+returns-4 c = rw (c .before .before .before .before .before .before .slot3 .given .1, ← c .before .before .before .level-at .ensures) (c .before .before .leaf4 .ensures)
+
+same-length-5 : tie.Need-same-length-5
+same-length-5 c = search needs
+
+returns-5 : tie.Need-returns-5
+returns-5 c = rw (c .before .before .before .before .before .slot4 .given .1) (c .before .before .reference .ensures)
 
 pub plain-value-spec : {M : Type 1} → statement M
 plain-value-spec =
@@ -74,13 +86,16 @@ plain-value-spec =
     enum-known-slot
     fixed-at-requires
     leaf-requires
+    enum-known-slot-2
+    fixed-at-requires-2
+    leaf-requires-2
     enum-told
     char-at-requires
-    leaf-requires-2
-    enum-known-slot-2
-    level-at-requires
     leaf-requires-3
     enum-known-slot-3
+    level-at-requires
+    leaf-requires-4
+    enum-known-slot-4
     reference-requires
     same-length
     returns
@@ -89,4 +104,6 @@ plain-value-spec =
     same-length-3
     returns-3
     same-length-4
-    returns-4)
+    returns-4
+    same-length-5
+    returns-5)

@@ -9,7 +9,7 @@ use Rattle.layout.specs.Target.{Target}
 use Rattle.layout.specs.Slot as L
 use Rattle.reading.specs.Reads.{small-by-index}
 use Rattle.reading.specs.Walk.{walk}
-use Rattle.types.specs.Laws.{kind-is}
+use Rattle.heads.specs.Slots.{row-kind}
 use Rattle.places.specs.Word.{inWord}
 use Rattle.table.specs.Loop.{same, Got, got, lost}
 use Rattle.readers.specs.Listed.{Listed}
@@ -34,7 +34,7 @@ use Rattle.load.proofs.walk.value.Reads as value-reads
 use Rattle.objects.proofs.close.close.Reads as close-reads
 use Rattle.objects.proofs.start.reader_position.Reads as reader-position-reads
 use Rattle.table.proofs.sum.Reads as sum-reads
-use Rattle.types.proofs.kind_at.Reads as kind-at-reads
+use Rattle.heads.proofs.slot.row_kind.Reads as row-kind-reads
 use Rattle.load.proofs.walk.+nested+raw.{statement}
 use Rattle.load.proofs.walk.+nested+raw.Tie.{close}
 
@@ -60,7 +60,7 @@ raw-below t = and 3 raw-kinds.ps (falls 3 raw-kinds.ps _<_ μ-raw t) raw.Pre
 
 abbrev nested-Inv-loop : nested-lts.InvT-loop
 nested-Inv-loop file codes words₀ grid shared nest at used depth rd stage₀ next₀ row₀ sum₀ words stage next row sum =
-    (readers : List Target) (plan₀ : L.Plan) → Listed codes rd readers → NestIs codes nest plan₀ → Standing grid file codes readers shared depth plan₀ words₀ at used nest words stage next row sum
+    (readers : List Target) (plan₀ : L.Plan) → Listed file codes rd readers → NestIs file codes nest plan₀ → Standing grid file codes readers shared depth plan₀ words₀ at used nest words stage next row sum
 
 abbrev nested-μ-loop : nested-lts.MeasureT-loop
 nested-μ-loop file codes words₀ grid shared nest at used depth rd stage₀ next₀ row₀ sum₀ words stage next row sum =
@@ -515,7 +515,7 @@ nested-walked : (t : ℕ) (c : nested-lts.After-after (
   raw.Post,
   after-reads.Asked,
   after-reads.Learnt,
-) (nested-at t) nested.Post nested-Inv-loop nested-μ-loop) (readers : List Target) (plan : L.Plan) → Listed ((c .before .before .before .before .before .before .before .before .before .before .before .before .before .before .before .before .before .args) .codes .now) ((c .before .before .before .before .before .before .before .before .before .before .before .before .before .before .before .before .before .args) .t3) readers → NestIs ((c .before .before .before .before .before .before .before .before .before .before .before .before .before .before .before .before .before .args) .codes .now) ((c .before .before .before .before .before .before .before .before .before .before .before .before .before .before .before .before .before .args) .nest) plan
+) (nested-at t) nested.Post nested-Inv-loop nested-μ-loop) (readers : List Target) (plan : L.Plan) → Listed ((c .before .before .before .before .before .before .before .before .before .before .before .before .before .before .before .before .before .args) .file .now) ((c .before .before .before .before .before .before .before .before .before .before .before .before .before .before .before .before .before .args) .codes .now) ((c .before .before .before .before .before .before .before .before .before .before .before .before .before .before .before .before .before .args) .t3) readers → NestIs ((c .before .before .before .before .before .before .before .before .before .before .before .before .before .before .before .before .before .args) .file .now) ((c .before .before .before .before .before .before .before .before .before .before .before .before .before .before .before .before .before .args) .codes .now) ((c .before .before .before .before .before .before .before .before .before .before .before .before .before .before .before .before .before .args) .nest) plan
     → Standing ((c .before .before .before .before .before .before .before .before .before .before .before .before .before .before .before .before .before .args) .grid) ((c .before .before .before .before .before .before .before .before .before .before .before .before .before .before .before .before .before .args) .file .now) ((c .before .before .before .before .before .before .before .before .before .before .before .before .before .before .before .before .before .args) .codes .now) readers ((c .before .before .before .before .before .before .before .before .before .before .before .before .before .before .before .before .before .args) .shared) ((c .before .before .before .before .before .before .before .before .before .before .before .before .before .before .before .before .before .args) .depth) plan ((c .before .before .before .before .before .before .before .before .before .before .before .before .before .before .before .before .before .args) .words .now) ((c .before .before .before .before .before .before .before .before .before .before .before .before .before .before .before .before .before .args) .at) ((c .before .before .before .before .before .before .before .before .before .before .before .before .before .before .before .before .before .args) .used) ((c .before .before .before .before .before .before .before .before .before .before .before .before .before .before .before .before .before .args) .nest) ((c .before .match) .words) (afterOf ((c .before .before .before .before .before .before .before .before .before .before .before .before .loop) .stage)) ((c .before .match) .next) ((c .before .match) .row) ((c .before .match) .sum) × ((c .before .before .before .before .before .before .before .before .before .before .before .before .loop) .row < (c .before .match) .row) × ((c .before .match) .row ≤ (c .before .before .before .before .before .before .before .before .before .before .before .before .before .before .before .before .before .args) .grid .room)
 nested-walked t c readers plan l n =
     let a = (c .before .before .before .before .before .before .before .before .before .before .before .before .before .before .before .before .before .args) in
@@ -614,8 +614,8 @@ nested-returns-3 t c =
 raw-add-first : (t : ℕ) → raw-lts.Need-add-first (
   nested-below t,
   nested.Post,
-  kind-at-reads.Asked,
-  kind-at-reads.Learnt,
+  row-kind-reads.Asked,
+  row-kind-reads.Learnt,
   close-reads.Asked,
   close-reads.Learnt,
 ) (raw-at t) raw.Post
@@ -625,21 +625,21 @@ raw-add-first t c =
 raw-nested-requires : (t : ℕ) → raw-lts.Need-nested-requires (
   nested-below t,
   nested.Post,
-  kind-at-reads.Asked,
-  kind-at-reads.Learnt,
+  row-kind-reads.Asked,
+  row-kind-reads.Learnt,
   close-reads.Asked,
   close-reads.Learnt,
 ) (raw-at t) raw.Post
 raw-nested-requires t c κs =
     let k = (c .before .before .before .before .before .pre) .1 .2 in
     let small = small-by-index ((c .before .before .before .before .before .args) .file .now) (λ i h. omega (arith, (c .before .before .before .before .shared-slice-known) .given i)) in
-    (omega (arith, (c .before .before .before .before .before .pre) .0), (begin-below (k .type) small ((c .before .before .before .before .before .pre) .1 .0) (k .opened .is), (c .before .before .before .before .before .pre) .1 .1, record { plan = _; is = begins _ _ _ (k .opened .stands) }))
+    (omega (arith, (c .before .before .before .before .before .pre) .0), (begin-below (k .type) small ((c .before .before .before .before .before .pre) .1 .0) (k .opened .is), (c .before .before .before .before .before .pre) .1 .1, record { plan = _; is = begins _ _ _ _ (k .opened .stands) }))
 
 raw-enum-known-number : (t : ℕ) → raw-lts.Need-enum-known-number (
   nested-below t,
   nested.Post,
-  kind-at-reads.Asked,
-  kind-at-reads.Learnt,
+  row-kind-reads.Asked,
+  row-kind-reads.Learnt,
   close-reads.Asked,
   close-reads.Learnt,
 ) (raw-at t) raw.Post
@@ -648,38 +648,28 @@ raw-enum-known-number t c = search needs
 raw-enum-known-count : (t : ℕ) → raw-lts.Need-enum-known-count (
   nested-below t,
   nested.Post,
-  kind-at-reads.Asked,
-  kind-at-reads.Learnt,
+  row-kind-reads.Asked,
+  row-kind-reads.Learnt,
   close-reads.Asked,
   close-reads.Learnt,
 ) (raw-at t) raw.Post
 raw-enum-known-count t c = search needs
 
-raw-kind-at-requires : (t : ℕ) → raw-lts.Need-kind-at-requires (
+raw-row-kind-requires : (t : ℕ) → raw-lts.Need-row-kind-requires (
   nested-below t,
   nested.Post,
-  kind-at-reads.Asked,
-  kind-at-reads.Learnt,
+  row-kind-reads.Asked,
+  row-kind-reads.Learnt,
   close-reads.Asked,
   close-reads.Learnt,
 ) (raw-at t) raw.Post
-raw-kind-at-requires t c κs = search needs
-
-raw-cast-kind : (t : ℕ) → raw-lts.Need-cast-kind (
-  nested-below t,
-  nested.Post,
-  kind-at-reads.Asked,
-  kind-at-reads.Learnt,
-  close-reads.Asked,
-  close-reads.Learnt,
-) (raw-at t) raw.Post
-raw-cast-kind t c = search needs
+raw-row-kind-requires t c κs = search needs
 
 raw-close-requires : (t : ℕ) → raw-lts.Need-close-requires (
   nested-below t,
   nested.Post,
-  kind-at-reads.Asked,
-  kind-at-reads.Learnt,
+  row-kind-reads.Asked,
+  row-kind-reads.Learnt,
   close-reads.Asked,
   close-reads.Learnt,
 ) (raw-at t) raw.Post
@@ -688,8 +678,8 @@ raw-close-requires t c κs = search needs
 raw-same-length : (t : ℕ) → raw-lts.Need-same-length (
   nested-below t,
   nested.Post,
-  kind-at-reads.Asked,
-  kind-at-reads.Learnt,
+  row-kind-reads.Asked,
+  row-kind-reads.Learnt,
   close-reads.Asked,
   close-reads.Learnt,
 ) (raw-at t) raw.Post
@@ -698,21 +688,21 @@ raw-same-length t c = search needs
 raw-returns : (t : ℕ) → raw-lts.Need-returns (
   nested-below t,
   nested.Post,
-  kind-at-reads.Asked,
-  kind-at-reads.Learnt,
+  row-kind-reads.Asked,
+  row-kind-reads.Learnt,
   close-reads.Asked,
   close-reads.Learnt,
 ) (raw-at t) raw.Post
 raw-returns t c =
     λ readers t l i o.
     let a = (c .before .before .before .before .before .before .before .before .before .before .before .args) in
-    raw-lost (a .grid) (a .file .now) (a .h) (a .at) t readers (a .shared) (a .depth) o (counts-refused _ (rw ((c .before .number) .given .1) at ((c .before .before .before .before .before .nested) .ensures readers _ l (begins _ _ _ (o .stands)))))
+    raw-lost (a .grid) (a .file .now) (a .h) (a .at) t readers (a .shared) (a .depth) o (counts-refused _ (rw ((c .before .number) .given .1) at ((c .before .before .before .before .before .nested) .ensures readers _ l (begins _ _ _ _ (o .stands)))))
 
 raw-same-length-2 : (t : ℕ) → raw-lts.Need-same-length-2 (
   nested-below t,
   nested.Post,
-  kind-at-reads.Asked,
-  kind-at-reads.Learnt,
+  row-kind-reads.Asked,
+  row-kind-reads.Learnt,
   close-reads.Asked,
   close-reads.Learnt,
 ) (raw-at t) raw.Post
@@ -721,8 +711,8 @@ raw-same-length-2 t c = search needs
 raw-returns-2 : (t : ℕ) → raw-lts.Need-returns-2 (
   nested-below t,
   nested.Post,
-  kind-at-reads.Asked,
-  kind-at-reads.Learnt,
+  row-kind-reads.Asked,
+  row-kind-reads.Learnt,
   close-reads.Asked,
   close-reads.Learnt,
 ) (raw-at t) raw.Post
@@ -731,8 +721,8 @@ raw-returns-2 t c =
     let a = (c .before .before .before .before .before .before .before .before .before .before .before .before .before .before .before .before .args) in
     let small = small-by-index (a .file .now) (λ j h. omega (arith, (c .before .before .before .before .before .before .before .before .before .before .before .before .before .before .before .shared-slice-known) .given j)) in
     let e = (c .before .before .close) .ensures in
-    let x = counts-walked _ (rw ((c .before .before .before .before .before .before .count) .given .1) at ((c .before .before .before .before .before .before .before .before .before .before .nested) .ensures readers _ l (begins _ _ _ (o .stands)))) in
-    rw (e .0, e .1) (raw-ends (a .grid) (a .file .now) (a .h) (a .at) t readers (a .shared) (a .depth) _ _ _ small ((c .before .before .before .before .before .before .before .before .before .before .before .before .before .before .before .before .pre) .1 .0) (i .stands .lawful) o refl (x .1) ((c .before .before .before .before .kind-at) .ensures ∙ kind-is (i .stands)) (x .0))
+    let x = counts-walked _ (rw ((c .before .before .before .before .before .before .count) .given .1) at ((c .before .before .before .before .before .before .before .before .before .before .nested) .ensures readers _ l (begins _ _ _ _ (o .stands)))) in
+    rw (e .0, e .1) (raw-ends (a .grid) (a .file .now) (a .h) (a .at) t readers (a .shared) (a .depth) _ _ _ small ((c .before .before .before .before .before .before .before .before .before .before .before .before .before .before .before .before .pre) .1 .0) (i .lawful) o refl (x .1) ((c .before .before .before .before .row-kind) .ensures ∙ row-kind i) (x .0))
 
 pub +nested+raw-spec : {M : Type 1} → statement M
 +nested+raw-spec = close μ-nested μ-raw (λ t. nested-lts.spec (
@@ -784,8 +774,8 @@ pub +nested+raw-spec : {M : Type 1} → statement M
     λ t. raw-lts.spec (
       nested-below t,
       nested.Post,
-      kind-at-reads.Asked,
-      kind-at-reads.Learnt,
+      row-kind-reads.Asked,
+      row-kind-reads.Learnt,
       close-reads.Asked,
       close-reads.Learnt,
     )
@@ -795,8 +785,7 @@ pub +nested+raw-spec : {M : Type 1} → statement M
     (raw-nested-requires t)
     (raw-enum-known-number t)
     (raw-enum-known-count t)
-    (raw-kind-at-requires t)
-    (raw-cast-kind t)
+    (raw-row-kind-requires t)
     (raw-close-requires t)
     (raw-same-length t)
     (raw-returns t)

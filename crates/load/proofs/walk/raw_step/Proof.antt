@@ -2,7 +2,7 @@ use mathlib.Core.Path.{sym, ap, _∙_}
 use native.Mathlib.Omega.{arith}
 use Rattle.reading.specs.Reads.{small-by-index}
 use Rattle.reading.specs.Heads.{headAt}
-use Rattle.types.specs.Laws.{kind-is}
+use Rattle.heads.specs.Slots.{row-kind}
 use Rattle.heads.specs.Pads.{open-pads}
 use Rattle.places.specs.Places.{countPlaces}
 use Rattle.places.specs.Padding.{padding}
@@ -21,23 +21,20 @@ enum-known-number c = search needs
 enum-known-next : tie.Need-enum-known-next
 enum-known-next c = search needs
 
-kind-at-requires : tie.Need-kind-at-requires
-kind-at-requires c κs = search needs
-
-cast-kind : tie.Need-cast-kind
-cast-kind c = search needs
+row-kind-requires : tie.Need-row-kind-requires
+row-kind-requires c κs = search needs
 
 close-flat-requires : tie.Need-close-flat-requires
 close-flat-requires c κs =
     let a = c .before .before .before .before .before .before .before .before .before .args in
-    (c .before .before .before .before .before .before .before .before .before .pre, no-rule (a .file .now) (a .codes .now) (a .place) (a .at) _ _ (c .before .kind-at .ensures) (sym (c .before .before .before .before .before .«open» .ensures .1) ∙ c .before .before .before .next .given .1))
+    (c .before .before .before .before .before .before .before .before .before .pre, no-rule (a .file .now) (a .codes .now) (a .place) (a .at) _ _ (c .before .row-kind .ensures) (sym (c .before .before .before .before .before .«open» .ensures .1) ∙ c .before .before .before .next .given .1))
 
 returns : tie.Need-returns
 returns c = λ readers t i.
     let a = c .before .before .before .before .before .before .before .args in
     let r = c .before .before .before .before .before .before .before .pre in
     let small = small-by-index (a .file .now) (λ j h. omega (arith, c .before .before .before .before .before .before .shared-slice-known .given j)) in
-    refusing-head (a .grid) (a .file .now) readers (a .shared) (a .depth) t (a .h) (a .at) (refused-as (a .codes .now) (headAt (a .file .now) t (a .at)) (c .before .before .before .«open» .ensures .0 t (i .stands) (i .plain)) (c .before .number .given .1))
+    refusing-head (a .grid) (a .file .now) readers (a .shared) (a .depth) t (a .h) (a .at) (refused-as (a .file .now) (a .codes .now) (headAt (a .file .now) t (a .at)) (c .before .before .before .«open» .ensures .0 t i) (c .before .number .given .1))
 
 same-length : tie.Need-same-length
 same-length c = search needs
@@ -46,9 +43,9 @@ returns-2 : tie.Need-returns-2
 returns-2 c = λ readers t i.
     let a = c .before .before .before .before .before .before .before .before .before .before .before .before .args in
     let w = c .before .before .before .before .before .before .next .given .1 in
-    let k = kind-is (i .stands) in
+    let k = row-kind i in
     let p = open-pads (a .file .now) (a .codes .now) (a .place) (a .at) (sym (c .before .before .before .before .before .before .before .before .«open» .ensures .1) ∙ w) ∙ ap (λ n. padding (a .file .now) (countPlaces (a .file .now) n (a .at))) k in
-    c .before .before .close-flat .ensures (a .codes .now) readers t i (c .before .before .before .before .kind-at .ensures ∙ k) (opened-as (a .file .now) (a .codes .now) t (a .at) (c .before .before .before .before .before .before .before .before .«open» .ensures .0 t (i .stands) (i .plain)) w p)
+    c .before .before .close-flat .ensures (a .codes .now) readers t i (c .before .before .before .before .row-kind .ensures ∙ k) (opened-as (a .file .now) (a .codes .now) t (a .at) (c .before .before .before .before .before .before .before .before .«open» .ensures .0 t i) w p)
 
 pub raw-step-spec : {M : Type 1} → statement M
 raw-step-spec =
@@ -57,8 +54,7 @@ raw-step-spec =
     open-requires
     enum-known-number
     enum-known-next
-    kind-at-requires
-    cast-kind
+    row-kind-requires
     close-flat-requires
     returns
     same-length

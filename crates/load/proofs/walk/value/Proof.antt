@@ -1,3 +1,4 @@
+use mathlib.Core.Path.{sym}
 use Prim.Native.Nat.{ℕ, _-_}
 use native.Mathlib.Omega.{arith}
 use Rattle.reading.specs.Drafts.{nothing}
@@ -8,6 +9,7 @@ use Rattle.table.specs.Loop.{refusing}
 use Rattle.table.specs.Leaf.{leaf-walked}
 use Rattle.leaves.specs.Plain.{headOf, plain-walked}
 use Rattle.load.specs.Steps.{null-pads, value-told, raw-steps}
+use Rattle.leaves.specs.Like.{like-walk}
 use borrow.Author.Needs.{needs}
 use Rattle.load.proofs.walk.value.Statement.{statement}
 use Rattle.load.proofs.walk.value.Tie as tie
@@ -63,7 +65,9 @@ returns-2 c = λ rd readers x h l s.
     let small = small-by-index (a .file .now) (λ i h. omega (arith, c .before .before .before .before .before .before .before .before .before .before .before .shared-slice-known .given i)) in
     let b = rw (c .before .before .before .before .before .before .plain .given .1) at (c .before .before .before .before .before .before .before .before .start .ensures .0 rd readers x h l s (c .before .before .before .before .before .before .before .before .before .before .before .before .pre .0 .place)) in
     let e = c .before .before .before .read-plain .ensures in
-    rw (b .0, c .walked-step .ensures, e .0, e .1) (value-told (a .grid) (a .file .now) (a .codes .now) readers (a .shared) (a .depth) _ (a .at) (a .used) (a .parent) _ (plain-walked (a .file .now) (a .grid) (a .shared) _ (a .at) (a .used) (a .words .now) small (c .before .before .before .before .before .before .before .before .before .before .before .before .pre .0) (b .1) readers (a .depth) (a .parent)))
+    let w = plain-walked (a .file .now) (a .grid) (a .shared) (c .before .before .before .before .before .before .plain .given .0 .0) (a .at) (a .used) (a .words .now) small (c .before .before .before .before .before .before .before .before .before .before .before .before .pre .0) (b .1) readers (a .depth) (a .parent) in
+    let v = rw (sym (like-walk (a .file .now) readers (a .shared) (a .grid .room) (a .depth) (b .0) (a .at) (a .used) (a .parent))) at w in
+    rw (c .walked-step .ensures, e .0, e .1) (value-told (a .grid) (a .file .now) (a .codes .now) readers (a .shared) (a .depth) x (a .at) (a .used) (a .parent) _ v)
 
 same-length-2 : tie.Need-same-length-2
 same-length-2 c = search needs

@@ -18,15 +18,15 @@ reader-for-requires c κs = search needs
 
 returns : tie.Need-returns
 returns c = (
-  λ rd readers d h l s n. null-id (sym (c .enum-told .given .1) ∙ c .before .before .position .ensures),
+  λ rd readers d h l s. null-id (sym (c .enum-told .given .1) ∙ c .before .before .position .ensures),
   rw (sym (c .before .before .position .ensures) ∙ c .enum-told .given .1),
 )
 
 returns-2 : tie.Need-returns-2
 returns-2 c = (
-  λ rd readers d h l s n.
+  λ rd readers d h l s.
       let e = at-id (sym (c .before .before .i .given .1) ∙ c .before .before .before .before .position .ensures) in
-      subst (λ i. Identifies (c .before .before .before .before .before .before .args .codes .now) readers d i (c .reader-for .result)) (sym e) (c .reader-for .ensures .0 rd readers d (rw e at h) l s n),
+      subst (λ i. Identifies (c .before .before .before .before .before .before .before .args .file .now) (c .before .before .before .before .before .before .before .args .codes .now) readers d i (c .reader-for .result)) (sym e) (c .reader-for .ensures .0 rd readers d (rw e at h) l s),
   rw (sym (c .before .before .before .before .position .ensures) ∙ c .before .before .i .given .1) (c .reader-for .ensures .1),
 )
 

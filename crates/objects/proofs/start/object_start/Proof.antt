@@ -45,13 +45,13 @@ returns : tie.Need-returns
 returns c =
     let a = c .before .before .before .before .before .before .args in
     let e = number-refused (a .at) (sevenAt (a .file .now) (a .at)) (sym (ap toldPadded (c .before .number .given .1)) ∙ c .before .before .before .seven-padded .ensures) in
-    (λ rd readers d h l s n. no-number _ (a .codes .now) readers d _ e, rw e)
+    (λ rd readers d h l s. no-number _ (a .codes .now) readers d _ e, rw e)
 
 returns-2 : tie.Need-returns-2
 returns-2 c =
     let a = c .before .before .before .before .before .before .before .before .before .args in
     let n = number (c .before .before .before) in (
-      λ rd readers d h l p y. null-starts (a .file .now) (a .codes .now) readers d _ (small (c .before .before .before)) (n .0) (n .1) (rw (c .enum-told .given .1) at (c .before .before .identify .ensures .0 rd readers d (rw (n .0) at h) l p y)),
+      λ rd readers d h l p. null-starts (a .file .now) (a .codes .now) readers d _ (small (c .before .before .before)) (n .0) (n .1) (rw (c .enum-told .given .1) at (c .before .before .identify .ensures .0 rd readers d (rw (n .0) at h) l p)),
       rw (n .1, n .0, sym (c .before .before .identify .ensures .1) ∙ c .enum-told .given .1),
     )
 
@@ -59,7 +59,7 @@ returns-3 : tie.Need-returns-3
 returns-3 c =
     let a = c .before .before .before .before .before .before .before .before .before .before .args in
     let n = number (c .before .before .before .before) in (
-      λ rd readers d h l p y. read-starts (a .file .now) (a .codes .now) readers d _ (small (c .before .before .before .before)) (n .0) (n .1) (rw (c .before .place .given .1) at (c .before .before .before .identify .ensures .0 rd readers d (rw (n .0) at h) l p y)),
+      λ rd readers d h l p. read-starts (a .file .now) (a .codes .now) readers d _ (small (c .before .before .before .before)) (n .0) (n .1) (rw (c .before .place .given .1) at (c .before .before .before .identify .ensures .0 rd readers d (rw (n .0) at h) l p)),
       rw (n .1, n .0, sym (c .before .before .before .identify .ensures .1) ∙ c .before .place .given .1),
     )
 
@@ -67,7 +67,7 @@ returns-4 : tie.Need-returns-4
 returns-4 c =
     let a = c .before .before .before .before .before .before .before .before .before .before .args in
     let n = number (c .before .before .before .before) in (
-      λ rd readers d h l p y. unread (a .file .now) (a .codes .now) readers d _ (small (c .before .before .before .before)) (n .0) (n .1) (rw (c .before .number2 .given .1) at (c .before .before .before .identify .ensures .0 rd readers d (rw (n .0) at h) l p y)),
+      λ rd readers d h l p. unread (a .file .now) (a .codes .now) readers d _ (small (c .before .before .before .before)) (n .0) (n .1) (rw (c .before .number2 .given .1) at (c .before .before .before .identify .ensures .0 rd readers d (rw (n .0) at h) l p)),
       rw (n .0, sym (c .before .before .before .identify .ensures .1) ∙ c .before .number2 .given .1),
     )
 

@@ -1,6 +1,6 @@
 use borrow.Author.Tests.{le-leb, lt-leb, eq-eqb, ne-eqb}
 use mathlib.Core.Path.{sym, subst}
-use Rattle.objects.specs.Start.{ObjectStarts, too-deep, no-row, raw-starts, object-starts, raw-invoked}
+use Rattle.objects.specs.Start.{ObjectStarts, too-deep, no-row, raw-starts, object-starts}
 use borrow.Author.Needs.{needs}
 use Rattle.objects.proofs.start.start.Statement.{statement}
 use Rattle.objects.proofs.start.start.Tie as tie
@@ -51,7 +51,7 @@ returns-6 : tie.Need-returns-6
 returns-6 c = (
   λ rd readers x h l s p.
       let w = rw (c .before .before .before .slot2 .given .1) at s in
-      raw-starts _ (c .before .before .before .before .before .before .before .args .codes .now) readers _ x _ _ (c .before .if1 .left) (c .if2 .left) p (w .type) (w .is) (raw-invoked (w .stands) (w .plain)),
+      raw-starts _ (c .before .before .before .before .before .before .before .args .codes .now) readers _ x _ _ (c .before .if1 .left) (c .if2 .left) p (w .type) (w .is) (w .stands),
   rw (c .before .before .before .slot2 .given .1, ne-eqb _ 0 (c .before .if1 .left), lt-leb _ _ (c .if2 .left)),
 )
 
@@ -60,7 +60,7 @@ returns-7 c = (
   λ rd readers x h l s p.
       let a = c .before .before .before .before .before .before .before .before .args in
       let w = rw (c .before .before .before .before .slot3 .given .1) at s in
-      object-starts (a .file .now) (a .codes .now) readers (a .room) x (a .at) (a .used) (c .before .before .if3 .left) (c .before .if4 .left) (c .object-start .result) (subst (λ y. ObjectStarts (a .file .now) (a .codes .now) readers y (a .at) (c .object-start .result)) (sym (w .is)) (c .object-start .ensures .0 rd readers (w .type) (rw (c .before .before .before .before .slot3 .given .1) at h) l (w .stands) (w .plain))),
+      object-starts (a .file .now) (a .codes .now) readers (a .room) x (a .at) (a .used) (c .before .before .if3 .left) (c .before .if4 .left) (c .object-start .result) (subst (λ y. ObjectStarts (a .file .now) (a .codes .now) readers y (a .at) (c .object-start .result)) (sym (w .is)) (c .object-start .ensures .0 rd readers (w .type) (rw (c .before .before .before .before .slot3 .given .1) at h) l (w .stands))),
   rw (c .before .before .before .before .slot3 .given .1, ne-eqb _ 0 (c .before .before .if3 .left), lt-leb _ _ (c .before .if4 .left)) (c .object-start .ensures .1),
 )
 

@@ -1,0 +1,98 @@
+use mathlib.Core.Path.{_≡_, sym, _∙_}
+use native.Mathlib.Omega.{arith}
+use lib.ListN.{length}
+use Rattle.reading.specs.Reads.{small-by-index}
+use Rattle.names.specs.Entries.{enumsOf}
+use Rattle.readers.specs.Contract.{short-file}
+use Rattle.load.specs.Loads.{fileTotal}
+use Rattle.load.specs.Laws.{not-lacking, kept-prelude, lists-inside, lists-refused, behind-lists, lists-padded, loads-refused}
+use borrow.Author.Needs.{needs}
+use Rattle.load.proofs.listed.Statement.{statement}
+use Rattle.load.proofs.listed.Tie as tie
+
+put-prelude-requires : tie.Need-put-prelude-requires
+put-prelude-requires c κs = search needs
+
+read-lists-requires : tie.Need-read-lists-requires
+read-lists-requires c κs = search needs
+
+enum-told : tie.Need-enum-told
+enum-told c = search needs
+
+enum-known-number : tie.Need-enum-known-number
+enum-known-number c = search needs
+
+enum-known-count : tie.Need-enum-known-count
+enum-known-count c = search needs
+
+objects-requires : tie.Need-objects-requires
+objects-requires c κs =
+    let a = c .before .before .before .before .before .before .before .before .before .before .before .before .before .before .before .before .before .before .before .args in
+    let p = c .before .before .before .before .before .before .before .before .before .before .before .before .before .before .before .before .before .before .before .pre in
+    let file = a .file .now in
+    let es = enumsOf (a .enums .now) in
+    let small = small-by-index file (λ i h. omega (arith, c .before .before .before .before .before .before .before .before .before .before .before .before .before .before .before .before .before .before .shared-slice-known .given i)) in
+    let l = (rw (c .before .before .before .count .given .1) at (c .before .before .before .before .before .before .before .read-lists .ensures .0)) .1 in
+    let q = sym (short-file es file (a .at) (p .0 .short)) ∙ l .answer in
+    (record { long = p .0 .long; few = omega (arith, c .before .before .before .before .before .before .before .before .before .before .before .before .before .before .before .before .before .before .before .good); rows = omega arith; place = lists-inside es file small (a .at) (p .0 .inside) q; short = omega (arith, p .0 .short) }, record { readers = l .readers; listed = l .listed; prelude = kept-prelude _ (l .kept ∙ c .before .before .before .before .before .before .before .before .before .before .before .before .before .put-prelude .ensures) }, l .shared-few)
+
+same-length : tie.Need-same-length
+same-length c = search needs
+
+returns : tie.Need-returns
+returns c =
+    λ platform flags.
+    let p = c .before .before .before .before .before .before .before .before .before .before .before .before .before .before .before .before .pre in
+    let a = c .before .before .before .before .before .before .before .before .before .before .before .before .before .before .before .before .args in
+    let l = rw (c .enum-told .given .1) at (c .before .before .before .before .read-lists .ensures .0) in
+    let m : length (c .before .before .before .before .before .before .before .before .before .before .put-prelude .last .0) ≡ length (a .codes .now) = search needs in
+    absurd (not-lacking (a .file .now) (a .at) _ _ m (p .2) l)
+
+same-length-2 : tie.Need-same-length-2
+same-length-2 c = search needs
+
+returns-2 : tie.Need-returns-2
+returns-2 c =
+    λ platform flags.
+    let a = c .before .before .before .before .before .before .before .before .before .before .before .before .before .before .before .before .before .args in
+    let p = c .before .before .before .before .before .before .before .before .before .before .before .before .before .before .before .before .before .pre in
+    let file = a .file .now in
+    let es = enumsOf (a .enums .now) in
+    let l = rw (c .before .number .given .1) at (c .before .before .before .before .before .read-lists .ensures .0) in
+    loads-refused _ _ _ (a .words .now) _ (lists-refused es file (a .grid .room) platform flags (a .at) (sym (short-file es file (a .at) (p .0 .short)) ∙ l .1))
+
+same-length-3 : tie.Need-same-length-3
+same-length-3 c = search needs
+
+same-length-4 : tie.Need-same-length-4
+same-length-4 c = search needs
+
+returns-3 : tie.Need-returns-3
+returns-3 c =
+    λ platform flags.
+    let a = c .before .before .before .before .before .before .before .before .before .before .before .before .before .before .before .before .before .before .before .before .before .before .args in
+    let p = c .before .before .before .before .before .before .before .before .before .before .before .before .before .before .before .before .before .before .before .before .before .before .pre in
+    let file = a .file .now in
+    let es = enumsOf (a .enums .now) in
+    let v = (rw (c .before .before .before .before .before .before .count .given .1) at (c .before .before .before .before .before .before .before .before .before .before .read-lists .ensures .0)) in
+    let l = v .1 in
+    rw (behind-lists es file (a .grid .room) platform flags (a .at) (sym (short-file es file (a .at) (p .0 .short)) ∙ l .answer))
+    (c .before .before .objects .ensures (fileTotal file) platform flags (l .names) (l .readers) (l .listed) (lists-padded file _ (a .at) _ (l .readers) (p .0 .ten) (l .listed .counts) (v .2)))
+
+pub listed-spec : {M : Type 1} → statement M
+listed-spec =
+    tie.close
+    (tie.spec
+    put-prelude-requires
+    read-lists-requires
+    enum-told
+    enum-known-number
+    enum-known-count
+    objects-requires
+    same-length
+    returns
+    same-length-2
+    returns-2
+    same-length-3
+    same-length-4
+    returns-3)
