@@ -6,44 +6,49 @@ use Prim.Native.Nat.{ℕ, _+_, _*_, _-_, _<_}
 use native.Mathlib.Omega.{arith}
 use lib.ListN.{length, getD, replicate}
 use Rattle.layout.specs.Rows.{width}
-use Rattle.layout.specs.Named.{named}
-use Rattle.readers.specs.Judged.{judgedName}
+use Rattle.load.specs.Under.{fileUnder, loadUnder}
+use Rattle.enums.specs.Lists.{Bytes}
 use Rattle.reading.specs.Reads.{Small}
-use Rattle.reading.specs.File.{roomOf, loadOf, tableOf, fileAt, toLoad}
+use Rattle.reading.specs.File.{roomOf, refusal, tableOf, toLoad}
 use Rattle.reading.specs.Grid.{cell}
 use Rattle.ids.specs.Position.{cellOf}
-use Rattle.reading.specs.Theorems.{Fitting, rowsIn}
+use Rattle.theorems.specs.Fits.{Fitting, rowsIn}
 use Rattle.columns.specs.Columns.{columnsTableOf}
 use Rattle.words.specs.Grids.{rowsGrid, columnsGrid}
 use Rattle.words.specs.Same.{SameRows}
 use Rattle.theorems.specs.Exact.{table}
-use Rattle.theorems.proofs.Columns.{rows-room, column-word, row-word, zero-words}
-use Rattle.theorems.proofs.Laws.{Ends, fits, refuses, ends, table-in, cleared-in}
+use Rattle.theorems.proofs.Columns.{column-word, row-word, zero-words}
+use Rattle.theorems.proofs.Fits.{rows-room}
+use Rattle.theorems.proofs.Laws.{Ends, fits, refuses, bad-list, ends, table-in, cleared-in}
 
 -- the answer depends on the room alone
-pub same-load : (file : List ℕ) (n m : ℕ) → roomOf n ≡ roomOf m → loadOf judgedName file n ≡ loadOf judgedName file m
-unfolding loadOf
-same-load file n m e = ap (λ (room : ℕ). toLoad (fileAt judgedName file room)) e
+pub same-load : (enums file : List ℕ) (n m : ℕ) → roomOf n ≡ roomOf m → loadUnder enums file n ≡ loadUnder enums file m
+unfolding loadUnder
+same-load enums file n m e = ap (λ (room : ℕ). toLoad (fileUnder enums file room)) e
 
-module _ (file : List ℕ) (n m : ℕ) (small : Small file) (room : roomOf n ≡ roomOf m) {v w : List ℕ}
-    (by-rows : v ≡ tableOf (loadOf judgedName file n) n) (by-columns : w ≡ columnsTableOf (loadOf judgedName file m) m) where
+module _ (enums file : List ℕ) (n m : ℕ) (bytes : Bytes enums) (small : Small file) (room : roomOf n ≡ roomOf m) {v w : List ℕ}
+    (by-rows : v ≡ tableOf (loadUnder enums file n) n) (by-columns : w ≡ columnsTableOf (loadUnder enums file m) m) where
   -- a file tree that fits either fits the other
-  abbrev moved : Fitting named file n → Fitting named file m
-  moved f = record { tree = f .tree; lays = f .lays; room = omega (arith, f .room, room) }
+  abbrev moved : Fitting enums file n → Fitting enums file m
+  moved f = record { es = f .es; lawful = f .lawful; listed = f .listed; tree = f .tree; lays = f .lays; room = omega (arith, f .room, room) }
 
-  same-word : Ends file n → (i j : ℕ) → i < roomOf n → j < width → getD v (cellOf (rowsGrid n) i j) 0 ≡ getD w (cellOf (columnsGrid m) i j) 0
+  no-word : (p q : ℕ) → loadUnder enums file n ≡ refusal p q → (i j : ℕ) → getD v (cellOf (rowsGrid n) i j) 0 ≡ getD w (cellOf (columnsGrid m) i j) 0
+  no-word p q e i j =
+      let a : v ≡ replicate n 0 = by-rows ∙ cleared-in enums file n p q e false in
+      let b : w ≡ replicate m 0 = by-columns ∙ cleared-in enums file m p q (sym (same-load enums file n m room) ∙ e) true in
+      rw (a, b) (zero-words n m (cellOf (rowsGrid n) i j) (cellOf (columnsGrid m) i j))
+
+  same-word : Ends enums file n → (i j : ℕ) → i < roomOf n → j < width → getD v (cellOf (rowsGrid n) i j) 0 ≡ getD w (cellOf (columnsGrid m) i j) 0
   unfolding cell
   same-word (fits f) i j h k =
-      let rows = rowsIn named f in
-      let a : v ≡ table false rows n = by-rows ∙ table-in file n f false in
-      let b : w ≡ table true rows m = by-columns ∙ table-in file m (moved f) true in
+      let rows = rowsIn f in
+      let a : v ≡ table false rows n = by-rows ∙ table-in f false in
+      let b : w ≡ table true rows m = by-columns ∙ table-in (moved f) true in
       ap (λ (l : List ℕ). getD l (width * i + j) 0) a ∙ row-word rows (n - width * length rows) i j k
-      ∙ sym (ap (λ (l : List ℕ). getD l (cellOf (columnsGrid m) i j) 0) b ∙ column-word (roomOf m) rows (rows-room file m (moved f)) (replicate (m - width * roomOf m) 0) i j (omega arith) k)
-  same-word (refuses p q e i₀) i j h k =
-      let a : v ≡ replicate n 0 = by-rows ∙ cleared-in file n p q e false in
-      let b : w ≡ replicate m 0 = by-columns ∙ cleared-in file m p q (sym (same-load file n m room) ∙ e) true in
-      rw (a, b) (zero-words n m (cellOf (rowsGrid n) i j) (cellOf (columnsGrid m) i j))
+      ∙ sym (ap (λ (l : List ℕ). getD l (cellOf (columnsGrid m) i j) 0) b ∙ column-word (roomOf m) rows (rows-room (moved f)) (replicate (m - width * roomOf m) 0) i j (omega arith) k)
+  same-word (refuses es l b p q e i₀) i j h k = no-word p q e i j
+  same-word (bad-list p b u e) i j h k = no-word 32 p e i j
 
   -- "holds the same row at each number"
   pub same-rows : SameRows (rowsGrid n) (columnsGrid m) v w
-  same-rows = record { room = room; rows = same-word (ends file n small) }
+  same-rows = record { room = room; rows = same-word (ends enums file n bytes small) }

@@ -4,20 +4,11 @@ use mathlib.Core.List.{List, [], _∷_, _++_, map}
 use Prim.Native.Nat.{ℕ, zero, suc, _+_, _*_, _-_, _<_, _≤_}
 use native.Mathlib.Omega.{arith}
 use lib.ListN.{length, getD, replicate, List·getD-append}
-use Rattle.layout.specs.Named.{named}
 use Rattle.layout.specs.Rows.{Row, words, flat, width}
-use Rattle.readers.specs.Judged.{judgedName, judges}
-use Rattle.reading.specs.File.{roomOf}
 use Rattle.reading.specs.Grid.{byColumns, cell}
-use Rattle.reading.specs.Theorems as T
-use Rattle.reading.specs.Theorems.{Fitting, rowsIn}
 use Rattle.columns.specs.Columns.{columnsOf}
 use Rattle.columns.specs.Cells.{rowWord, seven-columns, columns-at}
 use Rattle.branches.specs.Table.{Stand}
-
--- the rows of a file tree that fits have the room
-pub rows-room : (file : List ℕ) (words : ℕ) (f : Fitting named file words) → length (rowsIn named f) ≤ roomOf words
-rows-room file words f = omega (arith, T.rows-fit named judgedName judges file words f .0, f .room)
 
 -- word j of row i of a table in columns, 0 where there is no row
 pub column-word : (room : ℕ) (rows : List Row) → length rows ≤ room → (rest : List ℕ) (i j : ℕ) → i < room → j < width

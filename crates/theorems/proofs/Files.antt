@@ -1,14 +1,14 @@
 -- From the contracts over packs to what is demanded of them. Assumes nothing.
 use mathlib.Core.Path.{_≡_, refl, sym, ap, subst, _∙_}
 use mathlib.Core.Bool.{Bool, false}
-use mathlib.Core.List.{List, _++_}
+use mathlib.Core.List.{List, [], _++_}
 use Prim.Native.Nat.{ℕ, _*_, _-_}
 use lib.ListN.{length, take, drop, replicate, take-append-drop}
 use Rattle.laws.specs.Small.{differ}
 use Rattle.reading.specs.Reads.{Small, small-drop, small-left}
 use Rattle.reading.specs.File as reading
-use Rattle.reading.specs.File.{loadOf}
-use Rattle.readers.specs.Judged.{judgedName}
+use Rattle.load.specs.Under.{loadUnder}
+use native.Mathlib.Omega.{arith}
 use Rattle.load.specs.declared.Loading.{Loading}
 use Rattle.load.specs.Loads as load
 use Rattle.pack_layout.specs.Table.{flat, wholes, entries}
@@ -92,7 +92,7 @@ not-absent bytes (reading.accepted rows readers shared) q = differ cc
 
 is-absent : (pack : List ℕ) (words : ℕ) (x : Found) → opening pack words x ≡ opened.Absent → x ≡ absent
 is-absent pack words absent q = refl
-is-absent pack words (found a n) q = absurd (not-absent (take n (drop a pack)) (loadOf judgedName (take n (drop a pack)) words) q)
+is-absent pack words (found a n) q = absurd (not-absent (take n (drop a pack)) (loadUnder [] (take n (drop a pack)) words) q)
 
 pub open-exact : (pack table path : List ℕ) (words : ℕ) {left : List ℕ} {r : Opened} → Small pack → r ≡ openedOf pack table path words → left ≡ rowsOf pack table path words
     → Opens pack table path words left r
@@ -105,9 +105,9 @@ open-exact pack table path words small answers leaves =
       zeros = λ q. leaves ∙ ap (leaving pack words) (is-absent pack words x (sym answers ∙ q));
       part = λ a n m.
           let e = first-exactly pack path (wholes table) a n m in
-          let y = loadOf judgedName (take n (drop a pack)) words in
+          let y = loadUnder [] (take n (drop a pack)) words in
           let left-is = leaves ∙ ap (leaving pack words) e in
-          (load.answerOf (take n (drop a pack)) y, answers ∙ ap (opening pack words) e ∙ loaded-as (take n (drop a pack)) y, load-exact (take n (drop a pack)) words false (small-part a n pack small) refl left-is);
+          (load.answerOf (take n (drop a pack)) y, answers ∙ ap (opening pack words) e ∙ loaded-as (take n (drop a pack)) y, load-exact [] (take n (drop a pack)) words false (λ i h. absurd (omega arith)) (small-part a n pack small) refl left-is);
     }
 
 -- ---- Finding in the table that reading left

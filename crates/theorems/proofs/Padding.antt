@@ -11,43 +11,45 @@ use borrow.Author.Tests.{leb-true, leb-false}
 use Rattle.laws.specs.Small.{differ}
 use Rattle.layout.specs.Tree.{count}
 use Rattle.layout.specs.File.{sharedOf}
-use Rattle.layout.specs.Named.{named}
 use Rattle.reading.specs.Reads.{Small}
-use Rattle.reading.specs.File.{loadOf}
-use Rattle.reading.specs.Theorems as T
-use Rattle.reading.specs.Theorems.{Fitting, rowsIn}
+use Rattle.reading.specs.File.{refusal}
+use Rattle.enums.specs.Lists.{Bytes}
+use Rattle.load.specs.Under.{loadUnder}
+use Rattle.rewrite.specs.Whole.{rewriteUnder}
 use Rattle.shortest.specs.File.{shortFile}
-use Rattle.shortest.specs.Theorems as S
 use Rattle.load.specs.declared.Loading.{Loading}
 use Rattle.load.specs.declared.Loading.the-variants.{Refused, Loaded}
 use Rattle.load.specs.Loads.{answerOf}
-use Rattle.shortest.specs.Rewrite.{rewriteOf}
 use Rattle.rewrite.specs.Contract as contract
 use Rattle.rewrite.specs.declared.Rewriting.{Rewriting}
 use Rattle.rewrite.specs.declared.Rewriting.the-variants as rewriting
 use Rattle.theorems.specs.Rewriting as R
 use Rattle.theorems.specs.Padding.{Shortest}
-use Rattle.theorems.proofs.Laws.{Ends, fits, refuses, ends, loads, handed-on}
-use Rattle.readers.specs.Judged.{judgedName, judges}
+use Rattle.theorems.proofs.Fits.{least, same-tree}
+use Rattle.theorems.specs.Fits.{Fitting, rowsIn}
+use Rattle.theorems.proofs.Laws.{Ends, fits, refuses, bad-list, ends, loads, handed-on}
 
-module _ (file : List ℕ) (words : ℕ) (small : Small file) {left out end : List ℕ} {l : Loading} {r : Rewriting}
-    (answers : l ≡ answerOf file (loadOf judgedName file words)) (x : R.Exact file words left out end r)
-    (rewrites : r ≡ contract.answerOf (rewriteOf judgedName file words (length out))) where
+module _ (enums file : List ℕ) (words : ℕ) (bytes : Bytes enums) (small : Small file) {left out end : List ℕ} {l : Loading} {r : Rewriting}
+    (answers : l ≡ answerOf file (loadUnder enums file words)) (x : R.Exact enums file words left out end r)
+    (rewrites : r ≡ contract.answerOf (rewriteUnder enums file words (length out))) where
   -- the file was loaded: a file tree fits, and the padding is what its shortest bytes save
   record Told (padding : ℕ) : Type 0 where
-    fitting : Fitting named file words
+    fitting : Fitting enums file words
     is : padding ≡ length file - length (shortFile (fitting .tree))
     no-longer : length (shortFile (fitting .tree)) ≤ length file
 
   told : {rows readers shared padding : ℕ} → l ≡ Loaded rows readers shared padding → Told padding
-  told {rows} {readers} {shared} {padding} e = go (ends file words small) where
-    go : Ends file words → Told padding
-    go (refuses m q g i) =
+  told {rows} {readers} {shared} {padding} e = go (ends enums file words bytes small) where
+    go : Ends enums file words → Told padding
+    go (refuses es w b m q g i) =
         let a : l ≡ Refused m q = answers ∙ ap (answerOf file) g in
         differ cc
+    go (bad-list i b n g) =
+        let a : l ≡ Refused 32 i = answers ∙ ap (answerOf file) g in
+        differ cc
     go (fits f) =
-        let a : l ≡ Loaded (length (rowsIn named f)) (length (f .tree .names)) (count (sharedOf (f .tree .objects))) (length file - length (shortFile (f .tree))) = answers ∙ loads file words f in
-        record { fitting = f; is = cc; no-longer = S.least named judgedName judges file words f file (f .lays) .no-longer }
+        let a : l ≡ Loaded (length (rowsIn f)) (length (f .tree .names)) (count (sharedOf (f .tree .objects))) (length file - length (shortFile (f .tree))) = answers ∙ loads f in
+        record { fitting = f; is = cc; no-longer = least f file (f .lays) .no-longer }
 
   -- what the rewrite answers then
   by-room : {padding : ℕ} (t : Told padding) {P : Type 0} → (r ≡ rewriting.Rewritten (length (shortFile (t .fitting .tree))) → P) → (r ≡ rewriting.Refused 21 (length (shortFile (t .fitting .tree))) → P) → P
@@ -67,22 +69,26 @@ module _ (file : List ℕ) (words : ℕ) (small : Small file) {left out end : Li
       let t = told e in
       by-room t (λ q. differ cc) (λ q. let k : place ≡ length (shortFile (t .fitting .tree)) = cc in let n : number ≡ 21 = cc in (n, omega (arith, t .no-longer, k), omega (arith, t .is, k)))
 
-  pub none : (rows readers shared padding : ℕ) → l ≡ Loaded rows readers shared padding → (padding ≡ 0) ↔ Shortest file words
+  pub none : (rows readers shared padding : ℕ) → l ≡ Loaded rows readers shared padding → (padding ≡ 0) ↔ Shortest enums file words
   none rows readers shared padding e =
       let t = told e in (
-        λ z f bs w. let same = T.one-file-tree named judgedName judges file (f .tree) (t .fitting .tree) (f .lays) (t .fitting .lays) .0 in
-            omega (arith, t .is, t .no-longer, ap (λ y. length (shortFile y)) same, S.least named judgedName judges file words f bs w .no-longer),
-        λ s. omega (arith, t .is, s (t .fitting) (shortFile (t .fitting .tree)) (S.least named judgedName judges file words (t .fitting) file (t .fitting .lays) .form)),
+        λ z f bs w. let same = same-tree f (t .fitting) in
+            omega (arith, t .is, t .no-longer, ap (λ y. length (shortFile y)) same, least f bs w .no-longer),
+        λ s. omega (arith, t .is, s (t .fitting) (shortFile (t .fitting .tree)) (least (t .fitting) file (t .fitting .lays) .form)),
       )
 
   pub refused : (number place : ℕ) → l ≡ Refused number place → r ≡ rewriting.Refused number place
-  refused number place e = go (ends file words small) where
-    go : Ends file words → r ≡ rewriting.Refused number place
-    go (fits f) =
-        let a : l ≡ Loaded (length (rowsIn named f)) (length (f .tree .names)) (count (sharedOf (f .tree .objects))) (length file - length (shortFile (f .tree))) = answers ∙ loads file words f in
-        differ cc
-    go (refuses m q g i) =
+  refused number place e = go (ends enums file words bytes small) where
+    handed : (m q : ℕ) → loadUnder enums file words ≡ refusal m q → r ≡ rewriting.Refused number place
+    handed m q g =
         let a : l ≡ Refused m q = answers ∙ ap (answerOf file) g in
         let e₁ : m ≡ number = cc in
         let e₂ : q ≡ place = cc in
-        rewrites ∙ ap contract.answerOf (handed-on file words (length out) m q g) ∙ rw (e₁, e₂)
+        rewrites ∙ ap contract.answerOf (handed-on enums file words (length out) m q g) ∙ rw (e₁, e₂)
+
+    go : Ends enums file words → r ≡ rewriting.Refused number place
+    go (fits f) =
+        let a : l ≡ Loaded (length (rowsIn f)) (length (f .tree .names)) (count (sharedOf (f .tree .objects))) (length file - length (shortFile (f .tree))) = answers ∙ loads f in
+        differ cc
+    go (refuses es w b m q g i) = handed m q g
+    go (bad-list i b n g) = handed 32 i g

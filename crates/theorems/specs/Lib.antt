@@ -1,3 +1,4 @@
+pub mod Fits
 pub mod Exact
 pub mod Rewriting
 pub mod Padding

@@ -64,8 +64,8 @@ openedAs (load.Loaded rows readers shared padding) = opened.Loaded rows readers 
 pub record Opens (pack table path : List ℕ) (words : ℕ) (left : List ℕ) (r : Opened) : Type 0 where
   pub absent : (r ≡ opened.Absent) ↔ NoMatch pack path (wholes table)
   pub zeros : r ≡ opened.Absent → left ≡ replicate words 0
-  -- "The XNB loader takes the data as a part of the pack; demands 2 and 3 then hold of that part, with places counted from its start"
-  pub part : (a n : ℕ) → FirstMatch pack path (wholes table) a n → (l : Loading) × (r ≡ openedAs l) × Exact false (take n (drop a pack)) words left l
+  -- "The XNB loader takes the data as a part of the pack; demands 2 and 3 then hold of that part, with places counted from its start"; no enum types are listed
+  pub part : (a n : ℕ) → FirstMatch pack path (wholes table) a n → (l : Loading) × (r ≡ openedAs l) × Exact false [] (take n (drop a pack)) words left l
 
 -- ---- Finding in the table that reading left
 

@@ -6,24 +6,24 @@ use Prim.Native.Nat.{ℕ, _-_, _≤_}
 use lib.ListN.{length}
 use Rattle.layout.specs.File.{FileLays}
 use Rattle.layout.specs.Named.{named}
-use Rattle.reading.specs.Theorems.{Fitting}
+use Rattle.theorems.specs.Fits.{Fitting}
 use Rattle.load.specs.declared.Loading.the-variants.{Refused, Loaded}
 use Rattle.rewrite.specs.declared.Rewriting.the-variants.{Rewritten}
 use Rattle.rewrite.specs.declared.Rewriting.the-variants as rewriting
 use Rattle.theorems.specs.declared.padded.Saved.{Saved}
 
 -- the file is already shortest: no bytes that its file tree may have are shorter
-abbrev pub Shortest : (file : List ℕ) (words : ℕ) → Type 0
-Shortest file words = (f : Fitting named file words) (bs : List ℕ) → FileLays named (f .tree) bs → length file ≤ length bs
+abbrev pub Shortest : (enums file : List ℕ) (words : ℕ) → Type 0
+Shortest enums file words = (f : Fitting enums file words) (bs : List ℕ) → FileLays (named (f .es)) (f .tree) bs → length file ≤ length bs
 
--- For a file, the number of words lent to the load and to the rewrite, and both answers.
-pub record Saves (file : List ℕ) (words : ℕ) (r : Saved) : Type 0 where
+-- For the lent list of enum types, a file, the number of words lent to the load and to the rewrite, and both answers.
+pub record Saves (enums file : List ℕ) (words : ℕ) (r : Saved) : Type 0 where
   -- "It is proved equal to the file's length less the rewritten file's length."
   pub total : (rows readers shared padding n : ℕ) → r .loaded ≡ Loaded rows readers shared padding → r .rewritten ≡ Rewritten n → (n ≤ length file) × (padding ≡ length file - n)
   -- where the output is too small for the rewritten file, its length is the place of 21
   pub needed : (rows readers shared padding number place : ℕ) → r .loaded ≡ Loaded rows readers shared padding → r .rewritten ≡ rewriting.Refused number place
       → (number ≡ 21) × (place ≤ length file) × (padding ≡ length file - place)
   -- it is 0 exactly if the file is already shortest
-  pub none : (rows readers shared padding : ℕ) → r .loaded ≡ Loaded rows readers shared padding → (padding ≡ 0) ↔ Shortest file words
+  pub none : (rows readers shared padding : ℕ) → r .loaded ≡ Loaded rows readers shared padding → (padding ≡ 0) ↔ Shortest enums file words
   -- a refused file has no such number, and is refused by both
   pub refused : (number place : ℕ) → r .loaded ≡ Refused number place → r .rewritten ≡ rewriting.Refused number place

@@ -28,12 +28,12 @@ pub struct Looked {
     pub columns: Lookups,
 }
 
-// A file that is loaded by rows and in columns.
-fn load_both(file: &[u8], words: &mut [u32], columns: &mut [u32]) -> Loads
+// A file that is loaded by rows and in columns, under one list of enum types.
+fn load_both(file: &[u8], enums: &[u8], words: &mut [u32], columns: &mut [u32]) -> Loads
     ensures { λ r. ⌜ Both (length (now (words .entry))) (length (now (columns .entry))) (now (words .exit)) (now (columns .exit)) r ⌝ }
 {
-    let by_rows = load::load(file, words);
-    let by_columns = load::load_columns(file, columns);
+    let by_rows = load::load(file, enums, words);
+    let by_columns = load::load_columns(file, enums, columns);
     Loads {
         rows: by_rows,
         columns: by_columns,

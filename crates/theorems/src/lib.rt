@@ -15,43 +15,49 @@ ghost use lib.ListN.{length};
 ghost use Rattle.theorems.specs.Exact.{Exact};
 ghost use Rattle.theorems.specs.Rewriting as R;
 
-// A file that is loaded.
-pub fn load_exact(file: &[u8], words: &mut [u32]) -> Loading
-    ensures { λ r. ⌜ Exact false (now (file .entry)) (length (now (words .entry))) (now (words .exit)) r ⌝ }
+// A file that is loaded, under a list of enum types.
+pub fn load_exact(file: &[u8], enums: &[u8], words: &mut [u32]) -> Loading
+    ensures { λ r. ⌜ Exact false (now (enums .entry)) (now (file .entry)) (length (now (words .entry))) (now (words .exit)) r ⌝ }
 {
-    load::load(file, words)
+    load::load(file, enums, words)
 }
 
-// A file that is loaded in columns.
-pub fn load_columns_exact(file: &[u8], words: &mut [u32]) -> Loading
-    ensures { λ r. ⌜ Exact true (now (file .entry)) (length (now (words .entry))) (now (words .exit)) r ⌝ }
+// A file that is loaded in columns, under a list of enum types.
+pub fn load_columns_exact(file: &[u8], enums: &[u8], words: &mut [u32]) -> Loading
+    ensures { λ r. ⌜ Exact true (now (enums .entry)) (now (file .entry)) (length (now (words .entry))) (now (words .exit)) r ⌝ }
 {
-    load::load_columns(file, words)
+    load::load_columns(file, enums, words)
 }
 
-// A file that is rewritten.
-pub fn rewrite_exact(file: &[u8], words: &mut [u32], out: &mut [u8]) -> Rewriting
-    ensures { λ r. ⌜ R.Exact (now (file .entry)) (length (now (words .entry))) (now (words .exit)) (now (out .entry)) (now (out .exit)) r ⌝ }
+// A file that is rewritten, under a list of enum types.
+pub fn rewrite_exact(file: &[u8], enums: &[u8], words: &mut [u32], out: &mut [u8]) -> Rewriting
+    ensures { λ r. ⌜ R.Exact (now (enums .entry)) (now (file .entry)) (length (now (words .entry))) (now (words .exit)) (now (out .entry)) (now (out .exit)) r ⌝ }
 {
-    rewrite::rewrite(file, words, out)
+    rewrite::rewrite(file, enums, words, out)
 }
 
-// A file that is rewritten and then loaded.
-fn load_again(file: &[u8], words: &mut [u32], out: &mut [u8]) -> Loading
-    ensures { λ r. ⌜ R.Again (now (file .entry)) (length (now (words .entry))) (now (words .exit)) (length (now (out .entry))) r ⌝ }
+// A file that is rewritten and then loaded, under one list of enum types.
+fn load_again(file: &[u8], enums: &[u8], words: &mut [u32], out: &mut [u8]) -> Loading
+    ensures { λ r. ⌜ R.Again (now (enums .entry)) (now (file .entry)) (length (now (words .entry))) (now (words .exit)) (length (now (out .entry))) r ⌝ }
 {
-    match rewrite_exact(file, words, out) {
+    match rewrite_exact(file, enums, words, out) {
         Rewriting::Refused { number, place } => Loading::Refused { number, place },
-        Rewriting::Rewritten { length: n } => load_exact(&out[..n], words),
+        Rewriting::Rewritten { length: n } => load_exact(&out[..n], enums, words),
     }
 }
 
-// A file that is rewritten and then rewritten again, into a second output.
-fn rewrite_twice(file: &[u8], words: &mut [u32], out: &mut [u8], second: &mut [u8]) -> Rewriting
-    ensures { λ r. ⌜ R.Twice (now (file .entry)) (length (now (words .entry))) (length (now (out .entry))) (now (second .entry)) (now (second .exit)) r ⌝ }
+// A file that is rewritten and then rewritten again, under one list of enum types, into a second output.
+fn rewrite_twice(
+    file: &[u8],
+    enums: &[u8],
+    words: &mut [u32],
+    out: &mut [u8],
+    second: &mut [u8],
+) -> Rewriting
+    ensures { λ r. ⌜ R.Twice (now (enums .entry)) (now (file .entry)) (length (now (words .entry))) (length (now (out .entry))) (now (second .entry)) (now (second .exit)) r ⌝ }
 {
-    match rewrite_exact(file, words, out) {
+    match rewrite_exact(file, enums, words, out) {
         Rewriting::Refused { number, place } => Rewriting::Refused { number, place },
-        Rewriting::Rewritten { length: n } => rewrite_exact(&out[..n], words, second),
+        Rewriting::Rewritten { length: n } => rewrite_exact(&out[..n], enums, words, second),
     }
 }

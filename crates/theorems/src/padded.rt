@@ -10,11 +10,17 @@ pub struct Saved {
     pub rewritten: Rewriting,
 }
 
-// A file that is loaded, by rows or in columns, and rewritten.
-fn load_and_rewrite(file: &[u8], words: &mut [u32], columns: bool, out: &mut [u8]) -> Saved
-    ensures { λ r. ⌜ Saves (now (file .entry)) (length (now (words .entry))) r ⌝ }
+// A file that is loaded, by rows or in columns, and rewritten, under one list of enum types.
+fn load_and_rewrite(
+    file: &[u8],
+    enums: &[u8],
+    words: &mut [u32],
+    columns: bool,
+    out: &mut [u8],
+) -> Saved
+    ensures { λ r. ⌜ Saves (now (enums .entry)) (now (file .entry)) (length (now (words .entry))) r ⌝ }
 {
-    let loaded = load::load_in(file, words, columns);
-    let rewritten = rewrite::rewrite(file, words, out);
+    let loaded = load::load_in(file, enums, words, columns);
+    let rewritten = rewrite::rewrite(file, enums, words, out);
     Saved { loaded, rewritten }
 }

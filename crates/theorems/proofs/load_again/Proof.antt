@@ -40,7 +40,7 @@ same-length-4 : tie.Need-same-length-4
 same-length-4 c = search needs
 
 returns-2 : tie.Need-returns-2
-returns-2 c = loaded-again (c .before .before .before .before .before .before .before .before .before .before .before .before .rewrite-exact .ensures) (c .before .before .before .before .before .before .n .given .1) (c .before .before .before .before .before .before .before .before .before .before .before .before .rewrite-exact .kept .1 .0) (c .before .before .load-exact .ensures)
+returns-2 c = loaded-again (c .before .before .before .before .before .before .before .before .before .before .before .before .rewrite-exact .ensures) (c .before .before .before .before .before .before .n .given .1) (c .before .before .before .before .before .before .before .before .before .before .before .before .rewrite-exact .kept .1 .1 .0) (c .before .before .load-exact .ensures)
 
 pub load-again-spec : {M : Type 1} → statement M
 load-again-spec =

@@ -44,7 +44,7 @@ same-length-5 c = search needs
 
 returns-2 : tie.Need-returns-2
 returns-2 c =
-    rewritten-again (c .before .before .before .before .before .before .before .before .before .before .before .before .before .before .before .rewrite-exact .ensures) (c .before .before .before .before .before .before .before .before .before .n .given .1) (c .before .before .before .before .before .before .before .before .before .before .before .before .before .before .before .rewrite-exact .kept .1 .0) (c .before .before .before .before .rewrite-exact2 .ensures)
+    rewritten-again (c .before .before .before .before .before .before .before .before .before .before .before .before .before .before .before .rewrite-exact .ensures) (c .before .before .before .before .before .before .before .before .before .n .given .1) (c .before .before .before .before .before .before .before .before .before .before .before .before .before .before .before .rewrite-exact .kept .1 .1 .0) (c .before .before .before .before .rewrite-exact2 .ensures)
 
 pub rewrite-twice-spec : {M : Type 1} → statement M
 rewrite-twice-spec =

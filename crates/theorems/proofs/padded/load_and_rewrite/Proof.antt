@@ -2,6 +2,7 @@ use native.Mathlib.Omega.{arith}
 use Rattle.reading.specs.Reads.{small-by-index}
 use Rattle.theorems.proofs.Laws.{rewrite-exact}
 use Rattle.theorems.proofs.Padding.{total, needed, none, refused}
+use Rattle.enums.specs.Lists.{Bytes}
 use borrow.Author.Needs.{needs}
 use Rattle.theorems.proofs.padded.load_and_rewrite.Statement.{statement}
 use Rattle.theorems.proofs.padded.load_and_rewrite.Tie as tie
@@ -20,14 +21,16 @@ same-length-2 c = search needs
 
 returns : tie.Need-returns
 returns c =
-    let a = c .before .before .before .before .before .before .before .before .before .before .before .before .before .before .args in
+    let a = c .before .before .before .before .before .before .before .before .before .before .before .before .before .before .before .args in
     let file = a .file .now in
-    let small = small-by-index file (λ i h. omega (arith, c .before .before .before .before .before .before .before .before .before .before .before .before .before .shared-slice-known .given i)) in
+    let enums = a .enums .now in
+    let bytes : Bytes enums = λ i h. omega (arith, c .before .before .before .before .before .before .before .before .before .before .before .before .before .shared-slice-known2 .given i) in
+    let small = small-by-index file (λ i h. omega (arith, c .before .before .before .before .before .before .before .before .before .before .before .before .before .before .shared-slice-known .given i)) in
     let n = c .before .before .before .before .before .before .before .before .words .given in
     let l = rw (← n) at (c .before .before .before .before .before .before .before .before .before .load-in .ensures .0) in
     let e = c .before .before .before .before .rewrite .ensures in
-    let x = rewrite-exact file _ (a .out .now) small (e .0) (e .1 .0) (e .1 .1) in
-    rw (← n) (record { total = total file _ small l x (e .0); needed = needed file _ small l x (e .0); none = none file _ small l x (e .0); refused = refused file _ small l x (e .0) })
+    let x = rewrite-exact enums file _ (a .out .now) bytes small (e .0) (e .1 .0) (e .1 .1) in
+    rw (← n) (record { total = total enums file _ bytes small l x (e .0); needed = needed enums file _ bytes small l x (e .0); none = none enums file _ bytes small l x (e .0); refused = refused enums file _ bytes small l x (e .0) })
 
 pub load-and-rewrite-spec : {M : Type 1} → statement M
 load-and-rewrite-spec =

@@ -1,0 +1,92 @@
+-- What is promised of reading and of rewriting under a list of readers' names, for a file tree that fits under a lent list of enum types. Assumes nothing.
+use mathlib.Core.Path.{_≡_, refl, sym, ap, _∙_}
+use mathlib.Core.List.{List, _++_}
+use Prim.Native.Nat.{ℕ, _+_, _*_, _-_, _≤_}
+use native.Mathlib.Omega.{arith}
+use lib.ListN.{length, replicate, length-replicate}
+use Rattle.laws.specs.Small.{differ}
+use Rattle.layout.specs.EnumList.{EnumEntry, writeEnums, Enums}
+use Rattle.layout.specs.Tree.{count}
+use Rattle.layout.specs.Rows.{flat, width}
+use Rattle.layout.specs.File.{FileTree, sharedOf, FileLays}
+use Rattle.layout.specs.Named.{named}
+use Rattle.places.specs.Padding.{filePadding}
+use Rattle.reading.specs.Reads.{Small}
+use Rattle.reading.specs.File.{Load, refusal, accepted, roomOf, loadOf, tableOf}
+use Rattle.reading.specs.Theorems as T
+use Rattle.reading.specs.Output.{fitted}
+use Rattle.numbers.specs.Shortest.{Shortens}
+use Rattle.shortest.specs.File.{shortFile}
+use Rattle.shortest.specs.Theorems as S
+use Rattle.readers.specs.Judged.{judgedName, judges}
+use Rattle.enums.specs.Judge.{lawful, enumsAt}
+use Rattle.enums.specs.Lists.{enums-complete}
+use Rattle.load.specs.Under.{loadUnder, load-lawful, accepted-list}
+use Rattle.rewrite.specs.Whole.{rewriteUnder}
+use Rattle.rewrite.specs.Loaded.{rewrite-lawful}
+use Rattle.theorems.specs.Fits.{Fitting, rowsIn}
+
+-- the bytes of a lawful list are judged to be that list
+pub judged-list : (enums : List ℕ) (es : List EnumEntry) → Enums es → enums ≡ writeEnums es → enumsAt enums ≡ lawful es
+judged-list enums es w e = ap enumsAt e ∙ enums-complete es w
+
+module _ {enums file : List ℕ} {words : ℕ} (f : Fitting enums file words) where
+  abbrev plain : T.Fitting (named (f .es)) file words
+  plain = record { tree = f .tree; lays = f .lays; room = f .room }
+
+  list-is : enumsAt enums ≡ lawful (f .es)
+  list-is = judged-list enums (f .es) (f .lawful) (f .listed)
+
+  pub load-is : loadUnder enums file words ≡ loadOf (judgedName (f .es)) file words
+  load-is = load-lawful enums file words (f .es) list-is
+
+  pub rows-are : loadUnder enums file words ≡ accepted (rowsIn f) (length (f .tree .names)) (count (sharedOf (f .tree .objects)))
+  rows-are = load-is ∙ T.rows-are (named (f .es)) (judgedName (f .es)) (judges (f .es)) file words plain
+
+  pub table-is : tableOf (loadUnder enums file words) words ≡ flat (rowsIn f) ++ replicate (words - width * length (rowsIn f)) 0
+  table-is = ap (λ (x : Load). tableOf x words) load-is ∙ T.table-is (named (f .es)) (judgedName (f .es)) (judges (f .es)) file words plain
+
+  pub rows-room : length (rowsIn f) ≤ roomOf words
+  rows-room = omega (arith, T.rows-fit (named (f .es)) (judgedName (f .es)) (judges (f .es)) file words plain .0, f .room)
+
+  pub rewrite-is : (out : ℕ) → rewriteUnder enums file words out ≡ fitted (shortFile (f .tree)) out
+  rewrite-is out = rewrite-lawful enums file words out (f .es) list-is ∙ S.rewrite-is (named (f .es)) (judgedName (f .es)) (judges (f .es)) file words out plain
+
+  pub least : (bs : List ℕ) → FileLays (named (f .es)) (f .tree) bs → Shortens (FileLays (named (f .es)) (f .tree)) (shortFile (f .tree)) bs
+  least bs w = S.least (named (f .es)) (judgedName (f .es)) (judges (f .es)) file words plain bs w
+
+  abbrev pub again : Fitting enums (shortFile (f .tree)) words
+  again = record { es = f .es; lawful = f .lawful; listed = f .listed; tree = f .tree; lays = least file (f .lays) .form; room = f .room }
+
+  pub stays : length file ≡ length (shortFile (f .tree)) → shortFile (f .tree) ≡ file
+  stays e = S.stays (named (f .es)) (judgedName (f .es)) (judges (f .es)) file words plain e
+
+  pub padding-is : length file ≡ length (shortFile (f .tree)) + filePadding file (length (f .tree .names)) (rowsIn f)
+  padding-is = S.padding-is (named (f .es)) (judgedName (f .es)) (judges (f .es)) file words plain
+
+-- there is one list and one file tree
+same-list : {enums file : List ℕ} {words : ℕ} (f g : Fitting enums file words) → f .es ≡ g .es
+same-list f g =
+    let a = list-is f in
+    let b = list-is g in
+    cc
+
+one-tree : (file : List ℕ) (es fs : List EnumEntry) (t u : FileTree) → es ≡ fs → FileLays (named es) t file → FileLays (named fs) u file → t ≡ u
+one-tree file es fs t u e v w = T.one-file-tree (named es) (judgedName es) (judges es) file t u v (rw e w) .0
+
+pub same-tree : {enums file : List ℕ} {words : ℕ} (f g : Fitting enums file words) → f .tree ≡ g .tree
+same-tree {enums} {file} f g = one-tree file (f .es) (g .es) (f .tree) (g .tree) (same-list f g) (f .lays) (g .lays)
+
+no-rows : (words number place : ℕ) → length (tableOf (refusal number place) words) ≡ words
+unfolding tableOf
+no-rows words number place = length-replicate words 0
+
+-- as many words are left as were lent
+pub table-length : (enums file : List ℕ) (words : ℕ) → Small file → length (tableOf (loadUnder enums file words) words) ≡ words
+table-length enums file words small = go (loadUnder enums file words) refl where
+  go : (x : Load) → loadUnder enums file words ≡ x → length (tableOf x words) ≡ words
+  go (refusal number place) e = no-rows words number place
+  go (accepted rows readers shared) e =
+      let l = accepted-list enums file words rows readers shared e in
+      let q : loadOf (judgedName (l .0)) file words ≡ accepted rows readers shared = sym (load-lawful enums file words (l .0) (l .1)) ∙ e in
+      rw (← q) (T.table-length (named (l .0)) (judgedName (l .0)) (judges (l .0)) file words small)
