@@ -16,23 +16,28 @@
 extern "C" {
 #endif
 
-/* Loads an XNB file with room for 1,024 rows. The answer is packed. */
+/* Loads an XNB file with room for 1,024 rows and no enum types listed. The answer is packed. */
 uint64_t xnb_load(const uint8_t *file, size_t file_length);
+
+/* The entries that load take a list of enum types: for each a byte with the length of its name, the name, and a byte with its
+   size, which is 1, 2, 4 or 8. An enum type that is not listed has four bytes and is known as no argument; an empty list is
+   lawful. 32 refuses a list before all else, and its place is the number, from 0 and modulo 2 to the 32, of the first entry
+   that is cut short, has another size, or whose name is no head of a reader's name, is a target name, or is listed earlier. */
 
 /* Loads an XNB file into the words: seven make a row, and every word not in a used row is zero. A row is kind, first byte,
    number of bytes, number of children, the parent's row number plus 1 or 0, type id or resource id, and the number of rows
    that the value has with all below it, itself included. Writes the number of readers, the shared count and the padding:
    how many bytes the seven-bit numbers of the file have beyond their shortest forms, which is the file's length less that of
    the rewritten file. All three are 0 on a refusal. The answer is packed. */
-uint64_t xnb_load_rows(const uint8_t *file, size_t file_length, uint32_t *words, size_t words_length,
-                       uint32_t *readers, uint32_t *shared, uint32_t *padding);
+uint64_t xnb_load_rows(const uint8_t *file, size_t file_length, const uint8_t *enums, size_t enums_length,
+                       uint32_t *words, size_t words_length, uint32_t *readers, uint32_t *shared, uint32_t *padding);
 
 /* Writes the file, with each seven-bit number in its shortest form and the header's length set, to the start of `out`, and
    leaves in the words what loading the file leaves. The answer is packed, with the length of the rewritten file in place of
    the number of rows. On a refusal `out` is unchanged and the words are zero; 21 says that `out` is too short, and its place
    is the number of bytes needed, which is never more than the file has. */
-uint64_t xnb_rewrite(const uint8_t *file, size_t file_length, uint32_t *words, size_t words_length,
-                     uint8_t *out, size_t out_length);
+uint64_t xnb_rewrite(const uint8_t *file, size_t file_length, const uint8_t *enums, size_t enums_length,
+                     uint32_t *words, size_t words_length, uint8_t *out, size_t out_length);
 
 /* The lookups below take the file and the words that it was loaded into, and a row number, which counts from 0. They
    refuse with 23 a row that names no part of the file, and all but xnb_part with 24 a row that is not of the kind asked
@@ -63,11 +68,11 @@ uint32_t xnb_next(const uint32_t *words, size_t words_length, uint32_t row);
    order of a row's seven words. Each column is as long as the room, which is the number of words divided by seven, rounded
    down, and at most 65,536: word j of row i, both counted from 0, is words[i + room * j]. */
 
-/* Loads an XNB file as xnb_load_rows does: with as many words lent, every answer is the same and every row has the same
+/* Loads an XNB file as xnb_load_rows does: with the same list and as many words lent, every answer is the same and every row has the same
    number. Every word of a row that is not used is zero, and so is every word in excess of the seven columns; on a refusal
    all words are zero. */
-uint64_t xnb_load_columns(const uint8_t *file, size_t file_length, uint32_t *words, size_t words_length,
-                          uint32_t *readers, uint32_t *shared, uint32_t *padding);
+uint64_t xnb_load_columns(const uint8_t *file, size_t file_length, const uint8_t *enums, size_t enums_length,
+                          uint32_t *words, size_t words_length, uint32_t *readers, uint32_t *shared, uint32_t *padding);
 
 /* As xnb_part, in words that xnb_load_columns left. */
 uint32_t xnb_columns_part(const uint8_t *file, size_t file_length, const uint32_t *words, size_t words_length,

@@ -1,23 +1,17 @@
 -- What the C entries tell, by what their calls answered. Assumes nothing.
 use mathlib.Core.Path.{_≡_, refl}
 use mathlib.Core.List.{List}
-use Prim.Native.Nat.{ℕ, _<_}
-use native.Mathlib.Omega.{arith}
+use Prim.Native.Nat.{ℕ}
 use lib.IntN.{ℤ, pos}
 use lib.ListN.{length}
 use mir.Val.{SFits, toZ, ofZ}
 use mir.Syntax.{w64}
 use mir.Facts.{toZ-ofZ}
 use Rattle.laws.specs.Small.{differ}
-use Rattle.layout.specs.Named.{named}
 use Rattle.places.specs.Padding.{filePadding}
-use Rattle.reading.specs.Reads.{Small}
-use Rattle.reading.specs.File.{Load, refusal, accepted, loadOf}
-use Rattle.reading.specs.Refusals.{refusal-place}
+use Rattle.reading.specs.File.{Load, refusal, accepted}
 use Rattle.reading.specs.Output as rewritten
 use Rattle.reading.specs.Output.{Rewritten}
-use Rattle.shortest.specs.Rewrite.{rewriteOf}
-use Rattle.shortest.specs.Theorems.{rewrite-refusal}
 use Rattle.rewrite.specs.declared.Rewriting.the-variants as rewriting
 use Rattle.rewrite.specs.Contract as rewrite
 use Rattle.load.specs.declared.Loading.the-variants.{Refused, Loaded}
@@ -31,7 +25,6 @@ use Rattle.lookups.specs.declared.Moment.{Moment}
 use Rattle.lookups.specs.declared.Moment.the-variants as moment
 use Rattle.builder.specs.Packed.{code, packed, rewritePacked}
 use Rattle.builder.specs.Told.{loadTold, spanTold, signedTold, timeTold}
-use Rattle.readers.specs.Judged.{judgedName, judges, ten-or-eleven}
 
 -- an answer that refuses is a refusal
 refusal-of : (file : List ℕ) (x : Load) {n p : ℕ} → Refused n p ≡ answerOf file x → x ≡ refusal n p
@@ -40,9 +33,6 @@ refusal-of file (refusal m q) {n} {p} e =
     let e₂ : q ≡ p = cc in
     rw (e₁, e₂)
 refusal-of file (accepted rows readers shared) e = differ cc
-
-pub load-place : (file : List ℕ) (words : ℕ) {n p : ℕ} → Refused n p ≡ answerOf file (loadOf judgedName file words) → p < 4294967296
-load-place file words {n} {p} e = omega (arith, refusal-place judgedName ten-or-eleven file words n p (refusal-of file (loadOf judgedName file words) e) .1)
 
 pub load-refused : (file : List ℕ) (x : Load) {n p c : ℕ} → Refused n p ≡ answerOf file x → c ≡ code n p → _≡_ {A = ℕ × ℕ × ℕ × ℕ} (c, 0, 0, 0) (loadTold file x)
 unfolding loadTold packed
@@ -65,10 +55,6 @@ rewritten-of (rewritten.refusal m q) {n} {p} e =
     let e₂ : q ≡ p = cc in
     rw (e₁, e₂)
 rewritten-of (rewritten.written bytes) e = differ cc
-
-pub rewrite-place : (file : List ℕ) → Small file → (words out : ℕ) {n p : ℕ} → rewriting.Refused n p ≡ rewrite.answerOf (rewriteOf judgedName file words out) → p < 4294967296
-rewrite-place file small words out {n} {p} e =
-    omega (arith, rewrite-refusal named judgedName judges ten-or-eleven file small words out n p (rewritten-of (rewriteOf judgedName file words out) e) .1)
 
 pub rewrite-refused : (x : Rewritten) {n p c : ℕ} → rewriting.Refused n p ≡ rewrite.answerOf x → c ≡ code n p → c ≡ rewritePacked x
 unfolding rewritePacked

@@ -1,3 +1,4 @@
 pub mod Packed
+pub mod Places
 pub mod Told
 pub mod Packs

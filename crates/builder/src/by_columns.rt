@@ -2,9 +2,8 @@
 use ids::RowNumber;
 ghost use mathlib.Core.Path.{_≡_};
 ghost use lib.ListN.{length};
-ghost use Rattle.reading.specs.File.{loadOf};
 ghost use Rattle.columns.specs.Columns.{columnsTableOf};
-ghost use Rattle.readers.specs.Judged.{judgedName};
+ghost use Rattle.load.specs.Under.{loadUnder};
 ghost use Rattle.branches.specs.Next.{columnsNext};
 ghost use Rattle.lookups.specs.Parts.{columnsPart};
 ghost use Rattle.lookups.specs.Texts.{columnsText};
@@ -12,21 +11,22 @@ ghost use Rattle.lookups.specs.Signs.{columnsSigned};
 ghost use Rattle.lookups.specs.Times.{columnsTime};
 ghost use Rattle.builder.specs.Told.{loadTold, spanTold, signedTold, timeTold};
 
-// Loads a file into the words in columns.
+// Loads a file into the words in columns, under a list of enum types.
 #[no_mangle]
 pub extern "C" fn xnb_load_columns(
     file: &[u8],
+    enums: &[u8],
     words: &mut [u32],
     readers: &mut u32,
     shared: &mut u32,
     padding: &mut u32,
 ) -> u64
     ensures { λ r. ⌜ (r, now (readers .exit), now (shared .exit), now (padding .exit))
-        ≡ loadTold (now (file .entry)) (loadOf judgedName (now (file .entry)) (length (now (words .entry)))) ⌝ }
+        ≡ loadTold (now (file .entry)) (loadUnder (now (enums .entry)) (now (file .entry)) (length (now (words .entry)))) ⌝ }
     ensures { λ _. ⌜ now (words .exit)
-        ≡ columnsTableOf (loadOf judgedName (now (file .entry)) (length (now (words .entry)))) (length (now (words .entry))) ⌝ }
+        ≡ columnsTableOf (loadUnder (now (enums .entry)) (now (file .entry)) (length (now (words .entry)))) (length (now (words .entry))) ⌝ }
 {
-    crate::load_told(file, words, true, readers, shared, padding)
+    crate::load_told(file, enums, words, true, readers, shared, padding)
 }
 
 // The number of the row behind a row and all below it, 0 where there is none in the room.

@@ -10,12 +10,13 @@ use lookups::Span;
 use lookups::Whole;
 use rewrite::Rewriting;
 ghost use mathlib.Core.Path.{_≡_};
-ghost use Prim.Native.Nat.{_*_, _<_};
+ghost use mathlib.Core.List.{[]};
+ghost use Prim.Native.Nat.{_*_};
 ghost use lib.ListN.{length};
 ghost use Rattle.layout.specs.Rows.{width};
-ghost use Rattle.reading.specs.File.{loadOf, tableOf};
+ghost use Rattle.reading.specs.File.{tableOf};
 ghost use Rattle.columns.specs.Columns.{tableIn};
-ghost use Rattle.readers.specs.Judged.{judgedName};
+ghost use Rattle.load.specs.Under.{loadUnder};
 ghost use Rattle.branches.specs.Next.{rowsNext};
 ghost use Rattle.lookups.specs.Parts.{rowsPart};
 ghost use Rattle.lookups.specs.Texts.{rowsText};
@@ -25,30 +26,37 @@ ghost use Rattle.rewrite.specs.Whole.{rewritten, outputLeft, wordsLeft};
 ghost use Rattle.builder.specs.Packed.{code, packed, rewritePacked};
 ghost use Rattle.builder.specs.Told.{loadTold, spanTold, signedTold, timeTold};
 
-// A refusal's number and place as one number.
+// A refusal's number and place as one number; of a place that 32 bits do not hold, the remainder.
 fn refused(number: u32, place: usize) -> u64
-    requires { ⌜ place < 4294967296 ⌝ }
     ensures { λ r. ⌜ r ≡ code number place ⌝ }
 {
-    number as u64 * 4294967296 + place as u64
+    number as u64 * 4294967296 + (place % 4294967296) as u64
 }
 
-// Loads a file with room for 1,024 rows: the refusal's number times 2 to the 32 plus its place, or the number of rows.
+// Loads a file with room for 1,024 rows and no enum types listed: the refusal's number times 2 to the 32 plus its place, or the number of rows.
 #[no_mangle]
 pub extern "C" fn xnb_load(file: &[u8]) -> u64
-    ensures { λ r. ⌜ r ≡ packed (loadOf judgedName (now (file .entry)) (1024 * width)) ⌝ }
+    ensures { λ r. ⌜ r ≡ packed (loadUnder [] (now (file .entry)) (1024 * width)) ⌝ }
 {
     let mut words = [0u32; 1024 * WIDTH as usize];
     let mut readers = 0u32;
     let mut shared = 0u32;
     let mut padding = 0u32;
-    xnb_load_rows(file, &mut words, &mut readers, &mut shared, &mut padding)
+    xnb_load_rows(
+        file,
+        b"",
+        &mut words,
+        &mut readers,
+        &mut shared,
+        &mut padding,
+    )
 }
 
-// Loads a file into the words, by rows or in columns: the answer is packed as above, and the number of readers, the shared count
+// Loads a file into the words, by rows or in columns, under a list of enum types: the answer is packed as above, and the number of readers, the shared count
 // and the padding of the file's seven-bit numbers are 0 on a refusal.
 pub(crate) fn load_told(
     file: &[u8],
+    enums: &[u8],
     words: &mut [u32],
     columns: bool,
     readers: &mut u32,
@@ -56,11 +64,11 @@ pub(crate) fn load_told(
     padding: &mut u32,
 ) -> u64
     ensures { λ r. ⌜ (r, now (readers .exit), now (shared .exit), now (padding .exit))
-        ≡ loadTold (now (file .entry)) (loadOf judgedName (now (file .entry)) (length (now (words .entry)))) ⌝ }
+        ≡ loadTold (now (file .entry)) (loadUnder (now (enums .entry)) (now (file .entry)) (length (now (words .entry)))) ⌝ }
     ensures { λ _. ⌜ now (words .exit)
-        ≡ tableIn columns (loadOf judgedName (now (file .entry)) (length (now (words .entry)))) (length (now (words .entry))) ⌝ }
+        ≡ tableIn columns (loadUnder (now (enums .entry)) (now (file .entry)) (length (now (words .entry)))) (length (now (words .entry))) ⌝ }
 {
-    match load::load_in(file, words, columns) {
+    match load::load_in(file, enums, words, columns) {
         Loading::Refused { number, place } => {
             *readers = 0;
             *shared = 0;
@@ -81,30 +89,31 @@ pub(crate) fn load_told(
     }
 }
 
-// Loads a file into the words.
+// Loads a file into the words, under a list of enum types.
 #[no_mangle]
 pub extern "C" fn xnb_load_rows(
     file: &[u8],
+    enums: &[u8],
     words: &mut [u32],
     readers: &mut u32,
     shared: &mut u32,
     padding: &mut u32,
 ) -> u64
     ensures { λ r. ⌜ (r, now (readers .exit), now (shared .exit), now (padding .exit))
-        ≡ loadTold (now (file .entry)) (loadOf judgedName (now (file .entry)) (length (now (words .entry)))) ⌝ }
-    ensures { λ _. ⌜ now (words .exit) ≡ tableOf (loadOf judgedName (now (file .entry)) (length (now (words .entry)))) (length (now (words .entry))) ⌝ }
+        ≡ loadTold (now (file .entry)) (loadUnder (now (enums .entry)) (now (file .entry)) (length (now (words .entry)))) ⌝ }
+    ensures { λ _. ⌜ now (words .exit) ≡ tableOf (loadUnder (now (enums .entry)) (now (file .entry)) (length (now (words .entry)))) (length (now (words .entry))) ⌝ }
 {
-    load_told(file, words, false, readers, shared, padding)
+    load_told(file, enums, words, false, readers, shared, padding)
 }
 
-// Rewrites a file into the output: a refusal is packed as above, else the answer is the length of the rewritten file.
+// Rewrites a file into the output, under a list of enum types: a refusal is packed as above, else the answer is the length of the rewritten file.
 #[no_mangle]
-pub extern "C" fn xnb_rewrite(file: &[u8], words: &mut [u32], out: &mut [u8]) -> u64
-    ensures { λ r. ⌜ r ≡ rewritePacked (rewritten (now (file .entry)) (now (words .entry)) (now (out .entry))) ⌝ }
-    ensures { λ _. ⌜ now (out .exit) ≡ outputLeft (now (file .entry)) (now (words .entry)) (now (out .entry)) ⌝ }
-    ensures { λ _. ⌜ now (words .exit) ≡ wordsLeft (now (file .entry)) (now (words .entry)) (now (out .entry)) ⌝ }
+pub extern "C" fn xnb_rewrite(file: &[u8], enums: &[u8], words: &mut [u32], out: &mut [u8]) -> u64
+    ensures { λ r. ⌜ r ≡ rewritePacked (rewritten (now (enums .entry)) (now (file .entry)) (now (words .entry)) (now (out .entry))) ⌝ }
+    ensures { λ _. ⌜ now (out .exit) ≡ outputLeft (now (enums .entry)) (now (file .entry)) (now (words .entry)) (now (out .entry)) ⌝ }
+    ensures { λ _. ⌜ now (words .exit) ≡ wordsLeft (now (enums .entry)) (now (file .entry)) (now (words .entry)) (now (out .entry)) ⌝ }
 {
-    match rewrite::rewrite(file, words, out) {
+    match rewrite::rewrite(file, enums, words, out) {
         Rewriting::Refused { number, place } => refused(number, place),
         Rewriting::Rewritten { length } => length as u64,
     }

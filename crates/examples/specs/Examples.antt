@@ -27,7 +27,7 @@ use Rattle.reading.specs.Font.{fontOk, fontIf, fontTest}
 use Rattle.reading.specs.Resource.{suit, suits}
 use Rattle.reading.specs.Walk.{before, sequence, rawAt, byReader, objectAt, valueAt, walk}
 use Rattle.reading.specs.Heads.{headAt, fixedHeadAt, whole as whole-value, textAt, countAt, imageAt, leafAt, always}
-use Rattle.reading.specs.File.{isPlatform, headerAt, judge, rootKind, rootKinds, judged, readerAt, readersAt, listsAt, objectsAt, finished, fileAt, Load, refusal, accepted, toLoad, roomOf, loadOf, tableOf}
+use Rattle.reading.specs.File.{isPlatform, headerAt, judge, rootKind, rootKinds, judged, readerAt, readersAt, listsAt, objectsAt, finished, fileAt, Load, refusal, accepted, toLoad, roomOf, tableOf}
 use Rattle.names.specs.Parse.{span, starts, tailSize, tailOf, closed, opening, onOnly, onSecond, onFirst, afterHead, headed, nameIn, whole, nameOf}
 use Rattle.readers.specs.Judged.{typedName, readName, judgedName}
 use Rattle.numbers.specs.Shortest.{fewest, shortest}
@@ -35,7 +35,10 @@ use Rattle.places.specs.Places.{numbered}
 use Rattle.shortest.specs.Short.{idBytes, body, short}
 use Rattle.shortest.specs.File.{shortEntry, shortEntries, shortLists, shortBody, shortFile}
 use Rattle.reading.specs.Output.{Rewritten, written, fitted, outputOf}
-use Rattle.shortest.specs.Rewrite.{byLoad, rewriteOf}
+use Rattle.shortest.specs.Rewrite.{byLoad}
+use Rattle.enums.specs.Judge.{enumsFrom, enumsAt}
+use Rattle.load.specs.Under.{underList, fileUnder, loadUnder}
+use Rattle.rewrite.specs.Whole.{rewriteUnder}
 use Rattle.ticks.specs.declared.Time.{Time}
 use Rattle.ticks.specs.Split.{splitOf}
 use Rattle.ticks.specs.Laws.{p12}
@@ -44,7 +47,7 @@ use Rattle.builder.specs.Packed.{code, packed}
 use Rattle.names.specs.Heading.{headings}
 use Rattle.names.specs.Kind.{listed}
 
--- what an example gives, and what it says of it
+-- what an example gives, and what it says of it; no enum types are listed
 pub data Example : Type 0 where
   -- a file and the number of words lent
   loads : (file : List ℕ) (words : ℕ) → Load → Example
@@ -68,11 +71,11 @@ pub data Example : Type 0 where
 -- each example is what the definitions say
 unfoldable pub Hold : List Example → Type 0
 Hold [] = Unit {0}
-Hold (loads file words answer ∷ rest) = (loadOf judgedName file words ≡ answer) × Hold rest
-Hold (leaves-words file words left ∷ rest) = (tableOf (loadOf judgedName file words) words ≡ left) × Hold rest
-Hold (tells file answer ∷ rest) = (packed (loadOf judgedName file (1024 * width)) ≡ answer) × Hold rest
-Hold (rewrites file words out answer ∷ rest) = (rewriteOf judgedName file words out ≡ answer) × Hold rest
-Hold (leaves-output file words out end ∷ rest) = (outputOf (rewriteOf judgedName file words (length out)) out ≡ end) × Hold rest
+Hold (loads file words answer ∷ rest) = (loadUnder [] file words ≡ answer) × Hold rest
+Hold (leaves-words file words left ∷ rest) = (tableOf (loadUnder [] file words) words ≡ left) × Hold rest
+Hold (tells file answer ∷ rest) = (packed (loadUnder [] file (1024 * width)) ≡ answer) × Hold rest
+Hold (rewrites file words out answer ∷ rest) = (rewriteUnder [] file words out ≡ answer) × Hold rest
+Hold (leaves-output file words out end ∷ rest) = (outputOf (rewriteUnder [] file words (length out)) out ≡ end) × Hold rest
 Hold (number bytes answer ∷ rest) = (sevenAt bytes 0 ≡ answer) × Hold rest
 Hold (character bytes answer ∷ rest) = (charAt bytes 0 ≡ answer) × Hold rest
 Hold (time ticks answer ∷ rest) = (splitOf ticks ≡ answer) × Hold rest
@@ -133,5 +136,5 @@ listed-examples =
     ∷ []
 
 pub examples : Hold listed-examples
-unfolding Hold listed-examples tableOf flat row-words code packed outputOf A B paddedB start texted rewriteOf byLoad fitted shortFile shortBody shortLists shortEntries shortEntry short body idBytes numbered shortest fewest header follow size isPlatform headerAt judge rootKind rootKinds judged readerAt readersAt several listsAt objectsAt finished fileAt toLoad roomOf loadOf headAt fixedHeadAt whole-value textAt countAt imageAt leafAt always toldOf told before sequence rawAt byReader objectAt valueAt walk suit suits fontOk fontIf fontTest rule isBoolean isDateTime isDecimal fixedAt utf8s chars charSize decided same serves invoked reader-of valueOf littleAt group groups sevenAt some field bind check within sharedOf objectsPlan sizes levels levelBytes pixelBytes blockBytes digits ascii little each slotOf rawOrObject pairs leaves fontSlots pageSlots count kindAt childrenAt kindOf isValue headByte tailByte headings lookup alike listed reader readers target-entry targets span starts tailSize tailOf closed opening onOnly onSecond onFirst afterHead headed nameIn whole nameOf fixedKind plain nullableOf wrapped paired typeOf enumOf arrayOf readerOf typedName readName judgedName
+unfolding Hold listed-examples tableOf flat row-words code packed outputOf A B paddedB start texted rewriteUnder loadUnder fileUnder underList enumsAt enumsFrom byLoad fitted shortFile shortBody shortLists shortEntries shortEntry short body idBytes numbered shortest fewest header follow size isPlatform headerAt judge rootKind rootKinds judged readerAt readersAt several listsAt objectsAt finished fileAt toLoad roomOf headAt fixedHeadAt whole-value textAt countAt imageAt leafAt always toldOf told before sequence rawAt byReader objectAt valueAt walk suit suits fontOk fontIf fontTest rule isBoolean isDateTime isDecimal fixedAt utf8s chars charSize decided same serves invoked reader-of valueOf littleAt group groups sevenAt some field bind check within sharedOf objectsPlan sizes levels levelBytes pixelBytes blockBytes digits ascii little each slotOf rawOrObject pairs leaves fontSlots pageSlots count kindAt childrenAt kindOf isValue headByte tailByte headings lookup alike listed reader readers target-entry targets span starts tailSize tailOf closed opening onOnly onSecond onFirst afterHead headed nameIn whole nameOf fixedKind plain nullableOf wrapped paired typeOf enumOf arrayOf readerOf typedName readName judgedName
 examples = (refl, (refl, (refl, (refl, (refl, (refl, (refl, (refl, (refl, (refl, (refl, (refl, (refl, (refl, (refl, (refl, (refl, (refl, (refl, (refl, (refl, (refl, (p12 .0, (p12 .1, (p13 .0, (p13 .1, (p13 .2, (euro, (surrogate, (of-four, tt))))))))))))))))))))))))))))))

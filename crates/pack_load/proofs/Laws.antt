@@ -1,14 +1,14 @@
 -- What a lookup and the loader say of a file of a pack. Assumes nothing.
 use mathlib.Core.Path.{_≡_, refl}
-use mathlib.Core.List.{List}
+use mathlib.Core.List.{List, []}
 use Prim.Native.Nat.{ℕ, _+_, _-_}
 use native.Mathlib.Omega.{arith}
 use lib.ListN.{length, take, drop}
 use Rattle.laws.specs.Small.{differ}
 use Rattle.fill.specs.Fill.{cleared}
-use Rattle.reading.specs.File.{Load, refusal, accepted, loadOf, tableOf}
+use Rattle.reading.specs.File.{Load, refusal, accepted, tableOf}
 use Rattle.places.specs.Padding.{filePadding}
-use Rattle.readers.specs.Judged.{judgedName}
+use Rattle.load.specs.Under.{loadUnder}
 use Rattle.load.specs.declared.Loading.the-variants as load
 use Rattle.load.specs.Loads.{answerOf}
 use Rattle.pack_reading.specs.Lookup.{Found, absent, found}
@@ -50,7 +50,7 @@ abbrev pub part : (file : List ℕ) (first count : ℕ) → List ℕ
 part file first count = take (first + count - first) (drop first file)
 
 pub told-found : (file : List ℕ) (words : ℕ) (x : Found) {first count : ℕ} (r : Opened) (exit : List ℕ) → lookup.At first count ≡ foundAs x
-    → r ≡ loadedAs (part file first count) (loadOf judgedName (part file first count) words) → exit ≡ tableOf (loadOf judgedName (part file first count) words) words → Told file words x r exit
+    → r ≡ loadedAs (part file first count) (loadUnder [] (part file first count) words) → exit ≡ tableOf (loadUnder [] (part file first count) words) words → Told file words x r exit
 told-found file words absent r exit q a l = differ cc
 told-found file words (found f n) {first} {count} r exit q a l =
     let p : first ≡ f = cc in

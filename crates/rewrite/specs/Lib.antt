@@ -4,6 +4,6 @@ pub mod Steps
 pub mod Measured
 pub mod Pending
 pub mod Contract
+pub mod Whole
 pub mod Loaded
 pub mod Writes
-pub mod Whole

@@ -276,13 +276,13 @@ fn fit(
     Rewriting::Rewritten { length: needed }
 }
 
-// Loads a file into the words, and writes it with its numbers in their shortest forms into the output.
-pub fn rewrite(file: &[u8], words: &mut [u32], out: &mut [u8]) -> Rewriting
-    ensures { λ r. ⌜ r ≡ answerOf (rewritten (now (file .entry)) (now (words .entry)) (now (out .entry))) ⌝ }
-    ensures { λ _. ⌜ now (out .exit) ≡ outputLeft (now (file .entry)) (now (words .entry)) (now (out .entry)) ⌝ }
-    ensures { λ _. ⌜ now (words .exit) ≡ wordsLeft (now (file .entry)) (now (words .entry)) (now (out .entry)) ⌝ }
+// Loads a file into the words, under a list of enum types, and writes it with its numbers in their shortest forms into the output.
+pub fn rewrite(file: &[u8], enums: &[u8], words: &mut [u32], out: &mut [u8]) -> Rewriting
+    ensures { λ r. ⌜ r ≡ answerOf (rewritten (now (enums .entry)) (now (file .entry)) (now (words .entry)) (now (out .entry))) ⌝ }
+    ensures { λ _. ⌜ now (out .exit) ≡ outputLeft (now (enums .entry)) (now (file .entry)) (now (words .entry)) (now (out .entry)) ⌝ }
+    ensures { λ _. ⌜ now (words .exit) ≡ wordsLeft (now (enums .entry)) (now (file .entry)) (now (words .entry)) (now (out .entry)) ⌝ }
 {
-    match load::load(file, words) {
+    match load::load(file, enums, words) {
         Loading::Refused { number, place } => Rewriting::Refused { number, place },
         Loading::Loaded {
             rows,

@@ -5,7 +5,7 @@ use rewrite::Rewriting;
 // Rewrites the file, with room for 1,024 rows.
 fn shorten(file: &[u8], out: &mut [u8]) {
     let mut words = [0u32; 1024 * WIDTH as usize];
-    match rewrite::rewrite(file, &mut words, out) {
+    match rewrite::rewrite(file, b"", &mut words, out) {
         Rewriting::Refused { number, place } => printing::tell_refusal(number, place),
         Rewriting::Rewritten { length } => printing::write_start(out, length),
     }

@@ -1,6 +1,5 @@
 use mathlib.Core.Path.{sym, _∙_}
-use lib.ListN.{length}
-use Rattle.builder.proofs.Laws.{load-place, load-refused, load-accepted}
+use Rattle.builder.proofs.Laws.{load-refused, load-accepted}
 use borrow.Author.Needs.{needs}
 use Rattle.builder.proofs.load_told.Statement.{statement}
 use Rattle.builder.proofs.load_told.Tie as tie
@@ -12,7 +11,7 @@ enum-known-number : tie.Need-enum-known-number
 enum-known-number c = search needs
 
 refused-requires : tie.Need-refused-requires
-refused-requires c κs = load-place (c .before .before .before .before .before .before .before .before .before .args .file .now) (length (c .before .before .before .before .before .before .before .before .before .args .words .now)) (sym (c .before .number .given .1) ∙ c .before .before .before .before .before .load-in .ensures .0)
+refused-requires c κs = search needs
 
 enum-known-rows : tie.Need-enum-known-rows
 enum-known-rows c = search needs

@@ -1,8 +1,5 @@
 use mathlib.Core.Path.{sym, _∙_}
-use native.Mathlib.Omega.{arith}
-use lib.ListN.{length}
-use Rattle.reading.specs.Reads.{small-by-index}
-use Rattle.builder.proofs.Laws.{rewrite-place, rewrite-refused, rewrite-length}
+use Rattle.builder.proofs.Laws.{rewrite-refused, rewrite-length}
 use borrow.Author.Needs.{needs}
 use Rattle.builder.proofs.xnb_rewrite.Statement.{statement}
 use Rattle.builder.proofs.xnb_rewrite.Tie as tie
@@ -14,9 +11,7 @@ enum-known-number : tie.Need-enum-known-number
 enum-known-number c = search needs
 
 refused-requires : tie.Need-refused-requires
-refused-requires c κs =
-    let s = c .before .before .before .before .before .before .before .before .before .before .before .before .before .args .file .now in
-    rewrite-place s (small-by-index s (λ i h. omega (arith, c .before .before .before .before .before .before .before .before .before .before .before .before .shared-slice-known .given i))) (length (c .before .before .before .before .before .before .before .before .before .before .before .before .before .args .words .now)) (length (c .before .before .before .before .before .before .before .before .before .before .before .before .before .args .out .now)) (sym (c .before .number .given .1) ∙ c .before .before .before .before .before .before .before .rewrite .ensures .0)
+refused-requires c κs = search needs
 
 enum-known-length : tie.Need-enum-known-length
 enum-known-length c = search needs

@@ -1,8 +1,8 @@
 use mathlib.Core.Path.{sym, _∙_}
 use native.Mathlib.Omega.{arith}
+use mathlib.Core.List.{[]}
 use lib.ListN.{length}
-use Rattle.reading.specs.File.{loadOf}
-use Rattle.readers.specs.Judged.{judgedName}
+use Rattle.load.specs.Under.{loadUnder}
 use Rattle.pack_reading.specs.Lookup.{findOf}
 use Rattle.pack_lookup.specs.Lookup.{data-inside}
 use Rattle.pack_load.proofs.Laws.{part, told-absent, as-refused, as-loaded, told-found}
@@ -38,6 +38,9 @@ part-load-end c =
     let a = c .before .before .before .before .before .before .before .before .args in
     data-inside (a .pack .now) (a .table .now) (a .path .now) (sym (c .before .first .given .1) ∙ c .before .before .before .find .ensures)
 
+slice-aggregate-load : tie.Need-slice-aggregate-load
+slice-aggregate-load c = search needs
+
 load-requires : tie.Need-load-requires
 load-requires c κs = search needs
 
@@ -61,11 +64,11 @@ same-length-2 c = search needs
 
 returns-2 : tie.Need-returns-2
 returns-2 c =
-    let a = c .before .before .before .before .before .before .before .before .before .before .before .before .before .before .before .before .args in
+    let a = c .before .before .before .before .before .before .before .before .before .before .before .before .before .before .before .before .before .args in
     let x = findOf (a .pack .now) (a .table .now) (a .path .now) in
-    let bytes = part (a .pack .now) (c .before .before .before .before .before .before .before .before .before .first .given .0 .0) (c .before .before .before .before .before .before .before .before .before .first .given .0 .1 .0) in
-    let y = loadOf judgedName bytes (length (a .words .now)) in
-    let t = told-found (a .pack .now) (length (a .words .now)) x _ _ (sym (c .before .before .before .before .before .before .before .before .before .first .given .1) ∙ c .before .before .before .before .before .before .before .before .before .before .before .find .ensures) (as-refused bytes y (sym (c .before .number .given .1) ∙ c .before .before .before .before .before .load .ensures .0)) (c .before .before .before .before .before .load .ensures .1) in
+    let bytes = part (a .pack .now) (c .before .before .before .before .before .before .before .before .before .before .first .given .0 .0) (c .before .before .before .before .before .before .before .before .before .before .first .given .0 .1 .0) in
+    let y = loadUnder [] bytes (length (a .words .now)) in
+    let t = told-found (a .pack .now) (length (a .words .now)) x _ _ (sym (c .before .before .before .before .before .before .before .before .before .before .first .given .1) ∙ c .before .before .before .before .before .before .before .before .before .before .before .before .find .ensures) (as-refused bytes y (sym (c .before .number .given .1) ∙ c .before .before .before .before .before .load .ensures .0)) (c .before .before .before .before .before .load .ensures .1) in
     (t .answers, t .leaves)
 
 same-length-3 : tie.Need-same-length-3
@@ -73,11 +76,11 @@ same-length-3 c = search needs
 
 returns-3 : tie.Need-returns-3
 returns-3 c =
-    let a = c .before .before .before .before .before .before .before .before .before .before .before .before .before .before .before .before .args in
+    let a = c .before .before .before .before .before .before .before .before .before .before .before .before .before .before .before .before .before .args in
     let x = findOf (a .pack .now) (a .table .now) (a .path .now) in
-    let bytes = part (a .pack .now) (c .before .before .before .before .before .before .before .before .before .first .given .0 .0) (c .before .before .before .before .before .before .before .before .before .first .given .0 .1 .0) in
-    let y = loadOf judgedName bytes (length (a .words .now)) in
-    let t = told-found (a .pack .now) (length (a .words .now)) x _ _ (sym (c .before .before .before .before .before .before .before .before .before .first .given .1) ∙ c .before .before .before .before .before .before .before .before .before .before .before .find .ensures) (as-loaded bytes y (sym (c .before .rows .given .1) ∙ c .before .before .before .before .before .load .ensures .0)) (c .before .before .before .before .before .load .ensures .1) in
+    let bytes = part (a .pack .now) (c .before .before .before .before .before .before .before .before .before .before .first .given .0 .0) (c .before .before .before .before .before .before .before .before .before .before .first .given .0 .1 .0) in
+    let y = loadUnder [] bytes (length (a .words .now)) in
+    let t = told-found (a .pack .now) (length (a .words .now)) x _ _ (sym (c .before .before .before .before .before .before .before .before .before .before .first .given .1) ∙ c .before .before .before .before .before .before .before .before .before .before .before .before .find .ensures) (as-loaded bytes y (sym (c .before .rows .given .1) ∙ c .before .before .before .before .before .load .ensures .0)) (c .before .before .before .before .before .load .ensures .1) in
     (t .answers, t .leaves)
 
 pub load-found-spec : {M : Type 1} → statement M
@@ -92,6 +95,7 @@ load-found-spec =
     sub-load
     part-load-start
     part-load-end
+    slice-aggregate-load
     load-requires
     enum-known-number
     enum-known-rows

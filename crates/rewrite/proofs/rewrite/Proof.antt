@@ -21,8 +21,9 @@ cast-fit c = search needs
 
 fit-requires : tie.Need-fit-requires
 fit-requires c κs =
-    let s = c .before .before .before .before .before .before .before .before .before .before .before .before .args .file .now in
-    let g = loaded s (length (c .before .before .before .before .before .before .before .before .before .before .before .before .args .words .now)) (small-by-index s (λ i h. omega (arith, c .before .before .before .before .before .before .before .before .before .before .before .shared-slice-known .given i))) (sym (c .before .before .before .rows .given .1) ∙ c .before .before .before .before .before .before .before .load .ensures .0) in
+    let s = c .before .before .before .before .before .before .before .before .before .before .before .before .before .args .file .now in
+    let n = c .before .before .before .before .before .before .before .before .before .before .before .before .before .args .enums .now in
+    let g = loaded n s (length (c .before .before .before .before .before .before .before .before .before .before .before .before .before .args .words .now)) (small-by-index s (λ i h. omega (arith, c .before .before .before .before .before .before .before .before .before .before .before .before .shared-slice-known .given i))) (sym (c .before .before .before .rows .given .1) ∙ c .before .before .before .before .before .before .before .load .ensures .0) in
     rw (c .before .before .before .before .before .before .before .load .ensures .1) (g .ready)
 
 same-length : tie.Need-same-length
@@ -30,7 +31,7 @@ same-length c = search needs
 
 returns : tie.Need-returns
 returns c =
-    let r = load-refused (c .before .before .before .before .before .before .before .before .before .before .args .file .now) (length (c .before .before .before .before .before .before .before .before .before .before .args .words .now)) (c .before .before .before .before .before .before .before .before .before .before .args .out .now) (sym (c .before .number .given .1) ∙ c .before .before .before .before .before .load .ensures .0) in
+    let r = load-refused (c .before .before .before .before .before .before .before .before .before .before .before .args .enums .now) (c .before .before .before .before .before .before .before .before .before .before .before .args .file .now) (length (c .before .before .before .before .before .before .before .before .before .before .before .args .words .now)) (c .before .before .before .before .before .before .before .before .before .before .before .args .out .now) (sym (c .before .number .given .1) ∙ c .before .before .before .before .before .load .ensures .0) in
     (r .0, (r .1, c .before .before .before .before .before .load .ensures .1 ∙ r .2))
 
 same-length-2 : tie.Need-same-length-2
@@ -41,9 +42,10 @@ same-length-3 c = search needs
 
 returns-2 : tie.Need-returns-2
 returns-2 c =
-    let s = c .before .before .before .before .before .before .before .before .before .before .before .before .before .before .before .before .before .args .file .now in
-    let g = loaded s (length (c .before .before .before .before .before .before .before .before .before .before .before .before .before .before .before .before .before .args .words .now)) (small-by-index s (λ i h. omega (arith, c .before .before .before .before .before .before .before .before .before .before .before .before .before .before .before .before .shared-slice-known .given i))) (sym (c .before .before .before .before .before .before .before .before .rows .given .1) ∙ c .before .before .before .before .before .before .before .before .before .before .before .before .load .ensures .0) in
-    let r = fitted-is s (length (c .before .before .before .before .before .before .before .before .before .before .before .before .before .before .before .before .before .args .words .now)) g (c .before .before .before .before .before .before .before .before .before .before .before .before .before .before .before .before .before .args .out .now) _ _ (c .before .before .before .before .before .before .before .before .before .before .before .before .load .ensures .1) (c .before .before .before .before .fit .ensures) in
+    let s = c .before .before .before .before .before .before .before .before .before .before .before .before .before .before .before .before .before .before .args .file .now in
+    let n = c .before .before .before .before .before .before .before .before .before .before .before .before .before .before .before .before .before .before .args .enums .now in
+    let g = loaded n s (length (c .before .before .before .before .before .before .before .before .before .before .before .before .before .before .before .before .before .before .args .words .now)) (small-by-index s (λ i h. omega (arith, c .before .before .before .before .before .before .before .before .before .before .before .before .before .before .before .before .before .shared-slice-known .given i))) (sym (c .before .before .before .before .before .before .before .before .rows .given .1) ∙ c .before .before .before .before .before .before .before .before .before .before .before .before .load .ensures .0) in
+    let r = fitted-is n s (length (c .before .before .before .before .before .before .before .before .before .before .before .before .before .before .before .before .before .before .args .words .now)) g (c .before .before .before .before .before .before .before .before .before .before .before .before .before .before .before .before .before .before .args .out .now) _ _ (c .before .before .before .before .before .before .before .before .before .before .before .before .load .ensures .1) (c .before .before .before .before .fit .ensures) in
     (r .0, (r .1, r .2))
 
 pub rewrite-spec : {M : Type 1} → statement M
