@@ -13,8 +13,23 @@ pub fn folder() -> PathBuf {
     root().join("corpus")
 }
 
-/// Every file of the corpus folder, with what `rows` must print for it and its padding.
+/// Every file of the corpus folder that is loaded with an empty list, with what `rows` must print for it and its padding.
 pub fn kept_files() -> Vec<Sample> {
+    let mut files = all_kept_files();
+    files.retain(|file| file.enums.is_empty());
+    assert!(files.len() >= 600, "only {} samples", files.len());
+    files
+}
+
+/// Every file that is loaded with a list of enums, with that list.
+pub fn kept_files_with_enums() -> Vec<Sample> {
+    let mut files = all_kept_files();
+    files.retain(|file| !file.enums.is_empty());
+    assert!(files.len() >= 100, "only {} samples", files.len());
+    files
+}
+
+fn all_kept_files() -> Vec<Sample> {
     let mut files = Vec::new();
     for entry in std::fs::read_dir(folder()).expect("the corpus is there") {
         let path = entry.expect("a file").path();
@@ -23,13 +38,13 @@ pub fn kept_files() -> Vec<Sample> {
             files.push(Sample {
                 name: stem.to_string_lossy().into_owned(),
                 bytes: std::fs::read(&path).expect("a sample"),
+                enums: std::fs::read(path.with_extension("enums")).unwrap_or_default(),
                 rows: std::fs::read_to_string(path.with_extension("rows")).expect("its rows"),
                 padding: kept_padding(&path.with_extension("padding")),
                 kept: true,
             });
         }
     }
-    assert!(files.len() >= 600, "only {} samples", files.len());
     files.sort_by(|one, other| one.name.cmp(&other.name));
     files
 }

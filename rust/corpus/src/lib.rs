@@ -4,6 +4,7 @@
 //! It shares no code and no table with any loader.
 
 pub mod damaged;
+pub mod enums;
 pub mod folder;
 pub mod lawful;
 pub mod literal;
@@ -16,7 +17,7 @@ pub mod writer;
 
 pub use sample::Sample;
 
-/// Every sample of the corpus.
+/// Every sample of the corpus that is loaded with an empty list of enums; `enums::samples` has the others.
 pub fn samples() -> Vec<Sample> {
     let mut samples = literal::samples();
     samples.extend(lawful::samples());

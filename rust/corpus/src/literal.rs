@@ -3,8 +3,9 @@
 //! Each stands in a text of `literal/` as document 000 or 01 says it; no code and no table made it.
 //! A text has blocks between empty lines. `#` starts a comment, often the rule that the blocks below it show.
 //! The first line of a block is the sample's name, lines behind `=` are what `rows` must print, a line behind `padding`
-//! is the padding that must be told of it (0 without such a line), and the others are its bytes: two hexadecimal digits
-//! for a byte, `AA*60` for sixty of them, and characters in quotation marks.
+//! is the padding that must be told of it (0 without such a line), lines behind `enums` are the bytes of the list of
+//! enums that is lent (empty without such a line), and the others are the file's bytes: two hexadecimal digits for a byte,
+//! `AA*60` for sixty of them, and characters in quotation marks.
 
 use crate::sample::Sample;
 
@@ -20,8 +21,12 @@ const TEXTS: &[&str] = &[
 ];
 
 pub fn samples() -> Vec<Sample> {
-    let blocks = TEXTS.iter().flat_map(|text| text.split("\n\n"));
-    blocks.filter_map(sample).collect()
+    TEXTS.iter().flat_map(|text| samples_of(text)).collect()
+}
+
+/// The samples of a text.
+pub fn samples_of(text: &str) -> Vec<Sample> {
+    text.split("\n\n").filter_map(sample).collect()
 }
 
 /// The sample of a block, unless the block is a comment.
@@ -30,11 +35,14 @@ fn sample(block: &str) -> Option<Sample> {
     let mut lines = lines.skip_while(|line| line.is_empty());
     let name = lines.next()?.to_string();
     let mut bytes = Vec::new();
+    let mut enums = Vec::new();
     let mut rows = String::new();
     let mut padding = 0;
     for line in lines {
         if let Some(printed) = line.strip_prefix("= ") {
             rows += &format!("{printed}\n");
+        } else if let Some(entries) = line.strip_prefix("enums ") {
+            enums.extend(line_bytes(entries));
         } else if let Some(number) = line.strip_prefix("padding ") {
             padding = number.parse().expect("a number of bytes");
         } else {
@@ -45,6 +53,7 @@ fn sample(block: &str) -> Option<Sample> {
     Some(Sample {
         name,
         bytes,
+        enums,
         rows,
         padding,
         kept: true,

@@ -26,6 +26,7 @@ fn main() -> ExitCode {
 fn write_samples(folder: &Path, all: bool) -> std::io::Result<usize> {
     std::fs::create_dir_all(folder)?;
     let mut samples = corpus::samples();
+    samples.extend(corpus::enums::samples());
     samples.retain(|sample| all || sample.kept);
     for sample in &samples {
         for (name, bytes) in sample.files() {

@@ -1,10 +1,12 @@
-//! A sample: a file, what `rows` must print for it, and its padding.
+//! A sample: a file, the list of enums that is lent with it, what `rows` must then print for it, and its padding.
 
 use crate::writer::{write, File, Written};
 
 pub struct Sample {
     pub name: String,
     pub bytes: Vec<u8>,
+    /// The lent list of enums, as bytes.
+    pub enums: Vec<u8>,
     /// The expected output of `rows`.
     pub rows: String,
     /// The padding that must be told of it, 0 for a refused file.
@@ -22,12 +24,22 @@ impl Sample {
         }
     }
 
-    /// The files that keep the sample, by name: NAME.padding stands beside the others unless the padding is 0.
+    /// The same sample with a list of enums lent.
+    pub fn lending(self, enums: Vec<u8>) -> Sample {
+        Sample { enums, ..self }
+    }
+
+    /// The files that keep the sample, by name.
+    ///
+    /// NAME.enums stands beside the others unless the list is empty, and NAME.padding unless the padding is 0.
     pub fn files(&self) -> Vec<(String, Vec<u8>)> {
         let mut files = vec![
             (format!("{}.xnb", self.name), self.bytes.clone()),
             (format!("{}.rows", self.name), self.rows.clone().into()),
         ];
+        if !self.enums.is_empty() {
+            files.push((format!("{}.enums", self.name), self.enums.clone()));
+        }
         if self.padding > 0 {
             let line = format!("{}\n", self.padding);
             files.push((format!("{}.padding", self.name), line.into()));
@@ -44,6 +56,7 @@ pub fn accepted(name: &str, file: File) -> Sample {
         rows: row_lines(&written),
         padding: written.padding,
         bytes: written.bytes,
+        enums: Vec::new(),
         kept: true,
     }
 }
@@ -62,6 +75,7 @@ pub fn refused_bytes(name: &str, number: u32, place: usize, bytes: Vec<u8>) -> S
         rows: refusal_line(number, place),
         padding: 0,
         bytes,
+        enums: Vec::new(),
         kept: true,
     }
 }

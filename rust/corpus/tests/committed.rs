@@ -1,11 +1,17 @@
 //! The files kept in the repository are those that the program writes, and they show every case.
 
 use corpus::folder::folder;
-use corpus::{samples, Sample};
+use corpus::{enums, samples, Sample};
 use std::collections::BTreeSet;
 
+fn all() -> Vec<Sample> {
+    let mut all = samples();
+    all.extend(enums::samples());
+    all
+}
+
 fn kept() -> Vec<Sample> {
-    samples().into_iter().filter(|sample| sample.kept).collect()
+    all().into_iter().filter(|sample| sample.kept).collect()
 }
 
 #[test]
@@ -23,7 +29,7 @@ fn kept_files_are_up_to_date() {
         let name = entry.expect("a file").file_name();
         let name = name.to_string_lossy().into_owned();
         let extension = name.rsplit('.').next().unwrap_or(&name);
-        if ["xnb", "rows", "padding"].contains(&extension) {
+        if ["xnb", "rows", "enums", "padding"].contains(&extension) {
             found.insert(name);
         }
     }
@@ -32,8 +38,8 @@ fn kept_files_are_up_to_date() {
 
 #[test]
 fn names_of_samples_differ() {
-    let names: BTreeSet<String> = samples().into_iter().map(|sample| sample.name).collect();
-    assert_eq!(names.len(), samples().len());
+    let names: BTreeSet<String> = all().into_iter().map(|sample| sample.name).collect();
+    assert_eq!(names.len(), all().len());
 }
 
 #[test]
@@ -59,7 +65,7 @@ fn every_refusal_of_a_load_stands_in_a_kept_file() {
         }
     }
     let of_a_load = |number: &u32| *number != 21;
-    assert_eq!(numbers, (1..=22).filter(of_a_load).collect());
+    assert_eq!(numbers, (1..=22).chain([32]).filter(of_a_load).collect());
 }
 
 #[test]

@@ -1,22 +1,23 @@
 //! Damage at one field of a lawful file, with the refusal that it must meet.
 
+use crate::enums::Listed;
 use crate::maker::{make, Made, Planted};
 use crate::random::Random;
 use crate::shape::{OBJECT, TEXTURE};
 use crate::{Case, Known, GENEROUS_WORDS};
 use corpus::writer::{set_length, seven_bytes, write, Field, Role, Seven, Written, WORDS_PER_ROW};
 
-/// A damaged file whose refusal is known.
-pub fn aimed_case(random: &mut Random) -> Case {
+/// A damaged file whose refusal is known, for a lent list.
+pub fn aimed_case(random: &mut Random, enums: &[Listed]) -> Case {
     match random.below(20) {
-        0 => planted_case(random, Planted::WrongResource, 17),
-        1 => planted_case(random, Planted::BadFont, 22),
-        2 => planted_case(random, Planted::TooDeep, 18),
-        3 => too_few_rows(random),
-        4 => left_over(random),
-        5 => bad_header(random),
-        6..=7 => cut(random),
-        _ => bad_field(random),
+        0 => planted_case(random, enums, Planted::WrongResource, 17),
+        1 => planted_case(random, enums, Planted::BadFont, 22),
+        2 => planted_case(random, enums, Planted::TooDeep, 18),
+        3 => too_few_rows(random, enums),
+        4 => left_over(random, enums),
+        5 => bad_header(random, enums),
+        6..=7 => cut(random, enums),
+        _ => bad_field(random, enums),
     }
 }
 
@@ -29,14 +30,14 @@ fn case(bytes: Vec<u8>, number: u32, place: usize) -> Case {
     }
 }
 
-fn lawful(random: &mut Random) -> (Made, Written) {
-    made_and_written(random, Planted::Nothing)
+fn lawful(random: &mut Random, enums: &[Listed]) -> (Made, Written) {
+    made_and_written(random, enums, Planted::Nothing)
 }
 
 /// A file whose rows fit into the words lent.
-fn made_and_written(random: &mut Random, planted: Planted) -> (Made, Written) {
+fn made_and_written(random: &mut Random, enums: &[Listed], planted: Planted) -> (Made, Written) {
     loop {
-        let made = make(random, planted);
+        let made = make(random, planted, enums);
         let written = write(&made.file);
         if WORDS_PER_ROW * written.rows.len() <= GENEROUS_WORDS {
             return (made, written);
@@ -45,8 +46,8 @@ fn made_and_written(random: &mut Random, planted: Planted) -> (Made, Written) {
 }
 
 /// A file with a fault built in; without one, if the fault found no place.
-fn planted_case(random: &mut Random, planted: Planted, number: u32) -> Case {
-    let (_, written) = made_and_written(random, planted);
+fn planted_case(random: &mut Random, enums: &[Listed], planted: Planted, number: u32) -> Case {
+    let (_, written) = made_and_written(random, enums, planted);
     match written.fault {
         Some(place) => case(written.bytes, number, place),
         None => crate::lawful_case(random, written),
@@ -54,8 +55,8 @@ fn planted_case(random: &mut Random, planted: Planted, number: u32) -> Case {
 }
 
 /// 19: the words lent have no room for the last rows.
-fn too_few_rows(random: &mut Random) -> Case {
-    let (_, written) = lawful(random);
+fn too_few_rows(random: &mut Random, enums: &[Listed]) -> Case {
+    let (_, written) = lawful(random, enums);
     let room = random.below(written.rows.len());
     let place = written.rows[room][1] as usize;
     let mut case = case(written.bytes, 19, place);
@@ -64,8 +65,8 @@ fn too_few_rows(random: &mut Random) -> Case {
 }
 
 /// 20: bytes after the last object.
-fn left_over(random: &mut Random) -> Case {
-    let (_, written) = lawful(random);
+fn left_over(random: &mut Random, enums: &[Listed]) -> Case {
+    let (_, written) = lawful(random, enums);
     let place = written.bytes.len();
     let mut bytes = written.bytes;
     let count = 1 + random.below(5);
@@ -75,8 +76,8 @@ fn left_over(random: &mut Random) -> Case {
 }
 
 /// 2 to 7, and 1 for a file without a whole header.
-fn bad_header(random: &mut Random) -> Case {
-    let (_, written) = lawful(random);
+fn bad_header(random: &mut Random, enums: &[Listed]) -> Case {
+    let (_, written) = lawful(random, enums);
     let mut bytes = written.bytes;
     match random.below(7) {
         0 => {
@@ -113,8 +114,8 @@ fn bad_header(random: &mut Random) -> Case {
 }
 
 /// 1: the file ends inside a field, or before it.
-fn cut(random: &mut Random) -> Case {
-    let (_, written) = lawful(random);
+fn cut(random: &mut Random, enums: &[Listed]) -> Case {
+    let (_, written) = lawful(random, enums);
     let end = 10 + random.below(written.bytes.len() - 10);
     let holds_end = |field: &&Field| field.start <= end && end < field.data_end;
     let field = written.fields.iter().find(holds_end);
@@ -145,8 +146,8 @@ fn damage(bytes: Vec<u8>, number: u32) -> Option<Damage> {
 }
 
 /// Tries fields until one can be damaged with a known outcome.
-fn bad_field(random: &mut Random) -> Case {
-    let (made, written) = lawful(random);
+fn bad_field(random: &mut Random, enums: &[Listed]) -> Case {
+    let (made, written) = lawful(random, enums);
     for _ in 0..200 {
         let field = random.pick(&written.fields);
         if let Some(damage) = field_damage(random, &made, &written, field) {

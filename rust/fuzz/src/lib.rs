@@ -2,11 +2,13 @@
 //!
 //! `case(seed)` gives one file; equal seeds give equal files.
 //! `limits::cases()` gives files at every bound of 01 and just past it.
+//! `enums::case(seed)` gives one with a list of enum types that is lent with it, and `enums::limits()` those at bounds.
 //! `padding::case(seed)` gives one whose seven-bit numbers are padded by chosen amounts.
 //! `tables::case(seed)` gives a table that no loader left, and `tables::in_columns` puts a table into columns.
 
 mod aimed;
 mod blind;
+pub mod enums;
 pub mod limits;
 mod maker;
 pub mod packs;
@@ -50,10 +52,10 @@ pub fn case(seed: u64) -> Case {
     let mut random = Random::new(seed);
     match random.below(100) {
         0..=29 => {
-            let written = write(&make(&mut random, Planted::Nothing).file);
+            let written = write(&make(&mut random, Planted::Nothing, &[]).file);
             lawful_case(&mut random, written)
         }
-        30..=69 => aimed::aimed_case(&mut random),
+        30..=69 => aimed::aimed_case(&mut random, &[]),
         70 => Case {
             bytes: blind::noise(&mut random),
             words: some_words(&mut random, 20),
@@ -61,7 +63,7 @@ pub fn case(seed: u64) -> Case {
         },
         _ => {
             let planted = some_fault(&mut random);
-            let written = write(&make(&mut random, planted).file);
+            let written = write(&make(&mut random, planted, &[]).file);
             Case {
                 bytes: blind::damaged(&mut random, &written),
                 words: some_words(&mut random, written.rows.len()),

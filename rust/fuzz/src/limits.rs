@@ -31,7 +31,7 @@ pub fn cases() -> Vec<Limit> {
 }
 
 /// A file that must be accepted, or refused at the place marked in it where a number is given.
-pub fn limit(name: impl Into<String>, refusal: u32, file: File) -> Limit {
+pub(crate) fn limit(name: impl Into<String>, refusal: u32, file: File) -> Limit {
     let written = write(&file);
     let known = if refusal == 0 {
         Known::Accepted {
@@ -57,7 +57,7 @@ pub fn limit(name: impl Into<String>, refusal: u32, file: File) -> Limit {
     }
 }
 
-pub fn alone<N: AsRef<str>>(readers: &[N], primary: Value) -> File {
+pub(crate) fn alone<N: AsRef<str>>(readers: &[N], primary: Value) -> File {
     file(readers, primary, vec![])
 }
 

@@ -1,5 +1,6 @@
 //! Random files that are lawful but for one fault that may be asked for.
 
+use crate::enums::{with_enums, Listed};
 use crate::random::Random;
 use crate::shape::{
     Shape, ARRAY, CHAR, DICTIONARY, ENUM, LIST, NULLABLE, OBJECT, PAGE, RAW_KINDS, RECTANGLE,
@@ -47,6 +48,8 @@ enum Plan {
 
 struct Maker<'r> {
     random: &'r mut Random,
+    /// The lent list.
+    enums: &'r [Listed],
     planted: Planted,
     /// Whether the planted fault stands in the file already.
     is_planted: bool,
@@ -55,11 +58,12 @@ struct Maker<'r> {
     rows_left: i32,
 }
 
-/// A random file; the planted fault is marked in it, if it found a place.
-pub fn make(random: &mut Random, planted: Planted) -> Made {
+/// A random file for a lent list; the planted fault is marked in it, if it found a place.
+pub fn make(random: &mut Random, planted: Planted, enums: &[Listed]) -> Made {
     let rows_left = random.pick(&[3, 20, 20, 60, 60, 200]);
     let mut maker = Maker {
         random,
+        enums,
         planted,
         is_planted: false,
         readers: Vec::new(),
@@ -89,8 +93,7 @@ pub fn make(random: &mut Random, planted: Planted) -> Made {
 fn container_shape(kind: u32) -> Shape {
     let anything = Shape::plain(OBJECT);
     if kind == DICTIONARY {
-        let arguments = vec![Shape::plain(1), anything];
-        return Shape { kind, arguments };
+        return Shape::with(kind, vec![Shape::plain(1), anything]);
     }
     Shape::of(kind, anything)
 }
@@ -110,7 +113,7 @@ impl Maker<'_> {
             let target = match self.random.below(8) {
                 0 => Shape::plain(OBJECT),
                 1 => Shape::plain(TEXTURE),
-                _ => Shape::any(self.random),
+                _ => self.any_shape(),
             };
             self.add_reader(&target);
         }
@@ -285,7 +288,13 @@ impl Maker<'_> {
                 return target;
             }
         }
-        Shape::any(self.random)
+        self.any_shape()
+    }
+
+    /// Any target, often with listed enums in it.
+    fn any_shape(&mut self) -> Shape {
+        let shape = Shape::any(self.random);
+        with_enums(self.random, shape, self.enums)
     }
 
     /// Whether a value with all that must be below it fits into depth and rows.
@@ -314,7 +323,10 @@ impl Maker<'_> {
             11 => fixed(11, &[self.random.byte() & 1]),
             CHAR => self.character(),
             STRING => self.text(),
-            ENUM => fixed(ENUM, &self.random.bytes(4)),
+            ENUM => {
+                let size = target.listed.as_ref().map_or(4, |listed| listed.size);
+                fixed(ENUM, &self.random.bytes(size.into()))
+            }
             NULLABLE => self.nullable(&target.arguments[0], depth),
             ARRAY => array(self.elements(&target.arguments[0], depth)),
             LIST => list(self.elements(&target.arguments[0], depth)),

@@ -55,7 +55,7 @@ fn some_style(random: &mut Random, numbers: usize) -> Style {
 }
 
 /// Pads the numbers of a file and answers by how many bytes in all.
-pub fn pad(random: &mut Random, file: &mut File) -> usize {
+fn pad(random: &mut Random, file: &mut File) -> usize {
     let mut numbers = 0;
     file.each_seven(&mut |_, _| numbers += 1);
     let style = some_style(random, numbers);
@@ -80,7 +80,7 @@ pub fn pad(random: &mut Random, file: &mut File) -> usize {
 
 /// A padded file; where the fault that was asked for found no place, it is lawful.
 fn padded_case(random: &mut Random, planted: Planted) -> Case {
-    let mut file = make(random, planted).file;
+    let mut file = make(random, planted, &[]).file;
     let sum = pad(random, &mut file);
     let mut case = lawful_case(random, write(&file));
     if let Some(Known::Accepted { padding, .. }) = &mut case.known {
@@ -90,7 +90,7 @@ fn padded_case(random: &mut Random, planted: Planted) -> Case {
 }
 
 fn planted_case(random: &mut Random, planted: Planted, number: u32) -> Case {
-    let mut file = make(random, planted).file;
+    let mut file = make(random, planted, &[]).file;
     pad(random, &mut file);
     let written = write(&file);
     let (Some(place), true) = (written.fault, written.rows.len() <= 1024) else {

@@ -1,5 +1,6 @@
 //! Target types to choose from, and their names.
 
+use crate::enums::Listed;
 use crate::random::Random;
 
 pub const CHAR: u32 = 12;
@@ -17,11 +18,13 @@ pub const TEXTURE2D: u32 = 32;
 pub const SPRITE_FONT: u32 = 33;
 pub const PAGE: u32 = 34;
 
-/// A target type; enums are told apart by nothing.
+/// A target type; enums that are not listed are told apart by nothing.
 #[derive(Clone, Debug, PartialEq, Eq)]
 pub struct Shape {
     pub kind: u32,
     pub arguments: Vec<Shape>,
+    /// Of an enum that is listed.
+    pub listed: Option<Listed>,
 }
 
 /// Kinds whose values stand raw and have no arguments, with their sizes; 0 for Char.
@@ -57,18 +60,26 @@ const DEEPEST_ARGUMENT: u32 = 6;
 
 impl Shape {
     pub fn plain(kind: u32) -> Shape {
-        let arguments = Vec::new();
-        Shape { kind, arguments }
+        Shape::with(kind, Vec::new())
     }
 
     pub fn of(kind: u32, argument: Shape) -> Shape {
-        let arguments = vec![argument];
-        Shape { kind, arguments }
+        Shape::with(kind, vec![argument])
     }
 
-    /// Value types stand raw as elements and fields.
+    pub fn with(kind: u32, arguments: Vec<Shape>) -> Shape {
+        let listed = None;
+        Shape {
+            kind,
+            arguments,
+            listed,
+        }
+    }
+
+    /// Value types stand raw as elements and fields; an enum is known there only if it is listed.
     pub fn is_raw(&self) -> bool {
-        self.kind == NULLABLE || RAW_KINDS.iter().any(|(kind, _)| *kind == self.kind)
+        let is_raw_kind = RAW_KINDS.iter().any(|(kind, _)| *kind == self.kind);
+        self.kind == NULLABLE || is_raw_kind || self.listed.is_some()
     }
 
     /// A type whose reader can be invoked.
@@ -85,7 +96,13 @@ impl Shape {
     pub fn reader_name(&self, random: &mut Random) -> String {
         let name = match self.kind {
             PAGE => "Coach.Console.PageReader".to_string(),
-            ENUM => content_reader("Enum") + "`1[[" + &enum_name(random) + "]]",
+            ENUM => {
+                let name = match &self.listed {
+                    Some(listed) => listed.name.clone() + tail(random),
+                    None => enum_name(random),
+                };
+                content_reader("Enum") + "`1[[" + &name + "]]"
+            }
             ARRAY => content_reader("Array") + &self.argument_names(random),
             _ => {
                 let head = target_head(self.kind);
@@ -98,7 +115,11 @@ impl Shape {
 
     fn target_name(&self, random: &mut Random) -> String {
         let arguments = self.argument_names(random);
-        target_head(self.kind).to_string() + &arguments + tail(random)
+        let head = match &self.listed {
+            Some(listed) => &listed.name,
+            None => target_head(self.kind),
+        };
+        head.to_string() + &arguments + tail(random)
     }
 
     fn argument_names(&self, random: &mut Random) -> String {
@@ -127,7 +148,7 @@ fn generic_shape(random: &mut Random, level: u32) -> Shape {
         ],
         _ => vec![argument_shape(random, level + 1)],
     };
-    Shape { kind, arguments }
+    Shape::with(kind, arguments)
 }
 
 /// A type as an argument; arrays and enums are not known there.
@@ -191,16 +212,18 @@ fn target_head(kind: u32) -> &'static str {
     }
 }
 
+/// Enums that no list has.
+pub const UNLISTED: [&str; 6] = [
+    "Coach.Door",
+    "Coach.Door+State",
+    "E",
+    "_9.",
+    "System.DayOfWeek",
+    "System.Byte2",
+];
+
 fn enum_name(random: &mut Random) -> String {
-    let names = [
-        "Coach.Door",
-        "Coach.Door+State",
-        "E",
-        "_9.",
-        "System.DayOfWeek",
-        "System.Byte2",
-    ];
-    random.pick(&names).to_string() + tail(random)
+    random.pick(&UNLISTED).to_string() + tail(random)
 }
 
 fn tail(random: &mut Random) -> &'static str {

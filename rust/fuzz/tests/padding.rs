@@ -19,7 +19,7 @@ fn check_total(name: &str, case: &Case, answer: Result<Loaded, Refusal>) -> usiz
     let mut words = vec![0; case.words];
     let mut out = vec![0; case.bytes.len()];
     let told = padding_told(answer);
-    match rewrite(&case.bytes, &mut words, &mut out) {
+    match rewrite(&case.bytes, &[], &mut words, &mut out) {
         Ok(length) => {
             assert_eq!(told, case.bytes.len() - length, "{name}");
             assert_eq!(told == 0, out[..length] == case.bytes, "{name}");
@@ -36,7 +36,7 @@ fn generated_files_tell_the_sum_of_their_padding() {
     for seed in 0..files() {
         let case = case(seed);
         let name = format!("seed {seed}");
-        let answer = check(&name, &case);
+        let answer = check(&name, &case, &[]);
         let told = check_total(&name, &case, answer);
         let what = match answer {
             Err(refusal) => format!("refused {}", refusal.number),
@@ -56,7 +56,7 @@ fn generated_files_tell_the_sum_of_their_padding() {
 #[test]
 fn limits_tell_the_sum_of_their_padding() {
     for limit in limits() {
-        let answer = check(&limit.name, &limit.case);
+        let answer = check(&limit.name, &limit.case, &[]);
         check_total(&limit.name, &limit.case, answer);
     }
 }

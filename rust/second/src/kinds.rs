@@ -138,12 +138,12 @@ pub fn is_value_type(kind: u32) -> bool {
     matches!(kind, 1..=12 | 15 | 16 | 20..=30)
 }
 
-/// The size of a kind that always takes the same number of bytes.
+/// The size of a kind that always takes the same number of bytes; an enum's is told by its type.
 pub fn fixed_size(kind: u32) -> Option<usize> {
     let size = match kind {
         1 | 2 | 11 => 1,
         3 | 4 => 2,
-        5 | 6 | 9 | 15 | 28 => 4,
+        5 | 6 | 9 | 28 => 4,
         7 | 8 | 10 | 20 | 21 | 23 | 29 => 8,
         24 => 12,
         22 | 25 | 27 | 30 => 16,

@@ -4,6 +4,7 @@
 
 mod branches;
 mod cursor;
+mod enums;
 mod header;
 mod image;
 mod kinds;
@@ -26,9 +27,11 @@ mod walk;
 
 pub use branches::broken_branch;
 pub use image::{level_size, longest_chain};
-pub use load::{builder_answer, load, load_in, padding_told, Loaded};
+pub use load::{builder_answer, load, load_in, padding_told, Loaded, NO_ENUMS};
 pub use lookup::{next, part, signed, text, time};
-pub use printed::{printed_rows, refusal_line, shortened, INPUT_TOO_LONG, LONGEST_INPUT};
+pub use printed::{
+    printed_rows, printed_rows_with, refusal_line, shortened, INPUT_TOO_LONG, LONGEST_INPUT,
+};
 pub use refusal::Refusal;
 pub use rewrite::rewrite;
 pub use row::{Row, WORDS_PER_ROW};

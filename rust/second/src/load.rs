@@ -1,6 +1,7 @@
 //! Loading a whole file.
 
 use crate::cursor::Cursor;
+use crate::enums::EnumList;
 use crate::header::{check_header, HEADER_BYTES};
 use crate::kinds::OBJECT;
 use crate::name::parse_name;
@@ -41,14 +42,19 @@ pub struct Read {
     pub sevens: Vec<(usize, Seven)>,
 }
 
-/// Loads a file into the table of 01.
-pub fn load(file: &[u8], words: &mut [u32]) -> Result<Loaded, Refusal> {
-    load_in(Shape::Rows, file, words)
+/// Loads a file into the table of 01; the enums are the lent list of Req 02.
+pub fn load(file: &[u8], enums: &[u8], words: &mut [u32]) -> Result<Loaded, Refusal> {
+    load_in(Shape::Rows, file, enums, words)
 }
 
 /// Loads a file and leaves its rows in the words, with zeros in every other word.
-pub fn load_in(shape: Shape, file: &[u8], words: &mut [u32]) -> Result<Loaded, Refusal> {
-    let answer = read_file(file, room(words));
+pub fn load_in(
+    shape: Shape,
+    file: &[u8],
+    enums: &[u8],
+    words: &mut [u32],
+) -> Result<Loaded, Refusal> {
+    let answer = read_file(file, enums, room(words));
     match answer {
         Ok(read) => {
             fill(shape, words, &read.rows);
@@ -61,20 +67,24 @@ pub fn load_in(shape: Shape, file: &[u8], words: &mut [u32]) -> Result<Loaded, R
     }
 }
 
+/// "The builder and `rows` lend an empty one."
+pub const NO_ENUMS: &[u8] = &[];
+
 /// The asset builder's number: refusal times 2 to the 32 plus place, or the row count.
 pub fn builder_answer(file: &[u8]) -> u64 {
     let mut words = vec![0; BUILDER_ROWS * WORDS_PER_ROW];
-    match load(file, &mut words) {
+    match load(file, NO_ENUMS, &mut words) {
         Ok(loaded) => loaded.rows as u64,
         Err(refusal) => (u64::from(refusal.number) << 32) + refusal.place as u64,
     }
 }
 
-/// Reads a file into at most as many rows as there is room for.
-pub fn read_file(file: &[u8], room: usize) -> Result<Read, Refusal> {
+/// Reads a file into at most as many rows as there is room for; the list of enums is judged before all else.
+pub fn read_file(file: &[u8], enums: &[u8], room: usize) -> Result<Read, Refusal> {
+    let enums = EnumList::read(enums)?;
     check_header(file)?;
     let mut cursor = Cursor::new(file, HEADER_BYTES);
-    let readers = read_readers(&mut cursor)?;
+    let readers = read_readers(&mut cursor, &enums)?;
     let shared = read_count(&mut cursor, MOST_SHARED)?;
     let mut walk = Walk::new(cursor, &readers, shared, room);
     let anything = Type::plain(OBJECT);
@@ -108,17 +118,17 @@ fn read_count(cursor: &mut Cursor, most: u32) -> Result<u32, Refusal> {
     Ok(count)
 }
 
-fn read_readers(cursor: &mut Cursor) -> Result<Vec<Type>, Refusal> {
+fn read_readers(cursor: &mut Cursor, enums: &EnumList) -> Result<Vec<Type>, Refusal> {
     let count = read_count(cursor, MOST_READERS)?;
     let mut readers = Vec::new();
     for _ in 0..count {
-        readers.push(read_reader(cursor)?);
+        readers.push(read_reader(cursor, enums)?);
     }
     Ok(readers)
 }
 
 /// One reader: its name is judged in full before its version.
-fn read_reader(cursor: &mut Cursor) -> Result<Type, Refusal> {
+fn read_reader(cursor: &mut Cursor, enums: &EnumList) -> Result<Type, Refusal> {
     let length_place = cursor.at;
     let length = read_count(cursor, LONGEST_NAME)?;
     demand(length > 0, TOO_LARGE, length_place)?;
@@ -127,7 +137,7 @@ fn read_reader(cursor: &mut Cursor) -> Result<Type, Refusal> {
     let Some(name) = parse_name(text) else {
         return refuse(NAME_GRAMMAR, name_place);
     };
-    let Some(target) = reader_target(&name) else {
+    let Some(target) = reader_target(&name, enums) else {
         return refuse(NAME_HEAD, name_place);
     };
     let version_place = cursor.at;

@@ -100,6 +100,11 @@ impl<'n> Parser<'n> {
     }
 }
 
+/// "The head is one or more ASCII letters, digits, `.`, `_`, `+`."
+pub fn is_head(bytes: &[u8]) -> bool {
+    !bytes.is_empty() && bytes.iter().all(|&byte| is_head_byte(byte))
+}
+
 fn is_head_byte(byte: u8) -> bool {
     byte.is_ascii_alphanumeric() || b"._+".contains(&byte)
 }

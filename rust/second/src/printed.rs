@@ -1,6 +1,6 @@
 //! What the programs `rows` and `shorten` print.
 
-use crate::load::{load, Loaded, BUILDER_ROWS};
+use crate::load::{load, Loaded, BUILDER_ROWS, NO_ENUMS};
 use crate::refusal::Refusal;
 use crate::rewrite::rewrite;
 use crate::row::WORDS_PER_ROW;
@@ -15,11 +15,16 @@ pub const INPUT_TOO_LONG: Refusal = Refusal {
 
 /// What `rows` prints for an input.
 pub fn printed_rows(input: &[u8]) -> String {
+    printed_rows_with(NO_ENUMS, input)
+}
+
+/// What it would print with a list of enums lent.
+pub fn printed_rows_with(enums: &[u8], input: &[u8]) -> String {
     let mut words = vec![0; BUILDER_ROWS * WORDS_PER_ROW];
     let answer = if input.len() > LONGEST_INPUT {
         Err(INPUT_TOO_LONG)
     } else {
-        load(input, &mut words)
+        load(input, enums, &mut words)
     };
     match answer {
         Ok(loaded) => row_lines(&loaded, &words),
@@ -35,7 +40,7 @@ pub fn shortened(input: &[u8]) -> Vec<u8> {
     let answer = if input.len() > LONGEST_INPUT {
         Err(INPUT_TOO_LONG)
     } else {
-        rewrite(input, &mut words, &mut out)
+        rewrite(input, NO_ENUMS, &mut words, &mut out)
     };
     match answer {
         Ok(length) => out[..length].to_vec(),

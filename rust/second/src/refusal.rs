@@ -31,6 +31,7 @@ pub const OUTPUT_TOO_SMALL: u32 = 21;
 pub const FONT_RULE: u32 = 22;
 pub const NO_SUCH_ROW: u32 = 23;
 pub const OTHER_KIND: u32 = 24;
+pub const ENUM_LIST: u32 = 32;
 
 /// A refusal as the answer of any reading.
 pub fn refuse<T>(number: u32, place: usize) -> Result<T, Refusal> {

@@ -8,8 +8,13 @@ use crate::table::{fill, room, Shape};
 /// Writes the shortened file to the start of the output and answers its length.
 ///
 /// The words are left as a load of the input leaves them, but all zero after any refusal.
-pub fn rewrite(file: &[u8], words: &mut [u32], out: &mut [u8]) -> Result<usize, Refusal> {
-    let answer = read_file(file, room(words));
+pub fn rewrite(
+    file: &[u8],
+    enums: &[u8],
+    words: &mut [u32],
+    out: &mut [u8],
+) -> Result<usize, Refusal> {
+    let answer = read_file(file, enums, room(words));
     words.fill(0);
     let read = answer?;
     let shortened = shorten(file, &read);

@@ -1,30 +1,65 @@
 //! Target types: what a reader makes and what a place declares.
 
+use crate::enums::EnumList;
 use crate::kinds::{
-    argument_count, is_value_type, kind_of_reader, kind_of_target, ENUM, LIST, NULLABLE, OBJECT,
-    TEXTURE, TEXTURE2D,
+    argument_count, fixed_size, is_value_type, kind_of_reader, kind_of_target, ENUM, LIST,
+    NULLABLE, OBJECT, TEXTURE, TEXTURE2D,
 };
 use crate::name::Name;
 
-/// A target type; an enum's own name is dropped because no place can declare an enum.
+/// "EnumReader for a listed name takes that size, for others four."
+const UNLISTED_SIZE: usize = 4;
+
+/// A target type.
 #[derive(Clone, Debug, PartialEq, Eq)]
 pub struct Type {
     pub kind: u32,
     pub arguments: Vec<Type>,
+    /// Of an enum only.
+    enumeration: Option<Enumeration>,
+}
+
+/// What tells one enum from another, and its size.
+#[derive(Clone, Debug, PartialEq, Eq)]
+struct Enumeration {
+    name: Vec<u8>,
+    size: usize,
 }
 
 impl Type {
     /// A type without arguments.
     pub fn plain(kind: u32) -> Type {
-        let arguments = Vec::new();
-        Type { kind, arguments }
+        Type::of(kind, Vec::new())
+    }
+
+    pub fn of(kind: u32, arguments: Vec<Type>) -> Type {
+        let enumeration = None;
+        Type {
+            kind,
+            arguments,
+            enumeration,
+        }
     }
 
     /// The list of a type without arguments.
     pub fn list_of(kind: u32) -> Type {
-        let arguments = vec![Type::plain(kind)];
-        let kind = LIST;
-        Type { kind, arguments }
+        Type::of(LIST, vec![Type::plain(kind)])
+    }
+
+    fn enumeration(name: &[u8], size: usize) -> Type {
+        let name = name.to_vec();
+        Type {
+            enumeration: Some(Enumeration { name, size }),
+            ..Type::plain(ENUM)
+        }
+    }
+
+    /// The size of a value of this type, if all take the same number of bytes.
+    pub fn size(&self) -> Option<usize> {
+        match &self.enumeration {
+            Some(enumeration) => Some(enumeration.size),
+            None => fixed_size(self.kind),
+        }
     }
 
     /// Object and Texture readers are never invoked.
@@ -43,43 +78,48 @@ impl Type {
 }
 
 /// The target type of a reader, or nothing where a head or an argument is not lawful.
-pub fn reader_target(name: &Name) -> Option<Type> {
+pub fn reader_target(name: &Name, enums: &EnumList) -> Option<Type> {
     let kind = kind_of_reader(name.head)?;
     if name.arguments.len() != argument_count(kind) {
         return None;
     }
     if kind == ENUM {
-        return enum_target(&name.arguments[0]);
+        return enum_target(&name.arguments[0], enums);
     }
-    with_arguments(kind, name)
+    with_arguments(kind, name, enums)
 }
 
 /// An enum has any head that is no target name, and no arguments.
-fn enum_target(name: &Name) -> Option<Type> {
+fn enum_target(name: &Name, enums: &EnumList) -> Option<Type> {
     let is_target_name = kind_of_target(name.head).is_some();
     if is_target_name || !name.arguments.is_empty() {
         return None;
     }
-    Some(Type::plain(ENUM))
+    let size = enums.size(name.head).unwrap_or(UNLISTED_SIZE);
+    Some(Type::enumeration(name.head, size))
 }
 
-fn argument_type(name: &Name) -> Option<Type> {
+/// "A listed name is a known value type in arguments."
+fn argument_type(name: &Name, enums: &EnumList) -> Option<Type> {
+    if enums.size(name.head).is_some() {
+        return enum_target(name, enums);
+    }
     let kind = kind_of_target(name.head)?;
     if name.arguments.len() != argument_count(kind) {
         return None;
     }
-    with_arguments(kind, name)
+    with_arguments(kind, name, enums)
 }
 
-fn with_arguments(kind: u32, name: &Name) -> Option<Type> {
+fn with_arguments(kind: u32, name: &Name, enums: &EnumList) -> Option<Type> {
     let mut arguments = Vec::new();
     for argument in &name.arguments {
-        arguments.push(argument_type(argument)?);
+        arguments.push(argument_type(argument, enums)?);
     }
     if kind == NULLABLE && !may_be_nullable(arguments[0].kind) {
         return None;
     }
-    Some(Type { kind, arguments })
+    Some(Type::of(kind, arguments))
 }
 
 fn may_be_nullable(kind: u32) -> bool {

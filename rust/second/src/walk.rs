@@ -3,9 +3,9 @@
 use crate::cursor::Cursor;
 use crate::image::{level_size, longest_chain, LAST_FORMAT, LONGEST_SIDE};
 use crate::kinds::{
-    fixed_size, is_value_type, ARRAY, BOOLEAN, CHAR, DATE_TIME, DECIMAL, DICTIONARY, IMAGE_LEVEL,
-    INT32, LIST, NULL, NULLABLE, PAGE, RECTANGLE, SHARED_REFERENCE, SINGLE, SPRITE_FONT, STRING,
-    TEXTURE2D, VECTOR3,
+    is_value_type, ARRAY, BOOLEAN, CHAR, DATE_TIME, DECIMAL, DICTIONARY, IMAGE_LEVEL, INT32, LIST,
+    NULL, NULLABLE, PAGE, RECTANGLE, SHARED_REFERENCE, SINGLE, SPRITE_FONT, STRING, TEXTURE2D,
+    VECTOR3,
 };
 use crate::refusal::{
     demand, refuse, Refusal, BAD_VALUE, FONT_RULE, NOT_DECLARED, NO_READER, NO_RESOURCE,
@@ -168,18 +168,18 @@ impl<'f> Walk<'f> {
             TEXTURE2D => self.texture(spot),
             SPRITE_FONT => self.font(spot),
             PAGE => self.page(spot),
-            kind => self.fixed(kind),
+            _ => self.fixed(target),
         }
     }
 
     /// A value of fixed size is one field.
-    fn fixed(&mut self, kind: u32) -> Children {
-        let Some(size) = fixed_size(kind) else {
-            unreachable!("kind {kind} has no raw value");
+    fn fixed(&mut self, target: &Type) -> Children {
+        let Some(size) = target.size() else {
+            unreachable!("kind {} has no raw value", target.kind);
         };
         let start = self.cursor.at;
         let bytes = self.cursor.take(size)?;
-        let lawful = match kind {
+        let lawful = match target.kind {
             BOOLEAN => bytes[0] <= 1,
             DATE_TIME => is_date_time(bytes),
             DECIMAL => is_decimal(bytes),
@@ -280,11 +280,7 @@ impl<'f> Walk<'f> {
         self.raw(&Type::plain(INT32), spot)?;
         self.raw(&Type::plain(SINGLE), spot)?;
         let kerning = self.object(&Type::list_of(VECTOR3), spot)?;
-        let default = Type {
-            kind: NULLABLE,
-            arguments: vec![Type::plain(CHAR)],
-        };
-        self.raw(&default, spot)?;
+        self.raw(&Type::of(NULLABLE, vec![Type::plain(CHAR)]), spot)?;
 
         let objects = [texture, glyphs, cropping, characters, kerning];
         let lists = [glyphs, cropping, characters, kerning];

@@ -91,7 +91,7 @@ const ROOM: usize = 1024;
 /// The words of a sample, with room for 1,024 rows and three words in excess, and how many rows are used.
 fn loaded(shape: Shape, file: &[u8]) -> (Vec<u32>, usize) {
     let mut words = vec![7; WORDS_PER_ROW * ROOM + 3];
-    let used = load_in(shape, file, &mut words).map_or(0, |it| it.rows);
+    let used = load_in(shape, file, &[], &mut words).map_or(0, |it| it.rows);
     (words, used)
 }
 

@@ -36,14 +36,14 @@ fn columns_are_as_long_as_the_room() {
     ];
     for excess in 0..WORDS_PER_ROW {
         let mut words = vec![GARBAGE; 3 * WORDS_PER_ROW + excess];
-        let loaded = load_in(Shape::Columns, &file, &mut words).expect("a lawful file");
+        let loaded = load_in(Shape::Columns, &file, &[], &mut words).expect("a lawful file");
         assert_eq!(loaded.rows, 3);
         let (columns, rest) = words.split_at(3 * WORDS_PER_ROW);
         assert_eq!(columns, just.concat());
         assert_eq!(rest, vec![0; excess]);
 
         let mut words = vec![GARBAGE; 4 * WORDS_PER_ROW + excess];
-        load_in(Shape::Columns, &file, &mut words).expect("a lawful file");
+        load_in(Shape::Columns, &file, &[], &mut words).expect("a lawful file");
         let (columns, rest) = words.split_at(4 * WORDS_PER_ROW);
         assert_eq!(columns, just.map(|[a, b, c]| [a, b, c, 0]).concat());
         assert_eq!(rest, vec![0; excess]);
@@ -59,10 +59,10 @@ fn files_a_and_b() {
     ];
     for (file, row) in cases {
         let mut words = [GARBAGE; WORDS_PER_ROW];
-        load_in(Shape::Columns, &file, &mut words).expect("a lawful file");
+        load_in(Shape::Columns, &file, &[], &mut words).expect("a lawful file");
         assert_eq!(words, row);
         let mut words = [GARBAGE; 2 * WORDS_PER_ROW];
-        load_in(Shape::Columns, &file, &mut words).expect("a lawful file");
+        load_in(Shape::Columns, &file, &[], &mut words).expect("a lawful file");
         assert_eq!(words.as_slice(), row.map(|word| [word, 0]).concat());
     }
 }
@@ -74,7 +74,7 @@ fn all_words_are_zero_after_a_refusal() {
     let place = file.len() - 1;
     for count in 2 * WORDS_PER_ROW..3 * WORDS_PER_ROW {
         let mut words = vec![GARBAGE; count];
-        let answer = load_in(Shape::Columns, &file, &mut words);
+        let answer = load_in(Shape::Columns, &file, &[], &mut words);
         assert_eq!(answer, Err(Refusal { number: 19, place }));
         assert_eq!(words, vec![0; count]);
     }
@@ -85,7 +85,7 @@ fn all_words_are_zero_after_a_refusal() {
 fn a_column_has_at_most_65536_words() {
     let file = list_file();
     let mut words = vec![GARBAGE; WORDS_PER_ROW * 65_537];
-    load_in(Shape::Columns, &file, &mut words).expect("a lawful file");
+    load_in(Shape::Columns, &file, &[], &mut words).expect("a lawful file");
     let (columns, rest) = words.split_at(WORDS_PER_ROW * 65_536);
     let kinds_and_bytes = [columns[..4].to_vec(), columns[65_536..65_540].to_vec()];
     let first = file.len() as u32 - 7;
@@ -101,9 +101,9 @@ fn rows_and_columns_hold_the_same_rows() {
         for count in [0, 6, 7, 8, 20, 100, WORDS_PER_ROW * 1024 + 5] {
             let mut by_rows = vec![GARBAGE; count];
             let mut by_columns = vec![!GARBAGE; count];
-            let answer = load(&sample.bytes, &mut by_rows);
+            let answer = load(&sample.bytes, &[], &mut by_rows);
             let told = format!("{} with {count} words", sample.name);
-            let columns_answer = load_in(Shape::Columns, &sample.bytes, &mut by_columns);
+            let columns_answer = load_in(Shape::Columns, &sample.bytes, &[], &mut by_columns);
             assert_eq!(columns_answer, answer, "{told}");
             let rows = Table::new(Shape::Rows, &by_rows);
             let columns = Table::new(Shape::Columns, &by_columns);

@@ -23,7 +23,7 @@ fn refused<T>(number: u32, place: usize) -> Result<T, Refusal> {
 /// Loads with room for two rows and checks that a refusal leaves zeros.
 fn answer(file: &[u8]) -> Result<Loaded, Refusal> {
     let mut words = [7; 15];
-    let answer = load(file, &mut words);
+    let answer = load(file, &[], &mut words);
     if answer.is_err() {
         assert_eq!(words, [0; 15]);
     }
@@ -33,7 +33,7 @@ fn answer(file: &[u8]) -> Result<Loaded, Refusal> {
 #[test]
 fn p1_to_p3_rows() {
     let mut words = [7; 15];
-    let loaded = load(&A, &mut words);
+    let loaded = load(&A, &[], &mut words);
     let expected = Loaded {
         rows: 1,
         readers: 0,
@@ -44,11 +44,11 @@ fn p1_to_p3_rows() {
     assert_eq!(words, [0, 12, 1, 0, 0, 0, 1, 0, 0, 0, 0, 0, 0, 0, 0]);
 
     let mut words = [7; 6];
-    assert_eq!(load(&A, &mut words), refused(19, 12));
+    assert_eq!(load(&A, &[], &mut words), refused(19, 12));
     assert_eq!(words, [0; 6]);
 
     let mut words = [7; 7];
-    assert!(load(&b(), &mut words).is_ok());
+    assert!(load(&b(), &[], &mut words).is_ok());
     assert_eq!(words, [13, 61, 4, 0, 0, 1, 1]);
 }
 
@@ -66,7 +66,7 @@ fn p5_to_p10_refusals() {
     assert_eq!(answer(&changed(12, 1)), refused(13, 12));
     assert_eq!(answer(&changed(11, 1)), refused(1, 13));
     let mut words = [7; 7];
-    assert_eq!(load(&changed(11, 1), &mut words), refused(19, 13));
+    assert_eq!(load(&changed(11, 1), &[], &mut words), refused(19, 13));
     let mut longer = changed(6, 0x0E);
     longer.push(0);
     assert_eq!(answer(&longer), refused(20, 13));
@@ -183,7 +183,7 @@ fn long_file(length: usize) -> Vec<u8> {
 fn the_longest_file() {
     let mut words = [7; 7];
     let longest = long_file(16_777_216);
-    assert!(load(&longest, &mut words).is_ok());
+    assert!(load(&longest, &[], &mut words).is_ok());
     assert_eq!(words, [13, 61, 16_777_216 - 61, 0, 0, 1, 1]);
     assert_eq!(answer(&long_file(16_777_217)), refused(9, 0));
     assert_eq!(answer(&vec![0; 16_777_217]), refused(9, 0));
@@ -204,7 +204,7 @@ fn room_is_at_most_65536_rows() {
         file
     };
     let mut words = vec![7; WORDS_PER_ROW * 65_600];
-    let loaded = load(&file(65_535), &mut words).expect("it fits");
+    let loaded = load(&file(65_535), &[], &mut words).expect("it fits");
     assert_eq!(loaded.rows, 65_536);
     assert_eq!(words[6], 65_536);
     assert!(words[WORDS_PER_ROW * 65_536..]
@@ -212,7 +212,7 @@ fn room_is_at_most_65536_rows() {
         .all(|&word| word == 0));
     let too_many = file(65_536);
     let last = too_many.len() - 1;
-    assert_eq!(load(&too_many, &mut words), refused(19, last));
+    assert_eq!(load(&too_many, &[], &mut words), refused(19, last));
     assert!(words.iter().all(|&word| word == 0));
 }
 

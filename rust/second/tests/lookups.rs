@@ -35,7 +35,7 @@ fn loaded(shape: Shape) -> (Vec<u8>, Vec<u32>) {
     ];
     let file = write(&file(&names, object(1, list(elements)), vec![])).bytes;
     let mut words = vec![0; WORDS_PER_ROW * 11 + 6];
-    load_in(shape, &file, &mut words).expect("a lawful file");
+    load_in(shape, &file, &[], &mut words).expect("a lawful file");
     (file, words)
 }
 

@@ -17,7 +17,7 @@ fn file_with_reader(name: &[u8]) -> Vec<u8> {
 /// The refusal of a file with this reader name, 0 for none.
 fn verdict(name: &[u8]) -> u32 {
     let mut words = [9; 7];
-    match load(&file_with_reader(name), &mut words) {
+    match load(&file_with_reader(name), &[], &mut words) {
         Ok(_) => 0,
         Err(Refusal { number, place }) => {
             assert_eq!(place, 13, "a name is judged at its first byte");

@@ -9,7 +9,7 @@ use second::{Refusal, WORDS_PER_ROW};
 
 /// The padding that is told of a file, with room for 1,024 rows.
 fn told(file: &[u8]) -> usize {
-    padding_told(load(file, &mut vec![7; WORDS_PER_ROW * 1024]))
+    padding_told(load(file, &[], &mut vec![7; WORDS_PER_ROW * 1024]))
 }
 
 /// The number in so many bytes.
@@ -70,9 +70,9 @@ fn the_total_is_what_a_rewrite_takes_away() {
         let file = sample.bytes;
         let mut words = vec![7; WORDS_PER_ROW * 1024];
         for shape in Shape::BOTH {
-            let answer = load_in(shape, &file, &mut words);
+            let answer = load_in(shape, &file, &[], &mut words);
             let mut out = vec![0; file.len()];
-            let Ok(length) = rewrite(&file, &mut words, &mut out) else {
+            let Ok(length) = rewrite(&file, &[], &mut words, &mut out) else {
                 assert_eq!(padding_told(answer), 0, "{}", sample.name);
                 continue;
             };
@@ -92,7 +92,7 @@ fn refused_files_report_0() {
     pad_file(5, &mut file);
     let bytes = write(&file).bytes;
     let refused = |words: usize, bytes: &[u8], number| {
-        let answer = load(bytes, &mut vec![7; words]);
+        let answer = load(bytes, &[], &mut vec![7; words]);
         let found = answer.map_err(|Refusal { number, .. }| number);
         assert_eq!(found.map(|_| ()), Err(number));
         assert_eq!(padding_told(answer), 0, "refusal {number}");

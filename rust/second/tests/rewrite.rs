@@ -18,12 +18,12 @@ fn p4_the_padded_text_count() {
     let padded = padded_b();
     assert_eq!(padded[62..64], [0x82, 0x00]);
     let mut words = [7; 10];
-    assert!(load(&padded, &mut words).is_ok());
+    assert!(load(&padded, &[], &mut words).is_ok());
     assert_eq!(words, [13, 61, 5, 0, 0, 1, 1, 0, 0, 0]);
 
     let mut words = [7; 10];
     let mut out = [0xEE; 80];
-    assert_eq!(rewrite(&padded, &mut words, &mut out), Ok(65));
+    assert_eq!(rewrite(&padded, &[], &mut words, &mut out), Ok(65));
     assert_eq!(out[..65], b[..]);
     assert_eq!(out[65..], [0xEE; 15]);
     assert_eq!(words, [13, 61, 5, 0, 0, 1, 1, 0, 0, 0]);
@@ -32,14 +32,17 @@ fn p4_the_padded_text_count() {
 #[test]
 fn an_output_of_just_the_bytes_needed() {
     let mut out = [0xEE; 65];
-    assert_eq!(rewrite(&padded_b(), &mut [0; 7], &mut out), Ok(65));
+    assert_eq!(rewrite(&padded_b(), &[], &mut [0; 7], &mut out), Ok(65));
     let mut words = [7; 7];
     let mut out = [0xEE; 64];
     let refusal = Refusal {
         number: 21,
         place: 65,
     };
-    assert_eq!(rewrite(&padded_b(), &mut words, &mut out), Err(refusal));
+    assert_eq!(
+        rewrite(&padded_b(), &[], &mut words, &mut out),
+        Err(refusal)
+    );
     assert_eq!(out, [0xEE; 64]);
     assert_eq!(words, [0; 7]);
 }
@@ -53,14 +56,14 @@ fn load_faults_come_before_the_output() {
         number: 13,
         place: 12,
     };
-    assert_eq!(rewrite(&file, &mut words, &mut []), Err(refusal));
+    assert_eq!(rewrite(&file, &[], &mut words, &mut []), Err(refusal));
     assert_eq!(words, [0; 7]);
     let no_room = Refusal {
         number: 19,
         place: 12,
     };
     file[12] = 0;
-    assert_eq!(rewrite(&file, &mut [], &mut [0; 99]), Err(no_room));
+    assert_eq!(rewrite(&file, &[], &mut [], &mut [0; 99]), Err(no_room));
 }
 
 #[test]
@@ -73,9 +76,9 @@ fn every_lawful_sample_in_every_padding_becomes_its_shortest_form() {
             let input = write(&padded).bytes;
             let mut words = vec![7; WORDS_PER_ROW * 64];
             let mut expected_words = words.clone();
-            assert!(load(&input, &mut expected_words).is_ok());
+            assert!(load(&input, &[], &mut expected_words).is_ok());
             let mut out = vec![0xEE; input.len()];
-            let length = rewrite(&input, &mut words, &mut out);
+            let length = rewrite(&input, &[], &mut words, &mut out);
             assert_eq!(length, Ok(shortest.len()), "{name}");
             assert_eq!(out[..shortest.len()], shortest[..], "{name}");
             assert!(out[shortest.len()..].iter().all(|&byte| byte == 0xEE));

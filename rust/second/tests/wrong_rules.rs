@@ -89,15 +89,58 @@ const WRONG: &[Wrong] = &[
         right: "0x80..=0x3FFF => 2,",
         wrong: "0x80..=0x3FFF => 1,",
     },
+    Wrong {
+        what: "an enum's listed size ignored",
+        file: "types.rs",
+        right: "let size = enums.size(name.head).unwrap_or(UNLISTED_SIZE);",
+        wrong: "let size = UNLISTED_SIZE;",
+    },
+    Wrong {
+        what: "32 after the file's length",
+        file: "load.rs",
+        right: "let enums = EnumList::read(enums)?;\n    check_header(file)?;",
+        wrong: "check_header(file)?;\n    let enums = EnumList::read(enums)?;",
+    },
+    Wrong {
+        what: "two enums of one size taken for one type",
+        file: "types.rs",
+        right: "let name = name.to_vec();",
+        wrong: "let name = Vec::new();",
+    },
+    Wrong {
+        what: "a listed target name taken",
+        file: "enums.rs",
+        right: "is_head(name) && !is_target_name && SIZES.contains(size)",
+        wrong: "is_head(name) && SIZES.contains(size)",
+    },
+    Wrong {
+        what: "a name listed twice taken",
+        file: "enums.rs",
+        right: "let listed_earlier = sizes.insert(name, size).is_some();",
+        wrong: "let listed_earlier = sizes.insert(name, size).is_some() && false;",
+    },
+    Wrong {
+        what: "32 placed at the entry's byte",
+        file: "enums.rs",
+        right: "number += 1;",
+        wrong: "number += 2 + name.len();",
+    },
+    Wrong {
+        what: "a listed name with arguments taken",
+        file: "types.rs",
+        right: "if is_target_name || !name.arguments.is_empty() {",
+        wrong:
+            "if is_target_name || !name.arguments.is_empty() && enums.size(name.head).is_none() {",
+    },
 ];
 
 /// Prints the name of every file in the folder whose rows or padding are not those beside it.
 const PROBE: &str = r#"
 /// Whether the padding that is told of a file is that beside it, 0 without a file for it.
-fn tells_padding(file: &[u8], path: &std::path::Path) -> bool {
+fn tells_padding(file: &[u8], enums: &[u8], path: &std::path::Path) -> bool {
     let line = std::fs::read_to_string(path.with_extension("padding"));
     let kept = line.unwrap_or("0\n".to_string());
-    let answer = load(file, &mut vec![0; 1024 * WORDS_PER_ROW]);
+    let answer = load(file, enums, &mut vec![0; 1024 * WORDS_PER_ROW]);
     format!("{}\n", padding_told(answer)) == kept
 }
 
@@ -107,8 +150,10 @@ fn main() {
         let path = entry.expect("a file").path();
         if path.extension().is_some_and(|it| it == "xnb") {
             let file = std::fs::read(&path).expect("a sample");
+            let enums = std::fs::read(path.with_extension("enums")).unwrap_or_default();
             let rows = std::fs::read_to_string(path.with_extension("rows")).expect("its rows");
-            if printed_rows(&file) != rows || !tells_padding(&file, &path) {
+            let prints_rows = printed_rows_with(&enums, &file) == rows;
+            if !prints_rows || !tells_padding(&file, &enums, &path) {
                 println!("{}", path.file_stem().expect("a name").to_string_lossy());
             }
         }

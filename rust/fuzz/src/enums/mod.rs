@@ -1,0 +1,182 @@
+//! Files with a list of enum types that is lent with them: Req 02.
+
+mod limits;
+mod lists;
+mod sizes;
+mod types;
+
+pub use limits::{limits, EnumLimit};
+
+use crate::maker::{make, Made, Planted};
+use crate::random::Random;
+use crate::shape::{Shape, ENUM};
+use crate::{aimed, blind, lawful_case, some_words, Case, Known, GENEROUS_WORDS};
+use corpus::writer::{write, Field, Role, Written};
+
+/// A listed enum type.
+#[derive(Clone, Debug, PartialEq, Eq)]
+pub struct Listed {
+    pub name: String,
+    pub size: u8,
+}
+
+/// A file to be loaded, and the list that is lent with it.
+#[derive(Clone, Debug)]
+pub struct EnumCase {
+    pub case: Case,
+    /// The lent list.
+    pub enums: Vec<u8>,
+}
+
+/// The case of a seed; equal seeds give equal cases.
+pub fn case(seed: u64) -> EnumCase {
+    let mut random = Random::new(seed);
+    let enums = lists::some_enums(&mut random);
+    match random.below(20) {
+        0..=5 => {
+            let written = write(&make(&mut random, Planted::Nothing, &enums).file);
+            with_list(lawful_case(&mut random, written), &enums)
+        }
+        6..=9 => with_list(aimed::aimed_case(&mut random, &enums), &enums),
+        10..=12 => with_damaged_list(&mut random, &enums),
+        13..=14 => without_an_argument(&mut random, &enums),
+        15 if random.chance(50) => types::some_case(&mut random, &enums),
+        15 => sizes::some_case(&mut random, &enums),
+        16..=17 => with_list(damaged_file(&mut random, &enums), &enums),
+        18 => with_another_size(&mut random, &enums),
+        _ => EnumCase {
+            case: unknown(damaged_file(&mut random, &enums)),
+            enums: lists::blindly_damaged(&mut random, &enums),
+        },
+    }
+}
+
+/// The shape with some of its values exchanged for listed enums.
+pub fn with_enums(random: &mut Random, shape: Shape, enums: &[Listed]) -> Shape {
+    if enums.is_empty() {
+        return shape;
+    }
+    let is_value = shape.is_raw() || shape.kind == ENUM;
+    if shape.arguments.is_empty() && is_value && random.chance(60) {
+        let listed = enums[random.below(enums.len())].clone();
+        return Shape {
+            listed: Some(listed),
+            ..Shape::plain(ENUM)
+        };
+    }
+    let arguments = shape.arguments.into_iter();
+    let arguments = arguments.map(|argument| with_enums(random, argument, enums));
+    Shape {
+        arguments: arguments.collect(),
+        ..shape
+    }
+}
+
+fn with_list(case: Case, enums: &[Listed]) -> EnumCase {
+    let enums = lists::bytes_of(enums);
+    EnumCase { case, enums }
+}
+
+fn unknown(case: Case) -> Case {
+    Case {
+        known: None,
+        ..case
+    }
+}
+
+/// A file that is damaged at random, or noise.
+fn damaged_file(random: &mut Random, enums: &[Listed]) -> Case {
+    let written = write(&make(random, Planted::Nothing, enums).file);
+    let bytes = if random.chance(5) {
+        blind::noise(random)
+    } else {
+        blind::damaged(random, &written)
+    };
+    Case {
+        bytes,
+        words: some_words(random, written.rows.len()),
+        known: None,
+    }
+}
+
+/// 32: a list with an unlawful entry, before whatever is wrong with the file or the words.
+fn with_damaged_list(random: &mut Random, enums: &[Listed]) -> EnumCase {
+    let mut case = match random.below(4) {
+        0 => aimed::aimed_case(random, enums),
+        1 => damaged_file(random, enums),
+        2 => {
+            let count = random.below(14);
+            let bytes = random.bytes(count);
+            let words = GENEROUS_WORDS;
+            let known = None;
+            Case {
+                bytes,
+                words,
+                known,
+            }
+        }
+        _ => {
+            let written = write(&make(random, Planted::Nothing, enums).file);
+            lawful_case(random, written)
+        }
+    };
+    if random.chance(30) {
+        case.words = random.below(20);
+    }
+    let (enums, place) = lists::damaged(random, enums);
+    case.known = Some(Known::Refused { number: 32, place });
+    EnumCase { case, enums }
+}
+
+/// 11: a name that stands as an argument is not listed, or listed with another byte.
+///
+/// It is placed at the first byte of the first reader name that has it; a file without such a name is taken.
+fn without_an_argument(random: &mut Random, enums: &[Listed]) -> EnumCase {
+    let made = make(random, Planted::Nothing, enums);
+    let written = write(&made.file);
+    let missing = random.below(enums.len());
+    let Some(reader) = first_with_argument(&made, &enums[missing].name) else {
+        return with_list(lawful_case(random, written), enums);
+    };
+    let place = name_place(&written, reader);
+    let mut others = enums.to_vec();
+    let listed = others.remove(missing);
+    if random.chance(70) {
+        others.extend(lists::differing(random, &listed, enums));
+    }
+    let mut case = lawful_case(random, written);
+    case.known = Some(Known::Refused { number: 11, place });
+    with_list(case, &others)
+}
+
+/// The number of the first reader that has this listed name in its arguments.
+fn first_with_argument(made: &Made, name: &str) -> Option<usize> {
+    made.targets
+        .iter()
+        .position(|target| has_argument(target, name))
+}
+
+fn has_argument(shape: &Shape, name: &str) -> bool {
+    let is_it = |argument: &Shape| argument.listed.as_ref().is_some_and(|it| it.name == name);
+    shape
+        .arguments
+        .iter()
+        .any(|argument| is_it(argument) || has_argument(argument, name))
+}
+
+/// Where a reader's name starts in the file.
+fn name_place(written: &Written, reader: usize) -> usize {
+    let is_length = |field: &&Field| field.role == Role::NameLength;
+    let mut lengths = written.fields.iter().filter(is_length);
+    lengths.nth(reader).expect("every reader has a name").end
+}
+
+/// A lawful file under a list in which one enum has another size.
+fn with_another_size(random: &mut Random, enums: &[Listed]) -> EnumCase {
+    let written = write(&make(random, Planted::Nothing, enums).file);
+    let case = unknown(lawful_case(random, written));
+    let mut enums = enums.to_vec();
+    let chosen = random.below(enums.len());
+    enums[chosen].size = lists::some_size(random);
+    with_list(case, &enums)
+}
