@@ -1,8 +1,8 @@
 //! The entries with refusals as errors.
 
+use crate::loader::Loader;
 use crate::raw;
 use crate::refusal::Refused;
-use crate::row::full_words;
 use crate::shape::Shape;
 
 /// What an accepted file holds.
@@ -31,29 +31,19 @@ pub fn count_rows(file: &[u8]) -> Result<usize, Refused> {
 ///
 /// The words are left as by a load of the file; the output is untouched after a refusal.
 pub fn rewrite(file: &[u8], words: &mut [u32], out: &mut [u8]) -> Result<usize, Refused> {
-    unpacked(raw::rewrite(file, words, out))
+    Loader::new().rewrite(file, words, out)
 }
 
 /// The shortest form of a file: it is shorter by the file's [`padding`](crate::Grid::padding).
 pub fn shorten(file: &[u8]) -> Result<Vec<u8>, Refused> {
-    // It is never longer than the file.
-    let mut out = vec![0; file.len()];
-    let length = rewrite(file, &mut full_words(file), &mut out)?;
-    out.truncate(length);
-    Ok(out)
+    Loader::new().shorten(file)
 }
 
 impl Shape {
     /// Loads a file into lent words, [`WORDS_PER_ROW`](crate::WORDS_PER_ROW) to a row; every other word is zero,
     /// and all are after a refusal.
     pub fn load(self, file: &[u8], words: &mut [u32]) -> Result<Loaded, Refused> {
-        let answer = raw::load_table(self, file, words);
-        Ok(Loaded {
-            rows: unpacked(answer.packed)?,
-            readers: answer.readers as usize,
-            shared: answer.shared as usize,
-            padding: answer.padding as usize,
-        })
+        Loader::new().load_words(self, file, words)
     }
 
     /// The part of the file that a row names.
@@ -98,7 +88,7 @@ impl Shape {
 }
 
 /// An answer that holds a refusal above a place, or a number.
-fn unpacked(answer: u64) -> Result<usize, Refused> {
+pub(crate) fn unpacked(answer: u64) -> Result<usize, Refused> {
     let low = answer as u32;
     Refused::check((answer >> 32) as u32, low)?;
     Ok(low as usize)

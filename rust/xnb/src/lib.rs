@@ -10,8 +10,10 @@
 //! ```
 
 mod calls;
+mod enums;
 mod explain;
 mod kind;
+mod loader;
 pub mod marks;
 pub mod pack;
 pub mod raw;
@@ -23,8 +25,10 @@ mod shape;
 mod table;
 
 pub use calls::{count_rows, rewrite, shorten, Loaded, Time};
+pub use enums::{EnumFault, EnumList, EnumsRefused};
 pub use explain::{explain, Explanation, ReaderName};
 pub use kind::Kind;
+pub use loader::Loader;
 pub use pack::Pack;
 pub use refusal::{Refusal, Refused};
 pub use row::{Detail, Row, MOST_ROWS, WORDS_PER_ROW};

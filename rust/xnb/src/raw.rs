@@ -16,6 +16,8 @@ mod entries {
         pub fn xnb_load_rows(
             file: *const u8,
             file_length: usize,
+            enums: *const u8,
+            enums_length: usize,
             words: *mut u32,
             words_length: usize,
             readers: *mut u32,
@@ -25,6 +27,8 @@ mod entries {
         pub fn xnb_rewrite(
             file: *const u8,
             file_length: usize,
+            enums: *const u8,
+            enums_length: usize,
             words: *mut u32,
             words_length: usize,
             out: *mut u8,
@@ -69,6 +73,8 @@ mod entries {
         pub fn xnb_load_columns(
             file: *const u8,
             file_length: usize,
+            enums: *const u8,
+            enums_length: usize,
             words: *mut u32,
             words_length: usize,
             readers: *mut u32,
@@ -135,8 +141,8 @@ pub struct LoadAnswer {
     pub padding: u32,
 }
 
-/// Loads into lent words.
-pub fn load_table(shape: Shape, file: &[u8], words: &mut [u32]) -> LoadAnswer {
+/// Loads into lent words, with a list of enum types.
+pub fn load_table(shape: Shape, file: &[u8], enums: &[u8], words: &mut [u32]) -> LoadAnswer {
     let entry = match shape {
         Shape::Rows => entries::xnb_load_rows,
         Shape::Columns => entries::xnb_load_columns,
@@ -146,6 +152,8 @@ pub fn load_table(shape: Shape, file: &[u8], words: &mut [u32]) -> LoadAnswer {
         entry(
             file.as_ptr(),
             file.len(),
+            enums.as_ptr(),
+            enums.len(),
             words.as_mut_ptr(),
             words.len(),
             &mut readers,
@@ -162,11 +170,13 @@ pub fn load_table(shape: Shape, file: &[u8], words: &mut [u32]) -> LoadAnswer {
 }
 
 /// The packed answer; its lower half is the new length, or the place.
-pub fn rewrite(file: &[u8], words: &mut [u32], out: &mut [u8]) -> u64 {
+pub fn rewrite(file: &[u8], enums: &[u8], words: &mut [u32], out: &mut [u8]) -> u64 {
     unsafe {
         entries::xnb_rewrite(
             file.as_ptr(),
             file.len(),
+            enums.as_ptr(),
+            enums.len(),
             words.as_mut_ptr(),
             words.len(),
             out.as_mut_ptr(),

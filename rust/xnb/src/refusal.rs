@@ -30,6 +30,7 @@ pub enum Refusal {
     NoSuchRow = 23,
     OtherKind = 24,
     NoTableRoom = 31,
+    EnumEntry = 32,
     MissingMark = 51,
     ListTooShort = 52,
 }
@@ -37,7 +38,7 @@ pub enum Refusal {
 use Refusal::*;
 
 /// Each refusal with its rule in words, in order of number.
-const RULES: [(Refusal, &str); 27] = [
+const RULES: [(Refusal, &str); 28] = [
     (PastEnd, "a field runs past the end of the file"),
     (NotXnb, "the file does not begin with XNB"),
     (Platform, "the platform is not w, m or x"),
@@ -78,6 +79,10 @@ const RULES: [(Refusal, &str); 27] = [
     (NoSuchRow, "there is no such row"),
     (OtherKind, "the row is not of the kind asked for"),
     (NoTableRoom, "the table has no room for a file"),
+    (
+        EnumEntry,
+        "an entry of the enum list is cut short, or its size or its name breaks a rule",
+    ),
     (MissingMark, "a file's record does not begin with a mark"),
     (
         ListTooShort,
@@ -107,7 +112,8 @@ impl Refusal {
     }
 }
 
-/// A refusal and its place: a byte of the file, the bytes that a rewrite needs, or a row number.
+/// A refusal and its place: a byte of the file, the bytes that a rewrite needs, a row number, or the number of an entry
+/// of the enum list, counted from 0.
 #[derive(Clone, Copy, Debug, PartialEq, Eq)]
 pub struct Refused {
     pub refusal: Refusal,
@@ -132,6 +138,7 @@ impl Display for Refused {
         match self.refusal {
             OutputTooSmall => write!(out, "which takes {place} bytes"),
             NoSuchRow | OtherKind => write!(out, "row {place}"),
+            EnumEntry => write!(out, "entry {place}, counted from 0"),
             _ => write!(out, "at byte {place}"),
         }
     }
@@ -145,14 +152,14 @@ mod tests {
 
     #[test]
     fn numbers_and_refusals_match() {
-        for number in (1..=24).chain([31, 51, 52]) {
+        for number in (1..=24).chain([31, 32, 51, 52]) {
             let refusal = Refusal::of_number(number).expect("a refusal");
             assert_eq!(refusal.number(), number);
             assert!(!refusal.rule().is_empty());
         }
         assert_eq!(Refusal::of_number(0), None);
         assert_eq!(Refusal::of_number(25), None);
-        assert_eq!(Refusal::of_number(32), None);
+        assert_eq!(Refusal::of_number(33), None);
     }
 
     #[test]
@@ -163,5 +170,9 @@ mod tests {
         let output = "the output is too small for the rewritten file, which takes 65 bytes";
         assert_eq!(told(OutputTooSmall, 65), output);
         assert_eq!(told(NoSuchRow, 9), "there is no such row, row 9");
+        let entry =
+            "an entry of the enum list is cut short, or its size or its name breaks a rule, \
+            entry 2, counted from 0";
+        assert_eq!(told(EnumEntry, 2), entry);
     }
 }

@@ -2,8 +2,9 @@
 
 use crate::calls::{Loaded, Time};
 use crate::kind::Kind;
+use crate::loader::Loader;
 use crate::refusal::Refused;
-use crate::row::{full_words, Row, WORDS_PER_ROW};
+use crate::row::{Row, WORDS_PER_ROW};
 use crate::search::places;
 use crate::shape::{room, ByColumns, ByRows, Shaped};
 use std::iter::successors;
@@ -69,22 +70,32 @@ pub struct Grid<'f, S, W = Vec<u32>> {
 impl<'f, S: Shaped> Grid<'f, S> {
     /// Loads a file with room for all its rows.
     pub fn load(file: &'f [u8]) -> Result<Grid<'f, S>, Refused> {
-        let mut grid = Grid::load_into(file, full_words(file))?;
-        S::SHAPE.shrink(&mut grid.words, grid.loaded.rows);
-        Ok(grid)
+        Loader::new().load_grid(file)
+    }
+
+    /// Gives up the room behind the rows in use.
+    pub(crate) fn without_room_left(mut self) -> Grid<'f, S> {
+        S::SHAPE.shrink(&mut self.words, self.loaded.rows);
+        self
     }
 }
 
 impl<'f, S: Shaped, W: AsRef<[u32]> + AsMut<[u32]>> Grid<'f, S, W> {
     /// Loads a file into these words; a row takes [`WORDS_PER_ROW`].
-    pub fn load_into(file: &'f [u8], mut words: W) -> Result<Grid<'f, S, W>, Refused> {
-        let loaded = S::SHAPE.load(file, words.as_mut())?;
-        Ok(Grid {
+    pub fn load_into(file: &'f [u8], words: W) -> Result<Grid<'f, S, W>, Refused> {
+        Loader::new().load_into(file, words)
+    }
+}
+
+impl<'f, S, W> Grid<'f, S, W> {
+    /// The grid of a file in words that a load left.
+    pub(crate) fn of(file: &'f [u8], words: W, loaded: Loaded) -> Grid<'f, S, W> {
+        Grid {
             file,
             words,
             loaded,
             shape: PhantomData,
-        })
+        }
     }
 }
 

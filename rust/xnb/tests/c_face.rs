@@ -1,12 +1,13 @@
 //! The C header beside the entries of crates/builder, and README's C programs, compiled and run.
 
-use corpus::folder::{kept_files, root};
+use corpus::folder::{kept_files, kept_files_with_enums, root};
 use corpus::packs::folder::{kept_damaged_packs, kept_packs};
 use std::collections::BTreeMap;
 use std::fs;
 use std::os::unix::fs::symlink;
 use std::path::{Path, PathBuf};
 use std::process::{Command, Stdio};
+use xnb::{raw, EnumList, Shape, MOST_ROWS, WORDS_PER_ROW};
 
 /// The types of an entry's parameters and of its answer, as C has them.
 type Types = (Vec<String>, String);
@@ -135,6 +136,12 @@ int main(int count, char **words_given) {
     length = fread(file, 1, sizeof file, stdin);
     if (!strcmp(words_given[1], "texts"))
         return texts(length);
+    if (!strcmp(words_given[1], "enums")) {
+        uint32_t readers, shared, padding;
+        uint64_t answer = load_with_enums(length, &readers, &shared, &padding);
+        printf("%llu %u %u %u\n", (unsigned long long)answer, (unsigned)readers, (unsigned)shared, (unsigned)padding);
+        return 0;
+    }
     if (!strcmp(words_given[1], "show"))
         return show(file, length, words_given[2]);
     return save(file, length, out);
@@ -232,6 +239,22 @@ fn compare_files(program: &Path) {
     }
 }
 
+/// Loads of kept files with README's list of enum types.
+fn compare_enums(program: &Path) {
+    let types = [("Coach.Door", 1), ("Coach.Screen+Mode", 2)];
+    let enums = EnumList::new(types).expect("a lawful list");
+    for file in kept_files_with_enums() {
+        let mut words = vec![0; WORDS_PER_ROW * MOST_ROWS];
+        let answer = raw::load_table(Shape::Rows, &file.bytes, enums.as_bytes(), &mut words);
+        let line = format!(
+            "{} {} {} {}\n",
+            answer.packed, answer.readers, answer.shared, answer.padding
+        );
+        let told = (line.into_bytes(), String::new(), true);
+        assert_eq!(run(program, &["enums"], &file.bytes), told, "{}", file.name);
+    }
+}
+
 /// A file of each kept pack, and what each damaged one still holds.
 fn compare_packs(program: &Path) {
     for sample in kept_packs() {
@@ -268,5 +291,6 @@ fn compare_packs(program: &Path) {
 fn readmes_programs_print_what_they_say() {
     let program = compiled();
     compare_files(&program);
+    compare_enums(&program);
     compare_packs(&program);
 }

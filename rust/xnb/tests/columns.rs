@@ -15,7 +15,7 @@ const TABLES: u64 = 20_000;
 /// The answer to a load with so many words lent, and the words that it leaves.
 fn loaded(shape: Shape, file: &[u8], garbage: u32, words: usize) -> (LoadAnswer, Vec<u32>) {
     let mut lent = Lent::new(garbage, words);
-    let answer = raw::load_table(shape, file, lent.middle());
+    let answer = raw::load_table(shape, file, &[], lent.middle());
     let left = lent.middle().to_vec();
     lent.check("the margins", &left);
     (answer, left)

@@ -3,7 +3,8 @@
 mod lent;
 mod sides;
 
-use corpus::folder::kept_files;
+use corpus::folder::{kept_files, kept_files_with_enums};
+use fuzz::enums::{self, EnumCase};
 use fuzz::random::Random;
 use second::WORDS_PER_ROW;
 use sides::{in_shape, lookups, other_words, some_rows, Call, Counts, Sides, SHAPES};
@@ -29,7 +30,7 @@ fn compare(sides: &mut Sides, name: &str, file: &[u8], words: usize) {
     }
 
     let mut by_rows = vec![0; words];
-    let _ = second::load(file, &mut by_rows);
+    let _ = second::load(file, &sides.enums, &mut by_rows);
     look_up(sides, name, file, &by_rows, rows);
     by_rows.truncate(WORDS_PER_ROW * rows);
     let other = other_words(&mut sides.random, file, &by_rows);
@@ -52,6 +53,12 @@ fn generated(shape: Shape, rest: u64, threads: u64) -> Counts {
         compare(&mut sides, &format!("seed {seed}"), &case.bytes, case.words);
     }
     sides.counts
+}
+
+/// The same with the list of the case lent.
+fn compare_listed(sides: &mut Sides, name: &str, EnumCase { case, enums }: EnumCase) {
+    sides.enums = enums;
+    compare(sides, name, &case.bytes, case.words);
 }
 
 /// All generated files, in two threads.
@@ -85,6 +92,63 @@ fn padded_files_give_the_second_loaders_answers() {
             compare(&mut sides, &format!("seed {seed}"), &case.bytes, case.words);
         }
         println!("{} files, {shape:?}\n{}", files() / 4, sides.counts);
+    }
+}
+
+/// Files with lists of enum types, lawful and refused.
+#[test]
+fn files_with_enums_give_the_second_loaders_answers() {
+    for shape in SHAPES {
+        let mut sides = Sides::new(shape, 6);
+        for seed in 0..files() / 3 {
+            compare_listed(&mut sides, &format!("seed {seed}"), enums::case(seed));
+        }
+        println!("{} files, {shape:?}\n{}", files() / 3, sides.counts);
+        if files() >= 100_000 {
+            sides.counts.check_with_enums(shape);
+        }
+    }
+}
+
+#[test]
+fn limits_of_enums_give_the_second_loaders_answers() {
+    for shape in SHAPES {
+        let mut sides = Sides::new(shape, 7);
+        for limit in enums::limits() {
+            compare_listed(&mut sides, &limit.name, limit.case);
+        }
+        println!("{shape:?}\n{}", sides.counts);
+    }
+}
+
+#[test]
+fn corpus_files_with_enums_give_the_second_loaders_answers() {
+    for shape in SHAPES {
+        let mut sides = Sides::new(shape, 8);
+        for file in kept_files_with_enums() {
+            sides.enums = file.enums;
+            for words in [0, 6, 7, 100, WORDS_PER_ROW * 1024] {
+                compare(&mut sides, &file.name, &file.bytes, words);
+            }
+        }
+        println!("{shape:?}\n{}", sides.counts);
+    }
+}
+
+/// Each list of the cases with files of other cases, which it does not belong to.
+#[test]
+fn files_with_other_lists_give_the_second_loaders_answers() {
+    for shape in SHAPES {
+        let mut sides = Sides::new(shape, 9);
+        for seed in 0..files() / 12 {
+            sides.enums = enums::case(seed + 1).enums;
+            let name = format!("seed {seed}");
+            let case = enums::case(seed).case;
+            compare(&mut sides, &name, &case.bytes, case.words);
+            let case = fuzz::case(seed);
+            compare(&mut sides, &name, &case.bytes, case.words);
+        }
+        println!("{shape:?}\n{}", sides.counts);
     }
 }
 

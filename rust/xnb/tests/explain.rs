@@ -1,18 +1,27 @@
 //! Refusals of the proved library are explained by what stands at their place.
 
-use corpus::folder::kept_files;
+use corpus::folder::{kept_files, kept_files_with_enums};
+use fuzz::enums::{self, EnumCase};
 use std::collections::BTreeMap;
-use xnb::{explain, Explanation, Refusal, Refused, Shape, WORDS_PER_ROW};
+use xnb::{explain, Explanation, Loader, Refusal, Refused, Shape, WORDS_PER_ROW};
 
 const GENERATED_FILES: u64 = 20_000;
 const BUILDER_ROWS: usize = 1024;
 
 /// The refusal of a file with its explanation; nothing for a file that is taken.
 fn refused(file: &[u8], room: usize) -> Option<(Refusal, Option<Explanation<'_>>)> {
-    let refused = Shape::Rows
-        .load(file, &mut vec![0; WORDS_PER_ROW * room])
-        .err()?;
-    Some((refused.refusal, explain(file, refused, room)))
+    refused_with(Loader::new(), file, room)
+}
+
+/// The same by a loader with a list of enum types.
+fn refused_with<'f>(
+    loader: Loader,
+    file: &'f [u8],
+    room: usize,
+) -> Option<(Refusal, Option<Explanation<'f>>)> {
+    let mut words = vec![0; WORDS_PER_ROW * room];
+    let refused = loader.load_words(Shape::Rows, file, &mut words).err()?;
+    Some((refused.refusal, loader.explain(file, refused, room)))
 }
 
 /// What is found in a sample.
@@ -57,8 +66,63 @@ fn every_refusal_of_a_generated_file_is_explained() {
         }
     }
     println!("{counts:?}");
-    // 21, 23 and 24 are no answers of a load.
+    // 21, 23 and 24 are no answers of a load, and 32 is none with an empty list.
     assert_eq!(counts.len(), 21, "{counts:?}");
+}
+
+/// Listed enums are followed with their sizes, and entries that are refused are told.
+#[test]
+fn every_refusal_of_a_file_with_enums_is_explained() {
+    let mut counts: BTreeMap<Refusal, u32> = BTreeMap::new();
+    let generated = (0..GENERATED_FILES).map(|seed| (format!("seed {seed}"), enums::case(seed)));
+    let limits = enums::limits()
+        .into_iter()
+        .map(|limit| (limit.name, limit.case));
+    let cases = generated
+        .chain(limits)
+        .map(|(name, EnumCase { case, enums })| {
+            (name, case.bytes, enums, case.words / WORDS_PER_ROW)
+        });
+    let kept = kept_files_with_enums()
+        .into_iter()
+        .map(|file| (file.name, file.bytes, file.enums, BUILDER_ROWS));
+    for (name, file, enums, room) in cases.chain(kept) {
+        let loader = Loader::new().with_enum_bytes(&enums);
+        if let Some((refusal, explanation)) = refused_with(loader, &file, room) {
+            assert!(explanation.is_some(), "{name}: {refusal:?}");
+            *counts.entry(refusal).or_default() += 1;
+        }
+    }
+    println!("{counts:?}");
+    assert!(counts[&Refusal::EnumEntry] > 2_000, "{counts:?}");
+    assert!(counts[&Refusal::NotDeclared] > 100, "{counts:?}");
+}
+
+#[test]
+fn what_is_found_with_enums_is_told() {
+    let told = [
+        (
+            "bad-01-enums-list-of-2-cut",
+            "a value of kind Enum takes 2 bytes, 1 left",
+        ),
+        (
+            "bad-01-enums-object-of-8-cut",
+            "a value of kind Enum takes 8 bytes, 7 left",
+        ),
+        (
+            "bad-32-enums-named-system-byte",
+            "entry 1 of the enum list, System.Byte: a type of this name is known already",
+        ),
+    ];
+    let files = kept_files_with_enums();
+    for (name, expected) in told {
+        let file = files.iter().find(|file| file.name == name);
+        let file = file.unwrap_or_else(|| panic!("no sample {name}"));
+        let loader = Loader::new().with_enum_bytes(&file.enums);
+        let answer = refused_with(loader, &file.bytes, BUILDER_ROWS);
+        let (_, explanation) = answer.expect("a refused sample");
+        assert_eq!(explanation.expect("an explanation").found, expected);
+    }
 }
 
 /// Each number, and each of its rules, in the words of a sample.

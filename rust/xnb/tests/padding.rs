@@ -9,7 +9,7 @@ const FILES: u64 = 30_000;
 
 /// The padding of a file that is taken, which both shapes tell; after a refusal both tell 0.
 fn padding(name: &str, file: &[u8], words: usize) -> Option<usize> {
-    let answer = |shape, garbage| raw::load_table(shape, file, &mut vec![garbage; words]);
+    let answer = |shape, garbage| raw::load_table(shape, file, &[], &mut vec![garbage; words]);
     let by_rows = answer(Shape::Rows, 0xAAAA_AAAA);
     let columns = answer(Shape::Columns, 0x5555_5555);
     assert_eq!(columns, by_rows, "{name} with {words} words");

@@ -3,7 +3,7 @@
 //! A refusal of `rows` goes to standard output, one of `shorten` to standard error.
 
 use corpus::folder::{folder, kept_files, root, shortest};
-use second::{printed_rows, shortened, LONGEST_INPUT, WORDS_PER_ROW};
+use second::{printed_rows, shortened, LONGEST_INPUT, NO_ENUMS, WORDS_PER_ROW};
 use std::fs::File;
 use std::io::{ErrorKind, Write};
 use std::process::{Command, Stdio};
@@ -155,7 +155,8 @@ fn stored_files_at_and_past_the_limits_of_both_programs() {
         let refused = (vec![], refusal.as_bytes().to_vec());
         assert_eq!(run("shorten", &input), refused, "{name}");
         let mut words = vec![0; WORDS_PER_ROW * 1025];
-        assert!(second::load(&input, &mut words).is_ok(), "{name} is lawful");
+        let answer = second::load(&input, NO_ENUMS, &mut words);
+        assert!(answer.is_ok(), "{name} is lawful");
     }
 }
 

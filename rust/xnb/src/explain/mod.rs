@@ -11,9 +11,11 @@ mod types;
 mod values;
 mod walk;
 
+use crate::enums::EnumsRefused;
 use crate::refusal::{Refusal, Refused};
 use crate::row::MOST_ROWS;
 use cursor::{Cursor, Stop};
+pub(crate) use types::is_target_name;
 
 /// What a refusal found.
 #[derive(Clone, Debug, PartialEq, Eq)]
@@ -44,13 +46,33 @@ pub struct ReaderName<'f> {
 /// assert_eq!(explanation.found, "the header says 14 bytes, the file has 13");
 /// ```
 pub fn explain(file: &[u8], refused: Refused, room: usize) -> Option<Explanation<'_>> {
-    use Refusal::*;
-    if matches!(refused.refusal, OutputTooSmall | NoSuchRow | OtherKind) {
+    explain_with(&[], file, refused, room)
+}
+
+/// The same for a load with a list of enum types.
+pub(crate) fn explain_with<'f>(
+    enums: &[u8],
+    file: &'f [u8],
+    refused: Refused,
+    room: usize,
+) -> Option<Explanation<'f>> {
+    match refused.refusal {
         // Their place is no byte of the file.
-        return None;
+        Refusal::OutputTooSmall | Refusal::NoSuchRow | Refusal::OtherKind => None,
+        Refusal::EnumEntry => explain_entry(enums, refused.place as usize),
+        _ => match walk::follow(Cursor::new(file, refused), enums, room.min(MOST_ROWS)) {
+            Err(Stop::Found(explanation)) => Some(explanation),
+            Err(Stop::Lost) | Ok(()) => None,
+        },
     }
-    match walk::follow(Cursor::new(file, refused), room.min(MOST_ROWS)) {
-        Err(Stop::Found(explanation)) => Some(explanation),
-        Err(Stop::Lost) | Ok(()) => None,
-    }
+}
+
+/// What is wrong with an entry of the list.
+fn explain_entry(enums: &[u8], entry: usize) -> Option<Explanation<'static>> {
+    let refused = EnumsRefused::of(enums, entry);
+    refused.fault?;
+    Some(Explanation {
+        found: refused.to_string(),
+        reader: None,
+    })
 }

@@ -15,11 +15,11 @@ pub struct Reader<'f> {
     pub target: Option<Type<'f>>,
 }
 
-pub fn take_readers<'f>(cursor: &mut Cursor<'f>) -> Step<'f, Vec<Reader<'f>>> {
+pub fn take_readers<'f>(cursor: &mut Cursor<'f>, enums: &[u8]) -> Step<'f, Vec<Reader<'f>>> {
     let count = cursor.take_count(MOST_READERS, "the reader count")?;
     let mut readers = Vec::new();
     for number in 1..=count as usize {
-        readers.push(take_reader(cursor, number)?);
+        readers.push(take_reader(cursor, enums, number)?);
     }
     Ok(readers)
 }
@@ -28,7 +28,7 @@ pub fn take_shared_count<'f>(cursor: &mut Cursor<'f>) -> Step<'f, u32> {
     cursor.take_count(MOST_SHARED, "the shared count")
 }
 
-fn take_reader<'f>(cursor: &mut Cursor<'f>, number: usize) -> Step<'f, Reader<'f>> {
+fn take_reader<'f>(cursor: &mut Cursor<'f>, enums: &[u8], number: usize) -> Step<'f, Reader<'f>> {
     let start = cursor.at;
     let what = format!("the length of the name of reader {number}");
     let length = cursor.take_seven(&what)? as usize;
@@ -53,6 +53,6 @@ fn take_reader<'f>(cursor: &mut Cursor<'f>, number: usize) -> Step<'f, Reader<'f
     cursor.meet_reader(ReaderVersion, place, Some(name), || {
         (version != 0).then(|| format!("the version of reader {number} is {version}, 0 is taken"))
     })?;
-    let target = Type::of_reader(bytes);
+    let target = Type::of_reader(bytes, enums);
     Ok(Reader { name, target })
 }

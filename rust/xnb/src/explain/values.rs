@@ -22,12 +22,19 @@ pub fn take_fixed<'f>(cursor: &mut Cursor<'f>, kind: Kind) -> Step<'f, ()> {
     })
 }
 
+/// An enum, whose size its type tells.
+pub fn take_enum<'f>(cursor: &mut Cursor<'f>, size: usize) -> Step<'f, ()> {
+    let kind = Kind::Enum;
+    cursor.take(size, format_args!("a value of kind {kind}"))?;
+    Ok(())
+}
+
 fn fixed_size(kind: Kind) -> Option<usize> {
     use Kind::*;
     Some(match kind {
         Byte | SByte | Boolean => 1,
         Int16 | UInt16 => 2,
-        Int32 | UInt32 | Single | Enum | Color => 4,
+        Int32 | UInt32 | Single | Color => 4,
         Int64 | UInt64 | Double | TimeSpan | DateTime | Vector2 | Point => 8,
         Vector3 => 12,
         Decimal | Vector4 | Quaternion | Rectangle => 16,

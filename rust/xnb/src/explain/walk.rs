@@ -11,9 +11,9 @@ use crate::refusal::Refusal::*;
 const DEEPEST: u32 = 32;
 
 /// Follows a file to the place of its refusal.
-pub fn follow(mut cursor: Cursor, room: usize) -> Step<()> {
+pub fn follow<'f>(mut cursor: Cursor<'f>, enums: &[u8], room: usize) -> Step<'f, ()> {
     take_header(&mut cursor)?;
-    let readers = take_readers(&mut cursor)?;
+    let readers = take_readers(&mut cursor, enums)?;
     let shared = take_shared_count(&mut cursor)?;
     let mut walk = Walk {
         cursor,
@@ -164,8 +164,10 @@ impl<'a, 'f> Walk<'a, 'f> {
 
     /// The raw bytes of a value; the depth is that of its children.
     fn body(&mut self, target: &Type, depth: u32) -> Step<'f, ()> {
-        let Head::Of(kind) = target.head else {
-            return Err(Stop::Lost);
+        let kind = match target.head {
+            Head::Of(kind) => kind,
+            Head::Enum { size, .. } => return values::take_enum(&mut self.cursor, size),
+            _ => return Err(Stop::Lost),
         };
         match (kind, &target.arguments[..]) {
             (Kind::Char, _) => values::take_char(&mut self.cursor),

@@ -30,9 +30,17 @@ const CALLS: [(Call, &str); 6] = [
     (Time, "time"),
 ];
 
+/// One more than the largest refusal number.
+const NUMBERS: usize = 33;
+
 /// How often each call gave each refusal number, 0 for acceptance.
-#[derive(Default)]
-pub struct Counts([[u32; 25]; CALLS.len()]);
+pub struct Counts([[u32; NUMBERS]; CALLS.len()]);
+
+impl Default for Counts {
+    fn default() -> Counts {
+        Counts([[0; NUMBERS]; CALLS.len()])
+    }
+}
 
 impl Counts {
     pub fn of(&self, call: Call, number: usize) -> u32 {
@@ -50,9 +58,9 @@ impl Counts {
         }
     }
 
-    /// Every answer that a call can give has occurred often; a rewrite leaves its table by rows.
+    /// Every answer that a call can give with an empty list has occurred often; a rewrite leaves its table by rows.
     pub fn check(&self, shape: Shape) {
-        for (call, name) in CALLS {
+        for (call, _) in CALLS {
             let numbers: Vec<usize> = match (call, shape) {
                 (Load, _) => (0..=20).chain([22]).collect(),
                 (Rewrite, Shape::Rows) => (0..=22).collect(),
@@ -60,10 +68,23 @@ impl Counts {
                 (Part, _) => vec![0, 23],
                 (Text | Signed | Time, _) => vec![0, 23, 24],
             };
-            for number in numbers {
-                let count = self.of(call, number);
-                assert!(count >= 50, "{name} gives {number} {count} times");
-            }
+            self.check_often(call, &numbers);
+        }
+    }
+
+    /// The answers that a list of enum types may change have occurred often.
+    pub fn check_with_enums(&self, shape: Shape) {
+        self.check_often(Load, &[0, 1, 11, 14, 19, 20, 32]);
+        if shape == Shape::Rows {
+            self.check_often(Rewrite, &[0, 1, 11, 14, 19, 20, 21, 32]);
+        }
+    }
+
+    fn check_often(&self, call: Call, numbers: &[usize]) {
+        let name = CALLS[call as usize].1;
+        for number in numbers {
+            let count = self.of(call, *number);
+            assert!(count >= 50, "{name} gives {number} {count} times");
         }
     }
 }
@@ -74,7 +95,8 @@ impl Display for Counts {
         for (_, name) in CALLS {
             write!(out, "{name:>10}")?;
         }
-        for number in 0..25 {
+        let occurs = |number: &usize| CALLS.iter().any(|(call, _)| self.of(*call, *number) > 0);
+        for number in (0..NUMBERS).filter(occurs) {
             write!(out, "\n{number:7}")?;
             for (call, _) in CALLS {
                 write!(out, "{:10}", self.of(call, number))?;
@@ -125,6 +147,8 @@ pub fn seconds_table(shape: Shape, words: &[u32]) -> Table<'_> {
 /// Comparisons over tables of one shape, with one source of garbage, and what they have met.
 pub struct Sides {
     pub shape: Shape,
+    /// The list of enum types that both are lent.
+    pub enums: Vec<u8>,
     pub random: Random,
     pub counts: Counts,
 }
@@ -133,6 +157,7 @@ impl Sides {
     pub fn new(shape: Shape, seed: u64) -> Sides {
         Sides {
             shape,
+            enums: Vec::new(),
             random: Random::new(seed),
             counts: Counts::default(),
         }
@@ -142,8 +167,8 @@ impl Sides {
     pub fn load(&mut self, name: &str, file: &[u8], words: usize) -> Option<usize> {
         let mut linked = Lent::new(self.random.number() as u32, words);
         let mut second = vec![self.random.number() as u32; words];
-        let answer = raw::load_table(self.shape, file, linked.middle());
-        let expected = second::load_in(seconds(self.shape), file, &mut second);
+        let answer = raw::load_table(self.shape, file, &self.enums, linked.middle());
+        let expected = second::load_in(seconds(self.shape), file, &self.enums, &mut second);
         let packed = packed(expected.map(|it| it.rows));
         let expected_answer = LoadAnswer {
             packed,
@@ -156,7 +181,7 @@ impl Sides {
         let rows = expected.map_or(0, |it| it.rows);
         let table = seconds_table(self.shape, linked.middle());
         assert_eq!(broken_branch(table, rows), None, "{name}");
-        if words == WORDS_PER_ROW * 1024 {
+        if words == WORDS_PER_ROW * 1024 && self.enums.is_empty() {
             assert_eq!(raw::load(file), packed, "{name}: the builder's number");
         }
         self.counts.count(Load, &expected);
@@ -184,8 +209,8 @@ impl Sides {
         let garbage = self.random.byte();
         let mut linked_out = Lent::new(garbage, out);
         let mut second_out = vec![garbage; out];
-        let answer = raw::rewrite(file, linked.middle(), linked_out.middle());
-        let expected = second::rewrite(file, &mut second, &mut second_out);
+        let answer = raw::rewrite(file, &self.enums, linked.middle(), linked_out.middle());
+        let expected = second::rewrite(file, &self.enums, &mut second, &mut second_out);
         let told = format!("{name}: rewrite with {words} words to {out} bytes");
         assert_eq!(answer, packed(expected), "{told}");
         linked.check(&told, &second);
