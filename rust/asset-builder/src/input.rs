@@ -45,6 +45,11 @@ impl Inputs {
         is_one_file(&self.files)
     }
 
+    /// Whether standard input is among them.
+    pub fn have_stdin(&self) -> bool {
+        self.files.iter().any(|path| is_stdin(path))
+    }
+
     /// Every file; what cannot be listed is told.
     pub fn list(&self, run: &mut Run) -> Vec<Input> {
         list(&self.files, OF_FILES, run)

@@ -4,6 +4,7 @@
 //! and the rendering of refusals.
 
 mod commands;
+mod enums;
 mod input;
 mod json;
 mod names;

@@ -4,8 +4,8 @@ use crate::names::{escaped, is_printable, plain_lines};
 use crate::terminal::Paint;
 use serde::Serialize;
 use xnb::pack::PackRefused;
-use xnb::Refusal::{ListTooShort, NoSuchRow, OtherKind, OutputTooSmall};
-use xnb::{explain, ReaderName, Refused};
+use xnb::Refusal::{EnumEntry, ListTooShort, NoSuchRow, OtherKind, OutputTooSmall};
+use xnb::{Loader, ReaderName, Refused};
 
 /// The bytes on a line of a dump.
 const LINE: usize = 16;
@@ -51,15 +51,15 @@ impl<'f> Told<'f> {
         }
     }
 
-    /// The refusal of a file by a load with room for so many rows.
-    pub fn of_file(file: &'f [u8], refused: Refused, room: usize) -> Told<'f> {
+    /// The refusal of a file by this loader with room for so many rows.
+    pub fn of_file(loader: Loader, file: &'f [u8], refused: Refused, room: usize) -> Told<'f> {
         let Refused { refusal, place } = refused;
         let mut told = Told::at_byte(file, refusal.number(), u64::from(place), refusal.rule());
-        if let Some(explanation) = explain(file, refused, room) {
+        if let Some(explanation) = loader.explain(file, refused, room) {
             told.found = Some(explanation.found);
             told.reader = explanation.reader.map(Reader::of);
         }
-        if matches!(refusal, OutputTooSmall | NoSuchRow | OtherKind) {
+        if matches!(refusal, OutputTooSmall | NoSuchRow | OtherKind | EnumEntry) {
             // The place is no byte of the file.
             told.bytes = None;
         }

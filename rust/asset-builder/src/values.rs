@@ -90,7 +90,7 @@ fn looked_up(table: &Table, number: u32, row: &Row) -> Result<Value, Refused> {
             }
         }
         Byte | UInt16 | UInt32 | UInt64 => Value::Unsigned(unsigned(bytes) as u64),
-        Enum => Value::Signed(i64::from(unsigned(bytes) as u32 as i32)),
+        Enum => Value::Signed(enumeration(bytes)),
         Point | Rectangle => Value::Integers(each(bytes, i32::from_le_bytes)),
         Single => match each(bytes, f32::from_le_bytes)[..] {
             [number] => Value::Single(Float(number)),
@@ -198,6 +198,17 @@ fn raw_bytes(part: &[u8], detail: Detail) -> &[u8] {
 fn unsigned(bytes: &[u8]) -> u128 {
     let add = |number, byte: &u8| number << 8 | u128::from(*byte);
     bytes.iter().rev().fold(0, add)
+}
+
+/// The number of an enum, whose sign its size tells: the usual types of these sizes are Byte, Int16, Int32 and Int64.
+fn enumeration(bytes: &[u8]) -> i64 {
+    let number = unsigned(bytes) as u64;
+    match bytes.len() {
+        1 => number as i64,
+        2 => i64::from(number as i16),
+        4 => i64::from(number as i32),
+        _ => number as i64,
+    }
 }
 
 /// The numbers of which the bytes consist.

@@ -124,7 +124,7 @@ fn shells_complete_commands_and_flags() {
     assert_eq!(ran.err, "");
     let lines: Vec<&str> = ran.out.lines().collect();
     assert_eq!(lines[0], "shorten");
-    for flag in ["--rows", "--by-padding", "--json", "--help"] {
+    for flag in ["--rows", "--enums", "--by-padding", "--json", "--help"] {
         assert!(lines[1].contains(flag), "{}", lines[1]);
     }
     assert_eq!(lines[2], "extract");

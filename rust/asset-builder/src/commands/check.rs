@@ -2,17 +2,19 @@
 
 use super::ranking::{Padding, Ranking};
 use super::{at_most_all_rows, counted, for_each, load, BUILDER_ROWS};
+use crate::enums::Enums;
 use crate::input::{Input, Inputs};
 use crate::json;
 use crate::refusal::Told;
 use crate::run::{End, Run, Status};
 use serde::Serialize;
 use std::fmt::{self, Display, Formatter};
-use xnb::{Loaded, Refused};
+use xnb::{Loaded, Loader, Refused};
 
 /// Tell whether the asset builder takes each file, and why not
 ///
-/// The answer is that of document 01's asset builder, which has room for 1024 rows.
+/// The answer is that of document 01's asset builder, which has room for 1024 rows
+/// and lends no enum types.
 /// A file that is taken has one line, with its padding: how many bytes its seven-bit
 /// numbers have more than their shortest forms, which `shorten` leaves out. A refusal
 /// tells the rule, what was found, and the bytes around the place. The last line sums
@@ -27,6 +29,9 @@ pub struct Check {
     #[arg(long, value_name = "N", default_value_t = BUILDER_ROWS,
         value_parser = at_most_all_rows())]
     rows: u32,
+
+    #[command(flatten)]
+    enums: Enums,
 
     /// List the files that pad instead of all that are taken, most padding first, then each folder named with its sum
     #[arg(long)]
@@ -79,10 +84,14 @@ struct Summary {
 
 impl Check {
     pub fn run(&self, run: &mut Run) -> End {
+        let Some(enums) = self.enums.read(&self.inputs, run) else {
+            return Ok(());
+        };
+        let loader = Loader::new().with_enums(&enums);
         let mut summary = Summary::default();
         let mut ranking = Ranking::default();
         for_each(&self.inputs, run, |run, input, file| {
-            let checked = self.checked(input, file);
+            let checked = self.checked(loader, input, file);
             summary.count(&checked.outcome);
             match &checked.outcome {
                 Outcome::Accepted(accepted) if self.by_padding => {
@@ -104,7 +113,12 @@ impl Check {
         })
     }
 
-    fn checked<'f>(&self, input: &Input, file: Result<&'f [u8], String>) -> Checked<'f> {
+    fn checked<'f>(
+        &self,
+        loader: Loader,
+        input: &Input,
+        file: Result<&'f [u8], String>,
+    ) -> Checked<'f> {
         let file = match file {
             Ok(file) => file,
             Err(why) => {
@@ -115,12 +129,12 @@ impl Check {
                 }
             }
         };
-        match load(file, self.rows) {
+        match load(loader, file, self.rows) {
             Ok(table) => Checked::accepted(input, Accepted::of(file, table.loaded())),
             Err(refused) => Checked {
                 file: input.name(),
                 answer: Some(packed(refused)),
-                outcome: Outcome::Refused(Told::of_file(file, refused, self.rows as usize)),
+                outcome: Outcome::Refused(Told::of_file(loader, file, refused, self.rows as usize)),
             },
         }
     }

@@ -16,7 +16,7 @@ use crate::refusal::Told;
 use crate::run::{End, Run, Status};
 use clap::builder::TypedValueParser;
 use clap::{Parser, Subcommand};
-use xnb::{Refused, Table, WORDS_PER_ROW};
+use xnb::{Loader, Refused, Table, WORDS_PER_ROW};
 
 /// The rows that 01's asset builder has room for.
 const BUILDER_ROWS: u32 = 1024;
@@ -94,9 +94,9 @@ fn for_each(
 }
 
 /// Loads a file with room for so many rows.
-fn load(file: &[u8], room: u32) -> Result<Table<'_>, Refused> {
+fn load<'f>(loader: Loader, file: &'f [u8], room: u32) -> Result<Table<'f>, Refused> {
     let rows = file.len().min(room as usize);
-    Table::load_into(file, vec![0; WORDS_PER_ROW * rows])
+    loader.load_into(file, vec![0; WORDS_PER_ROW * rows])
 }
 
 /// So many of a thing.

@@ -1,12 +1,13 @@
 //! `rows`: the lines that the program `rows` prints.
 
 use super::{at_most_all_rows, for_each, load, MOST_ROWS};
+use crate::enums::Enums;
 use crate::input::Inputs;
 use crate::json;
 use crate::refusal::Told;
 use crate::run::{End, Run, Status};
 use serde::Serialize;
-use xnb::{Table, WORDS_PER_ROW};
+use xnb::{Loader, Refused, Table, WORDS_PER_ROW};
 
 /// Print the row table of each file
 ///
@@ -18,8 +19,8 @@ use xnb::{Table, WORDS_PER_ROW};
 /// files, each begins with `==> NAME <==`.
 ///
 /// The program `rows` differs: it reads standard input alone, refuses more than
-/// 32768 bytes (9 at 0), and has room for 1024 rows. This command takes what the
-/// loader takes: 16777216 bytes and 65536 rows.
+/// 32768 bytes (9 at 0), has room for 1024 rows and lends no enum types. This
+/// command takes what the loader takes: 16777216 bytes and 65536 rows.
 #[derive(clap::Args)]
 #[command(verbatim_doc_comment)]
 pub struct Rows {
@@ -30,6 +31,9 @@ pub struct Rows {
     #[arg(long, value_name = "N", default_value_t = MOST_ROWS,
         value_parser = at_most_all_rows())]
     rows: u32,
+
+    #[command(flatten)]
+    enums: Enums,
 
     /// Print JSON: an object a file on a line of its own
     #[arg(long)]
@@ -54,17 +58,21 @@ enum Listed<'f> {
 
 impl Rows {
     pub fn run(&self, run: &mut Run) -> End {
+        let Some(enums) = self.enums.read(&self.inputs, run) else {
+            return Ok(());
+        };
+        let loader = Loader::new().with_enums(&enums);
         let one = self.inputs.is_one_file();
         for_each(&self.inputs, run, |run, input, file| {
             let Ok(file) = file else {
                 return Ok(());
             };
-            let loaded = load(file, self.rows);
+            let loaded = load(loader, file, self.rows);
             if loaded.is_err() {
                 run.mark(Status::Refused);
             }
             if self.json {
-                return run.print(&self.json(input.name(), file, &loaded));
+                return run.print(&self.json(loader, input.name(), file, &loaded));
             }
             if !one {
                 run.print(&format!("==> {} <==\n", input.shown()))?;
@@ -79,7 +87,13 @@ impl Rows {
         })
     }
 
-    fn json(&self, file: String, bytes: &[u8], loaded: &Result<Table, xnb::Refused>) -> String {
+    fn json(
+        &self,
+        loader: Loader,
+        file: String,
+        bytes: &[u8],
+        loaded: &Result<Table, Refused>,
+    ) -> String {
         json::line(&match loaded {
             Ok(table) => Listed::Accepted {
                 file,
@@ -89,7 +103,7 @@ impl Rows {
             },
             Err(refused) => Listed::Refused {
                 file,
-                refused: Told::of_file(bytes, *refused, self.rows as usize),
+                refused: Told::of_file(loader, bytes, *refused, self.rows as usize),
             },
         })
     }

@@ -1,6 +1,7 @@
 //! `shorten`: files with their seven-bit numbers in their shortest forms.
 
 use super::{for_each, tell_refusal, MOST_ROWS};
+use crate::enums::Enums;
 use crate::input::{Input, Inputs};
 use crate::names::shown;
 use crate::output::Output;
@@ -10,6 +11,7 @@ use clap::ArgGroup;
 use std::collections::HashSet;
 use std::fs;
 use std::path::PathBuf;
+use xnb::Loader;
 
 /// Write each file in its shortest form
 ///
@@ -29,6 +31,9 @@ pub struct Shorten {
     /// Write each file in its own place
     #[arg(short, long)]
     in_place: bool,
+
+    #[command(flatten)]
+    enums: Enums,
 }
 
 impl Shorten {
@@ -38,15 +43,19 @@ impl Shorten {
             let why = "not a folder, as several files need";
             return Err(Stop::Failed(format!("{}: {why}", shown(output))));
         }
+        let Some(enums) = self.enums.read(&self.inputs, run) else {
+            return Ok(());
+        };
+        let loader = Loader::new().with_enums(&enums);
         let mut taken = HashSet::new();
         for_each(&self.inputs, run, |run, input, file| {
             let Ok(file) = file else {
                 return Ok(());
             };
-            match xnb::shorten(file) {
+            match loader.shorten(file) {
                 Ok(shortest) => self.write(run, input, file, &shortest, &mut taken),
                 Err(refused) => {
-                    let told = Told::of_file(file, refused, MOST_ROWS as usize);
+                    let told = Told::of_file(loader, file, refused, MOST_ROWS as usize);
                     tell_refusal(run, input, &told);
                     Ok(())
                 }

@@ -1,13 +1,14 @@
 //! `tree`: the values of a file, each below the one that it belongs to.
 
 use super::{at_most_all_rows, for_each, load, tell_refusal, MOST_ROWS};
+use crate::enums::Enums;
 use crate::input::Inputs;
 use crate::json;
 use crate::refusal::Told;
 use crate::run::{End, Run, Status};
 use crate::values::{value, Value};
 use serde::Serialize;
-use xnb::{Detail, Kind, Table};
+use xnb::{Detail, Kind, Loader, Table};
 
 /// Print the values of each file as a tree
 ///
@@ -24,6 +25,9 @@ pub struct Tree {
     #[arg(long, value_name = "N", default_value_t = MOST_ROWS,
         value_parser = at_most_all_rows())]
     rows: u32,
+
+    #[command(flatten)]
+    enums: Enums,
 
     /// Print JSON: an object a file on a line of its own
     #[arg(long)]
@@ -62,15 +66,19 @@ struct Node {
 
 impl Tree {
     pub fn run(&self, run: &mut Run) -> End {
+        let Some(enums) = self.enums.read(&self.inputs, run) else {
+            return Ok(());
+        };
+        let loader = Loader::new().with_enums(&enums);
         let one = self.inputs.is_one_file();
         for_each(&self.inputs, run, |run, input, file| {
             let Ok(file) = file else {
                 return Ok(());
             };
-            let table = match load(file, self.rows) {
+            let table = match load(loader, file, self.rows) {
                 Ok(table) => table,
                 Err(refused) => {
-                    let refused = Told::of_file(file, refused, self.rows as usize);
+                    let refused = Told::of_file(loader, file, refused, self.rows as usize);
                     if !self.json {
                         tell_refusal(run, input, &refused);
                         return Ok(());
