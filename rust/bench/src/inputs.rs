@@ -1,5 +1,6 @@
 //! Files to be measured.
 
+use corpus::enums::{entry, enum_of_size};
 use corpus::readers::{
     dictionary_of, list_of, list_target, nullable_target, INT32, PAGE, STRING, TEXTURE2D,
 };
@@ -10,6 +11,8 @@ pub struct Input {
     pub group: &'static str,
     pub name: String,
     pub bytes: Vec<u8>,
+    /// The list of enum types that is lent with it.
+    pub enums: Vec<u8>,
     pub rows: usize,
 }
 
@@ -19,6 +22,7 @@ fn input(group: &'static str, name: impl Into<String>, file: File) -> Input {
         group,
         name: name.into(),
         bytes: written.bytes,
+        enums: Vec::new(),
         rows: written.rows.len(),
     }
 }
@@ -187,4 +191,28 @@ pub fn shared_lists(count: usize, rows: usize) -> Input {
     let shared = vec![object(1, numbers); count];
     let file = file(&[list_of("System.Int32")], null(), shared);
     input("sharing", format!("{count} shared lists"), file)
+}
+
+/// Lists of enums of a byte, and lists of enum types with a file that uses none of them.
+pub fn enums() -> Vec<Input> {
+    const DOOR: &str = "Coach.Door";
+    let doors = |count| {
+        let name = "enums of a byte";
+        let door = enum_of_size(1);
+        let input = list_file("enums", name, &[list_of(DOOR)], count, door);
+        Input {
+            enums: entry(DOOR.as_bytes(), 1),
+            ..input
+        }
+    };
+    let listed = |count: usize| {
+        let types = (0..count).map(|it| entry(format!("Coach.Screen.Mode{it:04}").as_bytes(), 1));
+        let name = format!("null, {count} enum types listed");
+        Input {
+            enums: types.flatten().collect(),
+            ..input("enums", name, corpus::lawful::file_a())
+        }
+    };
+    let lists = [0, 1, 10, 100, 1000].map(listed);
+    lists.into_iter().chain([1000, 60_000].map(doors)).collect()
 }

@@ -13,13 +13,15 @@ mod search;
 
 use inputs::Input;
 use measure::beside;
+use second::NO_ENUMS;
 use std::hint::black_box;
-use xnb::Shape;
+use xnb::{Loader, Shape};
 
-const PARTS: [(&str, fn()); 11] = [
+const PARTS: [(&str, fn()); 12] = [
     ("builder", builder),
     ("load", load),
     ("load-columns", load_columns),
+    ("enums", enums),
     ("utf8", utf8),
     ("rewrite", rewrite),
     ("next", branches::measure),
@@ -46,9 +48,10 @@ fn main() {
     }
 }
 
-/// What is lent to a task: a file, words for rows and an output as long as the file.
+/// What is lent to a task: a file, a list of enum types, words for rows and an output as long as the file.
 struct Lent {
     file: Vec<u8>,
+    enums: Vec<u8>,
     words: Vec<u32>,
     out: Vec<u8>,
 }
@@ -74,11 +77,19 @@ fn load_columns() {
     let ours = |lent: &mut Lent| load_in(Shape::Columns, lent);
     let second = |lent: &mut Lent| {
         let (file, words) = (black_box(&lent.file), black_box(&mut lent.words));
-        let loaded = second::load_in(second::Shape::Columns, file, words);
+        let enums = black_box(&lent.enums);
+        let loaded = second::load_in(second::Shape::Columns, file, enums, words);
         black_box(loaded).expect("lawful");
     };
     let others: [(&str, Task); 2] = [("xnb_load_rows", load_rows), ("second", second)];
     table("xnb_load_columns", all, |it| it.rows, ours, &others);
+}
+
+/// Loads with lists of enum types.
+fn enums() {
+    let others: [(&str, Task); 1] = [("second", second_load)];
+    let title = "xnb_load_rows with enum types";
+    table(title, inputs::enums(), |it| it.rows, load_rows, &others);
 }
 
 fn load_rows(lent: &mut Lent) {
@@ -86,8 +97,9 @@ fn load_rows(lent: &mut Lent) {
 }
 
 fn load_in(shape: Shape, lent: &mut Lent) {
-    let loaded = shape.load(black_box(&lent.file), black_box(&mut lent.words));
-    black_box(loaded).expect("lawful");
+    let (file, words) = (black_box(&lent.file), black_box(&mut lent.words));
+    let loader = Loader::new().with_enum_bytes(black_box(&lent.enums));
+    black_box(loader.load_words(shape, file, words)).expect("lawful");
 }
 
 /// A load of one long text beside the standard library's judgement of that text.
@@ -111,7 +123,7 @@ fn rewrite() {
     };
     let second = |lent: &mut Lent| {
         let (file, words, out) = (&lent.file, &mut lent.words, &mut lent.out);
-        let length = second::rewrite(black_box(file), black_box(words), black_box(out));
+        let length = second::rewrite(black_box(file), NO_ENUMS, black_box(words), black_box(out));
         black_box(length).expect("lawful");
     };
     let others: [(&str, Task); 2] = [("second", second), ("memcpy", copy)];
@@ -123,7 +135,8 @@ fn count_rows(lent: &mut Lent) {
 }
 
 fn second_load(lent: &mut Lent) {
-    let loaded = second::load(black_box(&lent.file), black_box(&mut lent.words));
+    let (file, words) = (black_box(&lent.file), black_box(&mut lent.words));
+    let loaded = second::load(file, black_box(&lent.enums), words);
     black_box(loaded).expect("lawful");
 }
 
@@ -163,6 +176,7 @@ fn table(
         let mut lent = Lent {
             words: vec![0; xnb::WORDS_PER_ROW * rows(&input)],
             out: vec![0; input.bytes.len()],
+            enums: input.enums,
             file: input.bytes,
         };
         let measured: Vec<_> = others
