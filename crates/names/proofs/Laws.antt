@@ -1,6 +1,6 @@
 -- Loops over bytes: how far a class goes, and whether a text stands there. Assumes nothing.
 use mathlib.Core.Path.{_≡_, refl, sym, ap, _∙_}
-use mathlib.Core.Bool.{Bool, true, false, _&&_}
+use mathlib.Core.Bool.{Bool, true, false, _||_, cond}
 use mathlib.Core.List.{List, [], _∷_}
 use Prim.Native.Nat.{ℕ, suc, _+_, _-_, _≤_, _<_}
 use native.Mathlib.Omega.{arith}
@@ -8,9 +8,12 @@ use lib.Dec.{eqb}
 use lib.ListN.{length, take, drop, getD, length-drop, length-append, drop-of-length-le}
 use lib.Seq.{drop-cons, take-all}
 use borrow.Author.Tests.{eq-eqb, ne-eqb}
+use Rattle.laws.specs.Small.{neither}
 use Rattle.layout.specs.Text.{ascii}
-use Rattle.layout.specs.Name.{tailByte}
-use Rattle.names.specs.Parse.{span, starts, tailSize}
+use Prim.Native.Char.{code}
+use Rattle.layout.specs.Name.{none, some, tailByte}
+use Rattle.names.specs.Parse.{span, starts, common, tailSize, tailOf, wrongBy, behind}
+use Rattle.names.specs.Common.{starts-common, common-fits, starts-longer}
 use Rattle.names.specs.Sound.{starts-is, span-le}
 
 -- the list from i on, where there is an i-th
@@ -45,34 +48,41 @@ module _ (p : ℕ → Bool) (s : List ℕ) (i : ℕ) where
       let z : span p (drop i s) ≡ suc (span p (drop (i + 1) s)) = ap (span p) (cons-at s i h) ∙ span-yes p (getD s i 0) (drop (i + 1) s) b in
       omega arith
 
--- a text that is longer does not stand there
-pub too-long : (t s : List ℕ) → length s < length t → false ≡ starts t s
-unfolding starts
-too-long [] s h = absurd (omega arith)
-too-long (a ∷ t) [] h = refl
-too-long (a ∷ t) (b ∷ s) h = elim (eqb a b) as (λ x. false ≡ (x && starts t s)) [ true ↦ too-long t s (omega arith) | false ↦ refl ]
+common-no : (a b : ℕ) (t s : List ℕ) → (a ≡ b → ⊥) → common (a ∷ t) (b ∷ s) ≡ 0
+unfolding common
+common-no a b t s e = rw (ne-eqb a b e)
 
-starts-no : (a b : ℕ) (t s : List ℕ) → (a ≡ b → ⊥) → starts (a ∷ t) (b ∷ s) ≡ false
-unfolding starts
-starts-no a b t s e = rw (ne-eqb a b e)
+common-yes : (a b : ℕ) (t s : List ℕ) → a ≡ b → common (a ∷ t) (b ∷ s) ≡ suc (common t s)
+unfolding common
+common-yes a b t s e = rw (eq-eqb a b e)
 
-starts-yes : (a b : ℕ) (t s : List ℕ) → a ≡ b → starts (a ∷ t) (b ∷ s) ≡ starts t s
-unfolding starts
-starts-yes a b t s e = rw (eq-eqb a b e)
+common-none : (t : List ℕ) → common t [] ≡ 0
+unfolding common
+common-none [] = refl
+common-none (a ∷ t) = refl
 
 -- a text from its i-th byte on, in s from `at` on
-module _ (t s : List ℕ) (at i : ℕ) (e : starts t (drop at s) ≡ starts (drop i t) (drop (at + i) s)) where
-  pub starts-end : length t ≤ i → true ≡ starts t (drop at s)
-  unfolding starts
-  starts-end h = let d : drop i t ≡ [] = drop-of-length-le t h in sym (rw d at e)
+module _ (t s : List ℕ) (at i : ℕ) (e : common t (drop at s) ≡ i + common (drop i t) (drop (at + i) s)) where
+  pub common-end : length t ≤ i → i ≡ common t (drop at s)
+  unfolding common
+  common-end h = let d : drop i t ≡ [] = drop-of-length-le t h in omega (arith, rw d at e)
 
-  pub starts-stop : i < length t → at + i < length s → (getD t i 0 ≡ getD s (at + i) 0 → ⊥) → false ≡ starts t (drop at s)
-  starts-stop h k b = sym (rw (cons-at t i h, cons-at s (at + i) k) at e ∙ starts-no _ _ _ _ b)
+  pub common-short : length s ≤ at + i → i ≡ common t (drop at s)
+  common-short h =
+      let z : common (drop i t) (drop (at + i) s) ≡ 0 = ap (common (drop i t)) (drop-of-length-le s h) ∙ common-none (drop i t) in
+      omega arith
 
-  pub starts-step : i < length t → at + i < length s → getD t i 0 ≡ getD s (at + i) 0 → starts t (drop at s) ≡ starts (drop (i + 1) t) (drop (at + (i + 1)) s)
-  starts-step h k b =
+  pub common-stop : i < length t → at + i < length s → (getD t i 0 ≡ getD s (at + i) 0 → ⊥) → i ≡ common t (drop at s)
+  common-stop h k b =
+      let z : common (drop i t) (drop (at + i) s) ≡ 0 = rw (cons-at t i h, cons-at s (at + i) k) (common-no _ _ _ _ b) in
+      omega arith
+
+  pub common-step : i < length t → at + i < length s → getD t i 0 ≡ getD s (at + i) 0 → common t (drop at s) ≡ i + 1 + common (drop (i + 1) t) (drop (at + (i + 1)) s)
+  common-step h k b =
       let q : at + i + 1 ≡ at + (i + 1) = omega arith in
-      rw (cons-at t i h, cons-at s (at + i) k) at e ∙ starts-yes _ _ _ _ b ∙ ap (λ (k : ℕ). starts (drop (i + 1) t) (drop k s)) q
+      let z : common (drop i t) (drop (at + i) s) ≡ suc (common (drop (i + 1) t) (drop (at + (i + 1)) s))
+      = rw (cons-at t i h, cons-at s (at + i) k) (common-yes _ _ _ _ b) ∙ ap (λ (k : ℕ). suc (common (drop (i + 1) t) (drop k s))) q in
+      omega arith
 
 -- `&s[a..]` as the borrow checker has it
 pub rest : (s : List ℕ) (a : ℕ) → take (length s - a) (drop a s) ≡ drop a s
@@ -100,3 +110,47 @@ tail-bound s e h true b =
 
 pub tail-fits : (s : List ℕ) (e : ℕ) → e ≤ length s → e + tailSize (drop e s) ≤ length s
 tail-fits s e h = tail-bound s e h (starts (ascii ",") (drop e s)) refl
+
+-- perhaps a tail: none if it has no bytes
+pub bare-is : (s : List ℕ) (bare : ℕ) → tailSize s ≡ 0 → bare ≡ wrongBy bare (tailOf s)
+unfolding tailSize tailOf wrongBy
+bare-is s bare e = go (starts (ascii ",") s) e where
+  go : (b : Bool) → cond b (suc (span tailByte (drop 1 s))) 0 ≡ 0 → bare ≡ wrongBy bare (cond b (some (take (span tailByte (drop 1 s)) (drop 1 s))) none)
+  go true e = absurd (omega arith)
+  go false e = refl
+
+pub tail-is : (s : List ℕ) (bare : ℕ) → (tailSize s ≡ 0 → ⊥) → 37 ≡ wrongBy bare (tailOf s)
+unfolding tailSize tailOf wrongBy
+tail-is s bare e = go (starts (ascii ",") s) e where
+  go : (b : Bool) → (cond b (suc (span tailByte (drop 1 s))) 0 ≡ 0 → ⊥) → 37 ≡ wrongBy bare (cond b (some (take (span tailByte (drop 1 s)) (drop 1 s))) none)
+  go true e = refl
+  go false e = absurd (e refl)
+
+-- behind an argument
+module _ (s : List ℕ) (e other : ℕ) where
+  pub behind-end : length s ≤ e → 36 ≡ behind other (drop e s)
+  unfolding behind
+  behind-end h = rw (drop-of-length-le s h)
+
+  pub behind-bracket : e < length s → getD s e 0 ≡ code "]" → 36 ≡ behind other (drop e s)
+  unfolding behind
+  behind-bracket h b = rw (cons-at s e h, eq-eqb (getD s e 0) (code "]") b)
+
+  pub behind-other : e < length s → (getD s e 0 ≡ code "]" → ⊥) → other ≡ behind other (drop e s)
+  unfolding behind
+  behind-other h b = rw (cons-at s e h, ne-eqb (getD s e 0) (code "]") b)
+
+-- whether a text stands there, by how much of it does
+pub stands-is : (t s : List ℕ) (m : ℕ) → m ≡ common t s → eqb m (length t) ≡ starts t s
+stands-is t s m e = ap (λ (k : ℕ). eqb k (length t)) e ∙ sym (starts-common t s)
+
+-- as much of a text as stands there ends within the list
+pub matched-fits : (t s : List ℕ) (at m : ℕ) → at ≤ length s → m ≡ common t (drop at s) → at + m ≤ length s
+matched-fits t s at m h e = omega (arith, common-fits t (drop at s), length-drop at s)
+
+-- where neither of two texts stands, no longer ones do
+pub shorter-either : (s : List ℕ) → (starts (ascii "`1") s || starts (ascii "`2") s) ≡ false → (starts (ascii "`1[") s || starts (ascii "`2[") s) ≡ false
+unfolding ascii
+shorter-either s e =
+    let q = neither (starts (ascii "`1") s) (starts (ascii "`2") s) e in
+    rw (starts-longer (ascii "`1") (ascii "[") s (q .0), starts-longer (ascii "`2") (ascii "[") s (q .1))

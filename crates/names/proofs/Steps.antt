@@ -12,10 +12,12 @@ use Rattle.layout.specs.Name.{Name, Tail, none, simple, one, two, headByte}
 use Rattle.layout.specs.EnumList.{EnumEntry}
 use Rattle.names.specs.declared.Parsed.{Parsed}
 use Rattle.names.specs.declared.Parsed.the-variants.{Name as Parsed-name, Broken as Parsed-broken}
-use Rattle.names.specs.Parse.{Read, broken, name, span, starts, tailOf, ended, closed, opening, onOnly, onSecond, onFirst, afterHead, headed, nameIn}
+use Rattle.names.specs.Parse.{Read, broken, name, span, starts, common, tailOf, ended, wrongBy, wrong, behind, missing, closed, opening, unopenedNumber, unopenedAt, onOnly, onSecond, onFirst, afterHead, headed, nameIn}
 use Rattle.names.specs.Complete.{length-write}
 use Rattle.names.specs.Sound.{Ok, Stands, span-le, sound}
 use Rattle.names.specs.Contract.{answer, met, Parses, Inside, tailed, passed, tailedAfter, closing}
+use borrow.Author.Tests.{eq-eqb, ne-eqb}
+use Rattle.names.specs.Common.{starts-common}
 use Rattle.names.proofs.Laws.{rest, starts-fits}
 use Rattle.names.specs.Codes.{heads-few, codes-append, codes-length}
 use Rattle.names.specs.Heading.{Heading, heading, headings, long}
@@ -46,7 +48,7 @@ module _ (s : List ℕ) (h n : ℕ) (head : h ≡ span headByte s) (e : n ≡ op
   opening-fits f g = opens s h _ _ (starts (ascii "`") (drop h s)) refl refl fits .1 (λ q. f (e ∙ q)) (λ q. g (e ∙ q))
 
 -- how a name opens
-pub too-deep : (l at : ℕ) (s : List ℕ) → l ≡ 0 → nameIn l at s ≡ broken []
+pub too-deep : (l at : ℕ) (s : List ℕ) → l ≡ 0 → nameIn l at s ≡ broken 38 at []
 unfolding nameIn
 too-deep l at s e = rw e
 
@@ -57,7 +59,7 @@ module _ (l at : ℕ) (s : List ℕ) (h : ℕ) (some : l ≡ 0 → ⊥) (e : h �
       let z : l ≡ suc (l - 1) = omega (arith, some) in
       ap (λ (k : ℕ). nameIn k at s) z ∙ ap (headed (nameIn (l - 1)) at s) (sym e)
 
-  pub headless : h ≡ 0 → nameIn l at s ≡ broken []
+  pub headless : h ≡ 0 → nameIn l at s ≡ broken 33 at []
   unfolding headed
   headless z = one-less ∙ rw z
 
@@ -68,23 +70,25 @@ module _ (l at : ℕ) (s : List ℕ) (h : ℕ) (some : l ≡ 0 → ⊥) (e : h �
       one-less ∙ ap (headed (nameIn (l - 1)) at s) z ∙ ap (λ (k : ℕ). afterHead (nameIn (l - 1)) at s k (opening (drop k s))) (sym z) ∙ ap (afterHead (nameIn (l - 1)) at s h) (sym q)
 
 -- what a call on `&s[a..]` answers, whose first byte is at `at`
-pub record Took (s : List ℕ) (a at used l k u : ℕ) : Type 0 where
+pub record Took (s : List ℕ) (a at used l g k u : ℕ) : Type 0 where
   pub n : Name
   pub is : nameIn l at (drop a s) ≡ name n k
+  pub other : g ≡ wrong n
   pub size : k ≡ long n
   pub more : u ≡ used + length (headings at n)
   pub within : a + k ≤ length s
   pub most : length (headings at n) ≤ k
 
-took-as : (s : List ℕ) (a at used l k u : ℕ) → a ≤ length s → (r : Read) → nameIn l at (drop a s) ≡ r → Ok (Stands l (drop a s)) r → Parsed-name k u ≡ answer at used r → Took s a at used l k u
-took-as s a at used l k u h (broken hs) q o e = differ cc
-took-as s a at used l k u h (name n j) q o e =
+took-as : (s : List ℕ) (a at used l g k u : ℕ) → a ≤ length s → (r : Read) → nameIn l at (drop a s) ≡ r → Ok (Stands l (drop a s)) r → Parsed-name g k u ≡ answer at used r → Took s a at used l g k u
+took-as s a at used l g k u h (broken m p hs) q o e = differ cc
+took-as s a at used l g k u h (name n j) q o e =
     let p = o .got refl in
     let i : k ≡ j = cc in
     let v : u ≡ used + length (headings at n) = cc in
     record {
       n = n;
       is = q ∙ ap (name n) (sym i);
+      other = cc;
       size = i ∙ p .2;
       more = v;
       within = omega (arith, length-drop a s, ap length (p .1), length-write n (drop j (drop a s)), p .2);
@@ -92,17 +96,17 @@ took-as s a at used l k u h (name n j) q o e =
     }
 
 module _ (s : List ℕ) (a at used l : ℕ) (h : a ≤ length s) {first : Parsed} (e : first ≡ answer at used (nameIn l at (drop a s))) where
-  pub took : {k u : ℕ} → first ≡ Parsed-name k u → Took s a at used l k u
-  took {k} {u} q = took-as s a at used l k u h (nameIn l at (drop a s)) refl (sound l at (drop a s)) (sym q ∙ e)
+  pub took : {g k u : ℕ} → first ≡ Parsed-name g k u → Took s a at used l g k u
+  took {g} {k} {u} q = took-as s a at used l g k u h (nameIn l at (drop a s)) refl (sound l at (drop a s)) (sym q ∙ e)
 
   inside-as : (p : Parsed) → first ≡ p → Inside (length s) a p
-  inside-as Parsed-broken q = tt
-  inside-as (Parsed-name k u) q = took q .within
+  inside-as (Parsed-broken m p) q = tt
+  inside-as (Parsed-name g k u) q = took q .within
 
   pub inside : Inside (length s) a first
   inside = inside-as first refl
 
-pub within : (l at : ℕ) {k u : ℕ} {p : Parsed} → Inside l at p → p ≡ Parsed-name k u → at + k ≤ l
+pub within : (l at : ℕ) {g k u : ℕ} {p : Parsed} → Inside l at p → p ≡ Parsed-name g k u → at + k ≤ l
 within l at i e = rw e at i
 
 sets-append : (l : List ℕ) (i : ℕ) (a b : List ℕ) → sets (sets l i a) (i + length a) b ≡ sets l i (a ++ b)
@@ -118,18 +122,20 @@ first es own at s h n = word (kindIn es own (take h s) n) n at
 -- what was met after a head of h bytes, and where the name ends, by what its arguments answered
 module _ (es : List EnumEntry) (own : Bool) (at : ℕ) (s : List ℕ) (h : ℕ) (size : length (take h s) ≡ h) where
   -- a name that n makes of its tail ends, or its brackets are missing: the same heads were met
-  closed-met : (n : Tail → Name) (hs : List Heading) (e : ℕ) → ((t : Tail) → headings at (n t) ≡ hs) → met at (closed at n s e) ≡ hs
+  closed-met : (n : Tail → Name) (x : Name) (hs : List Heading) (e : ℕ) → ((t : Tail) → headings at (n t) ≡ hs) → met at (closed at n x s e) ≡ hs
   unfolding closed
-  closed-met n hs e f =
-      elim (starts (ascii "]]") (drop e s)) as (λ b. met at (cond b (ended n s (e + 2)) (broken (headings at (n none)))) ≡ hs) [ true ↦ f (tailOf (drop (e + 2) s)) | false ↦ f none ]
+  closed-met n x hs e f =
+      elim (starts (ascii "]]") (drop e s)) as (λ b. met at (cond b (ended n s (e + 2)) (missing (ascii "]]") at x s e (headings at (n none)))) ≡ hs)
+      [ true ↦ f (tailOf (drop (e + 2) s)) | false ↦ f none ]
 
-  closed-answer : (n : Tail → Name) (hs : List Heading) (a k u used : ℕ) → ((t : Tail) → headings at (n t) ≡ hs) → u ≡ used + length hs
-      → closing s a (Parsed-name k u) ≡ answer at used (closed at n s (a + k))
+  closed-answer : (n : Tail → Name) (x : Name) (hs : List Heading) (a k u used : ℕ) → ((t : Tail) → headings at (n t) ≡ hs) → ((t : Tail) → wrong (n t) ≡ wrongBy 36 t) → u ≡ used + length hs
+      → closing at s a (Parsed-name (wrong x) k u) ≡ answer at used (closed at n x s (a + k))
   unfolding closed ascii
-  closed-answer n hs a k u used f v =
+  closed-answer n x hs a k u used f g v =
       elim (starts (ascii "]]") (drop (a + k) s))
-      as (λ b. tailedAfter s (cond b (Parsed-name (a + k + 2) u) Parsed-broken) ≡ answer at used (cond b (ended n s (a + k + 2)) (broken (headings at (n none)))))
-      [ true ↦ rw (f (tailOf (drop (a + k + 2) s)), v) | false ↦ refl ]
+      as (λ b. tailedAfter s (cond b (Parsed-name 36 (a + k + 2) u) (Parsed-broken (behind (wrong x) (drop (a + k) s)) (at + (a + k + common (ascii "]]") (drop (a + k) s)))))
+      ≡ answer at used (cond b (ended n s (a + k + 2)) (missing (ascii "]]") at x s (a + k) (headings at (n none)))))
+      [ true ↦ rw (f (tailOf (drop (a + k + 2) s)), g (tailOf (drop (a + k + 2) s)), v) | false ↦ refl ]
 
   -- the heads of a name with one argument, and with two
   one-heads : (x : Name) (t : Tail) → headings at (one (take h s) x t) ≡ heading (take h s) 1 at ∷ headings (at + (h + 4)) x
@@ -140,47 +146,56 @@ module _ (es : List EnumEntry) (own : Bool) (at : ℕ) (s : List ℕ) (h : ℕ) 
   unfolding headings
   two-heads x y b e t = rw (size, e)
 
+  one-wrong : (x : Name) (t : Tail) → wrong (one (take h s) x t) ≡ wrongBy 36 t
+  unfolding wrong
+  one-wrong x t = refl
+
+  two-wrong : (x y : Name) (t : Tail) → wrong (two (take h s) x y t) ≡ wrongBy 36 t
+  unfolding wrong
+  two-wrong x y t = refl
+
   only-met : (r : Read) → codes es own (met at (onOnly at s h (h + 4) r)) ≡ first es own at s h 1 ∷ codes es false (met (at + (h + 4)) r)
   unfolding onOnly codes
-  only-met (broken hs) = refl
-  only-met (name x k) = rw (closed-met (one (take h s) x) (heading (take h s) 1 at ∷ headings (at + (h + 4)) x) (h + 4 + k) (one-heads x))
+  only-met (broken m p hs) = refl
+  only-met (name x k) = rw (closed-met (one (take h s) x) x (heading (take h s) 1 at ∷ headings (at + (h + 4)) x) (h + 4 + k) (one-heads x))
 
-  only-answer : (used : ℕ) (r : Read) → closing s (h + 4) (answer (at + (h + 4)) (used + 1) r) ≡ answer at used (onOnly at s h (h + 4) r)
+  only-answer : (used : ℕ) (r : Read) → closing at s (h + 4) (answer (at + (h + 4)) (used + 1) r) ≡ answer at used (onOnly at s h (h + 4) r)
   unfolding onOnly
-  only-answer used (broken hs) = refl
+  only-answer used (broken m p hs) = refl
   only-answer used (name x k) =
-      closed-answer (one (take h s) x) (heading (take h s) 1 at ∷ headings (at + (h + 4)) x) (h + 4) k (used + 1 + length (headings (at + (h + 4)) x)) used (one-heads x) (omega arith)
+      closed-answer (one (take h s) x) x (heading (take h s) 1 at ∷ headings (at + (h + 4)) x) (h + 4) k (used + 1 + length (headings (at + (h + 4)) x)) used (one-heads x) (one-wrong x) (omega arith)
 
   module _ (x : Name) (b : ℕ) (e : b ≡ h + 4 + long x + 3) where
     second-met : (r : Read) → codes es own (met at (onSecond at s h (h + 4) x b r)) ≡ first es own at s h 2 ∷ (codes es false (headings (at + (h + 4)) x) ++ codes es false (met (at + b) r))
     unfolding onSecond codes
-    second-met (broken hs) = rw (codes-append es (headings (at + (h + 4)) x) hs)
+    second-met (broken m p hs) = rw (codes-append es (headings (at + (h + 4)) x) hs)
     second-met (name y k) =
         rw (
-          closed-met (two (take h s) x y) (heading (take h s) 2 at ∷ (headings (at + (h + 4)) x ++ headings (at + b) y)) (b + k) (two-heads x y b e),
+          closed-met (two (take h s) x y) y (heading (take h s) 2 at ∷ (headings (at + (h + 4)) x ++ headings (at + b) y)) (b + k) (two-heads x y b e),
           codes-append es (headings (at + (h + 4)) x) (headings (at + b) y),
         )
 
-    second-answer : (u used : ℕ) → u ≡ used + 1 + length (headings (at + (h + 4)) x) → (r : Read) → closing s b (answer (at + b) u r) ≡ answer at used (onSecond at s h (h + 4) x b r)
+    second-answer : (u used : ℕ) → u ≡ used + 1 + length (headings (at + (h + 4)) x) → (r : Read) → closing at s b (answer (at + b) u r) ≡ answer at used (onSecond at s h (h + 4) x b r)
     unfolding onSecond
-    second-answer u used v (broken hs) = refl
+    second-answer u used v (broken m p hs) = refl
     second-answer u used v (name y k) =
-        closed-answer (two (take h s) x y) (heading (take h s) 2 at ∷ (headings (at + (h + 4)) x ++ headings (at + b) y)) b k (u + length (headings (at + b) y)) used (two-heads x y b e)
+        closed-answer (two (take h s) x y) y (heading (take h s) 2 at ∷ (headings (at + (h + 4)) x ++ headings (at + b) y)) b k (u + length (headings (at + b) y)) used (two-heads x y b e) (two-wrong x y)
         (omega (arith, length-append (headings (at + (h + 4)) x) (headings (at + b) y)))
 
   -- no comma follows the first of two arguments, or it is broken
-  comma-lost : (second : Read) (hs : List Heading) (b u used : ℕ) (y : Bool) → cond y (Parsed-name b u) Parsed-broken ≡ Parsed-broken
-      → (answer at used (cond y second (broken hs)) ≡ Parsed-broken) × (met at (cond y second (broken hs)) ≡ hs)
-  comma-lost second hs b u used true e = differ cc
-  comma-lost second hs b u used false e = (refl, refl)
+  comma-lost : (second : Read) (hs : List Heading) (b u used f g m p : ℕ) (y : Bool) → cond y (Parsed-name 36 b u) (Parsed-broken f g) ≡ Parsed-broken m p
+      → (answer at used (cond y second (broken f g hs)) ≡ Parsed-broken m p) × (met at (cond y second (broken f g hs)) ≡ hs)
+  comma-lost second hs b u used f g m p true e = differ cc
+  comma-lost second hs b u used f g m p false e = (e, refl)
 
-  first-lost : (below : ℕ → List ℕ → Read) (u used : ℕ) (r : Read) → passed (ascii "],[") s (h + 4) (answer (at + (h + 4)) u r) ≡ Parsed-broken
-      → (answer at used (onFirst below at s h (h + 4) r) ≡ Parsed-broken) × (codes es own (met at (onFirst below at s h (h + 4) r)) ≡ first es own at s h 2 ∷ codes es false (met (at + (h + 4)) r))
+  first-lost : (below : ℕ → List ℕ → Read) (u used m p : ℕ) (r : Read) → passed (ascii "],[") at s (h + 4) (answer (at + (h + 4)) u r) ≡ Parsed-broken m p
+      → (answer at used (onFirst below at s h (h + 4) r) ≡ Parsed-broken m p) × (codes es own (met at (onFirst below at s h (h + 4) r)) ≡ first es own at s h 2 ∷ codes es false (met (at + (h + 4)) r))
   unfolding onFirst codes ascii
-  first-lost below u used (broken hs) e = (refl, refl)
-  first-lost below u used (name x k) e =
+  first-lost below u used m p (broken f g hs) e = (e, refl)
+  first-lost below u used m p (name x k) e =
       let b = h + 4 + k + 3 in
-      let g = comma-lost (onSecond at s h (h + 4) x b (below (at + b) (drop b s))) (heading (take h s) 2 at ∷ headings (at + (h + 4)) x) b (u + length (headings (at + (h + 4)) x)) used (starts (ascii "],[") (drop (h + 4 + k) s)) e in
+      let r = drop (h + 4 + k) s in
+      let g = comma-lost (onSecond at s h (h + 4) x b (below (at + b) (drop b s))) (heading (take h s) 2 at ∷ headings (at + (h + 4)) x) b (u + length (headings (at + (h + 4)) x)) used (behind (wrong x) r) (at + (h + 4 + k + common (ascii "],[") r)) m p (starts (ascii "],[") r) e in
       (g .0, rw (g .1))
 
 -- a code is put before those that were written after it
@@ -202,76 +217,89 @@ part-length s a = ap length (rest s a) ∙ length-drop a s
 
 -- an argument that was read, and a text after it
 pub record Passed (w s : List ℕ) (a b u : ℕ) (argument : Parsed) : Type 0 where
+  pub g : ℕ
   pub k : ℕ
-  pub is : argument ≡ Parsed-name k u
+  pub is : argument ≡ Parsed-name g k u
   pub stands : starts w (drop (a + k) s) ≡ true
   pub next : b ≡ a + k + length w
 
-module _ (w s : List ℕ) (a b u : ℕ) where
-  passed-as : (argument : Parsed) (k v : ℕ) (x : Bool) → argument ≡ Parsed-name k v → starts w (drop (a + k) s) ≡ x → cond x (Parsed-name (a + k + length w) v) Parsed-broken ≡ Parsed-name b u
-      → Passed w s a b u argument
-  passed-as argument k v false q c e = differ cc
-  passed-as argument k v true q c e =
+module _ (w : List ℕ) (at : ℕ) (s : List ℕ) (a x b u : ℕ) where
+  passed-as : (argument : Parsed) (g k v f p : ℕ) (y : Bool) → argument ≡ Parsed-name g k v → starts w (drop (a + k) s) ≡ y
+      → cond y (Parsed-name 36 (a + k + length w) v) (Parsed-broken f p) ≡ Parsed-name x b u → Passed w s a b u argument
+  passed-as argument g k v f p false q c e = differ cc
+  passed-as argument g k v f p true q c e =
       let i : v ≡ u = cc in
       let j : b ≡ a + k + length w = cc in
-      record { k = k; is = q ∙ ap (Parsed-name k) i; stands = c; next = j }
+      record { g = g; k = k; is = q ∙ ap (Parsed-name g k) i; stands = c; next = j }
 
-  pub has-passed : (argument : Parsed) → passed w s a argument ≡ Parsed-name b u → Passed w s a b u argument
-  has-passed Parsed-broken e = differ cc
-  has-passed (Parsed-name k v) e = passed-as (Parsed-name k v) k v (starts w (drop (a + k) s)) refl refl e
+  pub has-passed : (argument : Parsed) → passed w at s a argument ≡ Parsed-name x b u → Passed w s a b u argument
+  has-passed (Parsed-broken m p) e = differ cc
+  has-passed (Parsed-name g k v) e = passed-as (Parsed-name g k v) g k v (behind g (drop (a + k) s)) (at + (a + k + common w (drop (a + k) s))) (starts w (drop (a + k) s)) refl refl e
 
-  pub passed-fits : (argument : Parsed) → Inside (length s) a argument → passed w s a argument ≡ Parsed-name b u → b ≤ length s
+  pub passed-fits : (argument : Parsed) → Inside (length s) a argument → passed w at s a argument ≡ Parsed-name x b u → b ≤ length s
   passed-fits argument i e =
       let t = has-passed argument e in
       omega (arith, t .next, starts-fits w s (a + t .k) (within (length s) a i (t .is)) (t .stands))
 
+-- what `past` returns: the text stands there, or only m bytes of it do
+module _ (w : List ℕ) (at : ℕ) (s : List ℕ) (a g k u m : ℕ) (e : m ≡ common w (drop (a + k) s)) where
+  pub past-stands : m ≡ length w → Parsed-name 36 (a + k + m) u ≡ passed w at s a (Parsed-name g k u)
+  past-stands q =
+      let b : starts w (drop (a + k) s) ≡ true = starts-common w (drop (a + k) s) ∙ eq-eqb (common w (drop (a + k) s)) (length w) (sym e ∙ q) in
+      rw (b, q)
+
+  pub past-lost : (m ≡ length w → ⊥) → (n : ℕ) → n ≡ behind g (drop (a + k) s) → Parsed-broken n (at + (a + k + m)) ≡ passed w at s a (Parsed-name g k u)
+  past-lost q n i =
+      let b : starts w (drop (a + k) s) ≡ false = starts-common w (drop (a + k) s) ∙ ne-eqb (common w (drop (a + k) s)) (length w) (λ z. q (e ∙ z)) in
+      rw (b, i, e)
+
 -- the second argument starts within the part, and the codes that are used until then are fewer than the bytes
-pub second-fits : {es : List EnumEntry} {own : Bool} {l : ℕ} (s : List ℕ) (a : ℕ) {at : ℕ} {c c′ : List ℕ} {used : ℕ} {f : Parsed} (b u : ℕ) → a ≤ length s
-    → Parses es own l at (take (length s - a) (drop a s)) c c′ used f → passed (ascii "],[") s a f ≡ Parsed-name b u → (b ≤ length s) × (u + a ≤ used + b)
+pub second-fits : {es : List EnumEntry} {own : Bool} {l : ℕ} (at : ℕ) (s : List ℕ) (a : ℕ) {c c′ : List ℕ} {used : ℕ} {f : Parsed} (x b u : ℕ) → a ≤ length s
+    → Parses es own l (at + a) (take (length s - a) (drop a s)) c c′ used f → passed (ascii "],[") at s a f ≡ Parsed-name x b u → (b ≤ length s) × (u + a ≤ used + b)
 unfolding ascii
-second-fits {l = l} s a {at} {used = used} {f} b u h p y =
-    let t = has-passed (ascii "],[") s a b u f y in
-    let k = took s a at used l h (part-answer s a p .answers) (t .is) in
+second-fits {l = l} at s a {used = used} {f} x b u h p y =
+    let t = has-passed (ascii "],[") at s a x b u f y in
+    let k = took s a (at + a) used l h (part-answer s a p .answers) (t .is) in
     let g = starts-fits _ s (a + t .k) (k .within) (t .stands) in
     (omega (arith, t .next), omega (arith, t .next, k .more, k .most))
 
 -- what `parse` returns
 module _ {es : List EnumEntry} {own : Bool} {l at : ℕ} {s c : List ℕ} {used : ℕ} where
-  pub give-up : nameIn l at s ≡ broken [] → Parses es own l at s c c used Parsed-broken
+  pub give-up : {m p : ℕ} → nameIn l at s ≡ broken m p [] → Parses es own l at s c c used (Parsed-broken m p)
   unfolding codes
   give-up e = record { answers = rw e; writes = rw e }
 
   module _ (h n : ℕ) (e : nameIn l at s ≡ afterHead (nameIn (l - 1)) at s h n) where
-    pub odd-done : n ≡ 3 → Parses es own l at s c c used Parsed-broken
+    pub odd-done : {r : Parsed} → n ≡ 3 → r ≡ Parsed-broken (unopenedNumber (drop h s)) (at + (h + unopenedAt (drop h s))) → Parses es own l at s c c used r
     unfolding afterHead
-    odd-done z = give-up (e ∙ rw z)
+    odd-done z q = rw q (give-up (e ∙ rw z))
 
     module _ (inside : h ≤ length s) where
-      pub simple-done : {c₁ : List ℕ} {r : Parsed} → c₁ ≡ set c used (first es own at s h n) → n ≡ 0 → r ≡ tailed s h (used + 1) → Parses es own l at s c c₁ used r
-      unfolding afterHead codes headings
+      pub simple-done : {c₁ : List ℕ} {r : Parsed} → c₁ ≡ set c used (first es own at s h n) → n ≡ 0 → r ≡ tailed s h (used + 1) 34 → Parses es own l at s c c₁ used r
+      unfolding afterHead codes headings wrong
       simple-done w z q =
           let i : nameIn l at s ≡ ended (simple (take h s)) s h = e ∙ rw z in
           record { answers = q ∙ rw i; writes = w ∙ rw (i, z) }
 
       module _ {c₁ c₂ : List ℕ} (w : c₁ ≡ set c used (first es own at s h n)) {f : Parsed} (p : Parses es false (l - 1) (at + (h + 4)) (take (length s - (h + 4)) (drop (h + 4) s)) c₁ c₂ (used + 1) f) where
-        pub only-done : {r : Parsed} → n ≡ 1 → r ≡ closing s (h + 4) f → Parses es own l at s c c₂ used r
+        pub only-done : {r : Parsed} → n ≡ 1 → r ≡ closing at s (h + 4) f → Parses es own l at s c c₂ used r
         unfolding afterHead
         only-done z q =
             let d = part-answer s (h + 4) p in
             let x = nameIn (l - 1) (at + (h + 4)) (drop (h + 4) s) in
             let i : nameIn l at s ≡ onOnly at s h (h + 4) x = e ∙ rw z in
             record {
-              answers = q ∙ ap (closing s (h + 4)) (d .answers) ∙ only-answer es own at s h (length-take-le h s inside) used x ∙ ap (answer at used) (sym i);
+              answers = q ∙ ap (closing at s (h + 4)) (d .answers) ∙ only-answer es own at s h (length-take-le h s inside) used x ∙ ap (answer at used) (sym i);
               writes = fronted c used (first es own at s h 1) (codes es false (met (at + (h + 4)) x)) (rw z at w) (d .writes) ∙ ap (sets c used) (sym (only-met es own at s h (length-take-le h s inside) x) ∙ ap (λ (r : Read). codes es own (met at r)) (sym i));
             }
 
-        pub both-done : (b u : ℕ) {c₃ : List ℕ} {f₂ r : Parsed} → n ≡ 2 → h + 4 ≤ length s → passed (ascii "],[") s (h + 4) f ≡ Parsed-name b u
-            → Parses es false (l - 1) (at + b) (take (length s - b) (drop b s)) c₂ c₃ u f₂ → r ≡ closing s b f₂ → Parses es own l at s c c₃ used r
+        pub both-done : (y b u : ℕ) {c₃ : List ℕ} {f₂ r : Parsed} → n ≡ 2 → h + 4 ≤ length s → passed (ascii "],[") at s (h + 4) f ≡ Parsed-name y b u
+            → Parses es false (l - 1) (at + b) (take (length s - b) (drop b s)) c₂ c₃ u f₂ → r ≡ closing at s b f₂ → Parses es own l at s c c₃ used r
         unfolding afterHead onFirst ascii
-        both-done b u {c₃} z g y p₂ q =
+        both-done y b u {c₃} z g o p₂ q =
             let d = part-answer s (h + 4) p in
             let d₂ = part-answer s b p₂ in
-            let t = has-passed (ascii "],[") s (h + 4) b u f y in
+            let t = has-passed (ascii "],[") at s (h + 4) y b u f o in
             let k = took s (h + 4) (at + (h + 4)) (used + 1) (l - 1) g (d .answers) (t .is) in
             let r₂ = nameIn (l - 1) (at + b) (drop b s) in
             let i : nameIn l at s ≡ onSecond at s h (h + 4) (k .n) b r₂ = e ∙ rw (z, k .is, t .stands, ← t .next) in
@@ -281,17 +309,17 @@ module _ {es : List EnumEntry} {own : Bool} {l at : ℕ} {s c : List ℕ} {used 
             let v : u ≡ used + length (first es own at s h 2 ∷ xs) = omega (arith, k .more, codes-length es false (headings (at + (h + 4)) (k .n))) in
             let w₃ : c₃ ≡ sets (sets c used (first es own at s h 2 ∷ xs)) (used + length (first es own at s h 2 ∷ xs)) (codes es false (met (at + b) r₂)) = d₂ .writes ∙ ap (λ (k : List ℕ). sets k u (codes es false (met (at + b) r₂))) w₂ ∙ ap (λ (k : ℕ). sets (sets c used (first es own at s h 2 ∷ xs)) k (codes es false (met (at + b) r₂))) v in
             record {
-              answers = q ∙ ap (closing s b) (d₂ .answers) ∙ second-answer es own at s h (length-take-le h s inside) (k .n) b m u used (k .more) r₂ ∙ ap (answer at used) (sym i);
+              answers = q ∙ ap (closing at s b) (d₂ .answers) ∙ second-answer es own at s h (length-take-le h s inside) (k .n) b m u used (k .more) r₂ ∙ ap (answer at used) (sym i);
               writes = w₃ ∙ sets-append c used (first es own at s h 2 ∷ xs) (codes es false (met (at + b) r₂)) ∙ ap (sets c used) (sym (second-met es own at s h (length-take-le h s inside) (k .n) b m r₂) ∙ ap (λ (r : Read). codes es own (met at r)) (sym i));
             }
 
-        pub part-lost : n ≡ 2 → passed (ascii "],[") s (h + 4) f ≡ Parsed-broken → Parses es own l at s c c₂ used Parsed-broken
+        pub part-lost : {m q : ℕ} → n ≡ 2 → passed (ascii "],[") at s (h + 4) f ≡ Parsed-broken m q → Parses es own l at s c c₂ used (Parsed-broken m q)
         unfolding afterHead
-        part-lost z y =
+        part-lost {m} {q} z y =
             let d = part-answer s (h + 4) p in
             let x = nameIn (l - 1) (at + (h + 4)) (drop (h + 4) s) in
             let i : nameIn l at s ≡ onFirst (nameIn (l - 1)) at s h (h + 4) x = e ∙ rw z in
-            let g = first-lost es own at s h (length-take-le h s inside) (nameIn (l - 1)) (used + 1) used x (ap (passed (ascii "],[") s (h + 4)) (sym (d .answers)) ∙ y) in
+            let g = first-lost es own at s h (length-take-le h s inside) (nameIn (l - 1)) (used + 1) used m q x (ap (passed (ascii "],[") at s (h + 4)) (sym (d .answers)) ∙ y) in
             record {
               answers = sym (g .0) ∙ ap (answer at used) (sym i);
               writes = fronted c used (first es own at s h 2) (codes es false (met (at + (h + 4)) x)) (rw z at w) (d .writes) ∙ ap (sets c used) (sym (g .1) ∙ ap (λ (r : Read). codes es own (met at r)) (sym i));

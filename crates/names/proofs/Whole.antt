@@ -1,10 +1,11 @@
 -- What `read_name` returns. Assumes nothing.
-use mathlib.Core.Path.{_≡_, refl, sym, _∙_}
+use mathlib.Core.Path.{_≡_, refl, sym, ap, _∙_}
 use mathlib.Core.Bool.{Bool, true, false, _&&_}
 use mathlib.Core.List.{List}
 use Prim.Native.Nat.{ℕ, _+_, _<_, _≤_}
+use native.Mathlib.Omega.{arith}
 use lib.Dec.{leb}
-use lib.ListN.{length}
+use lib.ListN.{length, drop}
 use lib.Seq.{sets}
 use borrow.Author.Tests.{lt-leb, le-leb, eq-eqb, ne-eqb}
 use Rattle.laws.specs.Small.{differ}
@@ -12,7 +13,9 @@ use Rattle.layout.specs.EnumList.{EnumEntry}
 use Rattle.names.specs.declared.Parsed.{Parsed}
 use Rattle.names.specs.declared.Parsed.the-variants.{Name as Parsed-name, Broken as Parsed-broken}
 use Rattle.names.specs.declared.Named.the-variants.{Codes, Broken, NoRoom}
-use Rattle.names.specs.Parse.{Read, broken, name, nameIn, whole, nameOf}
+use Rattle.names.specs.Parse.{Read, broken, name, wrong, nameIn, whole, nameOf}
+use Rattle.names.specs.Complete.{length-write}
+use Rattle.names.specs.Sound.{Ok, Stands, sound}
 use Rattle.names.specs.Contract.{answer, met, Parses, placed, ending, answerOf, contentOf, ReadsName}
 use Rattle.names.specs.Kind.{codes}
 use Rattle.names.specs.Heading.{headings}
@@ -39,35 +42,49 @@ module _ (es : List EnumEntry) (s : List ℕ) (at : ℕ) (c c′ : List ℕ) (us
   is-placed = rw (le-leb used 16777216 u, le-leb (at + length s) 16777216 h)
 
   -- by what stands first in s
-  broken-as : (r : Read) → nameIn 8 at s ≡ r → Parsed-broken ≡ answer at used r → c′ ≡ sets c used (codes es true (met at r)) → ReadsName es s at c c′ used Broken
+  broken-as : (m p : ℕ) (r : Read) → nameIn 8 at s ≡ r → Parsed-broken m p ≡ answer at used r → c′ ≡ sets c used (codes es true (met at r)) → ReadsName es s at c c′ used (Broken m p)
   unfolding answerOf contentOf nameOf whole
-  broken-as (broken hs) i a w = record { answers = rw (is-placed, i); writes = w ∙ rw (is-placed, i) }
-  broken-as (name n j) i a w = differ cc
+  broken-as m p (broken f g hs) i a w =
+      let x : m ≡ f = cc in
+      let y : p ≡ g = cc in
+      record { answers = rw (is-placed, i, x, y); writes = w ∙ rw (is-placed, i) }
+  broken-as m p (name n j) i a w = differ cc
 
-  module _ (k v : ℕ) where
-    named-as : (r : Read) → nameIn 8 at s ≡ r → Parsed-name k v ≡ answer at used r → c′ ≡ sets c used (codes es true (met at r))
+  module _ (x k v : ℕ) where
+    named-as : (r : Read) → nameIn 8 at s ≡ r → Parsed-name x k v ≡ answer at used r → c′ ≡ sets c used (codes es true (met at r))
         → (k ≡ length s → v ≤ length c → ReadsName es s at c c′ used (Codes v)) × (k ≡ length s → length c < v → ReadsName es s at c c′ used NoRoom)
-        × ((k ≡ length s → ⊥) → ReadsName es s at c c′ used Broken)
+        × ((k ≡ length s → ⊥) → ReadsName es s at c c′ used (Broken x (at + k)))
     unfolding answerOf contentOf nameOf whole ending
-    named-as (broken hs) i a w = differ cc
+    named-as (broken m p hs) i a w = differ cc
     named-as (name n j) i a w =
         let p : k ≡ j = cc in
+        let y : x ≡ wrong n = cc in
         let d : v ≡ used + length (headings at n) = cc in (
           (λ e l. let q = eq-eqb j (length s) (sym p ∙ e) in record { answers = rw (is-placed, i, q, ← d, le-leb v (length c) l); writes = w ∙ rw (is-placed, i, q) }),
           (λ e l. let q = eq-eqb j (length s) (sym p ∙ e) in record { answers = rw (is-placed, i, q, ← d, lt-leb v (length c) l); writes = w ∙ rw (is-placed, i, q) }),
-          (λ f. let q = ne-eqb j (length s) (λ e. f (p ∙ e)) in record { answers = rw (is-placed, i, q); writes = w ∙ rw (is-placed, i, q) }),
+          (λ f. let q = ne-eqb j (length s) (λ e. f (p ∙ e)) in record { answers = rw (is-placed, i, q, y, p); writes = w ∙ rw (is-placed, i, q) }),
         )
 
-  module _ {f : Parsed} (p : Parses es true 8 at s c c′ used f) where
-    pub broken-is : f ≡ Parsed-broken → ReadsName es s at c c′ used Broken
-    broken-is e = broken-as (nameIn 8 at s) refl (sym e ∙ p .answers) (p .writes)
+  fits-as : (x k v : ℕ) (r : Read) → Ok (Stands 8 s) r → Parsed-name x k v ≡ answer at used r → k ≤ length s
+  fits-as x k v (broken m p hs) o a = differ cc
+  fits-as x k v (name n j) o a =
+      let g = o .got refl in
+      let i : k ≡ j = cc in
+      omega (arith, g .2, ap length (g .1), length-write n (drop j s))
 
-    module _ (k v : ℕ) (e : f ≡ Parsed-name k v) where
-      pub more-is : (k ≡ length s → ⊥) → ReadsName es s at c c′ used Broken
-      more-is g = named-as k v (nameIn 8 at s) refl (sym e ∙ p .answers) (p .writes) .2 g
+  module _ {f : Parsed} (p : Parses es true 8 at s c c′ used f) where
+    pub end-fits : (x k v : ℕ) → f ≡ Parsed-name x k v → k ≤ length s
+    end-fits x k v e = fits-as x k v (nameIn 8 at s) (sound 8 at s) (sym e ∙ p .answers)
+
+    pub broken-is : (m q : ℕ) → f ≡ Parsed-broken m q → ReadsName es s at c c′ used (Broken m q)
+    broken-is m q e = broken-as m q (nameIn 8 at s) refl (sym e ∙ p .answers) (p .writes)
+
+    module _ (x k v : ℕ) (e : f ≡ Parsed-name x k v) where
+      pub more-is : (k ≡ length s → ⊥) → ReadsName es s at c c′ used (Broken x (at + k))
+      more-is g = named-as x k v (nameIn 8 at s) refl (sym e ∙ p .answers) (p .writes) .2 g
 
       pub full-is : k ≡ length s → length c < v → ReadsName es s at c c′ used NoRoom
-      full-is g l = named-as k v (nameIn 8 at s) refl (sym e ∙ p .answers) (p .writes) .1 g l
+      full-is g l = named-as x k v (nameIn 8 at s) refl (sym e ∙ p .answers) (p .writes) .1 g l
 
       pub named-is : k ≡ length s → v ≤ length c → ReadsName es s at c c′ used (Codes v)
-      named-is g l = named-as k v (nameIn 8 at s) refl (sym e ∙ p .answers) (p .writes) .0 g l
+      named-is g l = named-as x k v (nameIn 8 at s) refl (sym e ∙ p .answers) (p .writes) .0 g l

@@ -1,6 +1,6 @@
 -- A lawful name that is written is read back. Assumes nothing.
 use mathlib.Core.Path.{_≡_, refl, sym, ap, _∙_}
-use mathlib.Core.Bool.{Bool, true, false, _&&_}
+use mathlib.Core.Bool.{Bool, true}
 use mathlib.Core.List.{List, [], _∷_, _++_, append-assoc}
 use Prim.Native.Nat.{ℕ, zero, suc, _+_}
 use native.Mathlib.Omega.{arith}
@@ -10,7 +10,6 @@ use lib.Seq.{drop-drop, drop-append-seam, drop-append-add, take-append-seam}
 use Rattle.laws.specs.Small.{both}
 use Rattle.layout.specs.Text.{ascii}
 use Rattle.layout.specs.Name.{Tail, none, some, Name, simple, one, two, writeTail, write, headByte, tailByte, all, Head, Tailed, Formed}
-use Rattle.layout.specs.Number.{between}
 use Rattle.names.specs.Parse.{Read, name, span, starts, tailSize, tailOf, ended, closed, opening, onOnly, onSecond, onFirst, afterHead, headed, nameIn}
 use Rattle.names.specs.Heading.{longTail, long}
 
@@ -128,9 +127,9 @@ module _ (s : List ℕ) (e : ℕ) where
       let z : long n + 0 ≡ long n = omega arith in
       sym (drop-drop (long n) e s) ∙ ap (drop (long n)) q ∙ rw z at (past n rest 0)
 
-closed-is : (at : ℕ) (s : List ℕ) (e : ℕ) (n : Tail → Name) (t : Tail) {rest : List ℕ} → Tailed t → Stops rest → drop e s ≡ ascii "]]" ++ writeTail t rest → closed at n s e ≡ name (n t) (e + 2 + longTail t)
+closed-is : (at : ℕ) (x : Name) (s : List ℕ) (e : ℕ) (n : Tail → Name) (t : Tail) {rest : List ℕ} → Tailed t → Stops rest → drop e s ≡ ascii "]]" ++ writeTail t rest → closed at n x s e ≡ name (n t) (e + 2 + longTail t)
 unfolding closed starts ascii
-closed-is at s e n t ok w q = rw q (ended-is s (e + 2) n t ok w (sym (drop-drop 2 e s) ∙ ap (drop 2) q))
+closed-is at x s e n t ok w q = rw q (ended-is s (e + 2) n t ok w (sym (drop-drop 2 e s) ∙ ap (drop 2) q))
 
 -- a head that is written before what opens there
 head-read : (below : ℕ → List ℕ → Read) (at : ℕ) (h r : List ℕ) (n : ℕ) → Head h → (span headByte r ≡ 0) × (opening r ≡ n)
@@ -153,7 +152,7 @@ complete (suc l) at (one h a t) {rest} f w =
     let s = h ++ r₁ in
     let d : drop (length h + 4) s ≡ write a r₂ = drop-append-add h r₁ 4 in
     rw (head-read (nameIn l) at h r₁ 1 (f .0) (one-opens (write a r₂)), d, complete l (at + (length h + 4)) a (f .1) (bracket {r = ascii "]" ++ writeTail t rest}), take-append-seam h r₁)
-    (closed-is at s (length h + 4 + long a) (one h a) t (f .2) w (further s (length h + 4) a r₂ d))
+    (closed-is at a s (length h + 4 + long a) (one h a) t (f .2) w (further s (length h + 4) a r₂ d))
 complete (suc l) at (two h a b t) {rest} f w =
     let r₃ = ascii "]]" ++ writeTail t rest in
     let r₂ = ascii "],[" ++ write b r₃ in
@@ -163,4 +162,4 @@ complete (suc l) at (two h a b t) {rest} f w =
     let g : drop (length h + 4 + long a) s ≡ r₂ = further s (length h + 4) a r₂ d in
     let d₂ : drop (length h + 4 + long a + 3) s ≡ write b r₃ = sym (drop-drop 3 (length h + 4 + long a) s) ∙ ap (drop 3) g in
     rw (head-read (nameIn l) at h r₁ 2 (f .0) (two-opens (write a r₂)), d, complete l (at + (length h + 4)) a (f .1) (bracket {r = ascii ",[" ++ write b r₃}), g, d₂, complete l (at + (length h + 4 + long a + 3)) b (f .2) (bracket {r = ascii "]" ++ writeTail t rest}), take-append-seam h r₁)
-    (closed-is at s (length h + 4 + long a + 3 + long b) (two h a b) t (f .3) w (further s (length h + 4 + long a + 3) b r₃ d₂))
+    (closed-is at b s (length h + 4 + long a + 3 + long b) (two h a b) t (f .3) w (further s (length h + 4 + long a + 3) b r₃ d₂))

@@ -13,7 +13,7 @@ use Rattle.names.specs.declared.Parsed.{Parsed}
 use Rattle.names.specs.declared.Parsed.the-variants.{Name as Parsed-name, Broken as Parsed-broken}
 use Rattle.names.specs.declared.Named.{Named}
 use Rattle.names.specs.declared.Named.the-variants.{Codes, Broken, NoRoom}
-use Rattle.names.specs.Parse.{Read, broken, name, starts, tailSize, nameIn, nameOf}
+use Rattle.names.specs.Parse.{Read, broken, name, starts, common, tailSize, tailOf, wrongBy, wrong, behind, nameIn, nameOf}
 use Rattle.names.specs.Heading.{Heading, headings}
 use Rattle.names.specs.Kind.{codes}
 
@@ -22,14 +22,14 @@ abbrev pub class : (tail : Bool) → ℕ → Bool
 class true b = tailByte b
 class false b = headByte b
 
--- where a name that starts at a place ends, and how many codes are used then
+-- where a name that starts at a place ends, what a byte that cannot follow it is, and how many codes are used then; or the fault
 abbrev pub answer : (at used : ℕ) → Read → Parsed
-answer at used (broken hs) = Parsed-broken
-answer at used (name n k) = Parsed-name k (used + length (headings at n))
+answer at used (broken m p hs) = Parsed-broken m p
+answer at used (name n k) = Parsed-name (wrong n) k (used + length (headings at n))
 
 -- the heads that were met, in order
 abbrev pub met : (at : ℕ) → Read → List Heading
-met at (broken hs) = hs
+met at (broken m p hs) = hs
 met at (name n k) = headings at n
 
 -- a part that starts with a name: its end, and the heads' codes from `used` on, as far as there is room for them
@@ -37,38 +37,39 @@ pub record Parses (es : List EnumEntry) (own : Bool) (levels at : ℕ) (s c c′
   pub answers : r ≡ answer at used (nameIn levels at s)
   pub writes : c′ ≡ sets c used (codes es own (met at (nameIn levels at s)))
 
--- an argument that was read from `at` on ends within so many bytes
-abbrev pub Inside : (size at : ℕ) → Parsed → Type 0
-Inside l at (Parsed-name k u) = at + k ≤ l
-Inside l at Parsed-broken = Unit {0}
+-- an argument that was read from `a` on ends within so many bytes
+abbrev pub Inside : (size a : ℕ) → Parsed → Type 0
+Inside l a (Parsed-name w k u) = a + k ≤ l
+Inside l a (Parsed-broken m p) = Unit {0}
 
--- perhaps a tail at e
-abbrev pub tailed : List ℕ → ℕ → ℕ → Parsed
-tailed s e used = Parsed-name (e + tailSize (drop e s)) used
+-- perhaps a tail at e, behind a head or brackets
+abbrev pub tailed : List ℕ → (e used bare : ℕ) → Parsed
+tailed s e used bare = Parsed-name (wrongBy bare (tailOf (drop e s))) (e + tailSize (drop e s)) used
 
--- after an argument that was read from `at` on: the text w stands there, and this is where it ends
-abbrev pub passed : (w s : List ℕ) (at : ℕ) → Parsed → Parsed
-passed w s at Parsed-broken = Parsed-broken
-passed w s at (Parsed-name k u) = cond (starts w (drop (at + k) s)) (Parsed-name (at + k + length w) u) Parsed-broken
+-- after an argument that was read from `a` on: the text w stands there, and this is where it ends
+abbrev pub passed : (w : List ℕ) (at : ℕ) (s : List ℕ) (a : ℕ) → Parsed → Parsed
+passed w at s a (Parsed-broken m p) = Parsed-broken m p
+passed w at s a (Parsed-name x k u) =
+    cond (starts w (drop (a + k) s)) (Parsed-name 36 (a + k + length w) u) (Parsed-broken (behind x (drop (a + k) s)) (at + (a + k + common w (drop (a + k) s))))
 
 abbrev pub tailedAfter : List ℕ → Parsed → Parsed
-tailedAfter s Parsed-broken = Parsed-broken
-tailedAfter s (Parsed-name e u) = tailed s e u
+tailedAfter s (Parsed-broken m p) = Parsed-broken m p
+tailedAfter s (Parsed-name x e u) = tailed s e u 36
 
--- after the last argument, which was read from `at` on: two brackets, and perhaps a tail
-abbrev pub closing : List ℕ → ℕ → Parsed → Parsed
-closing s at argument = tailedAfter s (passed (ascii "]]") s at argument)
+-- after the last argument, which was read from `a` on: two brackets, and perhaps a tail
+abbrev pub closing : (at : ℕ) → List ℕ → (a : ℕ) → Parsed → Parsed
+closing at s a argument = tailedAfter s (passed (ascii "]]") at s a argument)
 
--- what a reader's name comes to: how many codes are used, a refusal of 01, or no room for the codes
+-- what a reader's name comes to: how many codes are used, a refusal of 01 or 02 and its place, or no room for the codes
 pub data Answer : Type 0 where
   coded : (used : ℕ) → Answer
-  refused : (number : ℕ) → Answer
+  refused : (number place : ℕ) → Answer
   no-room : Answer
 
--- 01: "Broken: 10"
+-- 02: "10 becomes 33 to 38"
 abbrev pub told : Named → Answer
 told (Codes used) = coded used
-told Broken = refused 10
+told (Broken number place) = refused number place
 told NoRoom = no-room
 
 -- the codes' own places start where 32 bits can count them, and a word has room for the name's places in the file, which are below 2 to the 24
@@ -81,7 +82,7 @@ ending room end x = cond (leb end room) x no-room
 
 unfoldable pub answerOf : (placed : Bool) (room at used : ℕ) → Read → Answer
 answerOf false room at used r = no-room
-answerOf true room at used (broken hs) = refused 10
+answerOf true room at used (broken m p hs) = refused m p
 answerOf true room at used (name n k) = ending room (used + length (headings at n)) (coded (used + length (headings at n)))
 
 -- the codes of all heads, or of those before the fault, as far as there is room for them

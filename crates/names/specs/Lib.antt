@@ -1,9 +1,13 @@
 -- How reader names are read, and the kinds of their heads as codes. How they are written stands in the layout.
 pub mod Heading
 pub mod Parse
+pub mod Common
+pub mod Fault
+pub mod Local
 pub mod Complete
 pub mod Sound
 pub mod Laws
+pub mod Faults
 pub mod Kind
 pub mod Entries
 pub mod Codes

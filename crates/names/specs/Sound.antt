@@ -20,7 +20,7 @@ use Rattle.names.specs.Heading.{Heading, long, longTail}
 abbrev pub Ok : (Name → ℕ → Type 0) → Read → Type 0
 Ok P r = law.Ok name P r
 
-pub not-read : {P : Name → ℕ → Type 0} {hs : List Heading} → Ok P (broken hs)
+pub not-read : {P : Name → ℕ → Type 0} {m p : ℕ} {hs : List Heading} → Ok P (broken m p hs)
 not-read = record { got = λ q. differ cc }
 
 pub is-read : {P : Name → ℕ → Type 0} {n : Name} {k : ℕ} → P n k → Ok P (name n k)
@@ -68,14 +68,14 @@ tail-sound : (s : List ℕ) → TailRead s (tailOf s) (tailSize s)
 unfolding tailOf tailSize
 tail-sound s = tail-of s (starts (ascii ",") s) refl
 
-module _ {P : Name → ℕ → Type 0} (at : ℕ) (n : Tail → Name) (s : List ℕ) where
+module _ {P : Name → ℕ → Type 0} (at : ℕ) (x : Name) (n : Tail → Name) (s : List ℕ) where
   ended-sound : (e : ℕ) → ((t : Tail) (k : ℕ) → Tailed t → drop e s ≡ writeTail t (drop k s) → k ≡ e + longTail t → P (n t) k) → Ok P (ended n s e)
   ended-sound e f =
       let r = tail-sound (drop e s) in
       let k = tailSize (drop e s) in
       is-read (f (tailOf (drop e s)) (e + k) (r .0) (r .1 ∙ ap (writeTail (tailOf (drop e s))) (drop-drop k e s)) (ap (λ (z : ℕ). e + z) (r .2)))
 
-  closed-sound : (e : ℕ) → ((t : Tail) (k : ℕ) → Tailed t → drop e s ≡ ascii "]]" ++ writeTail t (drop k s) → k ≡ e + 2 + longTail t → P (n t) k) → Ok P (closed at n s e)
+  closed-sound : (e : ℕ) → ((t : Tail) (k : ℕ) → Tailed t → drop e s ≡ ascii "]]" ++ writeTail t (drop k s) → k ≡ e + 2 + longTail t → P (n t) k) → Ok P (closed at n x s e)
   unfolding closed ascii
   closed-sound e f =
       ok-pick (starts (ascii "]]") (drop e s))
@@ -94,17 +94,17 @@ module _ (l at : ℕ) (s : List ℕ) (h : ℕ) (head : Head (take h s)) (size : 
   simple-sound : Ok (Stands (suc l) s) (ended (simple (take h s)) s h)
   unfolding Formed write long
   simple-sound =
-      ended-sound at (simple (take h s)) s h
+      ended-sound at (simple (take h s) none) (simple (take h s)) s h
       (λ t j ok q e.
       let i : j ≡ length (take h s) + longTail t = omega arith in
       ((head, ok), sym (take-append-drop h s) ∙ ap (λ (l : List ℕ). take h s ++ l) q, i))
 
   only-sound : starts (ascii "`1[[") (drop h s) ≡ true → (r : Read) → Ok (Stands l (drop (h + 4) s)) r → Ok (Stands (suc l) s) (onOnly at s h (h + 4) r)
   unfolding onOnly Formed write long ascii
-  only-sound b (broken hs) o = not-read
+  only-sound b (broken m p hs) o = not-read
   only-sound b (name x k) o =
       let p = o .got refl in
-      closed-sound at (one (take h s) x) s (h + 4 + k)
+      closed-sound at x (one (take h s) x) s (h + 4 + k)
       (λ t j ok q m.
       let v : drop (h + 4) s ≡ write x (ascii "]]" ++ writeTail t (drop j s)) = p .1 ∙ ap (write x) (drop-drop k (h + 4) s ∙ q) in
       let i : j ≡ length (take h s) + 4 + long x + 2 + longTail t = omega (arith, p .2) in
@@ -113,10 +113,10 @@ module _ (l at : ℕ) (s : List ℕ) (h : ℕ) (head : Head (take h s)) (size : 
   second-sound : (x : Name) (k : ℕ) → Stands l (drop (h + 4) s) x k → starts (ascii "`2[[") (drop h s) ≡ true → starts (ascii "],[") (drop (h + 4 + k) s) ≡ true
       → (r : Read) → Ok (Stands l (drop (h + 4 + k + 3) s)) r → Ok (Stands (suc l) s) (onSecond at s h (h + 4) x (h + 4 + k + 3) r)
   unfolding onSecond Formed write long ascii
-  second-sound x k p b c (broken hs) o = not-read
+  second-sound x k p b c (broken m q hs) o = not-read
   second-sound x k p b c (name y m) r =
       let o = r .got refl in
-      closed-sound at (two (take h s) x y) s (h + 4 + k + 3 + m)
+      closed-sound at y (two (take h s) x y) s (h + 4 + k + 3 + m)
       (λ t j ok q e.
       let r₃ = ascii "]]" ++ writeTail t (drop j s) in
       let v : drop (h + 4 + k + 3) s ≡ write y r₃ = o .1 ∙ ap (write y) (drop-drop m (h + 4 + k + 3) s ∙ q) in
@@ -127,7 +127,7 @@ module _ (l at : ℕ) (s : List ℕ) (h : ℕ) (head : Head (take h s)) (size : 
 
   first-sound : starts (ascii "`2[[") (drop h s) ≡ true → (r : Read) → Ok (Stands l (drop (h + 4) s)) r → Ok (Stands (suc l) s) (onFirst below at s h (h + 4) r)
   unfolding onFirst
-  first-sound b (broken hs) o = not-read
+  first-sound b (broken m p hs) o = not-read
   first-sound b (name x k) o =
       ok-pick (starts (ascii "],[") (drop (h + 4 + k) s)) (λ c. second-sound x k (o .got refl) b c (below (at + (h + 4 + k + 3)) (drop (h + 4 + k + 3) s)) (sound-below (at + (h + 4 + k + 3)) (drop (h + 4 + k + 3) s))) not-read
 

@@ -1,4 +1,4 @@
-// Reader names: the parser, and which kinds their heads name. It decides the grammar alone (10), from left to right, and leaves a word for each head.
+// Reader names: the parser, and which kinds their heads name. It decides the grammar alone (33 to 38), from left to right, and leaves a word for each head.
 ghost use mathlib.Core.Path.{_≡_};
 ghost use Prim.Native.Nat.{_≤_, _<_, _+_};
 ghost use lib.ListN.{length, drop, set};
@@ -6,7 +6,9 @@ ghost use Rattle.layout.specs.Number.{between};
 ghost use Rattle.layout.specs.Name.{headByte, tailByte};
 ghost use Rattle.layout.specs.Kind.{alike, lookup};
 ghost use Rattle.layout.specs.EnumList.{sizeIn};
-ghost use Rattle.names.specs.Parse.{span, starts, tailSize, opening};
+ghost use mathlib.Core.Bool.{_||_};
+ghost use Rattle.names.specs.declared.Parsed.the-variants.{Broken};
+ghost use Rattle.names.specs.Parse.{span, starts, common, tailSize, opening, unopenedNumber, unopenedAt, behind};
 ghost use Rattle.names.specs.Contract.{class, Inside, tailed, passed, closing, Parses, ReadsName};
 ghost use Rattle.names.specs.Kind.{listed, enumKind, kindIn, word};
 ghost use Rattle.names.specs.Entries.{entriesOf, enumsOf};
@@ -80,28 +82,36 @@ pub fn run(s: &[u8], tail: bool) -> usize
     i
 }
 
+// How many bytes of the text stand in s from `at` on, up to the first that does not.
+fn matched(s: &[u8], at: usize, text: &[u8]) -> usize
+    requires { ⌜ at ≤ length (now s) ⌝ }
+    ensures { λ r. ⌜ r ≡ common (now (text .entry)) (drop at (now (s .entry))) ⌝ }
+{
+    let mut i = 0;
+    while i < text.len() {
+        if s.len() - at <= i {
+            return i;
+        }
+        if text[i] != s[at + i] {
+            return i;
+        }
+        i += 1;
+    }
+    i
+}
+
 // The text stands in s from `at` on.
 fn stands(s: &[u8], at: usize, text: &[u8]) -> bool
     requires { ⌜ at ≤ length (now s) ⌝ }
     ensures { λ r. ⌜ r ≡ starts (now (text .entry)) (drop at (now (s .entry))) ⌝ }
 {
-    if s.len() - at < text.len() {
-        return false;
-    }
-    let mut i = 0;
-    while i < text.len() {
-        if text[i] != s[at + i] {
-            return false;
-        }
-        i += 1;
-    }
-    true
+    matched(s, at, text) == text.len()
 }
 
-// Where a name ends and how many codes are used then, or broken.
+// Where a name ends, what a byte that cannot follow it is, and how many codes are used then; or a fault's number and place.
 enum Parsed {
-    Name { end: usize, used: usize },
-    Broken,
+    Name { wrong: u32, end: usize, used: usize },
+    Broken { number: u32, place: usize },
 }
 
 // How many bytes a comma and a tail have, if they stand first.
@@ -114,13 +124,25 @@ fn tail_size(s: &[u8]) -> usize
     run(&s[1..], true) + 1
 }
 
-// Perhaps a tail at `at`.
-fn tailed_at(name: &[u8], at: usize, used: usize) -> Parsed
+// Perhaps a tail at `at`. A byte that cannot follow is a bad one in the tail, or `bare` where there is no tail.
+fn tailed_at(name: &[u8], at: usize, used: usize, bare: u32) -> Parsed
     requires { ⌜ at ≤ length (now name) ⌝ }
-    ensures { λ r. ⌜ r ≡ tailed (now (name .entry)) at used ⌝ }
+    ensures { λ r. ⌜ r ≡ tailed (now (name .entry)) at used bare ⌝ }
 {
-    let end = at + tail_size(&name[at..]);
-    Parsed::Name { end, used }
+    let size = tail_size(&name[at..]);
+    if size == 0 {
+        return Parsed::Name {
+            wrong: bare,
+            end: at,
+            used,
+        };
+    }
+    let end = at + size;
+    Parsed::Name {
+        wrong: 37,
+        end,
+        used,
+    }
 }
 
 // What follows a head that ends at `at`: 0, 1 or 2 arguments, or 3 for a backquote that opens none.
@@ -140,32 +162,87 @@ fn opening_at(name: &[u8], at: usize) -> u32
     0
 }
 
-// After an argument that was read from `at` on: the text that must follow it, and where that ends.
-fn past(name: &[u8], at: usize, argument: Parsed, text: &[u8]) -> Parsed
-    requires { ⌜ Inside (length (now name)) at argument ⌝ }
-    ensures { λ r. ⌜ r ≡ passed (now (text .entry)) (now (name .entry)) at argument ⌝ }
+// One of two texts stands in s from `at` on.
+fn either(s: &[u8], at: usize, a: &[u8], b: &[u8]) -> bool
+    requires { ⌜ at ≤ length (now s) ⌝ }
+    ensures { λ r. ⌜ r ≡ (starts (now (a .entry)) (drop at (now (s .entry))) || starts (now (b .entry)) (drop at (now (s .entry)))) ⌝ }
+{
+    if stands(s, at, a) {
+        return true;
+    }
+    stands(s, at, b)
+}
+
+// The fault behind a head of h bytes whose backquote opens no arguments.
+fn unopened(name: &[u8], h: usize, at: usize) -> Parsed
+    requires { ⌜ (h ≤ length (now name)) × (at + length (now name) ≤ 16777216) ⌝ }
+    ensures { λ r. ⌜ r ≡ Broken (unopenedNumber (drop h (now (name .entry)))) (at + (h + unopenedAt (drop h (now (name .entry))))) ⌝ }
+{
+    let first = h + 1;
+    let second = h + 2;
+    let third = h + 3;
+    if !either(name, h, b"`1", b"`2") {
+        let place = at + first;
+        return Parsed::Broken { number: 35, place };
+    }
+    if !either(name, h, b"`1[", b"`2[") {
+        let place = at + second;
+        return Parsed::Broken { number: 36, place };
+    }
+    let place = at + third;
+    Parsed::Broken { number: 36, place }
+}
+
+// What is wrong behind an argument that ends at e, where a bracket is due: `other` if another byte stands there.
+fn behind_at(name: &[u8], e: usize, other: u32) -> u32
+    ensures { λ r. ⌜ r ≡ behind other (drop e (now (name .entry))) ⌝ }
+{
+    if name.len() <= e {
+        return 36;
+    }
+    if name[e] == b']' {
+        return 36;
+    }
+    other
+}
+
+// After an argument that was read from `a` on: the text that must follow it, and where that ends.
+fn past(name: &[u8], at: usize, a: usize, argument: Parsed, text: &[u8]) -> Parsed
+    requires { ⌜ Inside (length (now name)) a argument × (at + length (now name) ≤ 16777216) ⌝ }
+    ensures { λ r. ⌜ r ≡ passed (now (text .entry)) at (now (name .entry)) a argument ⌝ }
 {
     match argument {
-        Parsed::Broken => Parsed::Broken,
-        Parsed::Name { end, used } => {
-            let e = at + end;
-            if !stands(name, e, text) {
-                return Parsed::Broken;
+        Parsed::Broken { number, place } => Parsed::Broken { number, place },
+        Parsed::Name { wrong, end, used } => {
+            let e = a + end;
+            let m = matched(name, e, text);
+            let next = e + m;
+            if m == text.len() {
+                return Parsed::Name {
+                    wrong: 36,
+                    end: next,
+                    used,
+                };
             }
-            let next = e + text.len();
-            Parsed::Name { end: next, used }
+            let place = at + next;
+            let number = behind_at(name, e, wrong);
+            Parsed::Broken { number, place }
         }
     }
 }
 
-// After the last argument, which was read from `at` on: two brackets, and perhaps a tail.
-fn close(name: &[u8], at: usize, argument: Parsed) -> Parsed
-    requires { ⌜ Inside (length (now name)) at argument ⌝ }
-    ensures { λ r. ⌜ r ≡ closing (now (name .entry)) at argument ⌝ }
+// After the last argument, which was read from `a` on: two brackets, and perhaps a tail.
+fn close(name: &[u8], at: usize, a: usize, argument: Parsed) -> Parsed
+    requires { ⌜ Inside (length (now name)) a argument × (at + length (now name) ≤ 16777216) ⌝ }
+    ensures { λ r. ⌜ r ≡ closing at (now (name .entry)) a argument ⌝ }
 {
-    match past(name, at, argument, b"]]") {
-        Parsed::Broken => Parsed::Broken,
-        Parsed::Name { end, used } => tailed_at(name, end, used),
+    match past(name, at, a, argument, b"]]") {
+        Parsed::Broken { number, place } => Parsed::Broken { number, place },
+        Parsed::Name {
+            wrong: _,
+            end,
+            used,
+        } => tailed_at(name, end, used, 36),
     }
 }
 
@@ -284,39 +361,49 @@ fn parse(
     ensures { λ r. ⌜ Parses (enumsOf (now (enums .entry))) own level at (now (name .entry)) (now (codes .entry)) (now (codes .exit)) used r ⌝ }
 {
     if level == 0 {
-        return Parsed::Broken;
+        return Parsed::Broken {
+            number: 38,
+            place: at,
+        };
     }
     let h = run(name, false);
     if h == 0 {
-        return Parsed::Broken;
+        return Parsed::Broken {
+            number: 33,
+            place: at,
+        };
     }
     let n = opening_at(name, h);
     if n == 3 {
-        return Parsed::Broken;
+        return unopened(name, h, at);
     }
     put(codes, used, word_of(&name[..h], own, n, at, enums));
     let next = used + 1;
     if n == 0 {
-        return tailed_at(name, h, next);
+        return tailed_at(name, h, next, 34);
     }
     let a = h + 4;
     let first = parse(&name[a..], false, level - 1, at + a, enums, codes, next);
     if n == 1 {
-        return close(name, a, first);
+        return close(name, at, a, first);
     }
-    match past(name, a, first, b"],[") {
-        Parsed::Broken => Parsed::Broken,
-        Parsed::Name { end: b, used: u } => {
+    match past(name, at, a, first, b"],[") {
+        Parsed::Broken { number, place } => Parsed::Broken { number, place },
+        Parsed::Name {
+            wrong: _,
+            end: b,
+            used: u,
+        } => {
             let second = parse(&name[b..], false, level - 1, at + b, enums, codes, u);
-            close(name, b, second)
+            close(name, at, b, second)
         }
     }
 }
 
-// What a reader's name comes to: how many codes are used, refusal 10, or no room for the codes of its heads or for their places.
+// What a reader's name comes to: how many codes are used, a refusal's number and place, or no room for the codes of its heads or for their places.
 pub enum Named {
     Codes(usize),
-    Broken,
+    Broken(u32, usize),
     NoRoom,
 }
 
@@ -334,10 +421,15 @@ pub fn read_name(name: &[u8], at: usize, enums: &[u8], codes: &mut [u32], used: 
         return Named::NoRoom;
     }
     match parse(name, true, 8, at, enums, codes, used) {
-        Parsed::Broken => Named::Broken,
-        Parsed::Name { end, used: next } => {
+        Parsed::Broken { number, place } => Named::Broken(number, place),
+        Parsed::Name {
+            wrong,
+            end,
+            used: next,
+        } => {
             if end != name.len() {
-                return Named::Broken;
+                let place = at + end;
+                return Named::Broken(wrong, place);
             }
             if codes.len() < next {
                 return Named::NoRoom;

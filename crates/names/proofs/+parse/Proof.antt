@@ -21,6 +21,7 @@ use Rattle.names.proofs.past.Reads as past-reads
 use Rattle.names.proofs.put.Reads as put-reads
 use Rattle.names.proofs.run.Reads as run-reads
 use Rattle.names.proofs.tailed_at.Reads as tailed-at-reads
+use Rattle.names.proofs.unopened.Reads as unopened-reads
 use Rattle.names.proofs.word_of.Reads as word-of-reads
 use Rattle.names.proofs.+parse.{statement}
 use Rattle.names.proofs.+parse.Tie.{close}
@@ -40,6 +41,8 @@ claims t = (
   run-reads.Learnt,
   opening-at-reads.Asked,
   opening-at-reads.Learnt,
+  unopened-reads.Asked,
+  unopened-reads.Learnt,
   word-of-reads.Asked,
   word-of-reads.Learnt,
   put-reads.Asked,
@@ -66,8 +69,11 @@ parse-returns-2 t c = give-up (headless _ _ _ _ ((c .before .before .if1) .left)
 parse-opening-at-requires : (t : ℕ) → parse-lts.Need-opening-at-requires (claims t) (parse-at t) parse.Post
 parse-opening-at-requires t c κs = omega (arith, span-le headByte ((c .before .before .before .before .before .before .args) .name .now), (c .before .run) .ensures)
 
+parse-unopened-requires : (t : ℕ) → parse-lts.Need-unopened-requires (claims t) (parse-at t) parse.Post
+parse-unopened-requires t c κs = (omega (arith, span-le headByte ((c .before .before .before .before .before .before .before .before .args) .name .now), (c .before .before .before .run) .ensures), (c .before .before .before .before .before .before .before .before .pre) .1 .0)
+
 parse-returns-3 : (t : ℕ) → parse-lts.Need-returns-3 (claims t) (parse-at t) parse.Post
-parse-returns-3 t c = odd-done _ _ (opened _ _ _ _ ((c .before .before .before .before .if1) .left) ((c .before .before .before .run) .ensures) ((c .before .before .if2) .left) _ ((c .before .opening-at) .ensures)) ((c .if3) .taken)
+parse-returns-3 t c = odd-done _ _ (opened _ _ _ _ ((c .before .before .before .before .before .if1) .left) ((c .before .before .before .before .run) .ensures) ((c .before .before .before .if2) .left) _ ((c .before .before .opening-at) .ensures)) ((c .before .if3) .taken) ((c .unopened) .ensures)
 
 parse-slice-aggregate-word-of : (t : ℕ) → parse-lts.Need-slice-aggregate-word-of (claims t) (parse-at t) parse.Post
 parse-slice-aggregate-word-of t c = sym (length-take-le _ ((c .before .before .before .before .before .before .before .before .before .before .args) .name .now) (omega (arith, span-le headByte ((c .before .before .before .before .before .before .before .before .before .before .args) .name .now), (c .before .before .before .before .before .run) .ensures)))
@@ -120,7 +126,7 @@ parse-parse-requires t c κs =
     (omega (arith, (c .before .before .before .before .before .before .before .before .before .before .before .before .before .if1) .left, (c .before .before .before .before .before .before .before .before .before .before .before .before .before .before .before .before .before .pre) .0), (omega (arith, (c .before .before .before .before .before .before .before .before .before .before .before .before .before .before .before .before .before .pre) .1 .0), omega (arith, (c .before .before .before .before .before .before .before .before .before .before .before .before .before .before .before .before .before .pre) .1 .1)))
 
 parse-close-requires : (t : ℕ) → parse-lts.Need-close-requires (claims t) (parse-at t) parse.Post
-parse-close-requires t c κs = part-inside ((c .before .before .before .before .before .before .before .before .before .before .before .before .before .before .before .before .before .before .before .before .before .args) .name .now) _ ((c .before .before .before .parse) .ensures) (opening-fits _ _ _ ((c .before .before .before .before .before .before .before .before .before .before .before .before .before .before .before .before .run) .ensures) ((c .before .before .before .before .before .before .before .before .before .before .before .before .before .before .opening-at) .ensures) ((c .before .before .before .before .before .before .if4) .left) ((c .before .before .before .before .before .before .before .before .before .before .before .before .before .if3) .left))
+parse-close-requires t c κs = (part-inside ((c .before .before .before .before .before .before .before .before .before .before .before .before .before .before .before .before .before .before .before .before .before .args) .name .now) _ ((c .before .before .before .parse) .ensures) (opening-fits _ _ _ ((c .before .before .before .before .before .before .before .before .before .before .before .before .before .before .before .before .run) .ensures) ((c .before .before .before .before .before .before .before .before .before .before .before .before .before .before .opening-at) .ensures) ((c .before .before .before .before .before .before .if4) .left) ((c .before .before .before .before .before .before .before .before .before .before .before .before .before .if3) .left)), (c .before .before .before .before .before .before .before .before .before .before .before .before .before .before .before .before .before .before .before .before .before .pre) .1 .0)
 
 parse-same-length-2 : (t : ℕ) → parse-lts.Need-same-length-2 (claims t) (parse-at t) parse.Post
 parse-same-length-2 t c = (c .before .before .before .before .parse) .kept .1 .1 .1 .1 .1 .0 ∙ ap length ((c .before .before .before .before .before .before .before .before .before .before .put) .ensures) ∙ length-set ((c .before .before .before .before .before .before .before .before .before .before .before .before .before .before .before .before .before .before .before .before .before .before .args) .codes .now) ((c .before .before .before .before .before .before .before .before .before .before .before .before .before .before .before .before .before .before .before .before .before .before .args) .used) ((c .before .before .before .before .before .before .before .before .before .before .before .word-of) .result)
@@ -132,21 +138,21 @@ parse-slice-aggregate-past : (t : ℕ) → parse-lts.Need-slice-aggregate-past (
 parse-slice-aggregate-past t c = search needs
 
 parse-past-requires : (t : ℕ) → parse-lts.Need-past-requires (claims t) (parse-at t) parse.Post
-parse-past-requires t c κs = part-inside ((c .before .before .before .before .before .before .before .before .before .before .before .before .before .before .before .before .before .before .before .before .before .before .args) .name .now) _ ((c .before .before .before .before .parse) .ensures) (opening-fits _ _ _ ((c .before .before .before .before .before .before .before .before .before .before .before .before .before .before .before .before .before .run) .ensures) ((c .before .before .before .before .before .before .before .before .before .before .before .before .before .before .before .opening-at) .ensures) ((c .before .before .before .before .before .before .before .if4) .left) ((c .before .before .before .before .before .before .before .before .before .before .before .before .before .before .if3) .left))
+parse-past-requires t c κs = (part-inside ((c .before .before .before .before .before .before .before .before .before .before .before .before .before .before .before .before .before .before .before .before .before .before .args) .name .now) _ ((c .before .before .before .before .parse) .ensures) (opening-fits _ _ _ ((c .before .before .before .before .before .before .before .before .before .before .before .before .before .before .before .before .before .run) .ensures) ((c .before .before .before .before .before .before .before .before .before .before .before .before .before .before .before .opening-at) .ensures) ((c .before .before .before .before .before .before .before .if4) .left) ((c .before .before .before .before .before .before .before .before .before .before .before .before .before .before .if3) .left)), (c .before .before .before .before .before .before .before .before .before .before .before .before .before .before .before .before .before .before .before .before .before .before .pre) .1 .0)
 
-parse-enum-told : (t : ℕ) → parse-lts.Need-enum-told (claims t) (parse-at t) parse.Post
-parse-enum-told t c = search needs
+parse-enum-known-number : (t : ℕ) → parse-lts.Need-enum-known-number (claims t) (parse-at t) parse.Post
+parse-enum-known-number t c = search needs
 
 parse-enum-known-b : (t : ℕ) → parse-lts.Need-enum-known-b (claims t) (parse-at t) parse.Post
 parse-enum-known-b t c = search needs
 
 parse-sub-parse-3 : (t : ℕ) → parse-lts.Need-sub-parse-3 (claims t) (parse-at t) parse.Post
 unfolding ascii
-parse-sub-parse-3 t c = second-fits ((c .before .before .before .before .before .before .before .before .before .before .before .before .before .before .before .before .before .before .before .before .before .before .before .before .before .before .args) .name .now) _ _ _ (opening-fits _ _ _ ((c .before .before .before .before .before .before .before .before .before .before .before .before .before .before .before .before .before .before .before .before .before .run) .ensures) ((c .before .before .before .before .before .before .before .before .before .before .before .before .before .before .before .before .before .before .before .opening-at) .ensures) ((c .before .before .before .before .before .before .before .before .before .before .before .if4) .left) ((c .before .before .before .before .before .before .before .before .before .before .before .before .before .before .before .before .before .before .if3) .left)) ((c .before .before .before .before .before .before .before .before .parse) .ensures) (sym ((c .before .before .before .past) .ensures) ∙ (c .before .b) .given .1) .0
+parse-sub-parse-3 t c = second-fits ((c .before .before .before .before .before .before .before .before .before .before .before .before .before .before .before .before .before .before .before .before .before .before .before .before .before .before .args) .at) ((c .before .before .before .before .before .before .before .before .before .before .before .before .before .before .before .before .before .before .before .before .before .before .before .before .before .before .args) .name .now) _ _ _ _ (opening-fits _ _ _ ((c .before .before .before .before .before .before .before .before .before .before .before .before .before .before .before .before .before .before .before .before .before .run) .ensures) ((c .before .before .before .before .before .before .before .before .before .before .before .before .before .before .before .before .before .before .before .opening-at) .ensures) ((c .before .before .before .before .before .before .before .before .before .before .before .if4) .left) ((c .before .before .before .before .before .before .before .before .before .before .before .before .before .before .before .before .before .before .if3) .left)) ((c .before .before .before .before .before .before .before .before .parse) .ensures) (sym ((c .before .before .before .past) .ensures) ∙ (c .before .b) .given .1) .0
 
 parse-part-parse-start-2 : (t : ℕ) → parse-lts.Need-part-parse-start-2 (claims t) (parse-at t) parse.Post
 unfolding ascii
-parse-part-parse-start-2 t c = second-fits ((c .before .before .before .before .before .before .before .before .before .before .before .before .before .before .before .before .before .before .before .before .before .before .before .before .before .before .args) .name .now) _ _ _ (opening-fits _ _ _ ((c .before .before .before .before .before .before .before .before .before .before .before .before .before .before .before .before .before .before .before .before .before .run) .ensures) ((c .before .before .before .before .before .before .before .before .before .before .before .before .before .before .before .before .before .before .before .opening-at) .ensures) ((c .before .before .before .before .before .before .before .before .before .before .before .if4) .left) ((c .before .before .before .before .before .before .before .before .before .before .before .before .before .before .before .before .before .before .if3) .left)) ((c .before .before .before .before .before .before .before .before .parse) .ensures) (sym ((c .before .before .before .past) .ensures) ∙ (c .before .b) .given .1) .0
+parse-part-parse-start-2 t c = second-fits ((c .before .before .before .before .before .before .before .before .before .before .before .before .before .before .before .before .before .before .before .before .before .before .before .before .before .before .args) .at) ((c .before .before .before .before .before .before .before .before .before .before .before .before .before .before .before .before .before .before .before .before .before .before .before .before .before .before .args) .name .now) _ _ _ _ (opening-fits _ _ _ ((c .before .before .before .before .before .before .before .before .before .before .before .before .before .before .before .before .before .before .before .before .before .run) .ensures) ((c .before .before .before .before .before .before .before .before .before .before .before .before .before .before .before .before .before .before .before .opening-at) .ensures) ((c .before .before .before .before .before .before .before .before .before .before .before .if4) .left) ((c .before .before .before .before .before .before .before .before .before .before .before .before .before .before .before .before .before .before .if3) .left)) ((c .before .before .before .before .before .before .before .before .parse) .ensures) (sym ((c .before .before .before .past) .ensures) ∙ (c .before .b) .given .1) .0
 
 parse-part-parse-end-2 : (t : ℕ) → parse-lts.Need-part-parse-end-2 (claims t) (parse-at t) parse.Post
 parse-part-parse-end-2 t c = search needs
@@ -157,7 +163,7 @@ parse-sub-parse-4 t c = search needs
 parse-add-parse-2 : (t : ℕ) → parse-lts.Need-add-parse-2 (claims t) (parse-at t) parse.Post
 unfolding ascii
 parse-add-parse-2 t c =
-    let b = second-fits ((c .before .before .before .before .before .before .before .before .before .before .before .before .before .before .before .before .before .before .before .before .before .before .before .before .before .before .before .args) .name .now) _ _ _ (opening-fits _ _ _ ((c .before .before .before .before .before .before .before .before .before .before .before .before .before .before .before .before .before .before .before .before .before .before .run) .ensures) ((c .before .before .before .before .before .before .before .before .before .before .before .before .before .before .before .before .before .before .before .before .opening-at) .ensures) ((c .before .before .before .before .before .before .before .before .before .before .before .before .if4) .left) ((c .before .before .before .before .before .before .before .before .before .before .before .before .before .before .before .before .before .before .before .if3) .left)) ((c .before .before .before .before .before .before .before .before .before .parse) .ensures) (sym ((c .before .before .before .before .past) .ensures) ∙ (c .before .before .b) .given .1) in
+    let b = second-fits ((c .before .before .before .before .before .before .before .before .before .before .before .before .before .before .before .before .before .before .before .before .before .before .before .before .before .before .before .args) .at) ((c .before .before .before .before .before .before .before .before .before .before .before .before .before .before .before .before .before .before .before .before .before .before .before .before .before .before .before .args) .name .now) _ _ _ _ (opening-fits _ _ _ ((c .before .before .before .before .before .before .before .before .before .before .before .before .before .before .before .before .before .before .before .before .before .before .run) .ensures) ((c .before .before .before .before .before .before .before .before .before .before .before .before .before .before .before .before .before .before .before .before .opening-at) .ensures) ((c .before .before .before .before .before .before .before .before .before .before .before .before .if4) .left) ((c .before .before .before .before .before .before .before .before .before .before .before .before .before .before .before .before .before .before .before .if3) .left)) ((c .before .before .before .before .before .before .before .before .before .parse) .ensures) (sym ((c .before .before .before .before .past) .ensures) ∙ (c .before .before .b) .given .1) in
     omega (arith, b .0, (c .before .before .before .before .before .before .before .before .before .before .before .before .before .before .before .before .before .before .before .before .before .before .before .before .before .before .before .pre) .1 .0)
 
 parse-parse-requires-2 : (t : ℕ) → parse-lts.Need-parse-requires-2 (claims t) (parse-at t) parse.Post
@@ -165,27 +171,27 @@ unfolding ascii
 parse-parse-requires-2 t c κs =
     let s = (c .before .before .before .before .before .before .before .before .before .before .before .before .before .before .before .before .before .before .before .before .before .before .before .before .before .before .before .before .args) .name .now in
     let g = opening-fits _ _ _ ((c .before .before .before .before .before .before .before .before .before .before .before .before .before .before .before .before .before .before .before .before .before .before .before .run) .ensures) ((c .before .before .before .before .before .before .before .before .before .before .before .before .before .before .before .before .before .before .before .before .before .opening-at) .ensures) ((c .before .before .before .before .before .before .before .before .before .before .before .before .before .if4) .left) ((c .before .before .before .before .before .before .before .before .before .before .before .before .before .before .before .before .before .before .before .before .if3) .left) in
-    let b = second-fits s _ _ _ g ((c .before .before .before .before .before .before .before .before .before .before .parse) .ensures) (sym ((c .before .before .before .before .before .past) .ensures) ∙ (c .before .before .before .b) .given .1) in
-    let l = part-length s ((c .before .before .before .b) .given .0 .0) in
+    let b = second-fits ((c .before .before .before .before .before .before .before .before .before .before .before .before .before .before .before .before .before .before .before .before .before .before .before .before .before .before .before .before .args) .at) s _ _ _ _ g ((c .before .before .before .before .before .before .before .before .before .before .parse) .ensures) (sym ((c .before .before .before .before .before .past) .ensures) ∙ (c .before .before .before .b) .given .1) in
+    let l = part-length s ((c .before .before .before .b) .given .0 .1 .0) in
     (omega (arith, (c .before .before .before .before .before .before .before .before .before .before .before .before .before .before .before .before .before .before .before .before .before .before .before .before .if1) .left, (c .before .before .before .before .before .before .before .before .before .before .before .before .before .before .before .before .before .before .before .before .before .before .before .before .before .before .before .before .pre) .0), (omega (arith, b .0, (c .before .before .before .before .before .before .before .before .before .before .before .before .before .before .before .before .before .before .before .before .before .before .before .before .before .before .before .before .pre) .1 .0), omega (arith, b .0, b .1, (c .before .before .before .before .before .before .before .before .before .before .before .before .before .before .before .before .before .before .before .before .before .before .before .before .before .before .before .before .pre) .1 .1)))
 
 parse-close-requires-2 : (t : ℕ) → parse-lts.Need-close-requires-2 (claims t) (parse-at t) parse.Post
 unfolding ascii
-parse-close-requires-2 t c κs = part-inside ((c .before .before .before .before .before .before .before .before .before .before .before .before .before .before .before .before .before .before .before .before .before .before .before .before .before .before .before .before .before .before .before .args) .name .now) _ ((c .before .before .parse2) .ensures) (second-fits ((c .before .before .before .before .before .before .before .before .before .before .before .before .before .before .before .before .before .before .before .before .before .before .before .before .before .before .before .before .before .before .before .args) .name .now) _ _ _ (opening-fits _ _ _ ((c .before .before .before .before .before .before .before .before .before .before .before .before .before .before .before .before .before .before .before .before .before .before .before .before .before .before .run) .ensures) ((c .before .before .before .before .before .before .before .before .before .before .before .before .before .before .before .before .before .before .before .before .before .before .before .before .opening-at) .ensures) ((c .before .before .before .before .before .before .before .before .before .before .before .before .before .before .before .before .if4) .left) ((c .before .before .before .before .before .before .before .before .before .before .before .before .before .before .before .before .before .before .before .before .before .before .before .if3) .left)) ((c .before .before .before .before .before .before .before .before .before .before .before .before .before .parse) .ensures) (sym ((c .before .before .before .before .before .before .before .before .past) .ensures) ∙ (c .before .before .before .before .before .before .b) .given .1) .0)
+parse-close-requires-2 t c κs = (part-inside ((c .before .before .before .before .before .before .before .before .before .before .before .before .before .before .before .before .before .before .before .before .before .before .before .before .before .before .before .before .before .before .before .args) .name .now) _ ((c .before .before .parse2) .ensures) (second-fits ((c .before .before .before .before .before .before .before .before .before .before .before .before .before .before .before .before .before .before .before .before .before .before .before .before .before .before .before .before .before .before .before .args) .at) ((c .before .before .before .before .before .before .before .before .before .before .before .before .before .before .before .before .before .before .before .before .before .before .before .before .before .before .before .before .before .before .before .args) .name .now) _ _ _ _ (opening-fits _ _ _ ((c .before .before .before .before .before .before .before .before .before .before .before .before .before .before .before .before .before .before .before .before .before .before .before .before .before .before .run) .ensures) ((c .before .before .before .before .before .before .before .before .before .before .before .before .before .before .before .before .before .before .before .before .before .before .before .before .opening-at) .ensures) ((c .before .before .before .before .before .before .before .before .before .before .before .before .before .before .before .before .if4) .left) ((c .before .before .before .before .before .before .before .before .before .before .before .before .before .before .before .before .before .before .before .before .before .before .before .if3) .left)) ((c .before .before .before .before .before .before .before .before .before .before .before .before .before .parse) .ensures) (sym ((c .before .before .before .before .before .before .before .before .past) .ensures) ∙ (c .before .before .before .before .before .before .b) .given .1) .0), (c .before .before .before .before .before .before .before .before .before .before .before .before .before .before .before .before .before .before .before .before .before .before .before .before .before .before .before .before .before .before .before .pre) .1 .0)
 
 parse-same-length-3 : (t : ℕ) → parse-lts.Need-same-length-3 (claims t) (parse-at t) parse.Post
-parse-same-length-3 t c = (c .before .before .before .before .before .before .before .parse) .kept .1 .1 .1 .1 .1 .0 ∙ ap length ((c .before .before .before .before .before .before .before .before .before .before .before .before .before .put) .ensures) ∙ length-set ((c .before .before .before .before .before .before .before .before .before .before .before .before .before .before .before .before .before .before .before .before .before .before .before .before .before .args) .codes .now) ((c .before .before .before .before .before .before .before .before .before .before .before .before .before .before .before .before .before .before .before .before .before .before .before .before .before .args) .used) ((c .before .before .before .before .before .before .before .before .before .before .before .before .before .before .word-of) .result)
+parse-same-length-3 t c = (c .before .before .before .before .before .before .before .before .parse) .kept .1 .1 .1 .1 .1 .0 ∙ ap length ((c .before .before .before .before .before .before .before .before .before .before .before .before .before .before .put) .ensures) ∙ length-set ((c .before .before .before .before .before .before .before .before .before .before .before .before .before .before .before .before .before .before .before .before .before .before .before .before .before .before .args) .codes .now) ((c .before .before .before .before .before .before .before .before .before .before .before .before .before .before .before .before .before .before .before .before .before .before .before .before .before .before .args) .used) ((c .before .before .before .before .before .before .before .before .before .before .before .before .before .before .before .word-of) .result)
 
 parse-returns-6 : (t : ℕ) → parse-lts.Need-returns-6 (claims t) (parse-at t) parse.Post
 unfolding ascii
-parse-returns-6 t c = part-lost _ _ (opened _ _ _ _ ((c .before .before .before .before .before .before .before .before .before .before .before .before .before .before .before .before .before .before .before .before .before .if1) .left) ((c .before .before .before .before .before .before .before .before .before .before .before .before .before .before .before .before .before .before .before .before .run) .ensures) ((c .before .before .before .before .before .before .before .before .before .before .before .before .before .before .before .before .before .before .before .if2) .left) _ ((c .before .before .before .before .before .before .before .before .before .before .before .before .before .before .before .before .before .before .opening-at) .ensures)) (omega (arith, span-le headByte ((c .before .before .before .before .before .before .before .before .before .before .before .before .before .before .before .before .before .before .before .before .before .before .before .before .before .args) .name .now), (c .before .before .before .before .before .before .before .before .before .before .before .before .before .before .before .before .before .before .before .before .run) .ensures)) ((c .before .before .before .before .before .before .before .before .before .before .before .before .before .put) .ensures ∙ ap (set ((c .before .before .before .before .before .before .before .before .before .before .before .before .before .before .before .before .before .before .before .before .before .before .before .before .before .args) .codes .now) ((c .before .before .before .before .before .before .before .before .before .before .before .before .before .before .before .before .before .before .before .before .before .before .before .before .before .args) .used)) ((c .before .before .before .before .before .before .before .before .before .before .before .before .before .before .word-of) .ensures)) ((c .before .before .before .before .before .before .before .parse) .ensures) (omega (arith, (c .before .before .before .before .before .before .before .before .before .before .before .before .before .before .before .before .before .if3) .left, (c .before .before .before .before .before .before .before .before .before .before .if4) .left, (c .before .before .before .before .if5) .left, opening-small ((c .before .before .before .before .before .before .before .before .before .before .before .before .before .before .before .before .before .before .before .before .before .before .before .before .before .args) .name .now) _ _ ((c .before .before .before .before .before .before .before .before .before .before .before .before .before .before .before .before .before .before .before .before .run) .ensures) ((c .before .before .before .before .before .before .before .before .before .before .before .before .before .before .before .before .before .before .opening-at) .ensures))) (sym ((c .before .before .past) .ensures) ∙ (c .enum-told) .given .1)
+parse-returns-6 t c = part-lost _ _ (opened _ _ _ _ ((c .before .before .before .before .before .before .before .before .before .before .before .before .before .before .before .before .before .before .before .before .before .before .if1) .left) ((c .before .before .before .before .before .before .before .before .before .before .before .before .before .before .before .before .before .before .before .before .before .run) .ensures) ((c .before .before .before .before .before .before .before .before .before .before .before .before .before .before .before .before .before .before .before .before .if2) .left) _ ((c .before .before .before .before .before .before .before .before .before .before .before .before .before .before .before .before .before .before .before .opening-at) .ensures)) (omega (arith, span-le headByte ((c .before .before .before .before .before .before .before .before .before .before .before .before .before .before .before .before .before .before .before .before .before .before .before .before .before .before .args) .name .now), (c .before .before .before .before .before .before .before .before .before .before .before .before .before .before .before .before .before .before .before .before .before .run) .ensures)) ((c .before .before .before .before .before .before .before .before .before .before .before .before .before .before .put) .ensures ∙ ap (set ((c .before .before .before .before .before .before .before .before .before .before .before .before .before .before .before .before .before .before .before .before .before .before .before .before .before .before .args) .codes .now) ((c .before .before .before .before .before .before .before .before .before .before .before .before .before .before .before .before .before .before .before .before .before .before .before .before .before .before .args) .used)) ((c .before .before .before .before .before .before .before .before .before .before .before .before .before .before .before .word-of) .ensures)) ((c .before .before .before .before .before .before .before .before .parse) .ensures) (omega (arith, (c .before .before .before .before .before .before .before .before .before .before .before .before .before .before .before .before .before .before .if3) .left, (c .before .before .before .before .before .before .before .before .before .before .before .if4) .left, (c .before .before .before .before .before .if5) .left, opening-small ((c .before .before .before .before .before .before .before .before .before .before .before .before .before .before .before .before .before .before .before .before .before .before .before .before .before .before .args) .name .now) _ _ ((c .before .before .before .before .before .before .before .before .before .before .before .before .before .before .before .before .before .before .before .before .before .run) .ensures) ((c .before .before .before .before .before .before .before .before .before .before .before .before .before .before .before .before .before .before .before .opening-at) .ensures))) (sym ((c .before .before .before .past) .ensures) ∙ (c .before .number) .given .1)
 
 parse-same-length-4 : (t : ℕ) → parse-lts.Need-same-length-4 (claims t) (parse-at t) parse.Post
 parse-same-length-4 t c = (c .before .before .before .parse2) .kept .1 .1 .1 .1 .1 .0 ∙ (c .before .before .before .before .before .before .before .before .before .before .before .before .before .before .parse) .kept .1 .1 .1 .1 .1 .0 ∙ ap length ((c .before .before .before .before .before .before .before .before .before .before .before .before .before .before .before .before .before .before .before .before .put) .ensures) ∙ length-set ((c .before .before .before .before .before .before .before .before .before .before .before .before .before .before .before .before .before .before .before .before .before .before .before .before .before .before .before .before .before .before .before .before .args) .codes .now) ((c .before .before .before .before .before .before .before .before .before .before .before .before .before .before .before .before .before .before .before .before .before .before .before .before .before .before .before .before .before .before .before .before .args) .used) ((c .before .before .before .before .before .before .before .before .before .before .before .before .before .before .before .before .before .before .before .before .before .word-of) .result)
 
 parse-returns-7 : (t : ℕ) → parse-lts.Need-returns-7 (claims t) (parse-at t) parse.Post
 unfolding ascii
-parse-returns-7 t c = both-done _ _ (opened _ _ _ _ ((c .before .before .before .before .before .before .before .before .before .before .before .before .before .before .before .before .before .before .before .before .before .before .before .before .before .before .before .before .if1) .left) ((c .before .before .before .before .before .before .before .before .before .before .before .before .before .before .before .before .before .before .before .before .before .before .before .before .before .before .before .run) .ensures) ((c .before .before .before .before .before .before .before .before .before .before .before .before .before .before .before .before .before .before .before .before .before .before .before .before .before .before .if2) .left) _ ((c .before .before .before .before .before .before .before .before .before .before .before .before .before .before .before .before .before .before .before .before .before .before .before .before .before .opening-at) .ensures)) (omega (arith, span-le headByte ((c .before .before .before .before .before .before .before .before .before .before .before .before .before .before .before .before .before .before .before .before .before .before .before .before .before .before .before .before .before .before .before .before .args) .name .now), (c .before .before .before .before .before .before .before .before .before .before .before .before .before .before .before .before .before .before .before .before .before .before .before .before .before .before .before .run) .ensures)) ((c .before .before .before .before .before .before .before .before .before .before .before .before .before .before .before .before .before .before .before .before .put) .ensures ∙ ap (set ((c .before .before .before .before .before .before .before .before .before .before .before .before .before .before .before .before .before .before .before .before .before .before .before .before .before .before .before .before .before .before .before .before .args) .codes .now) ((c .before .before .before .before .before .before .before .before .before .before .before .before .before .before .before .before .before .before .before .before .before .before .before .before .before .before .before .before .before .before .before .before .args) .used)) ((c .before .before .before .before .before .before .before .before .before .before .before .before .before .before .before .before .before .before .before .before .before .word-of) .ensures)) ((c .before .before .before .before .before .before .before .before .before .before .before .before .before .before .parse) .ensures) _ _ (omega (arith, (c .before .before .before .before .before .before .before .before .before .before .before .before .before .before .before .before .before .before .before .before .before .before .before .before .if3) .left, (c .before .before .before .before .before .before .before .before .before .before .before .before .before .before .before .before .before .if4) .left, (c .before .before .before .before .before .before .before .before .before .before .before .if5) .left, opening-small ((c .before .before .before .before .before .before .before .before .before .before .before .before .before .before .before .before .before .before .before .before .before .before .before .before .before .before .before .before .before .before .before .before .args) .name .now) _ _ ((c .before .before .before .before .before .before .before .before .before .before .before .before .before .before .before .before .before .before .before .before .before .before .before .before .before .before .before .run) .ensures) ((c .before .before .before .before .before .before .before .before .before .before .before .before .before .before .before .before .before .before .before .before .before .before .before .before .before .opening-at) .ensures))) (opening-fits _ _ _ ((c .before .before .before .before .before .before .before .before .before .before .before .before .before .before .before .before .before .before .before .before .before .before .before .before .before .before .before .run) .ensures) ((c .before .before .before .before .before .before .before .before .before .before .before .before .before .before .before .before .before .before .before .before .before .before .before .before .before .opening-at) .ensures) ((c .before .before .before .before .before .before .before .before .before .before .before .before .before .before .before .before .before .if4) .left) ((c .before .before .before .before .before .before .before .before .before .before .before .before .before .before .before .before .before .before .before .before .before .before .before .before .if3) .left)) (sym ((c .before .before .before .before .before .before .before .before .before .past) .ensures) ∙ (c .before .before .before .before .before .before .before .b) .given .1) ((c .before .before .before .parse2) .ensures) ((c .close2) .ensures)
+parse-returns-7 t c = both-done _ _ (opened _ _ _ _ ((c .before .before .before .before .before .before .before .before .before .before .before .before .before .before .before .before .before .before .before .before .before .before .before .before .before .before .before .before .if1) .left) ((c .before .before .before .before .before .before .before .before .before .before .before .before .before .before .before .before .before .before .before .before .before .before .before .before .before .before .before .run) .ensures) ((c .before .before .before .before .before .before .before .before .before .before .before .before .before .before .before .before .before .before .before .before .before .before .before .before .before .before .if2) .left) _ ((c .before .before .before .before .before .before .before .before .before .before .before .before .before .before .before .before .before .before .before .before .before .before .before .before .before .opening-at) .ensures)) (omega (arith, span-le headByte ((c .before .before .before .before .before .before .before .before .before .before .before .before .before .before .before .before .before .before .before .before .before .before .before .before .before .before .before .before .before .before .before .before .args) .name .now), (c .before .before .before .before .before .before .before .before .before .before .before .before .before .before .before .before .before .before .before .before .before .before .before .before .before .before .before .run) .ensures)) ((c .before .before .before .before .before .before .before .before .before .before .before .before .before .before .before .before .before .before .before .before .put) .ensures ∙ ap (set ((c .before .before .before .before .before .before .before .before .before .before .before .before .before .before .before .before .before .before .before .before .before .before .before .before .before .before .before .before .before .before .before .before .args) .codes .now) ((c .before .before .before .before .before .before .before .before .before .before .before .before .before .before .before .before .before .before .before .before .before .before .before .before .before .before .before .before .before .before .before .before .args) .used)) ((c .before .before .before .before .before .before .before .before .before .before .before .before .before .before .before .before .before .before .before .before .before .word-of) .ensures)) ((c .before .before .before .before .before .before .before .before .before .before .before .before .before .before .parse) .ensures) _ _ _ (omega (arith, (c .before .before .before .before .before .before .before .before .before .before .before .before .before .before .before .before .before .before .before .before .before .before .before .before .if3) .left, (c .before .before .before .before .before .before .before .before .before .before .before .before .before .before .before .before .before .if4) .left, (c .before .before .before .before .before .before .before .before .before .before .before .if5) .left, opening-small ((c .before .before .before .before .before .before .before .before .before .before .before .before .before .before .before .before .before .before .before .before .before .before .before .before .before .before .before .before .before .before .before .before .args) .name .now) _ _ ((c .before .before .before .before .before .before .before .before .before .before .before .before .before .before .before .before .before .before .before .before .before .before .before .before .before .before .before .run) .ensures) ((c .before .before .before .before .before .before .before .before .before .before .before .before .before .before .before .before .before .before .before .before .before .before .before .before .before .opening-at) .ensures))) (opening-fits _ _ _ ((c .before .before .before .before .before .before .before .before .before .before .before .before .before .before .before .before .before .before .before .before .before .before .before .before .before .before .before .run) .ensures) ((c .before .before .before .before .before .before .before .before .before .before .before .before .before .before .before .before .before .before .before .before .before .before .before .before .before .opening-at) .ensures) ((c .before .before .before .before .before .before .before .before .before .before .before .before .before .before .before .before .before .if4) .left) ((c .before .before .before .before .before .before .before .before .before .before .before .before .before .before .before .before .before .before .before .before .before .before .before .before .if3) .left)) (sym ((c .before .before .before .before .before .before .before .before .before .past) .ensures) ∙ (c .before .before .before .before .before .before .before .b) .given .1) ((c .before .before .before .parse2) .ensures) ((c .close2) .ensures)
 
 pub +parse-spec : {M : Type 1} → statement M
 +parse-spec = close μ-parse λ t. parse-lts.spec (claims t)
@@ -195,6 +201,7 @@ pub +parse-spec : {M : Type 1} → statement M
     (parse-run-requires t)
     (parse-returns-2 t)
     (parse-opening-at-requires t)
+    (parse-unopened-requires t)
     (parse-returns-3 t)
     (parse-slice-aggregate-word-of t)
     (parse-word-of-requires t)
@@ -215,7 +222,7 @@ pub +parse-spec : {M : Type 1} → statement M
     (parse-returns-5 t)
     (parse-slice-aggregate-past t)
     (parse-past-requires t)
-    (parse-enum-told t)
+    (parse-enum-known-number t)
     (parse-enum-known-b t)
     (parse-sub-parse-3 t)
     (parse-part-parse-start-2 t)

@@ -1,8 +1,8 @@
-use borrow.Author.Needs.{needs}
 use mathlib.Core.Path.{sym, ap, _∙_}
 use Rattle.layout.specs.Text.{ascii}
 use Rattle.names.specs.Contract.{tailedAfter}
 use Rattle.names.proofs.Steps.{passed-fits}
+use borrow.Author.Needs.{needs}
 use Rattle.names.proofs.close.Statement.{statement}
 use Rattle.names.proofs.close.Tie as tie
 
@@ -10,20 +10,20 @@ slice-aggregate-past : tie.Need-slice-aggregate-past
 slice-aggregate-past c = search needs
 
 past-requires : tie.Need-past-requires
-past-requires c κs = search needs
+past-requires c κs = (c .before .before .pre)
 
-enum-told : tie.Need-enum-told
-enum-told c = search needs
+enum-known-number : tie.Need-enum-known-number
+enum-known-number c = search needs
 
 enum-known-end : tie.Need-enum-known-end
 enum-known-end c = search needs
 
 tailed-at-requires : tie.Need-tailed-at-requires
-tailed-at-requires c κs = passed-fits _ ((c .before .before .before .before .before .before .args) .name .now) ((c .before .before .before .before .before .before .args) .at) _ _ ((c .before .before .before .before .before .before .args) .argument) (c .before .before .before .before .before .before .pre) (sym ((c .before .before .before .past) .ensures) ∙ (c .before .end) .given .1)
+tailed-at-requires c κs = passed-fits _ _ ((c .before .before .before .before .before .before .args) .name .now) ((c .before .before .before .before .before .before .args) .a) _ _ _ ((c .before .before .before .before .before .before .args) .argument) ((c .before .before .before .before .before .before .pre) .0) (sym ((c .before .before .before .past) .ensures) ∙ (c .before .end) .given .1)
 
 returns : tie.Need-returns
 unfolding ascii
-returns c = sym (ap (tailedAfter ((c .before .before .before .before .before .args) .name .now)) (sym ((c .before .before .past) .ensures) ∙ (c .enum-told) .given .1))
+returns c = sym (ap (tailedAfter ((c .before .before .before .before .before .before .args) .name .now)) (sym ((c .before .before .before .past) .ensures) ∙ (c .before .number) .given .1))
 
 returns-2 : tie.Need-returns-2
 unfolding ascii
@@ -35,7 +35,7 @@ close-spec =
     (tie.spec
     slice-aggregate-past
     past-requires
-    enum-told
+    enum-known-number
     enum-known-end
     tailed-at-requires
     returns

@@ -1,4 +1,3 @@
-use borrow.Author.Needs.{needs}
 use borrow.Author.Tests.{eq-eqb, ne-eqb}
 use Rattle.names.specs.Kind.{enumKind}
 use Rattle.names.proofs.enum_kind.Statement.{statement}

@@ -1,5 +1,4 @@
 use borrow.Author.Tests.{le-leb, lt-leb}
-use Rattle.layout.specs.Number.{between}
 use Rattle.names.proofs.within.Statement.{statement}
 use Rattle.names.proofs.within.Tie as tie
 
