@@ -13,7 +13,7 @@ use Rattle.names.specs.Contract.{refused as told-refused, no-room}
 use Rattle.types.specs.declared.Resolved.{Resolved}
 use Rattle.types.specs.Contract.{Resolves, told as resolved}
 use Rattle.types.specs.Short.{codes-are-few}
-use Rattle.types.specs.Meaning.{HasTarget, eleven-is, ten-is, no-room-is}
+use Rattle.types.specs.Meaning.{HasTarget, no-room-is}
 use Rattle.layout.specs.Target.{Target}
 use Rattle.layout.specs.EnumList.{EnumEntry}
 use Rattle.reading.specs.Answer.{Answer, refused, read, bind, check, within, true-within}
@@ -21,7 +21,7 @@ use Rattle.reading.specs.Reads.{some}
 use Rattle.reading.specs.Seven.{sevenAt}
 use Rattle.reading.specs.Little.{littleAt}
 use Rattle.reading.specs.File.{unknown, known, judge, readerAt}
-use Rattle.readers.specs.Judged.{judgedName, known-name, eleven-name, ten-name}
+use Rattle.readers.specs.Judged.{judgedName, known-name, refused-name}
 use Rattle.readers.specs.Parts.{upTo, versionAt, endOf, versioned, namedAt, Taken, Takes}
 
 module _ (most : ℕ) (file : List ℕ) (at : ℕ) where
@@ -97,11 +97,11 @@ module _ (es : List EnumEntry) (file : List ℕ) (n at first : ℕ) where
   named-missing t = rw t
 
   module _ (t : leb n (length (drop first file)) ≡ true) where
-    name-refused : {k : ℕ} → judgedName es (take n (drop first file)) ≡ unknown k → namedAt es file n at first ≡ refused k first
+    name-refused : {k p : ℕ} → judgedName es first (take n (drop first file)) ≡ unknown k p → namedAt es file n at first ≡ refused k p
     unfolding namedAt bind some check judge
     name-refused e = rw (t, e)
 
-    name-known : {x : Target} → judgedName es (take n (drop first file)) ≡ known x → namedAt es file n at first ≡ versioned file (take n (drop first file)) x (first + n)
+    name-known : {x : Target} → judgedName es first (take n (drop first file)) ≡ known x → namedAt es file n at first ≡ versioned file (take n (drop first file)) x (first + n)
     unfolding namedAt bind some check judge
     name-known e = rw (t, e)
 
@@ -119,11 +119,8 @@ module _ (es : List EnumEntry) (file : List ℕ) (n at first : ℕ) where
       pub named-room : {r : Resolved} → Resolves es s first c c′ used r → resolved r ≡ no-room → ⊥
       named-room p e = omega (arith, no-room-is es s first c c′ used p e below fits, size)
 
-      pub named-ten : {r : Resolved} → Resolves es s first c c′ used r → resolved r ≡ told-refused 10 → namedAt es file n at first ≡ refused 10 first
-      named-ten p e = name-refused (ap (judgedName es) (sym q) ∙ ten-name es s (ten-is es s first c c′ used p e))
-
-      pub named-eleven : {r : Resolved} → Resolves es s first c c′ used r → resolved r ≡ told-refused 11 → namedAt es file n at first ≡ refused 11 first
-      named-eleven p e = let g = eleven-is es s first c c′ used p e in name-refused (ap (judgedName es) (sym q) ∙ eleven-name es s (g .0) (g .1) (g .2) (g .3))
+      pub named-refused : (number place : ℕ) {r : Resolved} → Resolves es s first c c′ used r → resolved r ≡ told-refused number place → namedAt es file n at first ≡ refused number place
+      named-refused number place p e = name-refused (ap (judgedName es first) (sym q) ∙ refused-name es first s c c′ used number place p e)
 
       module _ (end : ℕ) (g : HasTarget es s first c c′ used end) where
         taken : (next : ℕ) → Taken (read (s, g .t) next) file c c′ used first end next
@@ -154,5 +151,5 @@ module _ (es : List EnumEntry) (file : List ℕ) (n at first : ℕ) where
         unfolding versionAt versioned
         named-target =
             let e : namedAt es file n at first ≡ versioned file s (g .t) (first + n)
-            = name-known (ap (judgedName es) (sym q) ∙ known-name es s (g .n) (g .t) (g .formed) (g .writes) (g .target)) ∙ ap (λ (l : List ℕ). versioned file l (g .t) (first + n)) (sym q) in
+            = name-known (ap (judgedName es first) (sym q) ∙ known-name es first s (g .n) (g .t) (g .formed) (g .writes) (g .target)) ∙ ap (λ (l : List ℕ). versioned file l (g .t) (first + n)) (sym q) in
             rw e (by-version (littleAt file 4 (first + n) (first + n)))

@@ -30,7 +30,7 @@ Step = One × List ℕ
 -- the answer of a reader, by what its name of n bytes comes to
 abbrev pub afterName : (file : List ℕ) (at first n : ℕ) → N.Answer → One
 afterName file at first n no-room = Refused 1 at
-afterName file at first n (N.refused k) = Refused k first
+afterName file at first n (N.refused k p) = Refused k p
 afterName file at first n (coded end) = endOf first end (versionAt file (first + n))
 
 -- a reader whose name has n bytes from `first` on

@@ -36,7 +36,7 @@ versioned file name t version = bind (littleAt file 4 version version) (λ v nex
 
 -- a reader whose name has n bytes from `first` on, behind the count at `at`
 unfoldable pub namedAt : List EnumEntry → List ℕ → (n at first : ℕ) → Answer (List ℕ × Target)
-namedAt es file n at first = bind (some file n at first) (λ name end. bind (judge (judgedName es name) first end) (λ t version. versioned file name t version))
+namedAt es file n at first = bind (some file n at first) (λ name end. bind (judge (judgedName es first name) end) (λ t version. versioned file name t version))
 
 -- a file of 01's size, and room for the codes of one name behind those that are used
 abbrev pub Ready : (file : List ℕ) (used : ℕ) (c : List ℕ) → Type 0

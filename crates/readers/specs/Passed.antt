@@ -1,8 +1,7 @@
 -- The readers that were passed so far, and the padding of their names' lengths. Assumes nothing.
-use mathlib.Core.Path.{_≡_, refl, sym, ap, _∙_}
-use mathlib.Core.Bool.{Bool, true, false}
-use mathlib.Core.List.{List, [], _∷_}
-use Prim.Native.Nat.{ℕ, zero, suc, _+_, _*_, _-_, _<_, _≤_}
+use mathlib.Core.Path.{_≡_, refl, ap}
+use mathlib.Core.List.{List}
+use Prim.Native.Nat.{ℕ, suc, _+_, _*_, _-_, _<_, _≤_}
 use native.Mathlib.Omega.{arith}
 use lib.Dec.{eqb, leb}
 use lib.ListN.{length, drop}
@@ -15,7 +14,7 @@ use Rattle.reading.specs.Little.{littleAt}
 use Rattle.reading.specs.File.{Named, unknown, known, judge, readerAt}
 use Rattle.numbers.specs.Padded.{numberOf, past, padOf}
 use Rattle.places.specs.Places.{behindEntry, entriesPlaces, entriesEnd, listsPlaces}
-use Rattle.places.specs.Padding.{padding, none-padding, pad-few, lists-padding}
+use Rattle.places.specs.Padding.{padding, pad-few, lists-padding}
 use Rattle.readers.specs.Judged.{judgedName}
 
 -- i of n readers, the first of which stands at `at`, were passed: the others stand from `next` on, and the lengths of the names passed have the padding `sum`
@@ -30,10 +29,10 @@ module _ (file : List ℕ) where
   unfolding some
   some-ends n at first = ok-check (leb n (length (drop first file))) 1 at _ (λ t. is-read refl)
 
-  judge-ends : (x : Named) (first end : ℕ) → Ok {A = Target} (λ t version. version ≡ end) (judge x first end)
+  judge-ends : (x : Named) (end : ℕ) → Ok {A = Target} (λ t version. version ≡ end) (judge x end)
   unfolding judge
-  judge-ends (unknown k) first end = not-read
-  judge-ends (known t) first end = is-read refl
+  judge-ends (unknown k p) end = not-read
+  judge-ends (known t) end = is-read refl
 
   little-ends : (at : ℕ) → Ok (λ v next. next ≡ at + 4) (littleAt file 4 at at)
   unfolding littleAt
@@ -43,11 +42,11 @@ module _ (file : List ℕ) where
   unfolding readerAt behindEntry past numberOf bind
   reader-ends es at = go (sevenAt file at) where
     go : (x : Answer ℕ) → Ok {A = List ℕ × Target} (λ a e. e ≡ past x at + numberOf x + 4) (bind x (λ n first. check (within 1024 n) 9 at
-        (bind (some file n at first) (λ name end. bind (judge (judgedName es name) first end) (λ t version.
+        (bind (some file n at first) (λ name end. bind (judge (judgedName es first name) end) (λ t version.
         bind (littleAt file 4 version version) (λ v next. check (eqb v 0) 12 version (read (name, t) next)))))))
     go (refused n p) = not-read
     go (read n first) =
-        ok-check (within 1024 n) 9 at _ (λ z. ok-bind (some-ends n at first) (λ name end e. ok-bind (judge-ends (judgedName es name) first end) (λ t version f.
+        ok-check (within 1024 n) 9 at _ (λ z. ok-bind (some-ends n at first) (λ name end e. ok-bind (judge-ends (judgedName es first name) end) (λ t version f.
         ok-bind (little-ends version) (λ v next g. ok-check (eqb v 0) 12 version _ (λ y. is-read (omega arith))))))
 
   pub none-passed : (n at : ℕ) → Passed file n at 0 at 0

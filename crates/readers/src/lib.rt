@@ -100,8 +100,8 @@ fn named_at(
     let version = first + n;
     match types::resolve(&file[first..version], first, enums, codes, used) {
         Resolved::NoRoom => One::Refused(1, at),
-        Resolved::Broken => One::Refused(10, first),
-        Resolved::Unknown => One::Refused(11, first),
+        Resolved::Broken(number, place) => One::Refused(number, place),
+        Resolved::Unknown(place) => One::Refused(11, place),
         Resolved::Target(end) => versioned(file, first, end, version),
     }
 }

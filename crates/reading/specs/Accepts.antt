@@ -103,7 +103,7 @@ module _ (named : List ℕ → Target → Type 0) where
     pub shared-are : a .shared ≡ count (sharedOf (a .tree .objects))
     pub room-left : size (a .tree .objects) ≤ room
 
-  module _ (nameOf : List ℕ → Named) (judges : Judges named nameOf) (file : List ℕ) (room : ℕ) where
+  module _ (nameOf : ℕ → List ℕ → Named) (judges : Judges named nameOf) (file : List ℕ) (room : ℕ) where
     pub file-complete : (ft : FileTree) (w : FileLays named ft file) → size (ft .objects) ≤ room
         → fileAt nameOf file room ≡ read (loadedOf ft file w) (length file)
     unfolding fileAt objectsAt finished bind check fileDrafts

@@ -36,20 +36,20 @@ headerAt file =
     (check (eqb (valueOf (take 4 (drop 6 file))) (length file)) 7 6
     (read (getD file 3 0, getD file 5 0) 10))))))))))
 
--- what a reader's name is read as: refused with 10 or 11, or a reader of a target
+-- what a reader's name is read as: refused with a number at a place of the file (11, or 33 to 38 of 02), or a reader of a target
 pub data Named : Type 0 where
-  unknown : (number : ℕ) → Named
+  unknown : (number place : ℕ) → Named
   known : Target → Named
 
--- the reading of names says just what the layout's relation says
-pub record Judges (named : List ℕ → Target → Type 0) (nameOf : List ℕ → Named) : Type 0 where
-  pub known-sound : (name : List ℕ) (t : Target) → nameOf name ≡ known t → named name t
-  pub known-complete : (name : List ℕ) (t : Target) → named name t → nameOf name ≡ known t
+-- the reading of names says just what the layout's relation says, wherever a name stands
+pub record Judges (named : List ℕ → Target → Type 0) (nameOf : ℕ → List ℕ → Named) : Type 0 where
+  pub known-sound : (first : ℕ) (name : List ℕ) (t : Target) → nameOf first name ≡ known t → named name t
+  pub known-complete : (first : ℕ) (name : List ℕ) (t : Target) → named name t → nameOf first name ≡ known t
 
--- 01: "Both are placed at the reader name's first byte"
-unfoldable pub judge : Named → (place at : ℕ) → Answer Target
-judge (unknown number) place at = refused number place
-judge (known t) place at = read t at
+-- a name that ends before `at`, by what it is read as
+unfoldable pub judge : Named → (at : ℕ) → Answer Target
+judge (unknown number place) at = refused number place
+judge (known t) at = read t at
 
 -- the kinds of the rows that have no parent: those of the primary and the shared objects, in order
 unfoldable pub rootKind : (parent kind : ℕ) → List ℕ → List ℕ
@@ -89,12 +89,12 @@ module _ (file : List ℕ) where
         shared = shared;
       }) e))
 
-module _ (nameOf : List ℕ → Named) (file : List ℕ) where
-  -- a reader: its name and its target. 01: "A reader's name is judged in full (9, 1, 10, 11) before its version"; missing bytes of a name are placed at its count.
+module _ (nameOf : ℕ → List ℕ → Named) (file : List ℕ) where
+  -- a reader: its name and its target. 01: "A reader's name is judged in full (9, 1, 10, 11) before its version", 10 being 33 to 38 by 02; missing bytes of a name are placed at its count.
   unfoldable pub readerAt : ℕ → Answer (List ℕ × Target)
   readerAt at =
       bind (sevenAt file at) (λ n first. check (within 1024 n) 9 at
-      (bind (some file n at first) (λ name end. bind (judge (nameOf name) first end) (λ t version.
+      (bind (some file n at first) (λ name end. bind (judge (nameOf first name) end) (λ t version.
       bind (littleAt file 4 version version) (λ v next. check (eqb v 0) 12 version (read (name, t) next))))))
 
   -- so many readers: their names, and their targets
@@ -127,7 +127,7 @@ unfoldable pub roomOf : (words : ℕ) → ℕ
 roomOf words = min (words / width) 65536
 
 -- what loading answers for a file, where so many words are lent
-unfoldable pub loadOf : (List ℕ → Named) → (file : List ℕ) (words : ℕ) → Load
+unfoldable pub loadOf : (ℕ → List ℕ → Named) → (file : List ℕ) (words : ℕ) → Load
 loadOf nameOf file words = toLoad (fileAt nameOf file (roomOf words))
 
 -- what loading leaves in the words lent; 01: "Every word not in a used row is zero"

@@ -119,24 +119,31 @@ module _ (file : List ℕ) where
 
 -- ---- the readers and the shared count
 
-module _ (named : List ℕ → Target → Type 0) (nameOf : List ℕ → Named) (judges : Judges named nameOf) (file : List ℕ) where
-  pub judge-reads : (x : Named) (place : ℕ) → Reads file (λ t bs. (x ≡ known t) × (bs ≡ [])) (judge x place)
+module _ (named : List ℕ → Target → Type 0) (nameOf : ℕ → List ℕ → Named) (judges : Judges named nameOf) (file : List ℕ) where
+  pub judge-reads : (x : Named) → Reads file (λ t bs. (x ≡ known t) × (bs ≡ [])) (judge x)
   unfolding judge
-  judge-reads (unknown n) place = record {
+  judge-reads (unknown n p) = record {
     complete = λ t bs rest at w q. differ (cc (w .0));
     sound = λ h at. not-read;
   }
-  judge-reads (known u) place =
+  judge-reads (known u) =
       convert file (pure-reads file u)
       (λ t bs s w. (ap known (sym (w .0)), w .1))
       (λ t bs w. let e : t ≡ u = cc (w .0) in (e, w .1))
+
+  -- wherever a name stands
+  name-reads : (name : List ℕ) (first : ℕ) → Reads file (λ t bs. named name t × (bs ≡ [])) (judge (nameOf first name))
+  name-reads name first =
+      convert file (judge-reads (nameOf first name))
+      (λ t bs s w. (judges .known-sound first name t (w .0), w .1))
+      (λ t bs w. (judges .known-complete first name t (w .0), w .1))
 
   pub reader-reads : Reads file (λ a bs. Entry named (a .0) (a .1) bs) (readerAt nameOf file)
   unfolding readerAt
   reader-reads =
       convert file
       (bind-reads file (seven-reads file) (λ n at. check-reads file (within 1024 n) 9 at
-      (bind-reads file (some-reads file n at) (λ name e. bind-reads file (judge-reads (nameOf name) e) (λ t v.
+      (bind-reads file (some-reads file n at) (λ name e. bind-reads file (name-reads name e) (λ t v.
       bind-reads file (here-reads file (λ p. little-reads file 4 p)) (λ version v. check-reads file (eqb version 0) 12 v (pure-reads file (name, t))))))))
       (λ a bs s w.
       let u = w .5 .1 in
@@ -153,7 +160,7 @@ module _ (named : List ℕ → Target → Type 0) (nameOf : List ℕ → Named) 
         numbered = rw (u .4 .1) (w .4);
         not-empty = rw (u .4 .1) (r .0);
         not-long = rw (u .4 .1) (r .1);
-        lawful = judges .known-sound (u .0) (j .0) (j .4 .0);
+        lawful = j .4 .0;
       }))
       (λ a bs w.
       let name = a .0 in
@@ -177,7 +184,7 @@ module _ (named : List ℕ → Target → Type 0) (nameOf : List ℕ → Named) 
               [],
               version,
               refl,
-              (judges .known-complete name (a .1) (w .lawful), refl),
+              (w .lawful, refl),
               (0, little 4 0, [], refl, (omega arith, refl), (refl, (refl, refl))),
             ),
           ),

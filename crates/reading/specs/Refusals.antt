@@ -1,6 +1,6 @@
--- What a refusal tells, for every file and every number of words: a number from 1 to 22, and a place inside the file and within the limit on its length.
+-- What a refusal tells, for every file and every number of words: a number from 1 to 38, and a place inside the file and within the limit on its length.
 -- So a place fits 32 bits, as in the one number that an asset builder is told (01, "Looking up"). Assumes nothing.
-use mathlib.Core.Path.{_≡_, refl}
+use mathlib.Core.Path.{_≡_, refl, sym, ap}
 use mathlib.Core.Bool.{Bool, true, false}
 use mathlib.Core.List.{List, [], _∷_, _++_}
 use mathlib.Core.Logic.{_⊎_, inl, inr}
@@ -8,6 +8,7 @@ use Prim.Native.Nat.{ℕ, zero, suc, _+_, _≤_}
 use native.Mathlib.Omega.{arith}
 use lib.Dec.{ltb, leb}
 use lib.ListN.{length, drop, length-drop}
+use lib.Seq.{length-take-le}
 use borrow.Author.Tests.{leb-true}
 use Rattle.laws.specs.Small.{differ}
 use Rattle.layout.specs.Target.{Target, fixed, char, string, object, texture, texture2D, spriteFont, page, enum, nullable, array, list, dictionary}
@@ -46,10 +47,10 @@ unfolding check
 tells-check true n p x r f = f refl
 tells-check false n p x r f = of-refused r
 
--- a refusal of a number from 1 to 22, at a place up to `most`
+-- a refusal of a number from 1 to 38, at a place up to `most`
 pub record Fault (most number place : ℕ) : Type 0 where
   pub some-number : 1 ≤ number
-  pub last-number : number ≤ 22
+  pub last-number : number ≤ 38
   pub placed : place ≤ most
 
 -- the first byte of each row is at most at `most`
@@ -67,8 +68,8 @@ module _ (file : List ℕ) (most : ℕ) (fits : length file ≤ most) where
   Inside x = Tells (Fault most) (λ a e. e ≤ length file) x
 
   -- a refusal at a place inside the file
-  fault : (n : ℕ) {p : ℕ} → leb 1 n ≡ true → leb n 22 ≡ true → p ≤ length file → Fault most n p
-  fault n a b h = record { some-number = leb-true 1 n a; last-number = leb-true n 22 b; placed = omega arith }
+  fault : (n : ℕ) {p : ℕ} → leb 1 n ≡ true → leb n 38 ≡ true → p ≤ length file → Fault most n p
+  fault n a b h = record { some-number = leb-true 1 n a; last-number = leb-true n 38 b; placed = omega arith }
 
   -- ---- numbers and bytes
 
@@ -228,9 +229,10 @@ module _ (file : List ℕ) (most : ℕ) (fits : length file ≤ most) where
 
 -- ---- the header and the lists
 
--- 01, "Reader names": a name that is not read is refused with 10 or 11
-abbrev pub TenOrEleven : (List ℕ → Named) → Type 0
-TenOrEleven nameOf = (name : List ℕ) (number : ℕ) → nameOf name ≡ unknown number → (number ≡ 10) ⊎ (number ≡ 11)
+-- 01, "Reader names", and 02, Req 04: a name that is not read is refused with 11 or 33 to 38, placed within it or at its end
+abbrev pub WithinName : (ℕ → List ℕ → Named) → Type 0
+WithinName nameOf = (first : ℕ) (name : List ℕ) (number place : ℕ) → nameOf first name ≡ unknown number place
+    → ((number ≡ 11) ⊎ ((33 ≤ number) × (number ≤ 38))) × (place ≤ first + length name)
 
 -- a file that is too long is refused at 0; after that the length of the file is within `most`
 header-inside : (file : List ℕ) (most : ℕ) → (length file ≤ 16777216 → length file ≤ most)
@@ -251,21 +253,32 @@ header-inside file most fits =
     tells-check _ 7 6 _ (fault file most m 7 refl refl (omega arith)) (λ c.
     of-read (l, m)))))))))))
 
-module _ (nameOf : List ℕ → Named) (numbers : TenOrEleven nameOf) (file : List ℕ) where
+module _ (nameOf : ℕ → List ℕ → Named) (numbers : WithinName nameOf) (file : List ℕ) where
   module _ (most : ℕ) (fits : length file ≤ most) where
-    judge-inside : (name : List ℕ) (x : Named) (place at : ℕ) → nameOf name ≡ x → place ≤ length file → at ≤ length file → Inside file most fits (judge x place at)
+    judge-inside : (first : ℕ) (name : List ℕ) (x : Named) (at : ℕ) → nameOf first name ≡ x → at ≡ first + length name → at ≤ length file → Inside file most fits (judge x at)
     unfolding judge
-    judge-inside name (unknown number) place at e p h = of-refused (by-number (numbers name number e)) where
-      by-number : (number ≡ 10) ⊎ (number ≡ 11) → Fault most number place
-      by-number (inl q) = rw q (fault file most fits 10 refl refl p)
-      by-number (inr q) = rw q (fault file most fits 11 refl refl p)
-    judge-inside name (known t) place at e p h = of-read h
+    judge-inside first name (unknown number place) at e z h = of-refused (by-number (q .0)) where
+      q : ((number ≡ 11) ⊎ ((33 ≤ number) × (number ≤ 38))) × (place ≤ first + length name)
+      q = numbers first name number place e
+
+      by-number : (number ≡ 11) ⊎ ((33 ≤ number) × (number ≤ 38)) → Fault most number place
+      by-number (inl i) = record { some-number = omega arith; last-number = omega arith; placed = omega (arith, q .1) }
+      by-number (inr i) = record { some-number = omega (arith, i .0); last-number = i .1; placed = omega (arith, q .1) }
+    judge-inside first name (known t) at e z h = of-read h
+
+    -- a part of the file, and where it ends
+    part-inside : (n at first : ℕ) → at ≤ length file → first ≤ length file → Tells (Fault most) (λ bs e. (e ≤ length file) × (e ≡ first + length bs)) (some file n at first)
+    unfolding some
+    part-inside n at first h k =
+        tells-check (leb n (length (drop first file))) 1 at _ (fault file most fits 1 refl refl h) (λ t.
+        let b = leb-true n (length (drop first file)) t in
+        of-read (omega (arith, length-drop first file), ap (λ (m : ℕ). first + m) (sym (length-take-le n (drop first file) b))))
 
     entry-inside : (at : ℕ) → at ≤ length file → Inside file most fits (readerAt nameOf file at)
     unfolding readerAt
     entry-inside at h =
         tells-bind (seven-inside file most fits at h) (λ n first k. tells-check _ 9 at _ (fault file most fits 9 refl refl h) (λ t.
-        tells-bind (some-inside file most fits n at first h k) (λ name end g. tells-bind (judge-inside name (nameOf name) first end refl k g) (λ t version v.
+        tells-bind (part-inside n at first h k) (λ name end g. tells-bind (judge-inside first name (nameOf first name) end refl (g .1) (g .0)) (λ t version v.
         tells-bind (little-inside file most fits 4 version version v v) (λ number next e. tells-check _ 12 version _ (fault file most fits 12 refl refl v) (λ t. of-read e))))))
 
     readers-inside : (n at : ℕ) → at ≤ length file → Inside file most fits (readersAt nameOf file n at)
@@ -301,8 +314,8 @@ module _ (nameOf : List ℕ → Named) (numbers : TenOrEleven nameOf) (file : Li
           rw (← a, ← b) f
       go (read a e) (of-read h) q = differ cc
 
-    -- a refusal has a number from 1 to 22, as in 01's table
-    pub refusal-number : (1 ≤ number) × (number ≤ 22)
+    -- a refusal has a number from 1 to 38, as in 01's table and 02, Req 04
+    pub refusal-number : (1 ≤ number) × (number ≤ 38)
     refusal-number = let f = faulty 16777216 (λ h. h) in (f .some-number, f .last-number)
 
     -- a refusal's place is inside the file or at its end, and so it fits the 32 bits that the builder's number has for it

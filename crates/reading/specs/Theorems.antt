@@ -50,7 +50,7 @@ pub unique-tree : (readers : List Target) (shared : ℕ) (x : Slot) (t₁ t₂ :
     → Lays readers (Within shared) (each (x ∷ [])) t₁ b₁ → Lays readers (Within shared) (each (x ∷ [])) t₂ b₂ → b₁ ++ rest ≡ b₂ → (t₁ ≡ t₂) × (b₁ ≡ b₂)
 unique-tree readers shared x t₁ t₂ b₁ b₂ rest w₁ w₂ e = unique readers shared (each (x ∷ [])) t₁ t₂ b₁ b₂ rest w₁ w₂ e
 
-module _ (named : List ℕ → Target → Type 0) (nameOf : List ℕ → Named) (judges : Judges named nameOf) where
+module _ (named : List ℕ → Target → Type 0) (nameOf : ℕ → List ℕ → Named) (judges : Judges named nameOf) where
   -- ---- Acceptance: for every file and every number of words lent
 
   module _ (file : List ℕ) (words : ℕ) where

@@ -13,7 +13,7 @@ byLoad (refused number place) out = refusal number place
 byLoad (read a next) out = fitted (shortFile (a .tree)) out
 
 -- for a file, the number of words lent for rows and the number of bytes lent for the output
-unfoldable pub rewriteOf : (List ℕ → Named) → (file : List ℕ) (words out : ℕ) → Rewritten
+unfoldable pub rewriteOf : (ℕ → List ℕ → Named) → (file : List ℕ) (words out : ℕ) → Rewritten
 rewriteOf nameOf file words out = byLoad (fileAt nameOf file (roomOf words)) out
 
 -- 01: a row table "left as a load of its input leaves it, but zero after 21 as well"

@@ -15,7 +15,7 @@ use Rattle.reading.specs.Reads.{Small}
 use Rattle.reading.specs.File as load
 use Rattle.reading.specs.File.{Named, Judges, Loaded, accepted, fileAt, toLoad, roomOf, loadOf}
 use Rattle.reading.specs.Drafts.{bare}
-use Rattle.reading.specs.Refusals.{TenOrEleven, refusal-number, refusal-place}
+use Rattle.reading.specs.Refusals.{WithinName, refusal-number, refusal-place}
 use Rattle.reading.specs.Accepts.{file-complete}
 use Rattle.reading.specs.Theorems.{Fitting, rowsIn, rows-are, accepted-is}
 use Rattle.numbers.specs.Shortest.{Shortens}
@@ -26,7 +26,7 @@ use Rattle.shortest.specs.Lists.{file-rewrites}
 use Rattle.reading.specs.Output.{refusal, written, fitted}
 use Rattle.shortest.specs.Rewrite.{byLoad, rewriteOf}
 
-module _ (named : List ℕ → Target → Type 0) (nameOf : List ℕ → Named) (judges : Judges named nameOf) where
+module _ (named : List ℕ → Target → Type 0) (nameOf : ℕ → List ℕ → Named) (judges : Judges named nameOf) where
   -- the bytes written are the shortest of the file tree that fits
   pub rewrite-is : (file : List ℕ) (words out : ℕ) (f : Fitting named file words) → rewriteOf nameOf file words out ≡ fitted (shortFile (f .tree)) out
   unfolding rewriteOf byLoad
@@ -71,10 +71,10 @@ module _ (named : List ℕ → Target → Type 0) (nameOf : List ℕ → Named) 
     go false e = (cc, cc)
 
   -- a refusal's number and place are small: the place is in the file, or the bytes needed, which are no more than the file's
-  pub rewrite-refusal : TenOrEleven nameOf → (file : List ℕ) → Small file → (words out n p : ℕ) → rewriteOf nameOf file words out ≡ refusal n p → (n ≤ 22) × (p ≤ 16777216)
+  pub rewrite-refusal : WithinName nameOf → (file : List ℕ) → Small file → (words out n p : ℕ) → rewriteOf nameOf file words out ≡ refusal n p → (n ≤ 38) × (p ≤ 16777216)
   unfolding rewriteOf byLoad loadOf toLoad
   rewrite-refusal numbers file small words out n p e = go (fileAt nameOf file (roomOf words)) refl e where
-    go : (x : Answer Loaded) → fileAt nameOf file (roomOf words) ≡ x → byLoad x out ≡ refusal n p → (n ≤ 22) × (p ≤ 16777216)
+    go : (x : Answer Loaded) → fileAt nameOf file (roomOf words) ≡ x → byLoad x out ≡ refusal n p → (n ≤ 38) × (p ≤ 16777216)
     go (refused m q) f e =
         let l : loadOf nameOf file words ≡ load.refusal m q = ap toLoad f in
         let a = refusal-number nameOf numbers file words m q l in

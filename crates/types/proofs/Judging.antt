@@ -1,32 +1,28 @@
--- The heads of a name pass exactly when it has a target. Assumes nothing.
+-- The codes of a name's heads are complained of where the heads are. Assumes nothing.
 use mathlib.Core.Path.{_≡_, refl, sym, ap, _∙_}
-use mathlib.Core.Bool.{Bool, true, false, not, _&&_, _||_, and-true, cond}
+use mathlib.Core.Bool.{Bool, true, false, _&&_, _||_, cond}
 use mathlib.Core.List.{List, [], _∷_, _++_, append-assoc, append-nil}
 use mathlib.Core.Logic.{_⊎_, inl, inr}
-use Prim.Native.Nat.{ℕ, suc, _+_, _*_, _%_, _<_, _≤_}
+use Prim.Native.Nat.{ℕ, suc, _+_, _*_, _/_, _%_, _<_}
 use native.Mathlib.Omega.{arith}
 use lib.Dec.{eqb, ltb, leb}
 use lib.ListN.{length}
 use borrow.Author.Tests.{eqb-true, eqb-false, eq-eqb, ne-eqb, lt-ltb, le-ltb, ltb-true, lt-leb, le-leb}
 use Rattle.laws.specs.Small.{both}
-use Rattle.layout.specs.Target.{Target, enum, nullable, list, dictionary, kindOf, isValue}
+use Rattle.layout.specs.Target.{enum, kindOf, isValue}
 use Rattle.layout.specs.Name.{Name, simple, one, two}
 use Rattle.layout.specs.Number.{between}
 use Rattle.layout.specs.Kind.{Entry, entry, alike, lookup, target, targets, reader, readers}
 use Rattle.layout.specs.EnumList.{EnumEntry, EnumSize, sizeIn}
-use Rattle.layout.specs.Named.{Typed, unknown, known, fixedKind, plain, nullableOf, wrapped, paired, listedEnum, typeOf, sizeOrFour, enumOf, arrayOf, readerOf}
+use Rattle.layout.specs.Named.{unknown, known, fixedKind, plain, listedEnum, typeOf, sizeOrFour, enumOf}
 use Rattle.names.specs.Codes.{kind-is-small, codes-append}
 use Rattle.names.specs.Heading.{long, headings}
 use Rattle.names.specs.Kind.{node, word, enumKind, kindIn, codes}
 use Rattle.types.specs.Finite.{allBelow, below-is, agrees, agree}
-use Rattle.types.specs.Judge.{isKnown, listedKind, headOk, valueOk, argumentsOk, enumOk, readerOk}
-use Rattle.types.specs.Word.{word-node}
+use Rattle.types.specs.Judge.{listedKind, headOk, valueOk, badArguments, badEnum, badReader}
+use Rattle.types.specs.Complaint.{isKnown, valuable, fitting, unless, typeFaults, readerFaults}
+use Rattle.types.specs.Word.{word-node, word-place}
 use Rattle.types.specs.Coded.{kind-taken}
-
--- 01: "a value type other than Nullable"
-abbrev pub valuable : Typed → Bool
-valuable unknown = false
-valuable (known t) = isValue t && not (eqb (kindOf t) 16)
 
 plain-tested : ℕ → Bool
 plain-tested k = agrees (isKnown (plain k)) (between 1 14 k || between 20 34 k)
@@ -39,7 +35,7 @@ value-tested : ℕ → Bool
 value-tested k = agrees (valuable (plain k)) (valueOk k)
 
 value-test : (k : ℕ) → k < 60 → valueOk k ≡ valuable (plain k)
-unfolding value-tested agrees allBelow valuable valueOk listedKind plain fixedKind isValue kindOf
+unfolding value-tested agrees allBelow valueOk listedKind plain fixedKind isValue kindOf
 value-test k h = agree (valuable (plain k)) (valueOk k) (below-is value-tested 60 k refl h)
 
 eqb-as : (a b c d : ℕ) (x : Bool) → (a ≡ b → c ≡ d) → (c ≡ d → a ≡ b) → eqb c d ≡ x → eqb a b ≡ x
@@ -101,76 +97,17 @@ no-value b h = rw (lt-leb b 11 (omega arith), lt-leb b 30 (omega arith), lt-leb 
   no-both false false true = refl
   no-both false false false = refl
 
--- an argument's type is known, and a value type other than Nullable where Nullable is before it
-abbrev pub fitting : (after : Bool) → Typed → Bool
-fitting after r = cond after (valuable r) (isKnown r)
-
-nullable-known : (v : Bool) (t : Target) → (isKnown (cond v (known (nullable t)) unknown) ≡ v) × (valuable (cond v (known (nullable t)) unknown) ≡ false)
-unfolding isKnown valuable isValue kindOf
-nullable-known true t = (refl, refl)
-nullable-known false t = (refl, refl)
-
-pick-known : (p : Bool) (t : Target) → isKnown (cond p (known t) unknown) ≡ p
-unfolding isKnown
-pick-known true t = refl
-pick-known false t = refl
-
-one-known : (after p q more : Bool) (t : Target)
-    → (cond after false (cond p true q) && (fitting p (known t) && more)) ≡ (fitting after (cond p (nullableOf t) (cond q (known (list t)) unknown)) && more)
-unfolding fitting nullableOf valuable isKnown isValue kindOf
-one-known true true q more t = rw (nullable-known (isValue t && not (eqb (kindOf t) 16)) t .1)
-one-known true false true more t = refl
-one-known true false false more t = refl
-one-known false true q more t = rw (nullable-known (isValue t && not (eqb (kindOf t) 16)) t .0)
-one-known false false true more t = refl
-one-known false false false more t = refl
-
--- an argument that is unknown
-none-known : (after p more : Bool) → (cond after false p && false) ≡ (cond after false false && more)
-none-known true p more = refl
-none-known false true more = refl
-none-known false false more = refl
-
-same-false : (p : Bool) → cond p false false ≡ false
-same-false true = refl
-same-false false = refl
-
-one-is : (after : Bool) (k : ℕ) (more : Bool) (r : Typed)
-    → (cond after false (cond (eqb k 16) true (eqb k 18)) && (fitting (eqb k 16) r && more)) ≡ (fitting after (wrapped k r) && more)
-unfolding wrapped fitting valuable isKnown
-one-is after k more unknown = rw (same-false (eqb k 16)) (none-known after (cond (eqb k 16) true (eqb k 18)) more)
-one-is after k more (known t) = one-known after (eqb k 16) (eqb k 18) more t
-
-two-known : (after p more : Bool) (t u : Target) → (cond after false p && (fitting false (known t) && (fitting false (known u) && more))) ≡ (fitting after (cond p (known (dictionary t u)) unknown) && more)
-unfolding fitting valuable isKnown isValue kindOf
-two-known true true more t u = refl
-two-known true false more t u = refl
-two-known false true more t u = refl
-two-known false false more t u = refl
-
-two-is : (after : Bool) (k : ℕ) (more : Bool) (r s : Typed) → (cond after false (eqb k 19) && (fitting false r && (fitting false s && more))) ≡ (fitting after (paired k r s) && more)
-unfolding paired fitting valuable isKnown
-two-is after k more unknown s = none-known after (eqb k 19) more
-two-is after k more (known t) unknown = none-known after (eqb k 19) more
-two-is after k more (known t) (known u) = two-known after (eqb k 19) more t u
-
 -- the code of a head has its kind and its number of arguments
 module _ (es : List EnumEntry) (own : Bool) (h : List ℕ) (n p : ℕ) where
   pub node-is : n < 4 → word (kindIn es own h n) n p % 256 ≡ node (kindIn es own h n) n
   node-is b = word-node (kindIn es own h n) n p (kind-is-small es own h n) b
 
+  pub place-is : n < 4 → word (kindIn es own h n) n p / 256 ≡ p
+  place-is b = word-place (kindIn es own h n) n p (kind-is-small es own h n) b
+
 no-and : (b : Bool) → (false || (b && false)) ≡ false
 no-and true = refl
 no-and false = refl
-
-pick-apart : (p : Bool) (x y : Typed) → isKnown (cond p x y) ≡ cond p (isKnown x) (isKnown y)
-pick-apart true x y = refl
-pick-apart false x y = refl
-
-array-known : (r : Typed) → isKnown (arrayOf r) ≡ isKnown r
-unfolding arrayOf isKnown
-array-known unknown = refl
-array-known (known t) = refl
 
 -- no target name and no reader has a kind of 60 or more
 below-60 : List Entry → Bool
@@ -199,7 +136,7 @@ reader-below h = lookup-below h readers refl
 -- a head that is no target name, with no argument: a listed enum type, or nothing known
 listed-judged : (after : Bool) (h : List ℕ) (z : ℕ) → (z ≡ 0) ⊎ EnumSize z
     → (cond after (valueOk (node (enumKind z) 0)) (headOk (node (enumKind z) 0)) ≡ fitting after (listedEnum h z)) × ((eqb (node (enumKind z) 0) 0 || listedKind (node (enumKind z) 0)) ≡ true)
-unfolding EnumSize listedEnum enumKind fitting isKnown valuable isValue kindOf plain fixedKind headOk valueOk listedKind
+unfolding EnumSize listedEnum enumKind isKnown isValue kindOf plain fixedKind headOk valueOk listedKind
 listed-judged true h z (inl w) = rw w (refl, refl)
 listed-judged false h z (inl w) = rw w (refl, refl)
 listed-judged true h z (inr (inl w)) = rw w (refl, refl)
@@ -213,7 +150,6 @@ listed-judged false h z (inr (inr (inr (inr w)))) = rw w (refl, refl)
 
 simple-judged : (after : Bool) (h : List ℕ) (k z : ℕ) → k < 60 → (z ≡ 0) ⊎ EnumSize z → (b : Bool)
     → cond after (valueOk (node (cond b (enumKind z) k) 0)) (headOk (node (cond b (enumKind z) k) 0)) ≡ fitting after (cond b (listedEnum h z) (plain k))
-unfolding fitting
 simple-judged after h k z s w true = listed-judged after h z w .0
 simple-judged after h k z s w false = rw (none-value k s, none-head k s)
 
@@ -236,17 +172,31 @@ module _ (es : List EnumEntry) (sized : (h : List ℕ) → (sizeIn es h ≡ 0 �
   taken : (h : List ℕ) (n p : ℕ) → n < 3 → word (kindIn es false h (suc n)) (suc n) p % 256 ≡ node (lookup h targets) (suc n)
   taken h n p b = node-is es false h (suc n) p (omega arith) ∙ ap (λ (k : ℕ). node k (suc n)) (kind-taken es h n)
 
-  -- the heads of an argument pass exactly when it has a type that fits
-  pub argument-judged : (n : Name) (p : ℕ) (after : Bool) (r : List ℕ) → argumentsOk after (codes es false (headings p n) ++ r) ≡ (fitting after (typeOf es n) && argumentsOk false r)
-  unfolding argumentsOk headings codes typeOf fitting kindIn
+  -- the codes of an argument's heads are complained of where the heads are
+  pub argument-judged : (n : Name) (p : ℕ) (after : Bool) (r : List ℕ) → badArguments after (codes es false (headings p n) ++ r) ≡ typeFaults es after p n ++ badArguments false r
+  unfolding badArguments headings codes typeOf typeFaults kindIn
   argument-judged (simple h t) p after r =
       let k = kindIn es false h 0 in
       let s : k < 64 = kind-is-small es false h 0 in
-      rw (node-is es false h 0 p (omega arith), ne-eqb (k + 64 * 0) 80 (λ q. omega arith), simple-judged after h (lookup h targets) (sizeIn es h) (target-below h) (size-is h) (eqb (lookup h targets) 0))
+      rw (
+        node-is es false h 0 p (omega arith),
+        place-is es false h 0 p (omega arith),
+        ne-eqb (k + 64 * 0) 80 (λ q. omega arith),
+        simple-judged after h (lookup h targets) (sizeIn es h) (target-below h) (size-is h) (eqb (lookup h targets) 0),
+      )
   argument-judged (one h a t) p after r =
       let k = lookup h targets in
       let s : k < 60 = target-below h in
-      rw (taken h 0 p (omega arith), no-value (k + 64 * 1) (omega arith), one-head k s, same-node k 16 1, argument-judged a (p + (length h + 4)) (eqb k 16) r) (one-is after k (argumentsOk false r) (typeOf es a))
+      let i = p + (length h + 4) in
+      rw (
+        taken h 0 p (omega arith),
+        place-is es false h 1 p (omega arith),
+        no-value (k + 64 * 1) (omega arith),
+        one-head k s,
+        same-node k 16 1,
+        argument-judged a i (eqb k 16) r,
+      )
+      (sym (append-assoc (unless (cond after false (cond (eqb k 16) true (eqb k 18))) p) (typeFaults es (eqb k 16) i a) (badArguments false r)))
   argument-judged (two h a c t) p after r =
       let k = lookup h targets in
       let s : k < 60 = target-below h in
@@ -254,44 +204,60 @@ module _ (es : List EnumEntry) (sized : (h : List ℕ) → (sizeIn es h ≡ 0 �
       let j = p + (length h + 4 + long a + 3) in
       let x = codes es false (headings i a) in
       let y = codes es false (headings j c) in
-      rw (taken h 1 p (omega arith), codes-append es (headings i a) (headings j c), append-assoc x y r, no-value (k + 64 * 2) (omega arith), two-head k s, ne-eqb (k + 64 * 2) 80 (λ q. omega arith), argument-judged a i false (y ++ r), argument-judged c j false r)
-      (two-is after k (argumentsOk false r) (typeOf es a) (typeOf es c))
+      let u = typeFaults es false i a in
+      let v = typeFaults es false j c in
+      let w = unless (cond after false (eqb k 19)) p in
+      rw (
+        taken h 1 p (omega arith),
+        place-is es false h 2 p (omega arith),
+        codes-append es (headings i a) (headings j c),
+        append-assoc x y r,
+        no-value (k + 64 * 2) (omega arith),
+        two-head k s,
+        ne-eqb (k + 64 * 2) 80 (λ q. omega arith),
+        argument-judged a i false (y ++ r),
+        argument-judged c j false r,
+      )
+      (ap (λ (l : List ℕ). w ++ l) (sym (append-assoc u v (badArguments false r))) ∙ sym (append-assoc w (u ++ v) (badArguments false r)))
 
   -- the heads of one argument alone
-  alone : (n : Name) (p : ℕ) (after : Bool) → argumentsOk after (codes es false (headings p n)) ≡ fitting after (typeOf es n)
-  unfolding argumentsOk
-  alone n p after = ap (argumentsOk after) (sym (append-nil (codes es false (headings p n)))) ∙ argument-judged n p after [] ∙ and-true (fitting after (typeOf es n))
+  alone : (n : Name) (p : ℕ) (after : Bool) → badArguments after (codes es false (headings p n)) ≡ typeFaults es after p n
+  unfolding badArguments
+  alone n p after = ap (badArguments after) (sym (append-nil (codes es false (headings p n)))) ∙ argument-judged n p after [] ∙ append-nil (typeFaults es after p n)
 
-  enum-judged : (n : Name) (p : ℕ) → enumOk (codes es false (headings p n)) ≡ isKnown (enumOf es n)
-  unfolding enumOk headings codes enumOf isKnown kindIn listedKind
-  enum-judged (simple h t) p = rw (node-is es false h 0 p (omega arith)) (own-judged h (lookup h targets) (sizeIn es h) (target-below h) (size-is h) (eqb (lookup h targets) 0) refl)
+  enum-judged : (n : Name) (p : ℕ) → badEnum (codes es false (headings p n)) ≡ unless (isKnown (enumOf es n)) p
+  unfolding badEnum headings codes enumOf isKnown kindIn listedKind
+  enum-judged (simple h t) p =
+      rw (node-is es false h 0 p (omega arith), place-is es false h 0 p (omega arith), own-judged h (lookup h targets) (sizeIn es h) (target-below h) (size-is h) (eqb (lookup h targets) 0) refl)
   enum-judged (one h a t) p =
       let k = lookup h targets in
-      rw (taken h 0 p (omega arith), ne-eqb (k + 64 * 1) 0 (λ q. omega arith), lt-leb (k + 64 * 1) 63 (omega arith)) (no-and (leb 60 (k + 64 * 1)))
+      rw (taken h 0 p (omega arith), place-is es false h 1 p (omega arith), ne-eqb (k + 64 * 1) 0 (λ q. omega arith), lt-leb (k + 64 * 1) 63 (omega arith), no-and (leb 60 (k + 64 * 1)))
   enum-judged (two h a b t) p =
       let k = lookup h targets in
-      rw (taken h 1 p (omega arith), ne-eqb (k + 64 * 2) 0 (λ q. omega arith), lt-leb (k + 64 * 2) 63 (omega arith)) (no-and (leb 60 (k + 64 * 2)))
+      rw (taken h 1 p (omega arith), place-is es false h 2 p (omega arith), ne-eqb (k + 64 * 2) 0 (λ q. omega arith), lt-leb (k + 64 * 2) 63 (omega arith), no-and (leb 60 (k + 64 * 2)))
 
   -- a reader's own head
-  own-node : (h : List ℕ) (n p : ℕ) → n < 4 → word (lookup h readers) n p % 256 ≡ node (lookup h readers) n
-  own-node h n p b = word-node (lookup h readers) n p (omega (arith, reader-below h)) b
+  own-node : (h : List ℕ) (n p : ℕ) → n < 4 → (word (lookup h readers) n p % 256 ≡ node (lookup h readers) n) × (word (lookup h readers) n p / 256 ≡ p)
+  own-node h n p b =
+      let s : lookup h readers < 64 = omega (arith, reader-below h) in
+      (word-node (lookup h readers) n p s b, word-place (lookup h readers) n p s b)
 
-  -- the heads of a reader's name pass exactly when it has a target
-  pub reader-judged : (n : Name) (p : ℕ) → readerOk (codes es true (headings p n)) ≡ isKnown (readerOf es n)
-  unfolding readerOk argumentsOk headings codes kindIn readerOf
+  -- the codes of the heads of a reader's name are complained of where the heads are
+  pub reader-judged : (n : Name) (p : ℕ) → badReader (codes es true (headings p n)) ≡ readerFaults es p n
+  unfolding badReader badArguments headings codes kindIn readerFaults
   reader-judged (simple h t) p =
       let k = lookup h readers in
       let b : k < 60 = reader-below h in
-      rw (own-node h 0 p (omega arith), ne-eqb (k + 64 * 0) 79 (λ q. omega arith), ne-eqb (k + 64 * 0) 81 (λ q. omega arith), none-head k b) (and-true (isKnown (plain k)))
+      let o = own-node h 0 p (omega arith) in
+      rw (o .0, o .1, ne-eqb (k + 64 * 0) 79 (λ q. omega arith), ne-eqb (k + 64 * 0) 81 (λ q. omega arith), none-head k b) (append-nil (unless (isKnown (plain k)) p))
   reader-judged (one h a t) p =
       let k = lookup h readers in
       let b : k < 60 = reader-below h in
       let i = p + (length h + 4) in
-      let r = typeOf es a in
-      let w : (cond (eqb k 16) true (eqb k 18) && fitting (eqb k 16) r) ≡ isKnown (wrapped k r)
-      = ap (λ (y : Bool). cond (eqb k 16) true (eqb k 18) && y) (sym (and-true (fitting (eqb k 16) r))) ∙ one-is false k true r ∙ and-true (isKnown (wrapped k r)) in
+      let o = own-node h 1 p (omega arith) in
       rw (
-        own-node h 1 p (omega arith),
+        o .0,
+        o .1,
         same-node k 15 1,
         same-node k 17 1,
         same-node k 16 1,
@@ -299,18 +265,16 @@ module _ (es : List EnumEntry) (sized : (h : List ℕ) → (sizeIn es h ≡ 0 �
         alone a i (eqb k 16),
         alone a i false,
         enum-judged a i,
-        w,
-        pick-apart (eqb k 15) (enumOf es a) (cond (eqb k 17) (arrayOf r) (wrapped k r)),
-        pick-apart (eqb k 17) (arrayOf r) (wrapped k r),
-        array-known r,
       )
   reader-judged (two h a c t) p =
       let k = lookup h readers in
       let b : k < 60 = reader-below h in
       let i = p + (length h + 4) in
       let j = p + (length h + 4 + long a + 3) in
+      let o = own-node h 2 p (omega arith) in
       rw (
-        own-node h 2 p (omega arith),
+        o .0,
+        o .1,
         ne-eqb (k + 64 * 2) 79 (λ q. omega arith),
         ne-eqb (k + 64 * 2) 81 (λ q. omega arith),
         two-head k b,
@@ -319,4 +283,3 @@ module _ (es : List EnumEntry) (sized : (h : List ℕ) → (sizeIn es h ≡ 0 �
         argument-judged a i false (codes es false (headings j c)),
         alone c j false,
       )
-      (ap (λ (y : Bool). eqb k 19 && (isKnown (typeOf es a) && y)) (sym (and-true (isKnown (typeOf es c)))) ∙ two-is false k true (typeOf es a) (typeOf es c) ∙ and-true (isKnown (paired k (typeOf es a) (typeOf es c))))

@@ -1,10 +1,10 @@
 -- Loops over codes. Assumes nothing.
 use mathlib.Core.Path.{_≡_, refl, sym, ap, _∙_}
 use mathlib.Core.Bool.{Bool, true, false, _&&_, _||_, cond}
-use mathlib.Core.List.{List, [], _∷_}
-use Prim.Native.Nat.{ℕ, suc, _+_, _-_, _%_, _≤_, _<_}
+use mathlib.Core.List.{List, [], _∷_, _++_}
+use Prim.Native.Nat.{ℕ, suc, _+_, _-_, _/_, _%_, _≤_, _<_}
 use native.Mathlib.Omega.{arith}
-use lib.Dec.{eqb, leb}
+use lib.Dec.{eqb}
 use lib.ListN.{length, take, drop, getD, set, length-drop, drop-of-length-le}
 use borrow.Author.Tests.{eq-eqb, ne-eqb, le-leb, lt-leb}
 use Rattle.layout.specs.Name.{headByte}
@@ -13,7 +13,10 @@ use Rattle.names.specs.Sound.{span-le}
 use Rattle.names.proofs.Laws.{cons-at, rest}
 use Rattle.types.specs.Code.{headAt}
 use Rattle.types.specs.Place.{arity, extent, sameCode, agree}
-use Rattle.types.specs.Judge.{listedKind, headOk, valueOk, argumentsOk, enumOk, readerOk}
+use Rattle.types.specs.Judge.{listedKind, headOk, valueOk, badArguments, badEnum, badReader, complaint}
+use Rattle.types.specs.declared.Judged.{Judged}
+use Rattle.types.specs.declared.Judged.the-variants.{Fine, Wrong}
+use Rattle.types.specs.Complaint.{unless}
 use Rattle.types.specs.Contract.{enumWord}
 use Rattle.types.specs.Settling.{isEnums, Settles}
 use Rattle.types.specs.Extent.{no-extent, no-agree}
@@ -72,40 +75,45 @@ module _ (file c : List ℕ) (i j need : ℕ) {all : Bool} (e : all ≡ agree fi
     agree-step g d = compared g ∙ rw d
 
 -- where the codes from i on are still to be judged, and `all` is what comes out
-module _ (s : List ℕ) (i : ℕ) (nullable : Bool) {all : Bool} (e : all ≡ argumentsOk nullable (drop i s)) where
-  pub arguments-end : length s ≤ i → true ≡ all
-  unfolding argumentsOk
-  arguments-end h = sym (e ∙ ap (argumentsOk nullable) (drop-of-length-le s h))
+module _ (s : List ℕ) (i : ℕ) (nullable : Bool) {all : Judged} (e : all ≡ complaint (badArguments nullable (drop i s))) where
+  pub arguments-end : length s ≤ i → Fine ≡ all
+  unfolding badArguments
+  arguments-end h = sym (e ∙ ap (λ (l : List ℕ). complaint (badArguments nullable l)) (drop-of-length-le s h))
 
-  opened : i < length s → all ≡ (cond nullable (valueOk (getD s i 0 % 256)) (headOk (getD s i 0 % 256)) && argumentsOk (eqb (getD s i 0 % 256) 80) (drop (i + 1) s))
-  unfolding argumentsOk
-  opened h = e ∙ ap (argumentsOk nullable) (cons-at s i h)
+  abbrev passes : Bool
+  passes = cond nullable (valueOk (getD s i 0 % 256)) (headOk (getD s i 0 % 256))
 
-  pub arguments-no : i < length s → cond nullable (valueOk (getD s i 0 % 256)) (headOk (getD s i 0 % 256)) ≡ false → false ≡ all
+  opened : i < length s → all ≡ complaint (unless passes (getD s i 0 / 256) ++ badArguments (eqb (getD s i 0 % 256) 80) (drop (i + 1) s))
+  unfolding badArguments
+  opened h = e ∙ ap (λ (l : List ℕ). complaint (badArguments nullable l)) (cons-at s i h)
+
+  pub arguments-no : i < length s → passes ≡ false → Wrong (getD s i 0 / 256) ≡ all
+  unfolding unless
   arguments-no h d = sym (opened h ∙ rw d)
 
-  pub arguments-step : i < length s → cond nullable (valueOk (getD s i 0 % 256)) (headOk (getD s i 0 % 256)) ≡ true → all ≡ argumentsOk (eqb (getD s i 0 % 256) 80) (drop (i + 1) s)
+  pub arguments-step : i < length s → passes ≡ true → all ≡ complaint (badArguments (eqb (getD s i 0 % 256) 80) (drop (i + 1) s))
+  unfolding unless
   arguments-step h d = opened h ∙ rw d
 
 -- a list of codes by its first
-pub enum-none : (s : List ℕ) → length s ≡ 0 → false ≡ enumOk s
-unfolding enumOk
+pub enum-none : (s : List ℕ) → length s ≡ 0 → Fine ≡ complaint (badEnum s)
+unfolding badEnum
 enum-none [] e = refl
 enum-none (b ∷ s) e = absurd (omega arith)
 
-pub enum-some : (s : List ℕ) → (length s ≡ 0 → ⊥) → enumOk s ≡ (eqb (getD s 0 0 % 256) 0 || listedKind (getD s 0 0 % 256))
-unfolding enumOk
+pub enum-some : (s : List ℕ) → (length s ≡ 0 → ⊥) → badEnum s ≡ unless (eqb (getD s 0 0 % 256) 0 || listedKind (getD s 0 0 % 256)) (getD s 0 0 / 256)
+unfolding badEnum
 enum-some [] f = absurd (f refl)
 enum-some (b ∷ s) f = refl
 
-pub reader-none : (s : List ℕ) → length s ≡ 0 → false ≡ readerOk s
-unfolding readerOk
+pub reader-none : (s : List ℕ) → length s ≡ 0 → Fine ≡ complaint (badReader s)
+unfolding badReader
 reader-none [] e = refl
 reader-none (b ∷ s) e = absurd (omega arith)
 
 pub reader-some : (s : List ℕ) → (length s ≡ 0 → ⊥)
-    → readerOk s ≡ cond (eqb (getD s 0 0 % 256) 79) (enumOk (drop 1 s)) (cond (eqb (getD s 0 0 % 256) 81) (argumentsOk false (drop 1 s)) (headOk (getD s 0 0 % 256) && argumentsOk (eqb (getD s 0 0 % 256) 80) (drop 1 s)))
-unfolding readerOk
+    → badReader s ≡ cond (eqb (getD s 0 0 % 256) 79) (badEnum (drop 1 s)) (cond (eqb (getD s 0 0 % 256) 81) (badArguments false (drop 1 s)) (unless (headOk (getD s 0 0 % 256)) (getD s 0 0 / 256) ++ badArguments (eqb (getD s 0 0 % 256) 80) (drop 1 s)))
+unfolding badReader
 reader-some [] f = absurd (f refl)
 reader-some (b ∷ s) f = refl
 

@@ -9,7 +9,7 @@ use lib.ListN.{length, take, drop, getD, set, replicate, length-replicate}
 use lib.Seq.{sets, sets-eq, length-sets, length-take-le, drop-append-seam, take-append-seam, getD-drop, set-set, set-comm}
 use borrow.Author.Tests.{leb-true, le-leb, lt-leb}
 use Rattle.laws.specs.Small.{differ, both}
-use Rattle.layout.specs.Name.{Name, text, write}
+use Rattle.layout.specs.Name.{Name, simple, one, two, write}
 use Rattle.layout.specs.EnumList.{EnumEntry, EnumSize, sizeIn}
 use Rattle.layout.specs.Named.{Typed, unknown, known, readerOf}
 use Rattle.names.specs.declared.Named.{Named}
@@ -24,7 +24,10 @@ use Rattle.types.specs.declared.Resolved.the-variants.{Target, Broken, U
 use Rattle.types.specs.Code.{codeSize}
 use Rattle.types.specs.Coded.{Ok, Leaves, reader-coded}
 use Rattle.types.specs.Extent.{code-size}
-use Rattle.types.specs.Judge.{isKnown, readerOk}
+use Rattle.types.specs.Judge.{badReader, complaint}
+use Rattle.types.specs.declared.Judged.the-variants.{Fine, Wrong}
+use Rattle.types.specs.Complaint.{isKnown, readerFaults, leftmost}
+use Rattle.types.specs.Complaints.{fine, reader-fine}
 use Rattle.types.specs.Contract.{judged, resolution, enumWord, settled, settledSize, left, content, Resolves}
 use Rattle.types.specs.Settling.{isEnums, Settles}
 use Rattle.types.proofs.Judging.{reader-judged}
@@ -75,22 +78,32 @@ settle-is c c′ c″ (x ∷ v ∷ ws) used end r w h e s =
       go true i j = (i ∙ ap (λ (l : List ℕ). set l used (enumWord v)) w ∙ sets-first c (v ∷ ws) used x (enumWord v), j)
       go false i j = (i ∙ w, j ∙ e ∙ (let z : used + suc (suc (length ws)) ≡ used + (2 + length ws) = omega arith in z))
 
+some-heads : (at : ℕ) (n : Name) → 1 ≤ length (headings at n)
+unfolding headings
+some-heads at (simple h t) = omega arith
+some-heads at (one h a t) = omega arith
+some-heads at (two h a b t) = omega arith
+
 module _ (es : List EnumEntry) (sized : (h : List ℕ) → (sizeIn es h ≡ 0 → ⊥) → EnumSize (sizeIn es h)) (s : List ℕ) (at : ℕ) (c c′ : List ℕ) (used : ℕ) where
   no-room-as : (b : Bool) (r : Read) → placed s at used ≡ b → nameOf at s ≡ r → no-room ≡ answerOf b (length c) at used r → c′ ≡ contentOf b es c at used r → Resolves es s at c c′ used NoRoom
   unfolding answerOf contentOf resolution content ending
   no-room-as false r q i a w = record { answers = rw q; writes = w ∙ rw q }
-  no-room-as true (broken hs) q i a w = differ cc
+  no-room-as true (broken m p hs) q i a w = differ cc
   no-room-as true (name n k) q i a w = go (leb (used + length (headings at n)) (length c)) refl a where
     go : (b : Bool) → leb (used + length (headings at n)) (length c) ≡ b → no-room ≡ cond b (coded (used + length (headings at n))) no-room → Resolves es s at c c′ used NoRoom
     go true d a = differ cc
     go false d a = record { answers = rw (q, i, d); writes = w ∙ rw (q, i, d) }
 
-  broken-as : (b : Bool) (r : Read) → placed s at used ≡ b → nameOf at s ≡ r → refused 10 ≡ answerOf b (length c) at used r → c′ ≡ contentOf b es c at used r → Resolves es s at c c′ used Broken
+  broken-as : (number place : ℕ) (b : Bool) (r : Read) → placed s at used ≡ b → nameOf at s ≡ r → refused number place ≡ answerOf b (length c) at used r → c′ ≡ contentOf b es c at used r
+      → Resolves es s at c c′ used (Broken number place)
   unfolding answerOf contentOf resolution content ending
-  broken-as false r q i a w = differ cc
-  broken-as true (broken hs) q i a w = record { answers = rw (q, i); writes = w ∙ rw (q, i) }
-  broken-as true (name n k) q i a w = go (leb (used + length (headings at n)) (length c)) a where
-    go : (b : Bool) → refused 10 ≡ cond b (coded (used + length (headings at n))) no-room → Resolves es s at c c′ used Broken
+  broken-as number place false r q i a w = differ cc
+  broken-as number place true (broken m p hs) q i a w =
+      let x : number ≡ m = cc in
+      let y : place ≡ p = cc in
+      record { answers = rw (q, i, x, y); writes = w ∙ rw (q, i) }
+  broken-as number place true (name n k) q i a w = go (leb (used + length (headings at n)) (length c)) a where
+    go : (b : Bool) → refused number place ≡ cond b (coded (used + length (headings at n))) no-room → Resolves es s at c c′ used (Broken number place)
     go true a = differ cc
     go false a = differ cc
 
@@ -109,7 +122,7 @@ module _ (es : List EnumEntry) (sized : (h : List ℕ) → (sizeIn es h ≡ 0 �
   got-as : (end : ℕ) (b : Bool) (r : Read) → placed s at used ≡ b → nameOf at s ≡ r → coded end ≡ answerOf b (length c) at used r → c′ ≡ contentOf b es c at used r → Got end
   unfolding answerOf contentOf ending
   got-as end false r q i a w = differ cc
-  got-as end true (broken hs) q i a w = differ cc
+  got-as end true (broken m p hs) q i a w = differ cc
   got-as end true (name n k) q i a w = go (leb (used + length (headings at n)) (length c)) refl a where
     go : (b : Bool) → leb (used + length (headings at n)) (length c) ≡ b → coded end ≡ cond b (coded (used + length (headings at n))) no-room → Got end
     go false d a = differ cc
@@ -139,10 +152,10 @@ module _ (es : List EnumEntry) (sized : (h : List ℕ) → (sizeIn es h ≡ 0 �
   fits : {end : ℕ} (g : Got end) → leb (used + length (headings at (g .n))) (length c) ≡ true
   fits g = le-leb (used + length (headings at (g .n))) (length c) (omega (arith, g .ends, g .room))
 
-  unknown-as : {end : ℕ} (g : Got end) (r : Typed) → readerOf es (g .n) ≡ r → isKnown r ≡ false → Resolves es s at c c′ used Unknown
+  unknown-as : {end : ℕ} (g : Got end) (place : ℕ) (r : Typed) → readerOf es (g .n) ≡ r → isKnown r ≡ false → place ≡ leftmost (readerFaults es at (g .n)) → Resolves es s at c c′ used (Unknown place)
   unfolding resolution content judged left isKnown ending
-  unknown-as g unknown q e = record { answers = rw (g .there, g .is, fits g, q); writes = g .writes ∙ rw (g .there, g .is, fits g, q) }
-  unknown-as g (known t) q e = differ cc
+  unknown-as g place unknown q e l = record { answers = rw (g .there, g .is, fits g, q, l); writes = g .writes ∙ rw (g .there, g .is, fits g, q) }
+  unknown-as g place (known t) q e l = differ cc
 
   known-as : {end : ℕ} (g : Got end) (c″ : List ℕ) (r : ℕ) → Settles c′ c″ used end r → (x : Typed) → readerOf es (g .n) ≡ x
       → (file : List ℕ) → Ok (Leaves file (codes es true (headings at (g .n)))) x → isKnown x ≡ true → Resolves es s at c c″ used (Target r)
@@ -160,8 +173,8 @@ module _ (es : List EnumEntry) (sized : (h : List ℕ) → (sizeIn es h ≡ 0 �
     pub no-room-is : r ≡ Named-no-room → Resolves es s at c c′ used NoRoom
     no-room-is e = no-room-as (placed s at used) (nameOf at s) refl refl (rw e at (p .answers)) (p .writes)
 
-    pub broken-is : r ≡ Named-broken → Resolves es s at c c′ used Broken
-    broken-is e = broken-as (placed s at used) (nameOf at s) refl refl (rw e at (p .answers)) (p .writes)
+    pub broken-is : (number place : ℕ) → r ≡ Named-broken number place → Resolves es s at c c′ used (Broken number place)
+    broken-is number place e = broken-as number place (placed s at used) (nameOf at s) refl refl (rw e at (p .answers)) (p .writes)
 
     pub got-is : (end : ℕ) → r ≡ Codes end → Got end
     got-is end e = got-as end (placed s at used) (nameOf at s) refl refl (rw e at (p .answers)) (p .writes)
@@ -170,20 +183,31 @@ module _ (es : List EnumEntry) (sized : (h : List ℕ) → (sizeIn es h ≡ 0 �
   standing : {end : ℕ} (g : Got end) → drop at (replicate at 0 ++ s) ≡ write (g .n) []
   standing g = ap (λ (k : ℕ). drop k (replicate at 0 ++ s)) (sym (length-replicate at 0)) ∙ drop-append-seam (replicate at 0) s ∙ read-is-text at s (g .n) (g .k) (g .is) .1
 
-  -- by what the judge says of the codes that were written
-  pub unknown-is : {end : ℕ} → Got end → readerOk (take (end - used) (drop used c′)) ≡ false → Resolves es s at c c′ used Unknown
-  unknown-is g e = unknown-as g (readerOf es (g .n)) refl (sym (reader-judged es sized (g .n) at) ∙ ap readerOk (sym (g .part)) ∙ e)
+  -- what the judge says of the codes that were written
+  judge-is : {end : ℕ} (g : Got end) → complaint (badReader (take (end - used) (drop used c′))) ≡ complaint (readerFaults es at (g .n))
+  judge-is g = ap (λ (l : List ℕ). complaint (badReader l)) (g .part) ∙ ap complaint (reader-judged es sized (g .n) at)
 
-  pub known-is : {end : ℕ} → Got end → readerOk (take (end - used) (drop used c′)) ≡ true → {c″ : List ℕ} {r : ℕ} → Settles c′ c″ used end r → Resolves es s at c c″ used (Target r)
+  by-complaint : (ps : List ℕ) (place : ℕ) → complaint ps ≡ Wrong place → (fine ps ≡ false) × (place ≡ leftmost ps)
+  unfolding fine leftmost
+  by-complaint [] place e = differ cc
+  by-complaint (p ∷ ps) place e = (refl, cc)
+
+  no-complaint : (ps : List ℕ) → complaint ps ≡ Fine → fine ps ≡ true
+  unfolding fine
+  no-complaint [] e = refl
+  no-complaint (p ∷ ps) e = differ cc
+
+  pub unknown-is : {end : ℕ} → Got end → (place : ℕ) → complaint (badReader (take (end - used) (drop used c′))) ≡ Wrong place → Resolves es s at c c′ used (Unknown place)
+  unknown-is g place e =
+      let x = by-complaint (readerFaults es at (g .n)) place (sym (judge-is g) ∙ e) in
+      unknown-as g place (readerOf es (g .n)) refl (sym (reader-fine es (g .n) at) ∙ x .0) (x .1)
+
+  pub known-is : {end : ℕ} → Got end → complaint (badReader (take (end - used) (drop used c′))) ≡ Fine → {c″ : List ℕ} {r : ℕ} → Settles c′ c″ used end r → Resolves es s at c c″ used (Target r)
   known-is g e {c″} {r} v =
       let file = replicate at 0 ++ s in
       known-as g c″ r v (readerOf es (g .n)) refl file (reader-coded file es sized 8 at (g .n) [] (read-is-text at s (g .n) (g .k) (g .is) .0) (standing g))
-      (sym (reader-judged es sized (g .n) at) ∙ ap readerOk (sym (g .part)) ∙ e)
+      (sym (reader-fine es (g .n) at) ∙ no-complaint (readerFaults es at (g .n)) (sym (judge-is g) ∙ e))
 
-  -- a name that passes the judge has a code
-  pub some-codes : {end : ℕ} → Got end → readerOk (take (end - used) (drop used c′)) ≡ true → used < end
-  unfolding readerOk
-  some-codes {end} g e = go (codes es true (headings at (g .n))) refl where
-    go : (ws : List ℕ) → codes es true (headings at (g .n)) ≡ ws → used < end
-    go [] q = let z : false ≡ true = sym (ap readerOk (g .part ∙ q)) ∙ e in differ cc
-    go (w ∷ ws) q = omega (arith, g .ends, codes-length es true (headings at (g .n)), ap length q)
+  -- a name has a code
+  pub some-codes : {end : ℕ} → Got end → used < end
+  some-codes {end} g = omega (arith, g .ends, some-heads at (g .n))

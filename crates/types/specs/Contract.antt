@@ -11,28 +11,29 @@ use Rattle.layout.specs.Named.{Typed, unknown, known, readerOf}
 use Rattle.names.specs.Parse.{Read, broken, name, nameOf}
 use Rattle.names.specs.Contract.{Answer, coded, refused, no-room, placed, ending}
 use Rattle.names.specs.Kind.{node, codes}
-use Rattle.names.specs.Heading.{Heading, headings}
+use Rattle.names.specs.Heading.{headings}
 use Rattle.types.specs.declared.Resolved.{Resolved}
 use Rattle.types.specs.declared.Resolved.the-variants.{Target as Resolved-target, Broken, Unknown, NoRoom}
 use Rattle.types.specs.Code.{codeSize}
+use Rattle.types.specs.Complaint.{readerFaults, leftmost}
 
--- 01: "Broken: 10. A head that is not listed, or a wrong argument count: 11."
+-- 01: "A head that is not listed, or a wrong argument count: 11"; 02: "10 becomes 33 to 38"
 abbrev pub told : Resolved → Answer
 told (Resolved-target used) = coded used
-told Broken = refused 10
-told Unknown = refused 11
+told (Broken number place) = refused number place
+told (Unknown place) = refused 11 place
 told NoRoom = no-room
 
--- a well-formed name, by its target
-unfoldable pub judged : (used : ℕ) → Typed → Answer
-judged used unknown = refused 11
-judged used (known t) = coded (used + codeSize t)
+-- a well-formed name, by its target and the places of the heads that are complained of
+unfoldable pub judged : (used : ℕ) → List ℕ → Typed → Answer
+judged used faults unknown = refused 11 (leftmost faults)
+judged used faults (known t) = coded (used + codeSize t)
 
 -- 01: "grammar is judged over the whole name before heads"
 unfoldable pub resolution : List EnumEntry → (placed : Bool) (room at used : ℕ) → Read → Answer
 resolution es false room at used r = no-room
-resolution es true room at used (broken hs) = refused 10
-resolution es true room at used (name n k) = ending room (used + length (headings at n)) (judged used (readerOf es n))
+resolution es true room at used (broken m p hs) = refused m p
+resolution es true room at used (name n k) = ending room (used + length (headings at n)) (judged used (readerFaults es at n) (readerOf es n))
 
 -- the code of an enum type that is Enum's own argument: 02: "EnumReader for a listed name takes that size, for others four"
 unfoldable pub enumWord : ℕ → ℕ
@@ -55,11 +56,11 @@ unfoldable pub left : Typed → List ℕ → List ℕ
 left unknown ws = ws
 left (known t) ws = settled ws
 
--- with no room for a place nothing is written; after 10 the codes are those of the heads before the fault, as far as there is room;
+-- with no room for a place nothing is written; after 33 to 38 the codes are those of the heads before the fault, as far as there is room;
 -- with no room for the codes of all heads, they are as many of these as there is room for
 unfoldable pub content : List EnumEntry → (placed : Bool) → (c : List ℕ) (at used : ℕ) → Read → List ℕ
 content es false c at used r = c
-content es true c at used (broken hs) = sets c used (codes es true hs)
+content es true c at used (broken m p hs) = sets c used (codes es true hs)
 content es true c at used (name n k) =
     cond (leb (used + length (headings at n)) (length c)) (sets c used (left (readerOf es n) (codes es true (headings at n)))) (sets c used (codes es true (headings at n)))
 

@@ -5,27 +5,27 @@ use Prim.Native.Nat.{ℕ}
 use Prim.Native.String.{String}
 use Rattle.layout.specs.Text.{ascii}
 use Rattle.layout.specs.Target.{Target, fixed, char, string, object, texture, texture2D, spriteFont, page, enum, nullable, array, list, dictionary, kindOf, isValue}
-use Rattle.layout.specs.Number.{between}
 use Rattle.layout.specs.Name.{headByte, tailByte}
 use Rattle.layout.specs.Kind.{lookup, alike, reader, readers, target as target-entry, targets}
 use Rattle.layout.specs.Named.{Typed, unknown, known, fixedKind, plain, nullableOf, wrapped, paired, listedEnum, typeOf, sizeOrFour, enumOf, arrayOf, readerOf}
 use Rattle.layout.specs.EnumList.{sizeIn}
-use Rattle.names.specs.Parse.{Read, broken, name, span, starts, tailSize, tailOf, closed, opening, onOnly, onSecond, onFirst, afterHead, headed, nameIn, whole, nameOf}
+use Rattle.names.specs.Parse.{Read, broken, name, span, starts, common, tailSize, tailOf, wrongBy, wrong, behind, closed, opening, unopenedNumber, unopenedAt, onOnly, onSecond, onFirst, afterHead, headed, nameIn, whole, nameOf}
 use Rattle.names.specs.Heading.{headings, long, longTail}
 use Rattle.names.specs.Kind.{listed}
+use Rattle.types.specs.Complaint.{isKnown, unless, typeFaults, readerFaults, leftmost}
 
--- refused with a number, or the reader's target
+-- refused with a number and a place, or the reader's target
 pub data Outcome : Type 0 where
-  refused : ℕ → Outcome
+  refused : (number place : ℕ) → Outcome
   target : Target → Outcome
 
-abbrev pub typed : Typed → Outcome
-typed unknown = refused 11
-typed (known t) = target t
+abbrev pub typed : List ℕ → Typed → Outcome
+typed faults unknown = refused 11 (leftmost faults)
+typed faults (known t) = target t
 
 abbrev pub outcome : Read → Outcome
-outcome (broken hs) = refused 10
-outcome (name n k) = typed (readerOf [] n)
+outcome (broken number place hs) = refused number place
+outcome (name n k) = typed (readerFaults [] 0 n) (readerOf [] n)
 
 abbrev pub outcomes : List String → List Outcome
 outcomes [] = []
@@ -76,27 +76,27 @@ pub examples : outcomes names ≡
     ∷ target (array (list texture))
     ∷ target (dictionary string (dictionary (fixed 5) object))
     ∷ target (enum (ascii "My.Game+Color") 4)
-    ∷ refused 10
-    ∷ refused 10
-    ∷ refused 10
-    ∷ refused 10
-    ∷ refused 10
-    ∷ refused 10
-    ∷ refused 10
-    ∷ refused 10
-    ∷ refused 10
-    ∷ refused 11
-    ∷ refused 11
-    ∷ refused 11
-    ∷ refused 10
-    ∷ refused 11
-    ∷ refused 11
-    ∷ refused 11
-    ∷ refused 11
-    ∷ refused 11
-    ∷ refused 11
+    ∷ refused 33 0
+    ∷ refused 36 44
+    ∷ refused 35 43
+    ∷ refused 36 58
+    ∷ refused 36 58
+    ∷ refused 37 58
+    ∷ refused 33 46
+    ∷ refused 34 44
+    ∷ refused 36 18
+    ∷ refused 11 0
+    ∷ refused 11 0
+    ∷ refused 11 0
+    ∷ refused 34 57
+    ∷ refused 11 46
+    ∷ refused 11 50
+    ∷ refused 11 50
+    ∷ refused 11 65
+    ∷ refused 11 46
+    ∷ refused 11 46
     ∷ target (list (list (list (list (list (list (list char)))))))
-    ∷ refused 10
+    ∷ refused 38 291
     ∷ []
-unfolding names ascii nameOf whole nameIn headed afterHead onFirst onSecond onOnly closed opening starts span headByte tailByte tailOf tailSize headings long longTail readerOf typeOf listedEnum sizeIn sizeOrFour enumOf arrayOf plain fixedKind wrapped nullableOf paired isValue kindOf lookup alike listed readers reader targets target-entry
+unfolding names ascii nameOf whole nameIn headed afterHead onFirst onSecond onOnly closed behind wrong wrongBy common opening unopenedNumber unopenedAt starts span headByte tailByte tailOf tailSize headings long longTail isKnown unless typeFaults readerFaults leftmost readerOf typeOf listedEnum sizeIn sizeOrFour enumOf arrayOf plain fixedKind wrapped nullableOf paired isValue kindOf lookup alike listed readers reader targets target-entry
 examples = refl

@@ -1,16 +1,14 @@
--- Whether the codes of a well-formed name's heads are those of a target, from left to right. Assumes nothing.
-use mathlib.Core.Bool.{Bool, true, false, _&&_, _||_, cond}
-use mathlib.Core.List.{List, [], _∷_}
-use Prim.Native.Nat.{ℕ, _%_}
+-- Which codes of a well-formed name's heads are complained of, from left to right. Assumes nothing.
+use mathlib.Core.Bool.{Bool, true, false, _||_, cond}
+use mathlib.Core.List.{List, [], _∷_, _++_}
+use Prim.Native.Nat.{ℕ, _/_, _%_}
 use lib.Dec.{eqb, ltb}
 use Rattle.layout.specs.Number.{between}
-use Rattle.layout.specs.Named.{Typed, unknown, known, fixedKind, plain}
+use Rattle.layout.specs.Named.{fixedKind, plain}
 use Rattle.names.specs.Kind.{node}
-
--- a name has a target
-unfoldable pub isKnown : Typed → Bool
-isKnown unknown = false
-isKnown (known t) = true
+use Rattle.types.specs.declared.Judged.{Judged}
+use Rattle.types.specs.declared.Judged.the-variants.{Fine, Wrong}
+use Rattle.types.specs.Complaint.{isKnown, unless}
 
 -- a listed enum type's kind, with no argument
 unfoldable pub listedKind : ℕ → Bool
@@ -25,19 +23,24 @@ headOk b =
 unfoldable pub valueOk : ℕ → Bool
 valueOk b = cond (fixedKind b) true (cond (listedKind b) true (eqb b 12))
 
--- the heads of arguments; `nullable` says that the head before was Nullable
-unfoldable pub argumentsOk : (nullable : Bool) → List ℕ → Bool
-argumentsOk nullable [] = true
-argumentsOk nullable (w ∷ s) = cond nullable (valueOk (w % 256)) (headOk (w % 256)) && argumentsOk (eqb (w % 256) (node 16 1)) s
+-- the places of the heads of arguments that are complained of; `nullable` says that the head before was Nullable
+unfoldable pub badArguments : (nullable : Bool) → List ℕ → List ℕ
+badArguments nullable [] = []
+badArguments nullable (w ∷ s) = unless (cond nullable (valueOk (w % 256)) (headOk (w % 256))) (w / 256) ++ badArguments (eqb (w % 256) (node 16 1)) s
 
 -- Enum's own argument is listed or has no target's head, and has no arguments
-unfoldable pub enumOk : List ℕ → Bool
-enumOk [] = false
-enumOk (w ∷ s) = eqb (w % 256) 0 || listedKind (w % 256)
+unfoldable pub badEnum : List ℕ → List ℕ
+badEnum [] = []
+badEnum (w ∷ s) = unless (eqb (w % 256) 0 || listedKind (w % 256)) (w / 256)
 
--- the heads of a reader's name
-unfoldable pub readerOk : List ℕ → Bool
-readerOk [] = false
-readerOk (w ∷ s) =
-    cond (eqb (w % 256) (node 15 1)) (enumOk s)
-    (cond (eqb (w % 256) (node 17 1)) (argumentsOk false s) (headOk (w % 256) && argumentsOk (eqb (w % 256) (node 16 1)) s))
+-- the places of the heads of a reader's name that are complained of
+unfoldable pub badReader : List ℕ → List ℕ
+badReader [] = []
+badReader (w ∷ s) =
+    cond (eqb (w % 256) (node 15 1)) (badEnum s)
+    (cond (eqb (w % 256) (node 17 1)) (badArguments false s) (unless (headOk (w % 256)) (w / 256) ++ badArguments (eqb (w % 256) (node 16 1)) s))
+
+-- the leftmost complaint, if there is one
+abbrev pub complaint : List ℕ → Judged
+complaint [] = Fine
+complaint (p ∷ ps) = Wrong p

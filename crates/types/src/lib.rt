@@ -9,7 +9,8 @@ ghost use Rattle.layout.specs.Named.{plain};
 ghost use Rattle.names.specs.Entries.{enumsOf};
 ghost use Rattle.types.specs.Code.{headAt};
 ghost use Rattle.types.specs.Place.{kindAt, placeAfter, sameCode, equalAt, fitsAt};
-ghost use Rattle.types.specs.Judge.{isKnown, listedKind, headOk, valueOk, argumentsOk, enumOk, readerOk};
+ghost use Rattle.types.specs.Complaint.{isKnown};
+ghost use Rattle.types.specs.Judge.{headOk, valueOk, badArguments, badEnum, badReader, complaint};
 ghost use Rattle.types.specs.Settling.{Settles};
 ghost use Rattle.types.specs.Contract.{enumWord, Resolves};
 use names::Named;
@@ -181,54 +182,70 @@ fn argument_ok(nullable: bool, b: u32) -> bool
     head_ok(b)
 }
 
-// The codes are those of arguments that are known; `first` says that the head before them was Nullable.
-fn arguments_ok(s: &[u32], first: bool) -> bool
-    ensures { λ r. ⌜ r ≡ argumentsOk first (now (s .entry)) ⌝ }
+// What is complained of among the heads of a name: nothing, or the leftmost one's place.
+pub enum Judged {
+    Fine,
+    Wrong(usize),
+}
+
+// The codes of arguments; `first` says that the head before them was Nullable.
+fn bad_arguments(s: &[u32], first: bool) -> Judged
+    ensures { λ r. ⌜ r ≡ complaint (badArguments first (now (s .entry))) ⌝ }
 {
     let mut nullable = first;
     let mut i = 0;
     while i < s.len() {
-        let b = s[i] % 256;
+        let w = s[i];
+        let b = w % 256;
         if !argument_ok(nullable, b) {
-            return false;
+            let place = (w / 256) as usize;
+            return Judged::Wrong(place);
         }
         nullable = b == 80;
         i += 1;
     }
-    true
+    Judged::Fine
 }
 
-fn enum_ok(s: &[u32]) -> bool
-    ensures { λ r. ⌜ r ≡ enumOk (now (s .entry)) ⌝ }
+// The code of Enum's own argument.
+fn bad_enum(s: &[u32]) -> Judged
+    ensures { λ r. ⌜ r ≡ complaint (badEnum (now (s .entry))) ⌝ }
 {
     if s.len() == 0 {
-        return false;
+        return Judged::Fine;
     }
-    let b = s[0] % 256;
+    let w = s[0];
+    let b = w % 256;
     if b == 0 {
-        return true;
+        return Judged::Fine;
     }
-    within(60, 63, b)
+    if within(60, 63, b) {
+        return Judged::Fine;
+    }
+    let place = (w / 256) as usize;
+    Judged::Wrong(place)
 }
 
-// The codes are those of a reader that is known.
-fn reader_ok(s: &[u32]) -> bool
-    ensures { λ r. ⌜ r ≡ readerOk (now (s .entry)) ⌝ }
+// The codes of a reader's name.
+fn bad_reader(s: &[u32]) -> Judged
+    ensures { λ r. ⌜ r ≡ complaint (badReader (now (s .entry))) ⌝ }
 {
     if s.len() == 0 {
-        return false;
+        return Judged::Fine;
     }
-    let b = s[0] % 256;
+    let w = s[0];
+    let b = w % 256;
     if b == 79 {
-        return enum_ok(&s[1..]);
+        return bad_enum(&s[1..]);
     }
     if b == 81 {
-        return arguments_ok(&s[1..], false);
+        return bad_arguments(&s[1..], false);
     }
     if !head_ok(b) {
-        return false;
+        let place = (w / 256) as usize;
+        return Judged::Wrong(place);
     }
-    arguments_ok(&s[1..], b == 80)
+    bad_arguments(&s[1..], b == 80)
 }
 
 // The code of an enum type that is Enum's own argument: one that is not listed has four bytes.
@@ -257,11 +274,12 @@ fn settle(codes: &mut [u32], used: usize, end: usize) -> usize
     next
 }
 
-// What a reader's name comes to: how many codes are used, refusal 10, refusal 11, or no room for the codes of its heads or for their places.
+// What a reader's name comes to: how many codes are used, a refusal's number and place, the place of refusal 11,
+// or no room for the codes of its heads or for their places.
 pub enum Resolved {
     Target(usize),
-    Broken,
-    Unknown,
+    Broken(u32, usize),
+    Unknown(usize),
     NoRoom,
 }
 
@@ -271,12 +289,10 @@ pub fn resolve(name: &[u8], at: usize, enums: &[u8], codes: &mut [u32], used: us
 {
     match names::read_name(name, at, enums, codes, used) {
         Named::NoRoom => Resolved::NoRoom,
-        Named::Broken => Resolved::Broken,
-        Named::Codes(end) => {
-            if !reader_ok(&codes[used..end]) {
-                return Resolved::Unknown;
-            }
-            Resolved::Target(settle(codes, used, end))
-        }
+        Named::Broken(number, place) => Resolved::Broken(number, place),
+        Named::Codes(end) => match bad_reader(&codes[used..end]) {
+            Judged::Wrong(place) => Resolved::Unknown(place),
+            Judged::Fine => Resolved::Target(settle(codes, used, end)),
+        },
     }
 }

@@ -1,6 +1,4 @@
-use mathlib.Core.Path.{_≡_, ap, _∙_}
-use Prim.Native.Nat.{ℕ, suc, _-_}
-use native.Mathlib.Omega.{arith}
+use Prim.Native.Nat.{_-_}
 use Rattle.readers.specs.Left.{codesFor, codes-for}
 use borrow.Author.Needs.{needs}
 use Rattle.readers.proofs.codes_for.Statement.{statement}

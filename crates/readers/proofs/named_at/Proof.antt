@@ -6,7 +6,7 @@ use borrow.Author.Tests.{leb-true, not-true, not-false}
 use Rattle.names.specs.Entries.{enums-sized}
 use Rattle.types.specs.Contract.{told as resolved}
 use Rattle.types.specs.Meaning.{target-is}
-use Rattle.readers.proofs.Parts.{name-part, named-missing, named-room, named-ten, named-eleven, named-target}
+use Rattle.readers.proofs.Parts.{name-part, named-missing, named-room, named-refused, named-target}
 use Rattle.readers.specs.Left.{name-missing, name-resolved}
 use borrow.Author.Needs.{needs}
 use Rattle.readers.proofs.named_at.Statement.{statement}
@@ -41,11 +41,11 @@ resolve-requires c κs = search needs
 enum-told : tie.Need-enum-told
 enum-told c = search needs
 
-enum-told-2 : tie.Need-enum-told-2
-enum-told-2 c = search needs
+enum-known-number : tie.Need-enum-known-number
+enum-known-number c = search needs
 
-enum-told-3 : tie.Need-enum-told-3
-enum-told-3 c = search needs
+enum-known-place : tie.Need-enum-known-place
+enum-known-place c = search needs
 
 enum-known-end : tie.Need-enum-known-end
 enum-known-end c = search needs
@@ -67,10 +67,10 @@ same-length-2 c = search needs
 
 returns-3 : tie.Need-returns-3
 returns-3 c =
-    let a = (c .before .before .before .before .before .before .before .before .before .before .before .before .args) in
-    let pre = (c .before .before .before .before .before .before .before .before .before .before .before .before .pre) in (
-      named-ten _ (a .file .now) (a .n) (a .at) (a .first) (sym ((c .before .before .before .before .before .before .before .before .has-bytes) .ensures) ∙ not-false _ ((c .before .before .before .before .before .before .before .if1) .left)) _ _ _ (a .used) (name-part (a .file .now) (a .first) (a .n)) (pre .1) (pre .2 .2) (pre .2 .1) (pre .0) (pre .2 .0) ((c .before .before .before .before .resolve) .ensures) (ap resolved ((c .enum-told2) .given .1)),
-      rw ((c .enum-told2) .given .1) at (name-resolved _ (a .file .now) (a .codes .now) (a .used) (a .at) (a .first) (a .n) (sym ((c .before .before .before .before .before .before .before .before .has-bytes) .ensures) ∙ not-false _ ((c .before .before .before .before .before .before .before .if1) .left)) _ _ _ (name-part (a .file .now) (a .first) (a .n)) ((c .before .before .before .before .resolve) .ensures)),
+    let a = (c .before .before .before .before .before .before .before .before .before .before .before .before .before .args) in
+    let pre = (c .before .before .before .before .before .before .before .before .before .before .before .before .before .pre) in (
+      named-refused _ (a .file .now) (a .n) (a .at) (a .first) (sym ((c .before .before .before .before .before .before .before .before .before .has-bytes) .ensures) ∙ not-false _ ((c .before .before .before .before .before .before .before .before .if1) .left)) _ _ _ (a .used) (name-part (a .file .now) (a .first) (a .n)) (pre .1) (pre .2 .2) (pre .2 .1) (pre .0) (pre .2 .0) _ _ ((c .before .before .before .before .before .resolve) .ensures) (ap resolved ((c .before .number) .given .1)),
+      rw ((c .before .number) .given .1) at (name-resolved _ (a .file .now) (a .codes .now) (a .used) (a .at) (a .first) (a .n) (sym ((c .before .before .before .before .before .before .before .before .before .has-bytes) .ensures) ∙ not-false _ ((c .before .before .before .before .before .before .before .before .if1) .left)) _ _ _ (name-part (a .file .now) (a .first) (a .n)) ((c .before .before .before .before .before .resolve) .ensures)),
     )
 
 same-length-3 : tie.Need-same-length-3
@@ -78,10 +78,10 @@ same-length-3 c = search needs
 
 returns-4 : tie.Need-returns-4
 returns-4 c =
-    let a = (c .before .before .before .before .before .before .before .before .before .before .before .before .args) in
-    let pre = (c .before .before .before .before .before .before .before .before .before .before .before .before .pre) in (
-      named-eleven _ (a .file .now) (a .n) (a .at) (a .first) (sym ((c .before .before .before .before .before .before .before .before .has-bytes) .ensures) ∙ not-false _ ((c .before .before .before .before .before .before .before .if1) .left)) _ _ _ (a .used) (name-part (a .file .now) (a .first) (a .n)) (pre .1) (pre .2 .2) (pre .2 .1) (pre .0) (pre .2 .0) ((c .before .before .before .before .resolve) .ensures) (ap resolved ((c .enum-told3) .given .1)),
-      rw ((c .enum-told3) .given .1) at (name-resolved _ (a .file .now) (a .codes .now) (a .used) (a .at) (a .first) (a .n) (sym ((c .before .before .before .before .before .before .before .before .has-bytes) .ensures) ∙ not-false _ ((c .before .before .before .before .before .before .before .if1) .left)) _ _ _ (name-part (a .file .now) (a .first) (a .n)) ((c .before .before .before .before .resolve) .ensures)),
+    let a = (c .before .before .before .before .before .before .before .before .before .before .before .before .before .args) in
+    let pre = (c .before .before .before .before .before .before .before .before .before .before .before .before .before .pre) in (
+      named-refused _ (a .file .now) (a .n) (a .at) (a .first) (sym ((c .before .before .before .before .before .before .before .before .before .has-bytes) .ensures) ∙ not-false _ ((c .before .before .before .before .before .before .before .before .if1) .left)) _ _ _ (a .used) (name-part (a .file .now) (a .first) (a .n)) (pre .1) (pre .2 .2) (pre .2 .1) (pre .0) (pre .2 .0) _ _ ((c .before .before .before .before .before .resolve) .ensures) (ap resolved ((c .before .place) .given .1)),
+      rw ((c .before .place) .given .1) at (name-resolved _ (a .file .now) (a .codes .now) (a .used) (a .at) (a .first) (a .n) (sym ((c .before .before .before .before .before .before .before .before .before .has-bytes) .ensures) ∙ not-false _ ((c .before .before .before .before .before .before .before .before .if1) .left)) _ _ _ (name-part (a .file .now) (a .first) (a .n)) ((c .before .before .before .before .before .resolve) .ensures)),
     )
 
 same-length-4 : tie.Need-same-length-4
@@ -108,8 +108,8 @@ named-at-spec =
     part-resolve-end
     resolve-requires
     enum-told
-    enum-told-2
-    enum-told-3
+    enum-known-number
+    enum-known-place
     enum-known-end
     versioned-requires
     same-length

@@ -1,15 +1,17 @@
-use borrow.Author.Needs.{needs}
+-- `types::bad_arguments` meets its contract: the codes before i are those of lawful heads. Assumes nothing.
+use native.Mathlib.Omega.{arith}
 use mathlib.Core.Path.{_≡_, refl, sym, _∙_}
 use Prim.Native.Nat.{_-_, _≤_}
 use lib.ListN.{length, drop}
 use borrow.Author.Tests.{not-true, not-false}
-use Rattle.types.specs.Judge.{argumentsOk}
+use Rattle.types.specs.Judge.{badArguments, complaint}
 use Rattle.types.proofs.Loops.{arguments-end, arguments-no, arguments-step}
-use Rattle.types.proofs.arguments_ok.Statement.{statement}
-use Rattle.types.proofs.arguments_ok.Tie as tie
+use borrow.Author.Needs.{needs}
+use Rattle.types.proofs.bad_arguments.Statement.{statement}
+use Rattle.types.proofs.bad_arguments.Tie as tie
 
 abbrev Inv-loop : tie.InvT-loop
-Inv-loop s first nullable₀ i₀ nullable i = (i ≤ length s) × (argumentsOk first s ≡ argumentsOk nullable (drop i s))
+Inv-loop s first nullable₀ i₀ nullable i = (i ≤ length s) × (complaint (badArguments first s) ≡ complaint (badArguments nullable (drop i s)))
 
 abbrev μ-loop : tie.MeasureT-loop
 μ-loop s first nullable₀ i₀ nullable i = length s - i
@@ -17,14 +19,17 @@ abbrev μ-loop : tie.MeasureT-loop
 loop-holds : tie.Need-loop-holds Inv-loop μ-loop
 loop-holds c = (search needs, refl)
 
-mul-b : tie.Need-mul-b Inv-loop μ-loop
-mul-b c = search needs
+mul-w : tie.Need-mul-w Inv-loop μ-loop
+mul-w c = search needs
 
-shared-slice-read-b : tie.Need-shared-slice-read-b Inv-loop μ-loop
-shared-slice-read-b c = search needs
+shared-slice-read-w : tie.Need-shared-slice-read-w Inv-loop μ-loop
+shared-slice-read-w c = search needs
 
 argument-ok-requires : tie.Need-argument-ok-requires Inv-loop μ-loop
 argument-ok-requires c κs = search needs
+
+cast-place : tie.Need-cast-place Inv-loop μ-loop
+cast-place c = omega (arith, (c .before .before .before .before .before .shared-slice-known) .given ((c .before .before .before .before .loop) .i))
 
 returns : tie.Need-returns Inv-loop μ-loop
 returns c = arguments-no _ _ _ ((c .before .before .before .before .loop) .inv .1) ((c .before .before .before .loop-test) .taken) (sym ((c .before .argument-ok) .ensures) ∙ not-true _ ((c .if1) .taken))
@@ -41,16 +46,17 @@ loop-again c = (search needs, arguments-step _ _ _ ((c .before .before .before .
 returns-2 : tie.Need-returns-2 Inv-loop μ-loop
 returns-2 c = arguments-end _ _ _ ((c .before .loop) .inv .1) ((c .loop-test) .left)
 
-pub arguments-ok-spec : {M : Type 1} → statement M
-arguments-ok-spec =
+pub bad-arguments-spec : {M : Type 1} → statement M
+bad-arguments-spec =
     tie.close
     (tie.spec
     Inv-loop
     μ-loop
     loop-holds
-    mul-b
-    shared-slice-read-b
+    mul-w
+    shared-slice-read-w
     argument-ok-requires
+    cast-place
     returns
     add-i
     loop-less
