@@ -8,7 +8,7 @@ use Rattle.reading.specs.Reads.{Small}
 use Rattle.reading.specs.File.{Load, refusal}
 use Rattle.reading.specs.Refusals.{refusal-place}
 use Rattle.reading.specs.Output as rewritten
-use Rattle.readers.specs.Judged.{judgedName, judges, ten-or-eleven}
+use Rattle.readers.specs.Judged.{judgedName, judges, within-name}
 use Rattle.enums.specs.Judge.{Judgement, lawful, enumsAt}
 use Rattle.enums.specs.Judge.{refused as list-refused}
 use Rattle.enums.specs.Lists.{list-refusal}
@@ -32,7 +32,7 @@ module _ (enums file : List ℕ) (words number place : ℕ) (other : number ≡ 
         let z : _≡_ {A = Load} (refusal number place) (refusal n i) = sym e ∙ load-refused-list enums file words q in
         let m : number ≡ n = cc in
         absurd (other (m ∙ list-refusal enums q))
-    go (lawful es) q = omega (arith, refusal-place (judgedName es) (ten-or-eleven es) file words number place (sym (load-lawful enums file words es q) ∙ e) .1)
+    go (lawful es) q = omega (arith, refusal-place (judgedName es) (within-name es) file words number place (sym (load-lawful enums file words es q) ∙ e) .1)
 
   pub rewrite-exactly : Small file → (out : ℕ) → rewriteUnder enums file words out ≡ rewritten.refusal number place
       → rewritePacked (rewriteUnder enums file words out) ≡ number * 4294967296 + place
@@ -44,4 +44,4 @@ module _ (enums file : List ℕ) (words number place : ℕ) (other : number ≡ 
         let m : number ≡ n = cc in
         absurd (other (m ∙ list-refusal enums q))
     go (lawful es) q =
-        omega (arith, rewrite-refusal (named es) (judgedName es) (judges es) (ten-or-eleven es) file small words out number place (sym (rewrite-lawful enums file words out es q) ∙ e) .1)
+        omega (arith, rewrite-refusal (named es) (judgedName es) (judges es) (within-name es) file small words out number place (sym (rewrite-lawful enums file words out es q) ∙ e) .1)

@@ -2,27 +2,28 @@
 use mathlib.Core.Path.{_≡_, refl, sym, ap, subst, _∙_}
 use mathlib.Core.Bool.{true, false, not}
 use mathlib.Core.List.{List, [], _∷_}
-use Prim.Native.Nat.{ℕ, zero, suc, _+_, _-_, _≤_, _<_}
+use Prim.Native.Nat.{ℕ, zero, suc, _+_, _-_, _*_, _≤_, _<_}
 use native.Mathlib.Omega.{arith}
 use lib.ListN.{length, take, drop, getD, set, length-drop, drop-of-length-le}
 use lib.Seq.{sets, drop-drop, length-take-le}
 use borrow.Author.Tests.{eq-eqb, ne-eqb, le-leb, lt-leb}
 use Rattle.names.specs.Parse.{nameOf}
 use Rattle.names.specs.Sound.{span-le}
-use Rattle.names.specs.Contract.{placed}
+use Rattle.names.specs.Contract.{refused, placed}
 use Rattle.names.specs.Entries.{entriesIn, entriesOf, lawfully, enumsOf}
 use Rattle.names.proofs.Laws.{cons-at, rest}
 use Rattle.io.specs.Counts.{Counts}
 use Rattle.types.specs.declared.Resolved.{Resolved}
 use Rattle.types.specs.Contract.{told, resolution, Resolves}
+use Rattle.types.specs.Meaning.{refusal-bounds, refused-is}
 use Rattle.reader_names.specs.Lines.{number, refusal, inLine, lineSize, refusals, all, Judges}
 
 -- an empty name
-pub empty-is : (s : List ℕ) → length s ≡ 0 → 9 ≡ refusal s
+pub empty-is : (s : List ℕ) → length s ≡ 0 → 65536 * 9 ≡ refusal s
 unfolding refusal
 empty-is s h = rw (eq-eqb (length s) 0 h)
 
-pub long-is : (s : List ℕ) → (length s ≡ 0 → ⊥) → 1024 < length s → 9 ≡ refusal s
+pub long-is : (s : List ℕ) → (length s ≡ 0 → ⊥) → 1024 < length s → 65536 * 9 ≡ refusal s
 unfolding refusal
 long-is s h l = rw (ne-eqb (length s) 0 h, lt-leb (length s) 1024 l)
 
@@ -35,6 +36,10 @@ judged-is s enums c c′ r h m b l w k e =
     let x : placed s 0 0 ≡ true = rw (le-leb 0 16777216 (omega arith), le-leb (0 + length s) 16777216 (omega arith)) in
     let q : number (told r) ≡ number (resolution [] true 187 0 0 (nameOf 0 s)) = ap number (w .answers) ∙ rw (b, x, l) in
     sym e ∙ q ∙ sym p
+
+-- a refusal's number and place fit in one number
+pub bounded : (s enums c c′ : List ℕ) (r : Resolved) (number place : ℕ) → length s ≤ 1024 → Resolves (enumsOf enums) s 0 c c′ 0 r → told r ≡ refused number place → (number ≤ 38) × (place ≤ 1024)
+bounded s enums c c′ r number place h w e = let b = refusal-bounds (refused-is (enumsOf enums) s 0 c c′ 0 number place w e) in (b .0, omega (arith, b .1))
 
 pub ends-line : (b : ℕ) → b ≡ 10 → inLine b ≡ false
 ends-line b e = ap not (eq-eqb b 10 e)

@@ -2,7 +2,7 @@
 use mathlib.Core.Path.{_≡_}
 use mathlib.Core.Bool.{Bool, true, not, cond}
 use mathlib.Core.List.{List, [], _∷_}
-use Prim.Native.Nat.{ℕ, zero, suc, _+_}
+use Prim.Native.Nat.{ℕ, zero, suc, _+_, _*_}
 use lib.Dec.{eqb, leb}
 use lib.ListN.{length, take, drop}
 use lib.Seq.{sets}
@@ -10,15 +10,16 @@ use Rattle.names.specs.Parse.{span, nameOf}
 use Rattle.names.specs.Contract.{Answer, coded, refused, no-room}
 use Rattle.types.specs.Contract.{resolution}
 
--- 0 for a known target; 01: "count, name length or file too large, or empty name" is 9
+-- an answer in one number: 0 for a known target; else 65536 for each of the refusal's number, and its place.
+-- 01: "count, name length or file too large, or empty name" is 9
 abbrev pub number : Answer → ℕ
 number (coded used) = 0
-number (refused k) = k
-number no-room = 9
+number (refused k place) = 65536 * k + place
+number no-room = 65536 * 9
 
--- 01: a name has 1 to 1,024 bytes, and is judged in full (9, 10, 11); here no enum type is listed, and a name of 1,024 bytes has at most 187 codes
+-- 01: a name has 1 to 1,024 bytes, and is judged in full; here no enum type is listed, and a name of 1,024 bytes has at most 187 codes
 unfoldable pub refusal : List ℕ → ℕ
-refusal s = cond (eqb (length s) 0) 9 (cond (leb (length s) 1024) (number (resolution [] true 187 0 0 (nameOf 0 s))) 9)
+refusal s = cond (eqb (length s) 0) (65536 * 9) (cond (leb (length s) 1024) (number (resolution [] true 187 0 0 (nameOf 0 s))) (65536 * 9))
 
 -- a line ends before a byte 0A hex
 abbrev pub inLine : ℕ → Bool

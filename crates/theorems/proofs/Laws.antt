@@ -45,11 +45,11 @@ use Rattle.rewrite.specs.declared.Rewriting.the-variants as rewriting
 use Rattle.rewrite.specs.Contract as contract
 use Rattle.theorems.specs.Exact.{Accepted, table, Exact}
 use Rattle.theorems.specs.Rewriting as R
-use Rattle.readers.specs.Judged.{judgedName, judges, ten-or-eleven}
+use Rattle.readers.specs.Judged.{judgedName, judges, within-name}
 
 -- the range of a refusal under a lawful list
 abbrev Placed : (file : List ℕ) (number place : ℕ) → Type 0
-Placed file number place = (1 ≤ number) × (number ≤ 22) × (place ≤ length file)
+Placed file number place = (1 ≤ number) × (number ≤ 38) × (place ≤ length file)
 
 -- how a load ends: with 32 for the list, with one refusal, placed in the file, or with a file tree that fits
 pub data Ends (enums file : List ℕ) (words : ℕ) : Type 0 where
@@ -65,8 +65,8 @@ ends-under enums file words small es w b = go (loadOf (judgedName es) file words
 
   go : (x : Load) → loadOf (judgedName es) file words ≡ x → Ends enums file words
   go (refusal n p) e =
-      let i = refusal-number (judgedName es) (ten-or-eleven es) file words n p e in
-      let j = refusal-place (judgedName es) (ten-or-eleven es) file words n p e in
+      let i = refusal-number (judgedName es) (within-name es) file words n p e in
+      let j = refusal-place (judgedName es) (within-name es) file words n p e in
       refuses es w b n p (is ∙ e) (i .0, i .1, j .0)
   go (accepted rows readers shared) e =
       let f = T.accepted-is (named es) (judgedName es) (judges es) file words small rows readers shared e .0 in

@@ -74,4 +74,4 @@ pub record Exact (columns : Bool) (enums file : List ℕ) (words : ℕ) (left : 
   -- 02, Req 09: "It must hold of every table we leave, in rows or columns": the rule of the seventh word
   pub skips : (used readers shared padding : ℕ) → r ≡ Loaded used readers shared padding → TableSkips (shapeOf columns) (roomOf words) left used
   -- under a lawful list a refusal's number is one of 01's for a load, and its place is in the file
-  pub inside : (es : List EnumEntry) → Enums es → enums ≡ writeEnums es → (number place : ℕ) → r ≡ Refused number place → (1 ≤ number) × (number ≤ 22) × (place ≤ length file)
+  pub inside : (es : List EnumEntry) → Enums es → enums ≡ writeEnums es → (number place : ℕ) → r ≡ Refused number place → (1 ≤ number) × (number ≤ 38) × (place ≤ length file)

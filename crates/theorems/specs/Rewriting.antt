@@ -47,7 +47,7 @@ pub record Exact (enums file : List ℕ) (words : ℕ) (left out end : List ℕ)
   -- 02, Req 02: 32 "before all else"
   pub list : Unlawful enums → (place : ℕ) × (r ≡ Refused 32 place) × FirstBad enums 32 place
   -- under a lawful list a refusal's number is one of 01's for a load or 21, and its place is in the file or the bytes needed, which are no more than the file's
-  pub inside : (es : List EnumEntry) → Enums es → enums ≡ writeEnums es → (number place : ℕ) → r ≡ Refused number place → (1 ≤ number) × (number ≤ 22) × (place ≤ length file)
+  pub inside : (es : List EnumEntry) → Enums es → enums ≡ writeEnums es → (number place : ℕ) → r ≡ Refused number place → (1 ≤ number) × (number ≤ 38) × (place ≤ length file)
   -- 02, Req 09: "It must hold of every table we leave": the rule of the seventh word
   pub skips : (n : ℕ) → r ≡ Rewritten n → (f : Fitting enums file words) → TableSkips byRows (roomOf words) left (length (rowsIn f))
   -- what is rewritten is a file tree's bytes, and the output then begins with bytes of which the above holds

@@ -50,6 +50,9 @@ part-judge-end c = omega (arith, line c)
 judge-requires : tie.Need-judge-requires Inv-loop μ-loop
 judge-requires c κs = search needs
 
+mul-numbers : tie.Need-mul-numbers Inv-loop μ-loop
+mul-numbers c = search needs
+
 slice-write-numbers : tie.Need-slice-write-numbers Inv-loop μ-loop
 slice-write-numbers c = search needs
 
@@ -91,6 +94,7 @@ judge-lines-spec =
     part-judge-start
     part-judge-end
     judge-requires
+    mul-numbers
     slice-write-numbers
     add-count
     add-at

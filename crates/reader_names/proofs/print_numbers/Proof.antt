@@ -5,28 +5,22 @@ use Rattle.reader_names.proofs.print_numbers.Statement.{statement}
 use Rattle.reader_names.proofs.print_numbers.Tie as tie
 
 abbrev Inv-loop : tie.InvT-loop
-Inv-loop numbers i₀ t3 i = i ≤ length numbers
+Inv-loop numbers i₀ i = i ≤ length numbers
 
 abbrev μ-loop : tie.MeasureT-loop
-μ-loop numbers i₀ t3 i = length numbers - i
+μ-loop numbers i₀ i = length numbers - i
 
 loop-holds : tie.Need-loop-holds Inv-loop μ-loop
 loop-holds c = search needs
 
-shared-slice-read-wide : tie.Need-shared-slice-read-wide Inv-loop μ-loop
-shared-slice-read-wide c = search needs
+mul-print-refusal : tie.Need-mul-print-refusal Inv-loop μ-loop
+mul-print-refusal c = search needs
 
-wide-requires : tie.Need-wide-requires Inv-loop μ-loop
-wide-requires c κs = search needs
+shared-slice-read-print-refusal : tie.Need-shared-slice-read-print-refusal Inv-loop μ-loop
+shared-slice-read-print-refusal c = search needs
 
-print-decimal-requires : tie.Need-print-decimal-requires Inv-loop μ-loop
-print-decimal-requires c κs = search needs
-
-slice-aggregate-write-all : tie.Need-slice-aggregate-write-all Inv-loop μ-loop
-slice-aggregate-write-all c = search needs
-
-write-all-requires : tie.Need-write-all-requires Inv-loop μ-loop
-write-all-requires c κs = search needs
+print-refusal-requires : tie.Need-print-refusal-requires Inv-loop μ-loop
+print-refusal-requires c κs = search needs
 
 add-i : tie.Need-add-i Inv-loop μ-loop
 add-i c = search needs
@@ -47,11 +41,9 @@ print-numbers-spec =
     Inv-loop
     μ-loop
     loop-holds
-    shared-slice-read-wide
-    wide-requires
-    print-decimal-requires
-    slice-aggregate-write-all
-    write-all-requires
+    mul-print-refusal
+    shared-slice-read-print-refusal
+    print-refusal-requires
     add-i
     loop-less
     loop-again
