@@ -1,19 +1,24 @@
 //! Writes the files of the kept samples into the folder that is named, and the packs.
 //!
 //! With `all` behind the folder it writes every sample.
+//! With `names` it writes the names of the table instead, as `reader_names` has them: data/FILE and stdout.
 
 use std::path::Path;
 use std::process::ExitCode;
 
 fn main() -> ExitCode {
     let Some(folder) = std::env::args().nth(1) else {
-        eprintln!("usage: corpus FOLDER [all]");
+        eprintln!("usage: corpus FOLDER [all | names]");
         return ExitCode::from(2);
     };
-    let all = std::env::args().nth(2).as_deref() == Some("all");
-    match write_samples(Path::new(&folder), all) {
+    let what = std::env::args().nth(2);
+    let written = match what.as_deref() {
+        Some("names") => write_names(Path::new(&folder)),
+        what => write_samples(Path::new(&folder), what == Some("all")),
+    };
+    match written {
         Ok(count) => {
-            println!("{count} samples");
+            println!("{count} written");
             ExitCode::SUCCESS
         }
         Err(error) => {
@@ -34,4 +39,15 @@ fn write_samples(folder: &Path, all: bool) -> std::io::Result<usize> {
         }
     }
     Ok(samples.len() + corpus::packs::folder::write_packs(folder)?)
+}
+
+fn write_names(folder: &Path) -> std::io::Result<usize> {
+    let mut count = 0;
+    for (file, names) in corpus::names::files() {
+        count += names.len();
+        let path = folder.join("data").join(file);
+        std::fs::write(path, corpus::names::lines(&names))?;
+    }
+    std::fs::write(folder.join("stdout"), corpus::names::printed())?;
+    Ok(count)
 }

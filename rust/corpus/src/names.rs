@@ -1,6 +1,38 @@
 //! Reader names, good and bad, with the refusal that each must meet.
 
-/// 0 for a good name, 10 for broken grammar, 11 for a head or an argument that is not lawful.
+pub mod parts;
+
+/// Stands in a name before the byte at which the name is refused, or at its end; it is no byte of the name.
+const MARK: char = '»';
+
+/// A reader name, and the refusal that it must meet.
+#[derive(Clone, Debug, PartialEq, Eq)]
+pub struct Judged {
+    /// 0 for a good name.
+    pub number: u32,
+    /// Where in the name it is refused, from its first byte on; 0 for a good name.
+    pub place: usize,
+    pub name: String,
+}
+
+/// A name that is refused at its mark.
+pub fn judged(number: u32, marked: &str) -> Judged {
+    let (before, behind) = at_mark(marked);
+    Judged {
+        number,
+        place: if number == 0 { 0 } else { before.len() },
+        name: before + &behind,
+    }
+}
+
+/// What stands before and behind the mark of a name; a good name has none.
+pub fn at_mark(marked: &str) -> (String, String) {
+    let (before, behind) = marked.split_once(MARK).unwrap_or((marked, ""));
+    assert!(!behind.contains(MARK), "{marked} has one mark");
+    (before.to_string(), behind.to_string())
+}
+
+/// 0 for a good name, 33 to 38 for broken grammar, 11 for a head or an argument that is not lawful.
 pub const TABLE: &[(u32, &str)] = &[
     // Every reader of 000 that the base takes, and the house reader.
     (0, "Microsoft.Xna.Framework.Content.ByteReader"),
@@ -62,197 +94,197 @@ pub const TABLE: &[(u32, &str)] = &[
     (0, "Microsoft.Xna.Framework.Content.ListReader`1[[System.Char, mscorlib, Version=4.0.0.0, Culture=neutral, PublicKeyToken=b77a5c561934e089]]"),
     (0, "Microsoft.Xna.Framework.Content.ListReader`1[[System.Char,]],"),
     (0, "Microsoft.Xna.Framework.Content.DictionaryReader`2[[System.Char, a],[System.Byte, b]], c"),
-    (10, "Microsoft.Xna.Framework.Content.ByteReader, a[b"),
-    (10, "Microsoft.Xna.Framework.Content.ByteReader, a]"),
-    (10, "Microsoft.Xna.Framework.Content.ByteReader,\t"),
-    (10, "Microsoft.Xna.Framework.Content.ByteReader, \u{7F}"),
-    (10, "Microsoft.Xna.Framework.Content.ByteReader, é"),
-    (10, "Microsoft.Xna.Framework.Content.ByteReader, \0"),
+    (37, "Microsoft.Xna.Framework.Content.ByteReader, a»[b"),
+    (37, "Microsoft.Xna.Framework.Content.ByteReader, a»]"),
+    (37, "Microsoft.Xna.Framework.Content.ByteReader,»\t"),
+    (37, "Microsoft.Xna.Framework.Content.ByteReader, »\u{7F}"),
+    (37, "Microsoft.Xna.Framework.Content.ByteReader, »é"),
+    (37, "Microsoft.Xna.Framework.Content.ByteReader, »\0"),
     // Heads that are broken.
-    (10, ","),
-    (10, "`1[[System.Byte]]"),
-    (10, " Microsoft.Xna.Framework.Content.ByteReader"),
-    (10, "Microsoft.Xna.Framework.Content.ByteReader "),
-    (10, "Microsoft.Xna.Framework.Content-ByteReader"),
-    (10, "Microsoft/Xna"),
-    (10, "Microsoft.Xna.Framework.Content.ByteReadér"),
-    (10, "System.Byte[]"),
-    (10, "]"),
-    (10, "Microsoft.Xna.Framework.Content.ByteReader]"),
+    (33, "»,"),
+    (33, "»`1[[System.Byte]]"),
+    (33, "» Microsoft.Xna.Framework.Content.ByteReader"),
+    (34, "Microsoft.Xna.Framework.Content.ByteReader» "),
+    (34, "Microsoft.Xna.Framework.Content»-ByteReader"),
+    (34, "Microsoft»/Xna"),
+    (34, "Microsoft.Xna.Framework.Content.ByteRead»ér"),
+    (34, "System.Byte»[]"),
+    (33, "»]"),
+    (34, "Microsoft.Xna.Framework.Content.ByteReader»]"),
     // Digits.
-    (10, "Microsoft.Xna.Framework.Content.ListReader`0[[System.Byte]]"),
-    (10, "Microsoft.Xna.Framework.Content.ListReader`3[[System.Byte],[System.Byte],[System.Byte]]"),
-    (10, "Microsoft.Xna.Framework.Content.ListReader`9[[System.Byte]]"),
-    (10, "Microsoft.Xna.Framework.Content.ListReader`[[System.Byte]]"),
-    (10, "Microsoft.Xna.Framework.Content.ListReader`a[[System.Byte]]"),
-    (10, "Microsoft.Xna.Framework.Content.ListReader`11[[System.Byte]]"),
-    (10, "Microsoft.Xna.Framework.Content.ListReader`1[[System.Byte],[System.Byte]]"),
-    (10, "Microsoft.Xna.Framework.Content.DictionaryReader`2[[System.Byte]]"),
-    (10, "Microsoft.Xna.Framework.Content.DictionaryReader`2[[System.Byte],[System.Byte],[System.Byte]]"),
+    (35, "Microsoft.Xna.Framework.Content.ListReader`»0[[System.Byte]]"),
+    (35, "Microsoft.Xna.Framework.Content.ListReader`»3[[System.Byte],[System.Byte],[System.Byte]]"),
+    (35, "Microsoft.Xna.Framework.Content.ListReader`»9[[System.Byte]]"),
+    (35, "Microsoft.Xna.Framework.Content.ListReader`»[[System.Byte]]"),
+    (35, "Microsoft.Xna.Framework.Content.ListReader`»a[[System.Byte]]"),
+    (36, "Microsoft.Xna.Framework.Content.ListReader`1»1[[System.Byte]]"),
+    (36, "Microsoft.Xna.Framework.Content.ListReader`1[[System.Byte]»,[System.Byte]]"),
+    (36, "Microsoft.Xna.Framework.Content.DictionaryReader`2[[System.Byte]»]"),
+    (36, "Microsoft.Xna.Framework.Content.DictionaryReader`2[[System.Byte],[System.Byte]»,[System.Byte]]"),
     // Brackets.
-    (10, "Microsoft.Xna.Framework.Content.ListReader`1"),
-    (10, "Microsoft.Xna.Framework.Content.ListReader`1, tail"),
-    (10, "Microsoft.Xna.Framework.Content.ListReader`1[]"),
-    (10, "Microsoft.Xna.Framework.Content.ListReader`1[[]]"),
-    (10, "Microsoft.Xna.Framework.Content.ListReader`1[System.Byte]"),
-    (10, "Microsoft.Xna.Framework.Content.ListReader`1[[System.Byte]"),
-    (10, "Microsoft.Xna.Framework.Content.ListReader`1[[System.Byte"),
-    (10, "Microsoft.Xna.Framework.Content.ListReader`1[[System.Byte]]]"),
-    (10, "Microsoft.Xna.Framework.Content.ListReader`1[[System.Byte]]tail"),
-    (10, "Microsoft.Xna.Framework.Content.ListReader`1[[System.Byte]]`1[[System.Byte]]"),
-    (10, "Microsoft.Xna.Framework.Content.ListReader`1[[System.Byte[]]]"),
-    (10, "Microsoft.Xna.Framework.Content.ListReader[[System.Byte]]"),
-    (10, "Microsoft.Xna.Framework.Content.ListReader`1 [[System.Byte]]"),
-    (10, "Microsoft.Xna.Framework.Content.ListReader`1[[,System.Byte]]"),
-    (10, "Microsoft.Xna.Framework.Content.DictionaryReader`2[[System.Byte][System.Byte]]"),
-    (10, "Microsoft.Xna.Framework.Content.DictionaryReader`2[[System.Byte], [System.Byte]]"),
-    (10, "Microsoft.Xna.Framework.Content.DictionaryReader`2[[System.Byte],[System.Byte]"),
-    (10, "Microsoft.Xna.Framework.Content.DictionaryReader`2[[System.Byte],[]]"),
+    (36, "Microsoft.Xna.Framework.Content.ListReader`1»"),
+    (36, "Microsoft.Xna.Framework.Content.ListReader`1», tail"),
+    (36, "Microsoft.Xna.Framework.Content.ListReader`1[»]"),
+    (33, "Microsoft.Xna.Framework.Content.ListReader`1[[»]]"),
+    (36, "Microsoft.Xna.Framework.Content.ListReader`1[»System.Byte]"),
+    (36, "Microsoft.Xna.Framework.Content.ListReader`1[[System.Byte]»"),
+    (36, "Microsoft.Xna.Framework.Content.ListReader`1[[System.Byte»"),
+    (36, "Microsoft.Xna.Framework.Content.ListReader`1[[System.Byte]]»]"),
+    (36, "Microsoft.Xna.Framework.Content.ListReader`1[[System.Byte]]»tail"),
+    (36, "Microsoft.Xna.Framework.Content.ListReader`1[[System.Byte]]»`1[[System.Byte]]"),
+    (34, "Microsoft.Xna.Framework.Content.ListReader`1[[System.Byte»[]]]"),
+    (34, "Microsoft.Xna.Framework.Content.ListReader»[[System.Byte]]"),
+    (36, "Microsoft.Xna.Framework.Content.ListReader`1» [[System.Byte]]"),
+    (33, "Microsoft.Xna.Framework.Content.ListReader`1[[»,System.Byte]]"),
+    (36, "Microsoft.Xna.Framework.Content.DictionaryReader`2[[System.Byte]»[System.Byte]]"),
+    (36, "Microsoft.Xna.Framework.Content.DictionaryReader`2[[System.Byte],» [System.Byte]]"),
+    (36, "Microsoft.Xna.Framework.Content.DictionaryReader`2[[System.Byte],[System.Byte]»"),
+    (33, "Microsoft.Xna.Framework.Content.DictionaryReader`2[[System.Byte],[»]]"),
     // Grammar is judged over the whole name before heads.
-    (10, "Unknown`1[[System.Byte]"),
-    (10, "Unknown`1[[Unknown]], ]"),
-    (10, "Microsoft.Xna.Framework.Content.DictionaryReader`2[[Unknown],[System.Byte`4[[A]]]]"),
+    (36, "Unknown`1[[System.Byte]»"),
+    (37, "Unknown`1[[Unknown]], »]"),
+    (35, "Microsoft.Xna.Framework.Content.DictionaryReader`2[[Unknown],[System.Byte`»4[[A]]]]"),
     // Unknown heads.
-    (11, "A"),
-    (11, "System.Byte"),
-    (11, "ByteReader"),
-    (11, "Byte"),
-    (11, "Coach.Console.Page"),
-    (11, "Coach.Console.pageReader"),
-    (11, "Microsoft.Xna.Framework.Content.PageReader"),
-    (11, "Microsoft.Xna.Framework.Content.byteReader"),
-    (11, "Microsoft.Xna.Framework.Content.ByteReader."),
-    (11, "Microsoft.Xna.Framework.Content.ByteReaderX"),
-    (11, "Microsoft.Xna.Framework.Content.Byte"),
-    (11, "Microsoft.Xna.Framework.Content.Reader"),
-    (11, "Microsoft.Xna.Framework.Content.ModelReader"),
-    (11, "Microsoft.Xna.Framework.Content.PlaneReader"),
-    (11, "Microsoft.Xna.Framework.Content.Texture3DReader"),
-    (11, "Microsoft.Xna.Framework.Content.NullReader"),
-    (11, "Microsoft.Xna.Framework.Content.ReflectiveReader`1[[Coach.Console.Page]]"),
-    (11, "Microsoft.Xna.Framework.Content.ListReader`1[[System.byte]]"),
-    (11, "Microsoft.Xna.Framework.Content.ListReader`1[[System.Rectangle]]"),
-    (11, "Microsoft.Xna.Framework.Content.ListReader`1[[Microsoft.Xna.Framework.Texture2D]]"),
-    (11, "Microsoft.Xna.Framework.Content.ListReader`1[[Microsoft.Xna.Framework.Plane]]"),
-    (11, "Microsoft.Xna.Framework.Content.ListReader`1[[Coach.Door]]"),
-    (11, "Microsoft.Xna.Framework.Content.ListReader`1[[System.Array]]"),
-    (11, "Microsoft.Xna.Framework.Content.ListReader`1[[System.Enum]]"),
-    (11, "Microsoft.Xna.Framework.Content.ListReader`1[[Microsoft.Xna.Framework.Content.ByteReader]]"),
-    (11, "Microsoft.Xna.Framework.Content.DictionaryReader`2[[System.Byte],[Unknown]]"),
+    (11, "»A"),
+    (11, "»System.Byte"),
+    (11, "»ByteReader"),
+    (11, "»Byte"),
+    (11, "»Coach.Console.Page"),
+    (11, "»Coach.Console.pageReader"),
+    (11, "»Microsoft.Xna.Framework.Content.PageReader"),
+    (11, "»Microsoft.Xna.Framework.Content.byteReader"),
+    (11, "»Microsoft.Xna.Framework.Content.ByteReader."),
+    (11, "»Microsoft.Xna.Framework.Content.ByteReaderX"),
+    (11, "»Microsoft.Xna.Framework.Content.Byte"),
+    (11, "»Microsoft.Xna.Framework.Content.Reader"),
+    (11, "»Microsoft.Xna.Framework.Content.ModelReader"),
+    (11, "»Microsoft.Xna.Framework.Content.PlaneReader"),
+    (11, "»Microsoft.Xna.Framework.Content.Texture3DReader"),
+    (11, "»Microsoft.Xna.Framework.Content.NullReader"),
+    (11, "»Microsoft.Xna.Framework.Content.ReflectiveReader`1[[Coach.Console.Page]]"),
+    (11, "Microsoft.Xna.Framework.Content.ListReader`1[[»System.byte]]"),
+    (11, "Microsoft.Xna.Framework.Content.ListReader`1[[»System.Rectangle]]"),
+    (11, "Microsoft.Xna.Framework.Content.ListReader`1[[»Microsoft.Xna.Framework.Texture2D]]"),
+    (11, "Microsoft.Xna.Framework.Content.ListReader`1[[»Microsoft.Xna.Framework.Plane]]"),
+    (11, "Microsoft.Xna.Framework.Content.ListReader`1[[»Coach.Door]]"),
+    (11, "Microsoft.Xna.Framework.Content.ListReader`1[[»System.Array]]"),
+    (11, "Microsoft.Xna.Framework.Content.ListReader`1[[»System.Enum]]"),
+    (11, "Microsoft.Xna.Framework.Content.ListReader`1[[»Microsoft.Xna.Framework.Content.ByteReader]]"),
+    (11, "Microsoft.Xna.Framework.Content.DictionaryReader`2[[System.Byte],[»Unknown]]"),
     // The parts of names that 01 shows, as readers.
-    (10, "[[A]]"),
-    (10, "[[A],[B]]"),
-    (11, "Microsoft.Xna.Framework.Content."),
-    (11, "Reader"),
-    (11, "System.Char"),
-    (11, "Microsoft.Xna.Framework.Rectangle"),
-    (11, "System.Collections.Generic.List"),
-    (11, "System.Collections.Generic.List`1[[System.Char]]"),
-    (11, "Microsoft.Xna.Framework.Graphics."),
-    (11, "Microsoft.Xna.Framework.Content.ListReader`1[[A]]"),
-    (11, "Microsoft.Xna.Framework.Content.DictionaryReader`2[[A],[B]]"),
+    (33, "»[[A]]"),
+    (33, "»[[A],[B]]"),
+    (11, "»Microsoft.Xna.Framework.Content."),
+    (11, "»Reader"),
+    (11, "»System.Char"),
+    (11, "»Microsoft.Xna.Framework.Rectangle"),
+    (11, "»System.Collections.Generic.List"),
+    (11, "»System.Collections.Generic.List`1[[System.Char]]"),
+    (11, "»Microsoft.Xna.Framework.Graphics."),
+    (11, "Microsoft.Xna.Framework.Content.ListReader`1[[»A]]"),
+    (11, "Microsoft.Xna.Framework.Content.DictionaryReader`2[[»A],[B]]"),
     // Wrong argument counts.
-    (11, "Microsoft.Xna.Framework.Content.ByteReader`1[[System.Byte]]"),
-    (11, "Microsoft.Xna.Framework.Content.ListReader"),
-    (11, "Microsoft.Xna.Framework.Content.ListReader`2[[System.Byte],[System.Byte]]"),
-    (11, "Microsoft.Xna.Framework.Content.DictionaryReader`1[[System.Byte]]"),
-    (11, "Microsoft.Xna.Framework.Content.ArrayReader"),
-    (11, "Microsoft.Xna.Framework.Content.NullableReader"),
-    (11, "Microsoft.Xna.Framework.Content.EnumReader"),
-    (11, "Microsoft.Xna.Framework.Content.EnumReader`2[[Coach.Door],[Coach.Door]]"),
-    (11, "Coach.Console.PageReader`1[[Coach.Console.Page]]"),
-    (11, "Microsoft.Xna.Framework.Content.ListReader`1[[System.Collections.Generic.List]]"),
-    (11, "Microsoft.Xna.Framework.Content.ListReader`1[[System.Collections.Generic.Dictionary`1[[System.Byte]]]]"),
-    (11, "Microsoft.Xna.Framework.Content.ListReader`1[[System.String`1[[System.Char]]]]"),
+    (11, "»Microsoft.Xna.Framework.Content.ByteReader`1[[System.Byte]]"),
+    (11, "»Microsoft.Xna.Framework.Content.ListReader"),
+    (11, "»Microsoft.Xna.Framework.Content.ListReader`2[[System.Byte],[System.Byte]]"),
+    (11, "»Microsoft.Xna.Framework.Content.DictionaryReader`1[[System.Byte]]"),
+    (11, "»Microsoft.Xna.Framework.Content.ArrayReader"),
+    (11, "»Microsoft.Xna.Framework.Content.NullableReader"),
+    (11, "»Microsoft.Xna.Framework.Content.EnumReader"),
+    (11, "»Microsoft.Xna.Framework.Content.EnumReader`2[[Coach.Door],[Coach.Door]]"),
+    (11, "»Coach.Console.PageReader`1[[Coach.Console.Page]]"),
+    (11, "Microsoft.Xna.Framework.Content.ListReader`1[[»System.Collections.Generic.List]]"),
+    (11, "Microsoft.Xna.Framework.Content.ListReader`1[[»System.Collections.Generic.Dictionary`1[[System.Byte]]]]"),
+    (11, "Microsoft.Xna.Framework.Content.ListReader`1[[»System.String`1[[System.Char]]]]"),
     // Enum's rule.
-    (11, "Microsoft.Xna.Framework.Content.EnumReader`1[[System.Int32]]"),
-    (11, "Microsoft.Xna.Framework.Content.EnumReader`1[[System.Object]]"),
-    (11, "Microsoft.Xna.Framework.Content.EnumReader`1[[Microsoft.Xna.Framework.Graphics.Texture]]"),
-    (11, "Microsoft.Xna.Framework.Content.EnumReader`1[[System.Nullable]]"),
-    (11, "Microsoft.Xna.Framework.Content.EnumReader`1[[System.Collections.Generic.List]]"),
-    (11, "Microsoft.Xna.Framework.Content.EnumReader`1[[System.Collections.Generic.Dictionary]]"),
-    (11, "Microsoft.Xna.Framework.Content.EnumReader`1[[Coach.Console.Page]]"),
-    (11, "Microsoft.Xna.Framework.Content.EnumReader`1[[Coach.Door`1[[System.Byte]]]]"),
-    (11, "Microsoft.Xna.Framework.Content.EnumReader`1[[System.Int32, mscorlib]]"),
+    (11, "Microsoft.Xna.Framework.Content.EnumReader`1[[»System.Int32]]"),
+    (11, "Microsoft.Xna.Framework.Content.EnumReader`1[[»System.Object]]"),
+    (11, "Microsoft.Xna.Framework.Content.EnumReader`1[[»Microsoft.Xna.Framework.Graphics.Texture]]"),
+    (11, "Microsoft.Xna.Framework.Content.EnumReader`1[[»System.Nullable]]"),
+    (11, "Microsoft.Xna.Framework.Content.EnumReader`1[[»System.Collections.Generic.List]]"),
+    (11, "Microsoft.Xna.Framework.Content.EnumReader`1[[»System.Collections.Generic.Dictionary]]"),
+    (11, "Microsoft.Xna.Framework.Content.EnumReader`1[[»Coach.Console.Page]]"),
+    (11, "Microsoft.Xna.Framework.Content.EnumReader`1[[»Coach.Door`1[[System.Byte]]]]"),
+    (11, "Microsoft.Xna.Framework.Content.EnumReader`1[[»System.Int32, mscorlib]]"),
     // Nullable's rule.
-    (11, "Microsoft.Xna.Framework.Content.NullableReader`1[[System.String]]"),
-    (11, "Microsoft.Xna.Framework.Content.NullableReader`1[[System.Object]]"),
-    (11, "Microsoft.Xna.Framework.Content.NullableReader`1[[Coach.Door]]"),
-    (11, "Microsoft.Xna.Framework.Content.NullableReader`1[[Coach.Console.Page]]"),
-    (11, "Microsoft.Xna.Framework.Content.NullableReader`1[[System.Nullable`1[[System.Byte]]]]"),
-    (11, "Microsoft.Xna.Framework.Content.NullableReader`1[[System.Collections.Generic.List`1[[System.Byte]]]]"),
-    (11, "Microsoft.Xna.Framework.Content.NullableReader`1[[Microsoft.Xna.Framework.Graphics.Texture2D]]"),
-    (11, "Microsoft.Xna.Framework.Content.ListReader`1[[System.Nullable`1[[System.String]]]]"),
-    (11, "Microsoft.Xna.Framework.Content.ListReader`1[[System.Nullable`1[[System.Nullable`1[[System.Byte]]]]]]"),
+    (11, "Microsoft.Xna.Framework.Content.NullableReader`1[[»System.String]]"),
+    (11, "Microsoft.Xna.Framework.Content.NullableReader`1[[»System.Object]]"),
+    (11, "Microsoft.Xna.Framework.Content.NullableReader`1[[»Coach.Door]]"),
+    (11, "Microsoft.Xna.Framework.Content.NullableReader`1[[»Coach.Console.Page]]"),
+    (11, "Microsoft.Xna.Framework.Content.NullableReader`1[[»System.Nullable`1[[System.Byte]]]]"),
+    (11, "Microsoft.Xna.Framework.Content.NullableReader`1[[»System.Collections.Generic.List`1[[System.Byte]]]]"),
+    (11, "Microsoft.Xna.Framework.Content.NullableReader`1[[»Microsoft.Xna.Framework.Graphics.Texture2D]]"),
+    (11, "Microsoft.Xna.Framework.Content.ListReader`1[[System.Nullable`1[[»System.String]]]]"),
+    (11, "Microsoft.Xna.Framework.Content.ListReader`1[[System.Nullable`1[[»System.Nullable`1[[System.Byte]]]]]]"),
     // Every reader without arguments, with one.
-    (11, "Microsoft.Xna.Framework.Content.SByteReader`1[[System.Byte]]"),
-    (11, "Microsoft.Xna.Framework.Content.Int16Reader`1[[System.Byte]]"),
-    (11, "Microsoft.Xna.Framework.Content.UInt16Reader`1[[System.Byte]]"),
-    (11, "Microsoft.Xna.Framework.Content.Int32Reader`1[[System.Byte]]"),
-    (11, "Microsoft.Xna.Framework.Content.UInt32Reader`1[[System.Byte]]"),
-    (11, "Microsoft.Xna.Framework.Content.Int64Reader`1[[System.Byte]]"),
-    (11, "Microsoft.Xna.Framework.Content.UInt64Reader`1[[System.Byte]]"),
-    (11, "Microsoft.Xna.Framework.Content.SingleReader`1[[System.Byte]]"),
-    (11, "Microsoft.Xna.Framework.Content.DoubleReader`1[[System.Byte]]"),
-    (11, "Microsoft.Xna.Framework.Content.BooleanReader`1[[System.Byte]]"),
-    (11, "Microsoft.Xna.Framework.Content.CharReader`1[[System.Byte]]"),
-    (11, "Microsoft.Xna.Framework.Content.StringReader`1[[System.Byte]]"),
-    (11, "Microsoft.Xna.Framework.Content.ObjectReader`1[[System.Byte]]"),
-    (11, "Microsoft.Xna.Framework.Content.TimeSpanReader`1[[System.Byte]]"),
-    (11, "Microsoft.Xna.Framework.Content.DateTimeReader`1[[System.Byte]]"),
-    (11, "Microsoft.Xna.Framework.Content.DecimalReader`1[[System.Byte]]"),
-    (11, "Microsoft.Xna.Framework.Content.Vector2Reader`1[[System.Byte]]"),
-    (11, "Microsoft.Xna.Framework.Content.Vector3Reader`1[[System.Byte]]"),
-    (11, "Microsoft.Xna.Framework.Content.Vector4Reader`1[[System.Byte]]"),
-    (11, "Microsoft.Xna.Framework.Content.MatrixReader`1[[System.Byte]]"),
-    (11, "Microsoft.Xna.Framework.Content.QuaternionReader`1[[System.Byte]]"),
-    (11, "Microsoft.Xna.Framework.Content.ColorReader`1[[System.Byte]]"),
-    (11, "Microsoft.Xna.Framework.Content.PointReader`1[[System.Byte]]"),
-    (11, "Microsoft.Xna.Framework.Content.RectangleReader`1[[System.Byte]]"),
-    (11, "Microsoft.Xna.Framework.Content.TextureReader`1[[System.Byte]]"),
-    (11, "Microsoft.Xna.Framework.Content.Texture2DReader`1[[System.Byte]]"),
-    (11, "Microsoft.Xna.Framework.Content.SpriteFontReader`1[[System.Byte]]"),
-    (11, "Coach.Console.PageReader`1[[System.Byte]]"),
+    (11, "»Microsoft.Xna.Framework.Content.SByteReader`1[[System.Byte]]"),
+    (11, "»Microsoft.Xna.Framework.Content.Int16Reader`1[[System.Byte]]"),
+    (11, "»Microsoft.Xna.Framework.Content.UInt16Reader`1[[System.Byte]]"),
+    (11, "»Microsoft.Xna.Framework.Content.Int32Reader`1[[System.Byte]]"),
+    (11, "»Microsoft.Xna.Framework.Content.UInt32Reader`1[[System.Byte]]"),
+    (11, "»Microsoft.Xna.Framework.Content.Int64Reader`1[[System.Byte]]"),
+    (11, "»Microsoft.Xna.Framework.Content.UInt64Reader`1[[System.Byte]]"),
+    (11, "»Microsoft.Xna.Framework.Content.SingleReader`1[[System.Byte]]"),
+    (11, "»Microsoft.Xna.Framework.Content.DoubleReader`1[[System.Byte]]"),
+    (11, "»Microsoft.Xna.Framework.Content.BooleanReader`1[[System.Byte]]"),
+    (11, "»Microsoft.Xna.Framework.Content.CharReader`1[[System.Byte]]"),
+    (11, "»Microsoft.Xna.Framework.Content.StringReader`1[[System.Byte]]"),
+    (11, "»Microsoft.Xna.Framework.Content.ObjectReader`1[[System.Byte]]"),
+    (11, "»Microsoft.Xna.Framework.Content.TimeSpanReader`1[[System.Byte]]"),
+    (11, "»Microsoft.Xna.Framework.Content.DateTimeReader`1[[System.Byte]]"),
+    (11, "»Microsoft.Xna.Framework.Content.DecimalReader`1[[System.Byte]]"),
+    (11, "»Microsoft.Xna.Framework.Content.Vector2Reader`1[[System.Byte]]"),
+    (11, "»Microsoft.Xna.Framework.Content.Vector3Reader`1[[System.Byte]]"),
+    (11, "»Microsoft.Xna.Framework.Content.Vector4Reader`1[[System.Byte]]"),
+    (11, "»Microsoft.Xna.Framework.Content.MatrixReader`1[[System.Byte]]"),
+    (11, "»Microsoft.Xna.Framework.Content.QuaternionReader`1[[System.Byte]]"),
+    (11, "»Microsoft.Xna.Framework.Content.ColorReader`1[[System.Byte]]"),
+    (11, "»Microsoft.Xna.Framework.Content.PointReader`1[[System.Byte]]"),
+    (11, "»Microsoft.Xna.Framework.Content.RectangleReader`1[[System.Byte]]"),
+    (11, "»Microsoft.Xna.Framework.Content.TextureReader`1[[System.Byte]]"),
+    (11, "»Microsoft.Xna.Framework.Content.Texture2DReader`1[[System.Byte]]"),
+    (11, "»Microsoft.Xna.Framework.Content.SpriteFontReader`1[[System.Byte]]"),
+    (11, "»Coach.Console.PageReader`1[[System.Byte]]"),
     // Every reader with arguments, with none and with another number of them.
-    (11, "Microsoft.Xna.Framework.Content.DictionaryReader"),
-    (11, "Microsoft.Xna.Framework.Content.EnumReader`2[[System.Byte],[System.Byte]]"),
-    (11, "Microsoft.Xna.Framework.Content.NullableReader`2[[System.Byte],[System.Byte]]"),
-    (11, "Microsoft.Xna.Framework.Content.ArrayReader`2[[System.Byte],[System.Byte]]"),
+    (11, "»Microsoft.Xna.Framework.Content.DictionaryReader"),
+    (11, "»Microsoft.Xna.Framework.Content.EnumReader`2[[System.Byte],[System.Byte]]"),
+    (11, "»Microsoft.Xna.Framework.Content.NullableReader`2[[System.Byte],[System.Byte]]"),
+    (11, "»Microsoft.Xna.Framework.Content.ArrayReader`2[[System.Byte],[System.Byte]]"),
     // Every target name without arguments, with one.
-    (11, "Microsoft.Xna.Framework.Content.ListReader`1[[System.Byte`1[[System.Byte]]]]"),
-    (11, "Microsoft.Xna.Framework.Content.ListReader`1[[System.SByte`1[[System.Byte]]]]"),
-    (11, "Microsoft.Xna.Framework.Content.ListReader`1[[System.Int16`1[[System.Byte]]]]"),
-    (11, "Microsoft.Xna.Framework.Content.ListReader`1[[System.UInt16`1[[System.Byte]]]]"),
-    (11, "Microsoft.Xna.Framework.Content.ListReader`1[[System.Int32`1[[System.Byte]]]]"),
-    (11, "Microsoft.Xna.Framework.Content.ListReader`1[[System.UInt32`1[[System.Byte]]]]"),
-    (11, "Microsoft.Xna.Framework.Content.ListReader`1[[System.Int64`1[[System.Byte]]]]"),
-    (11, "Microsoft.Xna.Framework.Content.ListReader`1[[System.UInt64`1[[System.Byte]]]]"),
-    (11, "Microsoft.Xna.Framework.Content.ListReader`1[[System.Single`1[[System.Byte]]]]"),
-    (11, "Microsoft.Xna.Framework.Content.ListReader`1[[System.Double`1[[System.Byte]]]]"),
-    (11, "Microsoft.Xna.Framework.Content.ListReader`1[[System.Boolean`1[[System.Byte]]]]"),
-    (11, "Microsoft.Xna.Framework.Content.ListReader`1[[System.Char`1[[System.Byte]]]]"),
-    (11, "Microsoft.Xna.Framework.Content.ListReader`1[[System.String`1[[System.Byte]]]]"),
-    (11, "Microsoft.Xna.Framework.Content.ListReader`1[[System.Object`1[[System.Byte]]]]"),
-    (11, "Microsoft.Xna.Framework.Content.ListReader`1[[System.TimeSpan`1[[System.Byte]]]]"),
-    (11, "Microsoft.Xna.Framework.Content.ListReader`1[[System.DateTime`1[[System.Byte]]]]"),
-    (11, "Microsoft.Xna.Framework.Content.ListReader`1[[System.Decimal`1[[System.Byte]]]]"),
-    (11, "Microsoft.Xna.Framework.Content.ListReader`1[[Microsoft.Xna.Framework.Vector2`1[[System.Byte]]]]"),
-    (11, "Microsoft.Xna.Framework.Content.ListReader`1[[Microsoft.Xna.Framework.Vector3`1[[System.Byte]]]]"),
-    (11, "Microsoft.Xna.Framework.Content.ListReader`1[[Microsoft.Xna.Framework.Vector4`1[[System.Byte]]]]"),
-    (11, "Microsoft.Xna.Framework.Content.ListReader`1[[Microsoft.Xna.Framework.Matrix`1[[System.Byte]]]]"),
-    (11, "Microsoft.Xna.Framework.Content.ListReader`1[[Microsoft.Xna.Framework.Quaternion`1[[System.Byte]]]]"),
-    (11, "Microsoft.Xna.Framework.Content.ListReader`1[[Microsoft.Xna.Framework.Color`1[[System.Byte]]]]"),
-    (11, "Microsoft.Xna.Framework.Content.ListReader`1[[Microsoft.Xna.Framework.Point`1[[System.Byte]]]]"),
-    (11, "Microsoft.Xna.Framework.Content.ListReader`1[[Microsoft.Xna.Framework.Rectangle`1[[System.Byte]]]]"),
-    (11, "Microsoft.Xna.Framework.Content.ListReader`1[[Microsoft.Xna.Framework.Graphics.Texture`1[[System.Byte]]]]"),
-    (11, "Microsoft.Xna.Framework.Content.ListReader`1[[Microsoft.Xna.Framework.Graphics.Texture2D`1[[System.Byte]]]]"),
-    (11, "Microsoft.Xna.Framework.Content.ListReader`1[[Microsoft.Xna.Framework.Graphics.SpriteFont`1[[System.Byte]]]]"),
-    (11, "Microsoft.Xna.Framework.Content.ListReader`1[[Coach.Console.Page`1[[System.Byte]]]]"),
+    (11, "Microsoft.Xna.Framework.Content.ListReader`1[[»System.Byte`1[[System.Byte]]]]"),
+    (11, "Microsoft.Xna.Framework.Content.ListReader`1[[»System.SByte`1[[System.Byte]]]]"),
+    (11, "Microsoft.Xna.Framework.Content.ListReader`1[[»System.Int16`1[[System.Byte]]]]"),
+    (11, "Microsoft.Xna.Framework.Content.ListReader`1[[»System.UInt16`1[[System.Byte]]]]"),
+    (11, "Microsoft.Xna.Framework.Content.ListReader`1[[»System.Int32`1[[System.Byte]]]]"),
+    (11, "Microsoft.Xna.Framework.Content.ListReader`1[[»System.UInt32`1[[System.Byte]]]]"),
+    (11, "Microsoft.Xna.Framework.Content.ListReader`1[[»System.Int64`1[[System.Byte]]]]"),
+    (11, "Microsoft.Xna.Framework.Content.ListReader`1[[»System.UInt64`1[[System.Byte]]]]"),
+    (11, "Microsoft.Xna.Framework.Content.ListReader`1[[»System.Single`1[[System.Byte]]]]"),
+    (11, "Microsoft.Xna.Framework.Content.ListReader`1[[»System.Double`1[[System.Byte]]]]"),
+    (11, "Microsoft.Xna.Framework.Content.ListReader`1[[»System.Boolean`1[[System.Byte]]]]"),
+    (11, "Microsoft.Xna.Framework.Content.ListReader`1[[»System.Char`1[[System.Byte]]]]"),
+    (11, "Microsoft.Xna.Framework.Content.ListReader`1[[»System.String`1[[System.Byte]]]]"),
+    (11, "Microsoft.Xna.Framework.Content.ListReader`1[[»System.Object`1[[System.Byte]]]]"),
+    (11, "Microsoft.Xna.Framework.Content.ListReader`1[[»System.TimeSpan`1[[System.Byte]]]]"),
+    (11, "Microsoft.Xna.Framework.Content.ListReader`1[[»System.DateTime`1[[System.Byte]]]]"),
+    (11, "Microsoft.Xna.Framework.Content.ListReader`1[[»System.Decimal`1[[System.Byte]]]]"),
+    (11, "Microsoft.Xna.Framework.Content.ListReader`1[[»Microsoft.Xna.Framework.Vector2`1[[System.Byte]]]]"),
+    (11, "Microsoft.Xna.Framework.Content.ListReader`1[[»Microsoft.Xna.Framework.Vector3`1[[System.Byte]]]]"),
+    (11, "Microsoft.Xna.Framework.Content.ListReader`1[[»Microsoft.Xna.Framework.Vector4`1[[System.Byte]]]]"),
+    (11, "Microsoft.Xna.Framework.Content.ListReader`1[[»Microsoft.Xna.Framework.Matrix`1[[System.Byte]]]]"),
+    (11, "Microsoft.Xna.Framework.Content.ListReader`1[[»Microsoft.Xna.Framework.Quaternion`1[[System.Byte]]]]"),
+    (11, "Microsoft.Xna.Framework.Content.ListReader`1[[»Microsoft.Xna.Framework.Color`1[[System.Byte]]]]"),
+    (11, "Microsoft.Xna.Framework.Content.ListReader`1[[»Microsoft.Xna.Framework.Point`1[[System.Byte]]]]"),
+    (11, "Microsoft.Xna.Framework.Content.ListReader`1[[»Microsoft.Xna.Framework.Rectangle`1[[System.Byte]]]]"),
+    (11, "Microsoft.Xna.Framework.Content.ListReader`1[[»Microsoft.Xna.Framework.Graphics.Texture`1[[System.Byte]]]]"),
+    (11, "Microsoft.Xna.Framework.Content.ListReader`1[[»Microsoft.Xna.Framework.Graphics.Texture2D`1[[System.Byte]]]]"),
+    (11, "Microsoft.Xna.Framework.Content.ListReader`1[[»Microsoft.Xna.Framework.Graphics.SpriteFont`1[[System.Byte]]]]"),
+    (11, "Microsoft.Xna.Framework.Content.ListReader`1[[»Coach.Console.Page`1[[System.Byte]]]]"),
     // Every target name with arguments, with none and with another number of them.
-    (11, "Microsoft.Xna.Framework.Content.ListReader`1[[System.Nullable]]"),
-    (11, "Microsoft.Xna.Framework.Content.ListReader`1[[System.Collections.Generic.Dictionary]]"),
-    (11, "Microsoft.Xna.Framework.Content.ListReader`1[[System.Nullable`2[[System.Byte],[System.Byte]]]]"),
-    (11, "Microsoft.Xna.Framework.Content.ListReader`1[[System.Collections.Generic.List`2[[System.Byte],[System.Byte]]]]"),
+    (11, "Microsoft.Xna.Framework.Content.ListReader`1[[»System.Nullable]]"),
+    (11, "Microsoft.Xna.Framework.Content.ListReader`1[[»System.Collections.Generic.Dictionary]]"),
+    (11, "Microsoft.Xna.Framework.Content.ListReader`1[[»System.Nullable`2[[System.Byte],[System.Byte]]]]"),
+    (11, "Microsoft.Xna.Framework.Content.ListReader`1[[»System.Collections.Generic.List`2[[System.Byte],[System.Byte]]]]"),
     // Every target name as an argument.
     (0, "Microsoft.Xna.Framework.Content.ListReader`1[[System.Byte]]"),
     (0, "Microsoft.Xna.Framework.Content.ListReader`1[[System.SByte]]"),
@@ -281,31 +313,31 @@ pub const TABLE: &[(u32, &str)] = &[
     (0, "Microsoft.Xna.Framework.Content.ListReader`1[[System.Nullable`1[[System.Byte]]]]"),
     (0, "Microsoft.Xna.Framework.Content.ListReader`1[[System.Collections.Generic.Dictionary`2[[System.Byte],[System.Char]]]]"),
     // No target name is an enum.
-    (11, "Microsoft.Xna.Framework.Content.EnumReader`1[[System.Byte]]"),
-    (11, "Microsoft.Xna.Framework.Content.EnumReader`1[[System.SByte]]"),
-    (11, "Microsoft.Xna.Framework.Content.EnumReader`1[[System.Int16]]"),
-    (11, "Microsoft.Xna.Framework.Content.EnumReader`1[[System.UInt16]]"),
-    (11, "Microsoft.Xna.Framework.Content.EnumReader`1[[System.UInt32]]"),
-    (11, "Microsoft.Xna.Framework.Content.EnumReader`1[[System.Int64]]"),
-    (11, "Microsoft.Xna.Framework.Content.EnumReader`1[[System.UInt64]]"),
-    (11, "Microsoft.Xna.Framework.Content.EnumReader`1[[System.Single]]"),
-    (11, "Microsoft.Xna.Framework.Content.EnumReader`1[[System.Double]]"),
-    (11, "Microsoft.Xna.Framework.Content.EnumReader`1[[System.Boolean]]"),
-    (11, "Microsoft.Xna.Framework.Content.EnumReader`1[[System.Char]]"),
-    (11, "Microsoft.Xna.Framework.Content.EnumReader`1[[System.String]]"),
-    (11, "Microsoft.Xna.Framework.Content.EnumReader`1[[System.TimeSpan]]"),
-    (11, "Microsoft.Xna.Framework.Content.EnumReader`1[[System.DateTime]]"),
-    (11, "Microsoft.Xna.Framework.Content.EnumReader`1[[System.Decimal]]"),
-    (11, "Microsoft.Xna.Framework.Content.EnumReader`1[[Microsoft.Xna.Framework.Vector2]]"),
-    (11, "Microsoft.Xna.Framework.Content.EnumReader`1[[Microsoft.Xna.Framework.Vector3]]"),
-    (11, "Microsoft.Xna.Framework.Content.EnumReader`1[[Microsoft.Xna.Framework.Vector4]]"),
-    (11, "Microsoft.Xna.Framework.Content.EnumReader`1[[Microsoft.Xna.Framework.Matrix]]"),
-    (11, "Microsoft.Xna.Framework.Content.EnumReader`1[[Microsoft.Xna.Framework.Quaternion]]"),
-    (11, "Microsoft.Xna.Framework.Content.EnumReader`1[[Microsoft.Xna.Framework.Color]]"),
-    (11, "Microsoft.Xna.Framework.Content.EnumReader`1[[Microsoft.Xna.Framework.Point]]"),
-    (11, "Microsoft.Xna.Framework.Content.EnumReader`1[[Microsoft.Xna.Framework.Rectangle]]"),
-    (11, "Microsoft.Xna.Framework.Content.EnumReader`1[[Microsoft.Xna.Framework.Graphics.Texture2D]]"),
-    (11, "Microsoft.Xna.Framework.Content.EnumReader`1[[Microsoft.Xna.Framework.Graphics.SpriteFont]]"),
+    (11, "Microsoft.Xna.Framework.Content.EnumReader`1[[»System.Byte]]"),
+    (11, "Microsoft.Xna.Framework.Content.EnumReader`1[[»System.SByte]]"),
+    (11, "Microsoft.Xna.Framework.Content.EnumReader`1[[»System.Int16]]"),
+    (11, "Microsoft.Xna.Framework.Content.EnumReader`1[[»System.UInt16]]"),
+    (11, "Microsoft.Xna.Framework.Content.EnumReader`1[[»System.UInt32]]"),
+    (11, "Microsoft.Xna.Framework.Content.EnumReader`1[[»System.Int64]]"),
+    (11, "Microsoft.Xna.Framework.Content.EnumReader`1[[»System.UInt64]]"),
+    (11, "Microsoft.Xna.Framework.Content.EnumReader`1[[»System.Single]]"),
+    (11, "Microsoft.Xna.Framework.Content.EnumReader`1[[»System.Double]]"),
+    (11, "Microsoft.Xna.Framework.Content.EnumReader`1[[»System.Boolean]]"),
+    (11, "Microsoft.Xna.Framework.Content.EnumReader`1[[»System.Char]]"),
+    (11, "Microsoft.Xna.Framework.Content.EnumReader`1[[»System.String]]"),
+    (11, "Microsoft.Xna.Framework.Content.EnumReader`1[[»System.TimeSpan]]"),
+    (11, "Microsoft.Xna.Framework.Content.EnumReader`1[[»System.DateTime]]"),
+    (11, "Microsoft.Xna.Framework.Content.EnumReader`1[[»System.Decimal]]"),
+    (11, "Microsoft.Xna.Framework.Content.EnumReader`1[[»Microsoft.Xna.Framework.Vector2]]"),
+    (11, "Microsoft.Xna.Framework.Content.EnumReader`1[[»Microsoft.Xna.Framework.Vector3]]"),
+    (11, "Microsoft.Xna.Framework.Content.EnumReader`1[[»Microsoft.Xna.Framework.Vector4]]"),
+    (11, "Microsoft.Xna.Framework.Content.EnumReader`1[[»Microsoft.Xna.Framework.Matrix]]"),
+    (11, "Microsoft.Xna.Framework.Content.EnumReader`1[[»Microsoft.Xna.Framework.Quaternion]]"),
+    (11, "Microsoft.Xna.Framework.Content.EnumReader`1[[»Microsoft.Xna.Framework.Color]]"),
+    (11, "Microsoft.Xna.Framework.Content.EnumReader`1[[»Microsoft.Xna.Framework.Point]]"),
+    (11, "Microsoft.Xna.Framework.Content.EnumReader`1[[»Microsoft.Xna.Framework.Rectangle]]"),
+    (11, "Microsoft.Xna.Framework.Content.EnumReader`1[[»Microsoft.Xna.Framework.Graphics.Texture2D]]"),
+    (11, "Microsoft.Xna.Framework.Content.EnumReader`1[[»Microsoft.Xna.Framework.Graphics.SpriteFont]]"),
     // Every target name as the argument of Nullable.
     (0, "Microsoft.Xna.Framework.Content.NullableReader`1[[System.Byte]]"),
     (0, "Microsoft.Xna.Framework.Content.NullableReader`1[[System.SByte]]"),
@@ -329,9 +361,9 @@ pub const TABLE: &[(u32, &str)] = &[
     (0, "Microsoft.Xna.Framework.Content.NullableReader`1[[Microsoft.Xna.Framework.Color]]"),
     (0, "Microsoft.Xna.Framework.Content.NullableReader`1[[Microsoft.Xna.Framework.Point]]"),
     (0, "Microsoft.Xna.Framework.Content.NullableReader`1[[Microsoft.Xna.Framework.Rectangle]]"),
-    (11, "Microsoft.Xna.Framework.Content.NullableReader`1[[Microsoft.Xna.Framework.Graphics.Texture]]"),
-    (11, "Microsoft.Xna.Framework.Content.NullableReader`1[[Microsoft.Xna.Framework.Graphics.SpriteFont]]"),
-    (11, "Microsoft.Xna.Framework.Content.NullableReader`1[[System.Collections.Generic.Dictionary`2[[System.Byte],[System.Char]]]]"),
+    (11, "Microsoft.Xna.Framework.Content.NullableReader`1[[»Microsoft.Xna.Framework.Graphics.Texture]]"),
+    (11, "Microsoft.Xna.Framework.Content.NullableReader`1[[»Microsoft.Xna.Framework.Graphics.SpriteFont]]"),
+    (11, "Microsoft.Xna.Framework.Content.NullableReader`1[[»System.Collections.Generic.Dictionary`2[[System.Byte],[System.Char]]]]"),
     // Every reader with its own number of arguments.
     (0, "Microsoft.Xna.Framework.Content.EnumReader`1[[Coach.Door+State_2]]"),
     (0, "Microsoft.Xna.Framework.Content.ArrayReader`1[[System.Int32]]"),
@@ -352,22 +384,62 @@ pub fn tailed(length: usize) -> String {
     format!("{name}{}", "a".repeat(length - name.len()))
 }
 
-/// The table, names at and past the deepest level, and one as long as a name may be.
-pub fn all() -> Vec<(u32, String)> {
-    let mut names: Vec<(u32, String)> = Vec::new();
-    for (number, name) in TABLE {
-        names.push((*number, name.to_string()));
+/// The tables, names at and past the deepest level, and one as long as a name may be.
+pub fn all() -> Vec<Judged> {
+    let mut names: Vec<Judged> = Vec::new();
+    for (number, marked) in TABLE {
+        names.push(judged(*number, marked));
     }
-    names.push((0, nested(2)));
-    names.push((0, nested(8)));
-    names.push((10, nested(9)));
-    names.push((10, nested(12)));
-    names.push((10, nested(9).replace("System", "Unknown")));
-    names.push((0, tailed(1024)));
+    names.extend(parts::all());
+    names.push(judged(0, &nested(2)));
+    names.push(judged(0, &nested(8)));
+    names.push(judged(0, &tailed(1024)));
     names
 }
 
 /// Names that are empty or too long: 9.
-pub fn of_wrong_length() -> Vec<(u32, String)> {
-    vec![(9, String::new()), (9, tailed(1025))]
+pub fn of_wrong_length() -> Vec<Judged> {
+    let of = |name| Judged {
+        number: 9,
+        place: 0,
+        name,
+    };
+    vec![of(String::new()), of(tailed(1025))]
+}
+
+/// All names, by the files in which the program `reader_names` has them.
+pub fn files() -> Vec<(&'static str, Vec<Judged>)> {
+    let mut names = all();
+    names.extend(of_wrong_length());
+    let of = |numbers: &[u32]| {
+        let mut names = names.clone();
+        names.retain(|judged| numbers.contains(&judged.number));
+        names
+    };
+    vec![
+        ("good", of(&[0])),
+        ("broken", of(&[33, 34, 35, 36, 37, 38])),
+        ("unknown", of(&[11])),
+        ("wrong_length", of(&[9])),
+    ]
+}
+
+/// The lines of such a file.
+pub fn lines(names: &[Judged]) -> String {
+    names.iter().map(|it| format!("{}\n", it.name)).collect()
+}
+
+/// What `reader_names` prints: each file's name, then for every name in it 0, or the refusal's number and its place.
+pub fn printed() -> String {
+    let mut printed = String::new();
+    for (file, names) in files() {
+        printed += &format!("{file}\n");
+        for Judged { number, place, .. } in names {
+            printed += &match number {
+                0 => "0\n".to_string(),
+                _ => format!("{number} {place}\n"),
+            };
+        }
+    }
+    printed
 }

@@ -1,5 +1,6 @@
 //! Names of readers, as document 000 and the house rules give them.
 
+use crate::names::at_mark;
 use crate::writer::{Part, Role, Seven};
 
 pub const BYTE: &str = "Microsoft.Xna.Framework.Content.ByteReader";
@@ -78,6 +79,19 @@ pub fn reader(name: &str) -> Vec<Part> {
     vec![
         Part::Seven(Role::NameLength, Seven { value, width: 0 }),
         Part::Data(name.as_bytes().to_vec()),
+        Part::Field(Role::ReaderVersion, vec![0; 4]),
+    ]
+}
+
+/// One reader whose name is refused at its mark.
+pub fn marked_reader(marked: &str) -> Vec<Part> {
+    let (before, behind) = at_mark(marked);
+    let value = (before.len() + behind.len()) as u32;
+    vec![
+        Part::Seven(Role::NameLength, Seven { value, width: 0 }),
+        Part::Data(before.into_bytes()),
+        Part::Fault,
+        Part::Data(behind.into_bytes()),
         Part::Field(Role::ReaderVersion, vec![0; 4]),
     ]
 }

@@ -64,8 +64,10 @@ fn every_refusal_of_a_load_stands_in_a_kept_file() {
             numbers.insert(number.parse::<u32>().expect("a number"));
         }
     }
-    let of_a_load = |number: &u32| *number != 21;
-    assert_eq!(numbers, (1..=22).chain([32]).filter(of_a_load).collect());
+    // 33 to 38 stand for 10, and 21 is the rewriter's.
+    let of_a_load = |number: &u32| *number != 10 && *number != 21;
+    let expected = (1..=22).chain(32..=38).filter(of_a_load);
+    assert_eq!(numbers, expected.collect());
 }
 
 #[test]

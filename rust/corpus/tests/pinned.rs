@@ -4,7 +4,7 @@
 //! The limit of 16,777,216 bytes has no file; `second/tests/examples.rs` and `fuzz::limits` make those.
 
 use corpus::folder::kept_files;
-use corpus::names::TABLE;
+use corpus::names::all;
 use corpus::writer::Row;
 use corpus::Sample;
 use std::ops::RangeInclusive;
@@ -374,9 +374,12 @@ fn each_number_of_levels_at_its_most_and_past_it() {
 /// Every name of a reader and of an argument, in the table of names: with its own number of arguments, and with another.
 #[test]
 fn each_name_takes_its_own_number_of_arguments() {
+    let names = all();
     let number_of = |name: &str| {
-        let found = TABLE.iter().find(|(_, it)| *it == name);
-        found.unwrap_or_else(|| panic!("no entry for {name}")).0
+        let found = names.iter().find(|it| it.name == name);
+        found
+            .unwrap_or_else(|| panic!("no entry for {name}"))
+            .number
     };
     let invoked = READERS.iter().map(|(name, _, _)| *name);
     for name in invoked.chain(NEVER_INVOKED) {
@@ -479,37 +482,118 @@ const LIMITS: &[(&str, &[&str])] = &[
             "ok-tail-of-no-byte",
             "ok-tail-20-7e",
             "ok-tail-5a-5c-5e",
-            "bad-10-tail-1f",
-            "bad-10-tail-5b",
-            "bad-10-tail-5d",
-            "bad-10-tail-7f",
+            "bad-37-tail-1f",
+            "bad-37-tail-5b",
+            "bad-37-tail-5d",
+            "bad-37-tail-7f",
         ],
     ),
     (
         "a head's letters, digits, `.`, `_`, `+`",
         &[
             "ok-head-of-0-9-a-z",
-            "bad-10-head-of-no-byte",
-            "bad-10-head-2f",
-            "bad-10-head-3a",
-            "bad-10-head-40",
-            "bad-10-head-5e",
-            "bad-10-head-60",
-            "bad-10-head-7b",
+            "bad-33-head-of-no-byte",
+            "bad-34-head-2f",
+            "bad-34-head-3a",
+            "bad-34-head-40",
+            "bad-34-head-5e",
+            "bad-35-head-60",
+            "bad-34-head-7b",
         ],
     ),
     (
         "the digit 1 or 2",
         &[
-            "bad-10-digit-0",
-            "bad-10-digit-3",
-            "bad-10-digit-1-with-2-arguments",
-            "bad-10-digit-2-with-1-argument",
+            "bad-35-digit-0",
+            "bad-35-digit-3",
+            "bad-36-digit-1-with-2-arguments",
+            "bad-36-digit-2-with-1-argument",
         ],
     ),
     (
         "names of 8 levels",
-        &["ok-name-of-8-levels", "bad-10-nine-levels"],
+        &["ok-name-of-8-levels", "bad-38-nine-levels"],
+    ),
+    (
+        "33: a head is empty where no head byte stands at its start, the name's end too",
+        &[
+            "bad-33-name-starts-with-a-backquote",
+            "bad-33-argument-of-no-byte",
+            "bad-33-second-argument-starts-with-a-comma",
+            "bad-33-ends-where-a-head-is-due",
+            "bad-33-ends-where-a-second-head-is-due",
+        ],
+    ),
+    (
+        "34: a byte behind a head that cannot follow it",
+        &[
+            "bad-34-hyphen-in-head",
+            "bad-34-space-behind-head",
+            "bad-34-bracket-behind-head",
+            "bad-34-closing-bracket-behind-head",
+            "bad-34-array-type-as-argument",
+        ],
+    ),
+    (
+        "35: the digit, the name's end too",
+        &[
+            "bad-35-letter-for-a-digit",
+            "bad-35-bracket-for-a-digit",
+            "bad-35-ends-behind-a-backquote",
+            "bad-35-ends-behind-argument-backquote",
+        ],
+    ),
+    (
+        "36: each bracket, what follows them, and the name's end where a bracket is due",
+        &[
+            "bad-36-two-digits",
+            "bad-36-tail-for-brackets",
+            "bad-36-one-bracket-for-two",
+            "bad-36-no-comma-between-arguments",
+            "bad-36-space-between-arguments",
+            "bad-36-one-bracket-too-many",
+            "bad-36-letters-behind-brackets",
+            "bad-36-letter-behind-argument-brackets",
+            "bad-36-no-closing-bracket",
+            "bad-36-ends-in-brackets",
+            "bad-36-ends-behind-argument-head",
+            "bad-36-ends-in-argument-tail",
+            "bad-36-ends-behind-a-comma",
+            "bad-36-ends-behind-argument-brackets",
+        ],
+    ),
+    (
+        "37: a tail's byte, nested or not, a bracket too",
+        &[
+            "bad-37-bracket-in-tail",
+            "bad-37-bracket-in-argument-tail",
+            "bad-37-tab-in-tail-behind-brackets",
+        ],
+    ),
+    (
+        "38 where a level-9 part starts, before another fault there, at the name's end too",
+        &[
+            "bad-33-empty-head-at-level-8",
+            "bad-35-digit-at-level-8",
+            "bad-36-brackets-at-level-8",
+            "bad-38-level-9-at-the-name-end",
+            "bad-38-level-9-of-no-byte",
+            "bad-38-level-9-starts-with-a-hyphen",
+        ],
+    ),
+    (
+        "11 at the leftmost head: a wrong count's owner, an unlawful argument's own",
+        &[
+            "bad-11-unknown-reader-of-unknown-argument",
+            "bad-11-list-of-two-unknown-arguments",
+            "bad-11-two-unknown-arguments",
+            "bad-11-unknown-second-argument",
+            "bad-11-argument-with-wrong-count-of-unknown",
+            "bad-11-enum-of-a-target-name",
+            "bad-11-enum-with-an-argument",
+            "bad-11-nullable-of-text-inside",
+            "bad-11-nullable-of-nullable-of-text",
+        ],
     ),
     (
         "reader version 0",

@@ -237,24 +237,24 @@ fn too_large(random: &mut Random, least: u32) -> Option<Damage> {
     damage(seven_in_any_form(random, count), 9)
 }
 
-/// 9, 10 or 11: a name of a wrong length, or a bad name.
+/// 9, 11 or 33 to 38: a name of a wrong length, or a bad name.
 fn bad_name(random: &mut Random) -> Option<Damage> {
     if random.chance(20) {
         let length = random.pick(&[0, 1025, 2000, u32::MAX]);
         return damage(seven_in_any_form(random, length), 9);
     }
     let names = corpus::names::all();
-    let (number, name) = &names[random.below(names.len())];
-    if *number == 0 {
+    let judged = &names[random.below(names.len())];
+    if judged.number == 0 {
         return None;
     }
-    let mut bytes = seven_in_any_form(random, name.len() as u32);
-    let offset = bytes.len();
-    bytes.extend_from_slice(name.as_bytes());
+    let mut bytes = seven_in_any_form(random, judged.name.len() as u32);
+    let offset = bytes.len() + judged.place;
+    bytes.extend_from_slice(judged.name.as_bytes());
     Some(Damage {
         bytes,
         with_data: true,
-        number: *number,
+        number: judged.number,
         offset,
     })
 }

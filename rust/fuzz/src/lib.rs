@@ -1,6 +1,7 @@
 //! Random XNB 5 files, lawful and damaged.
 //!
 //! `case(seed)` gives one file; equal seeds give equal files.
+//! `names::case(seed)` gives a file with one reader name, good or bad.
 //! `limits::cases()` gives files at every bound of 01 and just past it.
 //! `enums::case(seed)` gives one with a list of enum types that is lent with it, and `enums::limits()` those at bounds.
 //! `padding::case(seed)` gives one whose seven-bit numbers are padded by chosen amounts.
@@ -11,6 +12,7 @@ mod blind;
 pub mod enums;
 pub mod limits;
 mod maker;
+pub mod names;
 pub mod packs;
 pub mod padding;
 pub mod random;

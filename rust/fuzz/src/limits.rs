@@ -101,11 +101,21 @@ fn counts() -> Vec<Limit> {
     nameless.readers[0].insert(0, Part::Fault);
     limits.push(limit("name of no byte", 9, nameless));
     for levels in 2..12 {
-        let mut file = alone(&[corpus::names::nested(levels)], null());
-        file.readers[0].insert(1, Part::Fault);
+        let name = corpus::names::nested(levels);
+        let mut file = alone(&[&name], null());
+        if levels > 8 {
+            let level_9 = name
+                .match_indices("System.")
+                .nth(7)
+                .expect("a level-9 part");
+            let (before, behind) = name.as_bytes().split_at(level_9.0);
+            let halves = [before, behind].map(|half| Part::Data(half.to_vec()));
+            file.readers[0].splice(1..2, halves);
+            file.readers[0].insert(2, Part::Fault);
+        }
         limits.push(limit(
             format!("name of {levels} levels"),
-            past(levels > 8, 10),
+            past(levels > 8, 38),
             file,
         ));
     }

@@ -94,32 +94,48 @@ impl Shape {
 
     /// The name of the reader whose target this is, often with tails.
     pub fn reader_name(&self, random: &mut Random) -> String {
-        let name = match self.kind {
-            PAGE => "Coach.Console.PageReader".to_string(),
-            ENUM => {
-                let name = match &self.listed {
-                    Some(listed) => listed.name.clone() + tail(random),
-                    None => enum_name(random),
-                };
-                content_reader("Enum") + "`1[[" + &name + "]]"
-            }
-            ARRAY => content_reader("Array") + &self.argument_names(random),
-            _ => {
-                let head = target_head(self.kind);
-                let last = head.rsplit('.').next().unwrap_or(head);
-                content_reader(last) + &self.argument_names(random)
-            }
+        let arguments = match (self.kind, &self.listed) {
+            (ENUM, Some(listed)) => format!("`1[[{}{}]]", listed.name, tail(random)),
+            (ENUM, None) => format!("`1[[{}]]", enum_name(random)),
+            _ => self.argument_names(random),
         };
-        name + tail(random)
+        self.reader_head() + &arguments + tail(random)
+    }
+
+    /// The head of the reader whose target this is.
+    pub fn reader_head(&self) -> String {
+        match self.kind {
+            PAGE => "Coach.Console.PageReader".to_string(),
+            ENUM => content_reader("Enum"),
+            ARRAY => content_reader("Array"),
+            _ => {
+                let head = self.target_head();
+                content_reader(head.rsplit('.').next().unwrap_or(head))
+            }
+        }
+    }
+
+    /// The head of this type as an argument.
+    pub fn target_head(&self) -> &str {
+        match &self.listed {
+            Some(listed) => &listed.name,
+            None => target_head(self.kind),
+        }
+    }
+
+    /// A head that may be an enum's.
+    pub fn enum_head(random: &mut Random) -> &'static str {
+        random.pick(&UNLISTED)
+    }
+
+    /// No tail, or a comma and a tail.
+    pub fn tail(random: &mut Random) -> &'static str {
+        tail(random)
     }
 
     fn target_name(&self, random: &mut Random) -> String {
         let arguments = self.argument_names(random);
-        let head = match &self.listed {
-            Some(listed) => &listed.name,
-            None => target_head(self.kind),
-        };
-        head.to_string() + &arguments + tail(random)
+        self.target_head().to_string() + &arguments + tail(random)
     }
 
     fn argument_names(&self, random: &mut Random) -> String {

@@ -47,7 +47,7 @@ fn generated_files_give_what_is_known_and_every_refusal() {
     }
     println!("all: {all:?}");
     println!("damaged at random: {unknown:?}");
-    for number in (0..=22).filter(|number| *number != 21) {
+    for number in (0..=22).chain(33..=38).filter(|it| ![10, 21].contains(it)) {
         let count = all.get(&number).copied().unwrap_or(0);
         assert!(count >= 20, "refusal {number} occurs {count} times");
     }

@@ -5,9 +5,7 @@ use crate::enums::EnumList;
 use crate::header::{check_header, HEADER_BYTES};
 use crate::kinds::OBJECT;
 use crate::name::parse_name;
-use crate::refusal::{
-    demand, refuse, Refusal, LEFT_OVER, NAME_GRAMMAR, NAME_HEAD, READER_VERSION, TOO_LARGE,
-};
+use crate::refusal::{demand, Refusal, LEFT_OVER, READER_VERSION, TOO_LARGE};
 use crate::row::{Row, WORDS_PER_ROW};
 use crate::seven::Seven;
 use crate::table::{fill, room, Shape};
@@ -134,12 +132,8 @@ fn read_reader(cursor: &mut Cursor, enums: &EnumList) -> Result<Type, Refusal> {
     demand(length > 0, TOO_LARGE, length_place)?;
     let name_place = cursor.at;
     let text = cursor.take_placed(length as usize, length_place)?;
-    let Some(name) = parse_name(text) else {
-        return refuse(NAME_GRAMMAR, name_place);
-    };
-    let Some(target) = reader_target(&name, enums) else {
-        return refuse(NAME_HEAD, name_place);
-    };
+    let name = parse_name(text, name_place)?;
+    let target = reader_target(&name, enums)?;
     let version_place = cursor.at;
     let version = cursor.take_u32()?;
     demand(version == 0, READER_VERSION, version_place)?;

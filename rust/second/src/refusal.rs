@@ -1,4 +1,4 @@
-//! Refusals and their numbers in 01.
+//! Refusals and their numbers in 01 and 02.
 
 /// Why a file or a question is turned down, and where.
 #[derive(Clone, Copy, Debug, PartialEq, Eq)]
@@ -16,7 +16,6 @@ pub const FLAGS: u32 = 6;
 pub const FILE_LENGTH: u32 = 7;
 pub const BROKEN_NUMBER: u32 = 8;
 pub const TOO_LARGE: u32 = 9;
-pub const NAME_GRAMMAR: u32 = 10;
 pub const NAME_HEAD: u32 = 11;
 pub const READER_VERSION: u32 = 12;
 pub const NO_READER: u32 = 13;
@@ -32,6 +31,12 @@ pub const FONT_RULE: u32 = 22;
 pub const NO_SUCH_ROW: u32 = 23;
 pub const OTHER_KIND: u32 = 24;
 pub const ENUM_LIST: u32 = 32;
+pub const EMPTY_HEAD: u32 = 33;
+pub const HEAD_BYTE: u32 = 34;
+pub const DIGIT: u32 = 35;
+pub const BRACKETS: u32 = 36;
+pub const TAIL_BYTE: u32 = 37;
+pub const NESTED_TOO_DEEP: u32 = 38;
 
 /// A refusal as the answer of any reading.
 pub fn refuse<T>(number: u32, place: usize) -> Result<T, Refusal> {

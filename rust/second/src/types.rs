@@ -6,6 +6,7 @@ use crate::kinds::{
     NULLABLE, OBJECT, TEXTURE, TEXTURE2D,
 };
 use crate::name::Name;
+use crate::refusal::{demand, refuse, Refusal, NAME_HEAD};
 
 /// "EnumReader for a listed name takes that size, for others four."
 const UNLISTED_SIZE: usize = 4;
@@ -77,49 +78,53 @@ impl Type {
     }
 }
 
-/// The target type of a reader, or nothing where a head or an argument is not lawful.
-pub fn reader_target(name: &Name, enums: &EnumList) -> Option<Type> {
-    let kind = kind_of_reader(name.head)?;
-    if name.arguments.len() != argument_count(kind) {
-        return None;
-    }
+/// The target type of a reader; 11 is placed at the leftmost head that it complains of.
+///
+/// A head stands before the heads of its arguments, so it is judged before them.
+pub fn reader_target(name: &Name, enums: &EnumList) -> Result<Type, Refusal> {
+    let kind = kind_with_count(kind_of_reader(name.head), name)?;
     if kind == ENUM {
         return enum_target(&name.arguments[0], enums);
     }
     with_arguments(kind, name, enums)
 }
 
-/// An enum has any head that is no target name, and no arguments.
-fn enum_target(name: &Name, enums: &EnumList) -> Option<Type> {
-    let is_target_name = kind_of_target(name.head).is_some();
-    if is_target_name || !name.arguments.is_empty() {
-        return None;
+/// "A head that is not listed, or a wrong argument count": both are faults of the name's own head.
+fn kind_with_count(kind: Option<u32>, name: &Name) -> Result<u32, Refusal> {
+    match kind {
+        Some(kind) if name.arguments.len() == argument_count(kind) => Ok(kind),
+        _ => refuse(NAME_HEAD, name.place),
     }
-    let size = enums.size(name.head).unwrap_or(UNLISTED_SIZE);
-    Some(Type::enumeration(name.head, size))
 }
 
+/// An enum has any head that is no target name, and no arguments.
+fn enum_target(name: &Name, enums: &EnumList) -> Result<Type, Refusal> {
+    let is_target_name = kind_of_target(name.head).is_some();
+    let lawful = !is_target_name && name.arguments.is_empty();
+    demand(lawful, NAME_HEAD, name.place)?;
+    let size = enums.size(name.head).unwrap_or(UNLISTED_SIZE);
+    Ok(Type::enumeration(name.head, size))
+}
+
+/// An argument's type; an unlawful argument is a fault of the argument's own head.
+///
 /// "A listed name is a known value type in arguments."
-fn argument_type(name: &Name, enums: &EnumList) -> Option<Type> {
+fn argument_type(owner: u32, name: &Name, enums: &EnumList) -> Result<Type, Refusal> {
     if enums.size(name.head).is_some() {
         return enum_target(name, enums);
     }
-    let kind = kind_of_target(name.head)?;
-    if name.arguments.len() != argument_count(kind) {
-        return None;
-    }
+    let kind = kind_with_count(kind_of_target(name.head), name)?;
+    let lawful = owner != NULLABLE || may_be_nullable(kind);
+    demand(lawful, NAME_HEAD, name.place)?;
     with_arguments(kind, name, enums)
 }
 
-fn with_arguments(kind: u32, name: &Name, enums: &EnumList) -> Option<Type> {
+fn with_arguments(kind: u32, name: &Name, enums: &EnumList) -> Result<Type, Refusal> {
     let mut arguments = Vec::new();
     for argument in &name.arguments {
-        arguments.push(argument_type(argument, enums)?);
+        arguments.push(argument_type(kind, argument, enums)?);
     }
-    if kind == NULLABLE && !may_be_nullable(arguments[0].kind) {
-        return None;
-    }
-    Some(Type::of(kind, arguments))
+    Ok(Type::of(kind, arguments))
 }
 
 fn may_be_nullable(kind: u32) -> bool {

@@ -3,6 +3,9 @@
 use std::path::{Path, PathBuf};
 use std::process::Command;
 
+#[path = "wrong/names.rs"]
+mod names;
+
 /// A rule as it stands in a source file, and a wrong one for it.
 struct Wrong {
     what: &'static str,
@@ -128,9 +131,9 @@ const WRONG: &[Wrong] = &[
     Wrong {
         what: "a listed name with arguments taken",
         file: "types.rs",
-        right: "if is_target_name || !name.arguments.is_empty() {",
-        wrong:
-            "if is_target_name || !name.arguments.is_empty() && enums.size(name.head).is_none() {",
+        right: "let lawful = !is_target_name && name.arguments.is_empty();",
+        wrong: "let bare = name.arguments.is_empty() || enums.size(name.head).is_some();
+    let lawful = !is_target_name && bare;",
     },
 ];
 
@@ -208,7 +211,8 @@ fn the_right_rules_give_all_rows() {
 
 #[test]
 fn each_wrong_rule_is_shown_by_a_kept_file() {
-    for (number, wrong) in WRONG.iter().enumerate() {
+    let rules = WRONG.iter().chain(&names::WRONG);
+    for (number, wrong) in rules.enumerate() {
         let names = differing(&format!("wrong-{number}"), Some(wrong));
         assert!(!names.is_empty(), "no file shows {}", wrong.what);
         println!("{}: {}", wrong.what, names.join(" "));

@@ -1,6 +1,7 @@
 //! Files that must be refused, each with its number and place.
 
 mod cut;
+mod names;
 mod objects;
 mod start;
 mod values;
@@ -12,6 +13,7 @@ use crate::writer::{Part, Role, Value};
 pub fn samples() -> Vec<Sample> {
     let mut samples = cut::samples();
     samples.extend(start::samples());
+    samples.extend(names::samples());
     samples.extend(objects::samples());
     samples.extend(values::samples());
     samples

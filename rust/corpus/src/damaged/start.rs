@@ -1,12 +1,11 @@
-//! 2 to 12: the header, broken and too large numbers, and the reader list.
+//! 2 to 9 and 12: the header, broken and too large numbers, and the reader list but for bad names.
 
 use super::{bad, faulty_field};
 use crate::lawful::{file_a, file_b};
-use crate::names::nested;
-use crate::readers::{enum_of, list_of, nullable_of, nullable_target, BYTE, PAGE, STRING};
+use crate::readers::{list_of, BYTE, PAGE, STRING};
 use crate::sample::{refused, refused_bytes, Sample};
 use crate::values::*;
-use crate::writer::{write, File, Part, Role};
+use crate::writer::{write, Part, Role};
 
 pub fn samples() -> Vec<Sample> {
     let mut samples = headers();
@@ -15,8 +14,6 @@ pub fn samples() -> Vec<Sample> {
     samples.extend(broken_ids());
     samples.extend(large_counts());
     samples.extend(large_names());
-    samples.extend(broken_names());
-    samples.extend(unlawful_names());
     samples.extend(versions());
     samples
 }
@@ -119,49 +116,6 @@ fn large_names() -> Vec<Sample> {
         refused("empty-name", 9, named("")),
         refused("name-of-1025-bytes", 9, named(&long)),
         refused("name-of-1025-bytes-cut", 9, long_and_cut).further(),
-    ]
-}
-
-/// A file whose second reader has a bad name and, behind it, a bad version.
-fn named(name: &str) -> File {
-    let mut file = file(&[BYTE, name], null(), vec![]);
-    file.readers[1].insert(1, Part::Fault);
-    file.readers[1].pop();
-    let version = Part::Field(Role::ReaderVersion, vec![1, 0, 0, 0]);
-    file.readers[1].push(version);
-    file
-}
-
-/// 10; the whole table of names stands in `names`.
-fn broken_names() -> Vec<Sample> {
-    let unclosed = "Microsoft.Xna.Framework.Content.ListReader`1[[System.Byte]";
-    let one_and_two = "Unknown`1[[A],[B]]";
-    let array_type = list_of("System.Byte[]");
-    let bracket = format!("{BYTE}, a]b");
-    vec![
-        refused("no-closing-bracket", 10, named(unclosed)),
-        refused("digit-1-with-2-arguments", 10, named(one_and_two)),
-        refused("array-type-as-argument", 10, named(&array_type)),
-        refused("bracket-in-tail", 10, named(&bracket)),
-        refused("nine-levels", 10, named(&nested(9))),
-    ]
-}
-
-/// 11; the whole table of names stands in `names`.
-fn unlawful_names() -> Vec<Sample> {
-    let model = "Microsoft.Xna.Framework.Content.ModelReader";
-    let bare_list = "Microsoft.Xna.Framework.Content.ListReader";
-    let doors = list_of("Coach.Door");
-    let number_enum = enum_of("System.Int32");
-    let no_text = nullable_of("System.String");
-    let inside = list_of(&nullable_target("System.String"));
-    vec![
-        refused("unknown-reader", 11, named(model)),
-        refused("list-without-argument", 11, named(bare_list)),
-        refused("unknown-argument", 11, named(&doors)),
-        refused("enum-of-a-target-name", 11, named(&number_enum)),
-        refused("nullable-of-text", 11, named(&no_text)),
-        refused("nullable-of-text-inside", 11, named(&inside)),
     ]
 }
 

@@ -7,11 +7,11 @@ use crate::{Case, Known, GENEROUS_WORDS};
 use corpus::enums::{entry, enum_of_size, list_bytes, SIZES, TARGET_NAMES};
 use corpus::lawful::{buried, file_a};
 use corpus::readers::{
-    array_of, dictionary_of, dictionary_target, enum_of, list_of, list_target, nullable_of,
-    nullable_target, STRING,
+    array_of, dictionary_of, dictionary_target, enum_of, list_of, list_target, marked_reader,
+    nullable_of, nullable_target, STRING,
 };
 use corpus::values::*;
-use corpus::writer::{write, File, Part, Value, WORDS_PER_ROW};
+use corpus::writer::{write, File, Value, WORDS_PER_ROW};
 
 /// A case with a name to tell it by.
 pub struct EnumLimit {
@@ -354,11 +354,16 @@ fn other_sizes() -> Vec<EnumLimit> {
     limits
 }
 
-/// A file with one reader that must be refused with 11, at its name's first byte.
-fn unlawful(name: &str) -> File {
-    let mut file = alone(&[name], null());
-    file.readers[0].insert(1, Part::Fault);
+/// A file with one reader that must be refused with 11, at the mark of its name.
+fn unlawful(marked: &str) -> File {
+    let mut file = alone(&[""], null());
+    file.readers[0] = marked_reader(marked);
     file
+}
+
+/// A head where a name is refused.
+fn marked(head: &str) -> String {
+    format!("»{head}")
 }
 
 /// Names that are not the listed one, and what is not lawful of a listed one.
@@ -378,19 +383,20 @@ fn unlisted_arguments() -> Vec<EnumLimit> {
         others.push(String::from_utf8(bytes).expect("text"));
     }
     for other in &others {
-        let inside = list_of(&list_target(&nullable_target(other)));
+        let head = &marked(other);
+        let inside = list_of(&list_target(&nullable_target(head)));
         for reader in [
-            list_of(other),
-            array_of(other),
-            nullable_of(other),
-            dictionary_of(other, DOOR),
-            dictionary_of(DOOR, other),
+            list_of(head),
+            array_of(head),
+            nullable_of(head),
+            dictionary_of(head, DOOR),
+            dictionary_of(DOOR, head),
             inside,
         ] {
             limits.push(with_list(&reader, listed.clone(), 11, unlawful(&reader)));
             // The same where the list has both.
             let both = list_bytes(&[(other, 2), (DOOR, 1)]);
-            let file = alone(&[&reader], null());
+            let file = alone(&[reader.replace('»', "")], null());
             limits.push(with_list(format!("{reader}, listed"), both, 0, file));
         }
         // An enum's own reader takes four bytes then.
@@ -398,15 +404,15 @@ fn unlisted_arguments() -> Vec<EnumLimit> {
         limits.push(with_list(format!("enum {other}"), listed.clone(), 0, file));
     }
     for reader in [
-        list_of(&format!("{DOOR}`1[[System.Byte]]")),
-        list_of(&format!("{DOOR}`2[[System.Byte],[System.Byte]]")),
-        nullable_of(&format!("{DOOR}`1[[{DOOR}]]")),
-        enum_of(&format!("{DOOR}`1[[System.Byte]]")),
-        nullable_of(&nullable_target(DOOR)),
-        nullable_of(&list_target(DOOR)),
-        enum_of("System.Byte"),
-        DOOR.to_string(),
-        format!("{DOOR}Reader"),
+        list_of(&format!("»{DOOR}`1[[System.Byte]]")),
+        list_of(&format!("»{DOOR}`2[[System.Byte],[System.Byte]]")),
+        nullable_of(&format!("»{DOOR}`1[[{DOOR}]]")),
+        enum_of(&format!("»{DOOR}`1[[System.Byte]]")),
+        nullable_of(&marked(&nullable_target(DOOR))),
+        nullable_of(&marked(&list_target(DOOR))),
+        enum_of("»System.Byte"),
+        marked(DOOR),
+        format!("»{DOOR}Reader"),
     ] {
         limits.push(with_list(&reader, listed.clone(), 11, unlawful(&reader)));
     }
@@ -486,7 +492,7 @@ fn many_readers() -> Vec<EnumLimit> {
     let enums = list_bytes(&entries);
     let without_last = list_bytes(&entries[..63]);
     let mut unlisted = file.clone();
-    unlisted.readers[63].insert(1, Part::Fault);
+    unlisted.readers[63] = marked_reader(&list_of(&marked(&names[63])));
     vec![
         with_list("64 readers of 64 enums", enums, 0, file),
         with_list("64 readers of 63 enums", without_last, 11, unlisted),

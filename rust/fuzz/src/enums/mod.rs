@@ -130,7 +130,7 @@ fn with_damaged_list(random: &mut Random, enums: &[Listed]) -> EnumCase {
 
 /// 11: a name that stands as an argument is not listed, or listed with another byte.
 ///
-/// It is placed at the first byte of the first reader name that has it; a file without such a name is taken.
+/// It is placed at that argument, the leftmost in the first reader name that has it; a file without one is taken.
 fn without_an_argument(random: &mut Random, enums: &[Listed]) -> EnumCase {
     let made = make(random, Planted::Nothing, enums);
     let written = write(&made.file);
@@ -138,7 +138,7 @@ fn without_an_argument(random: &mut Random, enums: &[Listed]) -> EnumCase {
     let Some(reader) = first_with_argument(&made, &enums[missing].name) else {
         return with_list(lawful_case(random, written), enums);
     };
-    let place = name_place(&written, reader);
+    let place = argument_place(&written, reader, &enums[missing].name);
     let mut others = enums.to_vec();
     let listed = others.remove(missing);
     if random.chance(70) {
@@ -164,11 +164,17 @@ fn has_argument(shape: &Shape, name: &str) -> bool {
         .any(|argument| is_it(argument) || has_argument(argument, name))
 }
 
-/// Where a reader's name starts in the file.
-fn name_place(written: &Written, reader: usize) -> usize {
+/// Where a reader's name has this head as an argument for the first time; tails have no brackets.
+fn argument_place(written: &Written, reader: usize, head: &str) -> usize {
     let is_length = |field: &&Field| field.role == Role::NameLength;
     let mut lengths = written.fields.iter().filter(is_length);
-    lengths.nth(reader).expect("every reader has a name").end
+    let length = lengths.nth(reader).expect("every reader has a name");
+    let name = &written.bytes[length.end..length.data_end];
+    let ends = [format!("[{head}]"), format!("[{head},")];
+    let size = head.len() + 2;
+    let is_it = |part: &[u8]| ends.iter().any(|end| part == end.as_bytes());
+    let found = name.windows(size).position(is_it);
+    length.end + found.expect("the name has that argument") + 1
 }
 
 /// A lawful file under a list in which one enum has another size.
