@@ -26,7 +26,7 @@ mod table;
 
 pub use calls::{count_rows, rewrite, shorten, Loaded, Time};
 pub use enums::{EnumFault, EnumList, EnumsRefused};
-pub use explain::{explain, Explanation, ReaderName};
+pub use explain::{explain, Explanation, NameLine, ReaderName, ShownName};
 pub use kind::Kind;
 pub use loader::Loader;
 pub use pack::Pack;

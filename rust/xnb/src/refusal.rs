@@ -14,7 +14,6 @@ pub enum Refusal {
     FileLength = 7,
     BrokenNumber = 8,
     TooLarge = 9,
-    NameGrammar = 10,
     NameHead = 11,
     ReaderVersion = 12,
     NoReader = 13,
@@ -31,6 +30,12 @@ pub enum Refusal {
     OtherKind = 24,
     NoTableRoom = 31,
     EnumEntry = 32,
+    EmptyHead = 33,
+    HeadByte = 34,
+    ArgumentDigit = 35,
+    ArgumentBrackets = 36,
+    TailByte = 37,
+    NestedTooDeep = 38,
     MissingMark = 51,
     ListTooShort = 52,
 }
@@ -38,7 +43,7 @@ pub enum Refusal {
 use Refusal::*;
 
 /// Each refusal with its rule in words, in order of number.
-const RULES: [(Refusal, &str); 28] = [
+const RULES: [(Refusal, &str); 33] = [
     (PastEnd, "a field runs past the end of the file"),
     (NotXnb, "the file does not begin with XNB"),
     (Platform, "the platform is not w, m or x"),
@@ -51,7 +56,6 @@ const RULES: [(Refusal, &str); 28] = [
         TooLarge,
         "the file, a count or a name's length is over its limit, or a name is empty",
     ),
-    (NameGrammar, "a reader's name is not well formed"),
     (
         NameHead,
         "a reader's name has an unknown type or wrong arguments",
@@ -83,6 +87,15 @@ const RULES: [(Refusal, &str); 28] = [
         EnumEntry,
         "an entry of the enum list is cut short, or its size or its name breaks a rule",
     ),
+    (EmptyHead, "empty head"),
+    (HeadByte, "bad byte in a head"),
+    (ArgumentDigit, "digit not 1 or 2"),
+    (
+        ArgumentBrackets,
+        "argument brackets out of form or followed by a wrong byte",
+    ),
+    (TailByte, "bad byte in a tail"),
+    (NestedTooDeep, "nested past 8"),
     (MissingMark, "a file's record does not begin with a mark"),
     (
         ListTooShort,
@@ -110,6 +123,11 @@ impl Refusal {
             .expect("every refusal has a rule")
             .1
     }
+
+    /// Whether a reader's name breaks the grammar (33 to 38).
+    fn is_of_grammar(self) -> bool {
+        (EmptyHead..=NestedTooDeep).contains(&self)
+    }
 }
 
 /// A refusal and its place: a byte of the file, the bytes that a rewrite needs, a row number, or the number of an entry
@@ -134,6 +152,9 @@ impl Refused {
 impl Display for Refused {
     fn fmt(&self, out: &mut Formatter) -> fmt::Result {
         let place = self.place;
+        if self.refusal.is_of_grammar() {
+            write!(out, "a reader's name: ")?;
+        }
         write!(out, "{}, ", self.refusal.rule())?;
         match self.refusal {
             OutputTooSmall => write!(out, "which takes {place} bytes"),
@@ -152,14 +173,14 @@ mod tests {
 
     #[test]
     fn numbers_and_refusals_match() {
-        for number in (1..=24).chain([31, 32, 51, 52]) {
+        for number in (1..=9).chain(11..=24).chain(31..=38).chain([51, 52]) {
             let refusal = Refusal::of_number(number).expect("a refusal");
             assert_eq!(refusal.number(), number);
             assert!(!refusal.rule().is_empty());
         }
-        assert_eq!(Refusal::of_number(0), None);
-        assert_eq!(Refusal::of_number(25), None);
-        assert_eq!(Refusal::of_number(33), None);
+        for number in [0, 10, 25, 39, 50, 53] {
+            assert_eq!(Refusal::of_number(number), None);
+        }
     }
 
     #[test]
@@ -174,5 +195,7 @@ mod tests {
             "an entry of the enum list is cut short, or its size or its name breaks a rule, \
             entry 2, counted from 0";
         assert_eq!(told(EnumEntry, 2), entry);
+        let head = "a reader's name: bad byte in a head, at byte 48";
+        assert_eq!(told(HeadByte, 48), head);
     }
 }

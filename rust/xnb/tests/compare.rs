@@ -152,6 +152,22 @@ fn files_with_other_lists_give_the_second_loaders_answers() {
     }
 }
 
+/// Files with one reader name each, good or bad.
+#[test]
+fn names_give_the_second_loaders_answers() {
+    for shape in SHAPES {
+        let mut sides = Sides::new(shape, 6);
+        for seed in 0..files() / 2 {
+            let case = fuzz::names::case(seed);
+            compare(&mut sides, &format!("seed {seed}"), &case.bytes, case.words);
+        }
+        println!("{} files, {shape:?}\n{}", files() / 2, sides.counts);
+        if files() >= 100_000 {
+            sides.counts.check_names(shape);
+        }
+    }
+}
+
 #[test]
 fn limits_give_the_second_loaders_answers() {
     let limits = fuzz::limits::cases();

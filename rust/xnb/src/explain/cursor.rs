@@ -1,5 +1,6 @@
 //! Going from field to field towards the place of a refusal.
 
+use super::names::Wrong;
 use super::{Explanation, ReaderName};
 use crate::refusal::{Refusal, Refused};
 use std::fmt::Display;
@@ -50,13 +51,34 @@ impl<'f> Cursor<'f> {
         reader: Option<ReaderName<'f>>,
         words: impl FnOnce() -> Option<String>,
     ) -> Step<'f, ()> {
-        if self.refused.refusal != refusal || self.refused.place as usize != place {
+        if !self.is_met(refusal, place) {
             return Ok(());
         }
         match words() {
-            Some(found) => Err(Stop::Found(Explanation { found, reader })),
+            Some(found) => Err(Stop::Found(Explanation {
+                found,
+                reader,
+                mark: None,
+            })),
             None => Ok(()),
         }
+    }
+
+    /// Ends the way at a reader's name that breaks a rule.
+    pub fn end_at_name(&self, reader: ReaderName<'f>, wrong: Wrong) -> Stop<'f> {
+        if !self.is_met(wrong.refusal, reader.first + wrong.bytes.start) {
+            return Stop::Lost;
+        }
+        Stop::Found(Explanation {
+            found: format!("reader {}: {}", reader.number, wrong.words),
+            reader: Some(reader),
+            mark: Some(wrong.bytes),
+        })
+    }
+
+    /// Whether the refusal is this one, at this place.
+    fn is_met(&self, refusal: Refusal, place: usize) -> bool {
+        self.refused.refusal == refusal && self.refused.place as usize == place
     }
 
     /// Takes a field of a known size.

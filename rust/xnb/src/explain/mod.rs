@@ -6,7 +6,9 @@
 
 mod cursor;
 mod header;
+mod names;
 mod readers;
+mod shown;
 mod types;
 mod values;
 mod walk;
@@ -15,6 +17,9 @@ use crate::enums::EnumsRefused;
 use crate::refusal::{Refusal, Refused};
 use crate::row::MOST_ROWS;
 use cursor::{Cursor, Stop};
+pub use shown::{NameLine, ShownName};
+use std::fmt::{self, Display, Formatter};
+use std::ops::Range;
 pub(crate) use types::is_target_name;
 
 /// What a refusal found.
@@ -24,6 +29,29 @@ pub struct Explanation<'f> {
     pub found: String,
     /// The reader that is meant.
     pub reader: Option<ReaderName<'f>>,
+    /// The bytes of the reader's name that are wrong, counted from its first: the byte at the place, or the head at the
+    /// place for [`NameHead`](Refusal::NameHead); none at the end of a name that ends too soon.
+    pub mark: Option<Range<usize>>,
+}
+
+impl<'f> Explanation<'f> {
+    /// The name of the reader that is meant, with a mark below what is wrong in it.
+    pub fn name(&self) -> Option<ShownName<'f>> {
+        let reader = self.reader?;
+        Some(ShownName::new(reader.bytes, self.mark.clone()))
+    }
+}
+
+/// What is found, above the name of the reader that is meant; a marked name stands above what is found in it.
+impl Display for Explanation<'_> {
+    fn fmt(&self, out: &mut Formatter) -> fmt::Result {
+        let found = &self.found;
+        match self.name() {
+            None => write!(out, "{found}"),
+            Some(name) if self.mark.is_some() => write!(out, "{name}\n{found}"),
+            Some(name) => write!(out, "{found}\n{name}"),
+        }
+    }
 }
 
 /// A name of the reader list.
@@ -44,6 +72,18 @@ pub struct ReaderName<'f> {
 /// let refused = xnb::count_rows(file).unwrap_err();
 /// let explanation = xnb::explain(file, refused, 1024).unwrap();
 /// assert_eq!(explanation.found, "the header says 14 bytes, the file has 13");
+///
+/// // A reader whose name has a hyphen in it.
+/// let mut file = b"XNBw\x05\x00\x4E\x00\x00\x00\x01\x3C".to_vec();
+/// file.extend_from_slice(b"Microsoft.Xna.Framework.Content.List-Reader`1[[System.Char]]\x00\x00\x00\x00\x00\x00");
+/// let refused = xnb::count_rows(&file).unwrap_err();
+/// assert_eq!(refused.to_string(), "a reader's name: bad byte in a head, at byte 48");
+/// let explanation = xnb::explain(&file, refused, 1024).unwrap();
+/// assert_eq!(explanation.mark, Some(36..37));
+/// assert_eq!(explanation.to_string(), "\
+/// Microsoft.Xna.Framework.Content.List-Reader`1[[System.Char]]
+///                                     ^
+/// reader 1: a head has letters, digits, '.', '_' and '+', found '-' (2D)");
 /// ```
 pub fn explain(file: &[u8], refused: Refused, room: usize) -> Option<Explanation<'_>> {
     explain_with(&[], file, refused, room)
@@ -74,5 +114,6 @@ fn explain_entry(enums: &[u8], entry: usize) -> Option<Explanation<'static>> {
     Some(Explanation {
         found: refused.to_string(),
         reader: None,
+        mark: None,
     })
 }

@@ -1,6 +1,7 @@
 //! The reader list and the shared count.
 
 use super::cursor::{Cursor, Step};
+use super::names::Name;
 use super::types::Type;
 use super::ReaderName;
 use crate::refusal::Refusal::*;
@@ -9,10 +10,10 @@ const MOST_READERS: u32 = 64;
 const MOST_SHARED: u32 = 256;
 const LONGEST_NAME: usize = 1024;
 
-/// A reader: its name, and the type that it reads if the name is understood.
+/// A reader: its name, and the type that it reads.
 pub struct Reader<'f> {
     pub name: ReaderName<'f>,
-    pub target: Option<Type<'f>>,
+    pub target: Type<'f>,
 }
 
 pub fn take_readers<'f>(cursor: &mut Cursor<'f>, enums: &[u8]) -> Step<'f, Vec<Reader<'f>>> {
@@ -44,15 +45,12 @@ fn take_reader<'f>(cursor: &mut Cursor<'f>, enums: &[u8], number: usize) -> Step
         first,
         bytes,
     };
-    for refusal in [NameGrammar, NameHead] {
-        let words = format!("it is the name of reader {number}");
-        cursor.meet_reader(refusal, first, Some(name), || Some(words))?;
-    }
+    let target = Name::parse(bytes).and_then(|parsed| Type::of_reader(&parsed, enums));
+    let target = target.map_err(|wrong| cursor.end_at_name(name, wrong))?;
     let place = cursor.at;
     let version = cursor.take_u32(format_args!("the version of reader {number}"))?;
     cursor.meet_reader(ReaderVersion, place, Some(name), || {
         (version != 0).then(|| format!("the version of reader {number} is {version}, 0 is taken"))
     })?;
-    let target = Type::of_reader(bytes, enums);
     Ok(Reader { name, target })
 }

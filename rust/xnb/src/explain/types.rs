@@ -1,5 +1,6 @@
 //! The types that readers' names tell.
 
+use super::names::{Name, Wrong};
 use crate::enums::size_in;
 use crate::kind::Kind;
 use std::fmt::{self, Display, Formatter};
@@ -10,15 +11,10 @@ pub enum Head<'f> {
     Of(Kind),
     Object,
     Texture,
-    Enum {
-        name: &'f [u8],
-        size: usize,
-    },
-    /// The head of no type.
-    Other(&'f [u8]),
+    Enum { name: &'f [u8], size: usize },
 }
 
-use Head::{Enum, Object, Of, Other, Texture};
+use Head::{Enum, Object, Of, Texture};
 
 /// A type with its arguments.
 #[derive(Clone, Debug, PartialEq, Eq)]
@@ -29,7 +25,6 @@ pub struct Type<'f> {
 
 const READERS: &str = "Microsoft.Xna.Framework.Content.";
 const HOUSE: &str = "Coach.Console.";
-const DEEPEST: usize = 8;
 /// The size of an enum that is not listed.
 const UNLISTED_SIZE: u8 = 4;
 
@@ -58,31 +53,58 @@ impl<'f> Type<'f> {
         }
     }
 
+    /// The type that a reader of this name reads, or the leftmost head that is wrong.
+    pub fn of_reader(name: &Name<'f>, enums: &[u8]) -> Result<Type<'f>, Wrong> {
+        let Some(head) = reader_head(name.head) else {
+            return Err(name.wrong_head("no reader of this name is known"));
+        };
+        check_count(name, head)?;
+        if head == Of(Kind::Enum) {
+            return Type::of_enum(&name.arguments[0], enums);
+        }
+        Type::with_arguments(name, head, enums)
+    }
+
+    /// The type that an argument of this owner names.
+    fn of_argument(owner: Head, name: &Name<'f>, enums: &[u8]) -> Result<Type<'f>, Wrong> {
+        if size_in(enums, name.head).is_some() {
+            return Type::of_enum(name, enums);
+        }
+        let Some(head) = target_head(name.head) else {
+            let words = "no type of this name is known, and no enum of it is listed";
+            return Err(name.wrong_head(words));
+        };
+        check_count(name, head)?;
+        let lawful = head.is_value() && head != Of(Kind::Nullable);
+        if owner == Of(Kind::Nullable) && !lawful {
+            return Err(name.wrong_head("a nullable holds a value type other than Nullable"));
+        }
+        Type::with_arguments(name, head, enums)
+    }
+
+    /// The type with this head and the types that the arguments name.
+    fn with_arguments(name: &Name<'f>, head: Head<'f>, enums: &[u8]) -> Result<Type<'f>, Wrong> {
+        let arguments = name.arguments.iter();
+        let arguments = arguments.map(|it| Type::of_argument(head, it, enums));
+        let arguments = arguments.collect::<Result<_, _>>()?;
+        Ok(Type { head, arguments })
+    }
+
     /// The enum of this name, of four bytes if it is not listed.
-    fn enumeration(name: &'f [u8], enums: &[u8]) -> Type<'f> {
-        let size = usize::from(size_in(enums, name).unwrap_or(UNLISTED_SIZE));
-        Type {
-            head: Enum { name, size },
+    fn of_enum(name: &Name<'f>, enums: &[u8]) -> Result<Type<'f>, Wrong> {
+        if is_target_name(name.head) {
+            return Err(name.wrong_head("an enum has not the name of another type"));
+        }
+        let size = usize::from(size_in(enums, name.head).unwrap_or(UNLISTED_SIZE));
+        let head = Enum {
+            name: name.head,
+            size,
+        };
+        check_count(name, head)?;
+        Ok(Type {
+            head,
             arguments: Vec::new(),
-        }
-    }
-
-    /// The type that a reader of this name reads.
-    pub fn of_reader(name: &'f [u8], enums: &[u8]) -> Option<Type<'f>> {
-        let (name, _) = Name::parse(name, DEEPEST)?;
-        let head = reader_head(name.head)?;
-        match (head, &name.arguments[..]) {
-            (Of(Kind::Enum), [argument]) => Some(Type::enumeration(argument.head, enums)),
-            _ => Some(name.with_head(head, enums)),
-        }
-    }
-
-    /// The type that an argument names.
-    fn of_argument(name: &Name<'f>, enums: &[u8]) -> Type<'f> {
-        match target_head(name.head) {
-            Other(head) if size_in(enums, head).is_some() => Type::enumeration(head, enums),
-            head => name.with_head(head, enums),
-        }
+        })
     }
 
     /// Whether an object of the other type may stand where this one is declared.
@@ -96,11 +118,7 @@ impl<'f> Type<'f> {
 
     /// Whether values of the type stand raw as elements and fields.
     pub fn is_value(&self) -> bool {
-        match self.head {
-            Of(kind) => matches!(kind.number(), 1..=12 | 16 | 20..=30),
-            Enum { .. } => true,
-            _ => false,
-        }
+        self.head.is_value()
     }
 
     /// Whether a type id may name the reader of this type.
@@ -109,46 +127,34 @@ impl<'f> Type<'f> {
     }
 }
 
-/// A name taken apart; its tail is dropped.
-struct Name<'f> {
-    head: &'f [u8],
-    arguments: Vec<Name<'f>>,
+impl Head<'_> {
+    fn is_value(self) -> bool {
+        match self {
+            Of(kind) => matches!(kind.number(), 1..=12 | 16 | 20..=30),
+            Enum { .. } => true,
+            _ => false,
+        }
+    }
+
+    /// How many arguments it takes.
+    fn argument_count(self) -> usize {
+        match self {
+            Of(Kind::Enum | Kind::Nullable | Kind::Array | Kind::List) => 1,
+            Of(Kind::Dictionary) => 2,
+            _ => 0,
+        }
+    }
 }
 
-impl<'f> Name<'f> {
-    /// A name of at most so many levels, and the bytes behind it.
-    fn parse(name: &'f [u8], levels: usize) -> Option<(Name<'f>, &'f [u8])> {
-        let below = levels.checked_sub(1)?;
-        let end = name.iter().position(|byte| b"`,[]".contains(byte));
-        let (head, mut rest) = name.split_at(end.unwrap_or(name.len()));
-        let mut arguments = Vec::new();
-        if let [b'`', digit, b'[', behind @ ..] = rest {
-            rest = behind;
-            for index in 0..digit.checked_sub(b'0')? {
-                if index > 0 {
-                    rest = rest.strip_prefix(b",")?;
-                }
-                let (argument, behind) = Name::parse(rest.strip_prefix(b"[")?, below)?;
-                arguments.push(argument);
-                rest = behind.strip_prefix(b"]")?;
-            }
-            rest = rest.strip_prefix(b"]")?;
-        }
-        if let [b',', ..] = rest {
-            let end = rest.iter().position(|byte| *byte == b']');
-            rest = &rest[end.unwrap_or(rest.len())..];
-        }
-        Some((Name { head, arguments }, rest))
+/// A wrong number of arguments is the fault of the head that takes another.
+fn check_count(name: &Name, head: Head) -> Result<(), Wrong> {
+    let (takes, has) = (head.argument_count(), name.arguments.len());
+    if takes == has {
+        return Ok(());
     }
-
-    /// The type with this head and the types that the arguments name.
-    fn with_head(&self, head: Head<'f>, enums: &[u8]) -> Type<'f> {
-        let arguments = self.arguments.iter();
-        Type {
-            head,
-            arguments: arguments.map(|it| Type::of_argument(it, enums)).collect(),
-        }
-    }
+    let noun = if takes == 1 { "argument" } else { "arguments" };
+    let words = format!("it takes {takes} {noun}, the name has {has}");
+    Err(name.wrong_head(&words))
 }
 
 /// What a reader's head reads.
@@ -169,17 +175,16 @@ fn reader_head(head: &[u8]) -> Option<Head<'_>> {
 }
 
 /// What a head of an argument names, enums apart.
-fn target_head(head: &[u8]) -> Head<'_> {
-    let known = [Object, Texture]
+fn target_head(head: &[u8]) -> Option<Head<'static>> {
+    [Object, Texture]
         .into_iter()
         .chain(Kind::all().map(Of))
-        .find(|known| target_name(*known).is_some_and(|name| name.as_bytes() == head));
-    known.unwrap_or(Other(head))
+        .find(|known| target_name(*known).is_some_and(|name| name.as_bytes() == head))
 }
 
 /// Whether no enum may have this name.
 pub fn is_target_name(name: &[u8]) -> bool {
-    !matches!(target_head(name), Other(_))
+    target_head(name).is_some()
 }
 
 /// The name of a type without its arguments; arrays and enums have none of their own.
@@ -187,7 +192,7 @@ fn target_name(head: Head) -> Option<String> {
     let space = match head {
         Object => "System.",
         Texture => "Microsoft.Xna.Framework.Graphics.",
-        Enum { .. } | Other(_) => return None,
+        Enum { .. } => return None,
         Of(kind) => match kind.number() {
             1..=13 | 16 | 20..=22 => "System.",
             18 | 19 => "System.Collections.Generic.",
@@ -210,7 +215,6 @@ impl Display for Type<'_> {
         match (self.head, &self.arguments[..]) {
             (Of(Kind::Array), [element]) => return write!(out, "array of {element}"),
             (Enum { name, .. }, _) => write!(out, "enum {}", String::from_utf8_lossy(name))?,
-            (Other(head), _) => write!(out, "{}", String::from_utf8_lossy(head))?,
             (head, _) => write!(out, "{}", target_name(head).unwrap_or_default())?,
         }
         if self.arguments.is_empty() {
@@ -224,9 +228,14 @@ impl Display for Type<'_> {
 #[cfg(test)]
 mod tests {
     use super::*;
+    use crate::refusal::Refusal;
+
+    fn read<'f>(name: &'f str, enums: &[u8]) -> Result<Type<'f>, Wrong> {
+        Type::of_reader(&Name::parse(name.as_bytes())?, enums)
+    }
 
     fn told(name: &str) -> Option<String> {
-        Type::of_reader(name.as_bytes(), &[]).map(|it| it.to_string())
+        read(name, &[]).ok().map(|it| it.to_string())
     }
 
     #[test]
@@ -260,7 +269,7 @@ mod tests {
     #[test]
     fn listed_enums_are_value_types_of_their_size() {
         let enums = b"\x0ACoach.Door\x02";
-        let read = |name: &'static str| Type::of_reader(name.as_bytes(), enums).expect("a type");
+        let read = |name: &'static str| read(name, enums).expect("a type");
         let door = read("Microsoft.Xna.Framework.Content.EnumReader`1[[Coach.Door, tail]]");
         let (name, size) = (&b"Coach.Door"[..], 2);
         assert_eq!(door.head, Enum { name, size });
@@ -273,5 +282,53 @@ mod tests {
         let (name, size) = (&b"Coach.Seat"[..], 4);
         assert_eq!(other.head, Enum { name, size });
         assert!(is_target_name(b"System.Nullable") && !is_target_name(b"Coach.Door"));
+    }
+    /// The head that is complained of stands between guillemets, and `%` is what the names of readers begin with.
+    #[test]
+    fn a_wrong_head_is_told() {
+        let reader = "no reader of this name is known";
+        let argument = "no type of this name is known, and no enum of it is listed";
+        let nullable = "a nullable holds a value type other than Nullable";
+        let other = "an enum has not the name of another type";
+        let [none, one, two] = ["0 arguments", "1 argument", "2 arguments"];
+        let counted = |takes, has| format!("it takes {takes}, the name has {has}");
+        let table = [
+            ("«System.Byte»", reader.to_string()),
+            ("«%PlaneReader»`1[[B]]", reader.to_string()),
+            ("«%ListReader»", counted(one, 0)),
+            ("«%ListReader»`2[[A],[B]]", counted(one, 2)),
+            ("«%ByteReader»`1[[A]]", counted(none, 1)),
+            ("«%DictionaryReader»`1[[A]]", counted(two, 1)),
+            ("%ListReader`1[[«Coach.Seat», tail]]", argument.to_string()),
+            (
+                "%DictionaryReader`2[[System.Byte],[«A»`2[[B],[C]]]]",
+                argument.to_string(),
+            ),
+            ("%ListReader`1[[«System.Nullable»]]", counted(one, 0)),
+            ("%ListReader`1[[«Coach.Door»`1[[A]]]]", counted(none, 1)),
+            ("%EnumReader`1[[«Coach.Seat»`1[[A]]]]", counted(none, 1)),
+            (
+                "%EnumReader`1[[«System.Nullable»`1[[A]]]]",
+                other.to_string(),
+            ),
+            ("%NullableReader`1[[«System.String»]]", nullable.to_string()),
+            (
+                "%NullableReader`1[[«System.Nullable»`1[[A]]]]",
+                nullable.to_string(),
+            ),
+            (
+                "%ListReader`1[[System.Nullable`1[[«Coach.Console.Page»]]]]",
+                nullable.to_string(),
+            ),
+        ];
+        for (marked, words) in table {
+            let marked = marked.replace('%', READERS);
+            let start = marked.find('«').expect("a mark");
+            let end = marked.find('»').expect("a mark") - '«'.len_utf8();
+            let name = marked.replace(['«', '»'], "");
+            let wrong = read(&name, b"\x0ACoach.Door\x02").expect_err("a wrong head");
+            let told = (wrong.refusal, wrong.bytes, wrong.words);
+            assert_eq!(told, (Refusal::NameHead, start..end, words), "{marked}");
+        }
     }
 }

@@ -129,10 +129,7 @@ impl<'a, 'f> Walk<'a, 'f> {
             })?;
             return Err(Stop::Lost);
         };
-        let Some(target) = &reader.target else {
-            return Err(Stop::Lost);
-        };
-        let name = Some(reader.name);
+        let (target, name) = (&reader.target, Some(reader.name));
         self.cursor.meet_reader(NoReader, start, name, || {
             let never = !target.is_invoked();
             never.then(|| format!("reader {id} is for {target} and never invoked"))

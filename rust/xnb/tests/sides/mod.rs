@@ -31,7 +31,7 @@ const CALLS: [(Call, &str); 6] = [
 ];
 
 /// One more than the largest refusal number.
-const NUMBERS: usize = 33;
+const NUMBERS: usize = 39;
 
 /// How often each call gave each refusal number, 0 for acceptance.
 pub struct Counts([[u32; NUMBERS]; CALLS.len()]);
@@ -62,13 +62,22 @@ impl Counts {
     pub fn check(&self, shape: Shape) {
         for (call, _) in CALLS {
             let numbers: Vec<usize> = match (call, shape) {
-                (Load, _) => (0..=20).chain([22]).collect(),
-                (Rewrite, Shape::Rows) => (0..=22).collect(),
+                (Load, _) => load_numbers().collect(),
+                (Rewrite, Shape::Rows) => load_numbers().chain([21]).collect(),
                 (Rewrite, Shape::Columns) => vec![],
                 (Part, _) => vec![0, 23],
                 (Text | Signed | Time, _) => vec![0, 23, 24],
             };
             self.check_often(call, &numbers);
+        }
+    }
+
+    /// The answers that a reader's name may give have occurred often.
+    pub fn check_names(&self, shape: Shape) {
+        let numbers: Vec<usize> = [0, 11].into_iter().chain(33..=38).collect();
+        self.check_often(Load, &numbers);
+        if shape == Shape::Rows {
+            self.check_often(Rewrite, &numbers);
         }
     }
 
@@ -87,6 +96,11 @@ impl Counts {
             assert!(count >= 50, "{name} gives {number} {count} times");
         }
     }
+}
+
+/// 0, and each refusal of a file with an empty list of enum types.
+fn load_numbers() -> impl Iterator<Item = usize> {
+    (0..=9).chain(11..=20).chain([22]).chain(33..=38)
 }
 
 impl Display for Counts {
