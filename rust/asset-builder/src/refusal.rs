@@ -1,11 +1,11 @@
 //! Refusals for people and for programs.
 
-use crate::names::{escaped, is_printable, plain_lines};
+use crate::names::{is_printable, plain_lines};
 use crate::terminal::Paint;
 use serde::Serialize;
 use xnb::pack::PackRefused;
 use xnb::Refusal::{EnumEntry, ListTooShort, NoSuchRow, OtherKind, OutputTooSmall};
-use xnb::{Loader, ReaderName, Refused};
+use xnb::{Explanation, Loader, NameLine, Refused, ShownName};
 
 /// The bytes on a line of a dump.
 const LINE: usize = 16;
@@ -19,6 +19,8 @@ pub struct Told<'f> {
     /// The value found and the limit.
     found: Option<String>,
     reader: Option<Reader<'f>>,
+    #[serde(skip)]
+    name: Option<ShownName<'f>>,
     bytes: Option<Dump<'f>>,
 }
 
@@ -28,6 +30,9 @@ struct Reader<'f> {
     first: usize,
     #[serde(serialize_with = "as_text")]
     name: &'f [u8],
+    /// Where in the name it is wrong, counted from its first byte.
+    #[serde(skip_serializing_if = "Option::is_none")]
+    offset: Option<usize>,
 }
 
 /// The bytes around the place.
@@ -47,6 +52,7 @@ impl<'f> Told<'f> {
             rule,
             found: None,
             reader: None,
+            name: None,
             bytes: Dump::around(input, place),
         }
     }
@@ -56,8 +62,9 @@ impl<'f> Told<'f> {
         let Refused { refusal, place } = refused;
         let mut told = Told::at_byte(file, refusal.number(), u64::from(place), refusal.rule());
         if let Some(explanation) = loader.explain(file, refused, room) {
+            told.reader = Reader::of(&explanation);
+            told.name = explanation.name();
             told.found = Some(explanation.found);
-            told.reader = explanation.reader.map(Reader::of);
         }
         if matches!(refusal, OutputTooSmall | NoSuchRow | OtherKind | EnumEntry) {
             // The place is no byte of the file.
@@ -89,41 +96,47 @@ impl<'f> Told<'f> {
         format!("{refused}: {rule}\n")
     }
 
-    /// Every line.
+    /// Every line; a name with a mark in it stands above what is found there.
     pub fn lines(&self, paint: Paint) -> String {
+        let found = self
+            .found
+            .iter()
+            .map(|it| format!("  {}\n", plain_lines(it)));
+        let found: String = found.collect();
+        let name = self.name_lines(paint);
+        let marked = self.reader.as_ref().is_some_and(|it| it.offset.is_some());
         let mut out = self.line(paint);
-        if let Some(found) = &self.found {
-            out += &format!("  {}\n", plain_lines(found));
-        }
-        if let Some(reader) = &self.reader {
-            out += &self.name_lines(reader, paint);
-        }
+        out += &if marked { name + &found } else { found + &name };
         if let Some(bytes) = &self.bytes {
             out += &bytes.lines(self.place as usize, paint);
         }
         out
     }
 
-    /// A reader's name, with a mark below the byte at the place if that is in it.
-    fn name_lines(&self, reader: &Reader, paint: Paint) -> String {
-        let name = escaped(reader.name);
-        let mut out = format!("  {name}\n");
-        let offset = (self.place as usize).checked_sub(reader.first);
-        if let Some(before) = offset.and_then(|offset| reader.name.get(..offset)) {
-            let indent = escaped(before).chars().count();
-            out += &format!("  {}{}\n", " ".repeat(indent), paint.bad("^"));
-        }
-        out
+    /// The reader's name, with a mark below what is wrong in it.
+    fn name_lines(&self, paint: Paint) -> String {
+        let lines = self.name.iter().flat_map(ShownName::lines);
+        let shown = lines.map(|line| match line {
+            NameLine::Text(text) => format!("  {text}\n"),
+            NameLine::Mark(mark) => {
+                let marks = mark.trim_start();
+                let indent = mark.len() - marks.len();
+                format!("  {:indent$}{}\n", "", paint.bad(marks))
+            }
+        });
+        shown.collect()
     }
 }
 
 impl<'f> Reader<'f> {
-    fn of(name: ReaderName<'f>) -> Reader<'f> {
-        Reader {
-            number: name.number,
-            first: name.first,
-            name: name.bytes,
-        }
+    fn of(explanation: &Explanation<'f>) -> Option<Reader<'f>> {
+        let reader = explanation.reader?;
+        Some(Reader {
+            number: reader.number,
+            first: reader.first,
+            name: reader.bytes,
+            offset: explanation.mark.as_ref().map(|mark| mark.start),
+        })
     }
 }
 

@@ -57,16 +57,15 @@ refused 14 at 132: an object is not of the declared type
 ";
     assert_eq!(told("bad-14-number-where-text-is-declared"), expected);
     let expected = "\
-refused 10 at 59: a reader's name is not well formed
-  it is the name of reader 2
+refused 37 at 104: bad byte in a tail
   Microsoft.Xna.Framework.Content.ByteReader, a]b
-  ^
-  00000020  6F 72 6B 2E 43 6F 6E 74 65 6E 74 2E 42 79 74 65  ork.Content.Byte
-  00000030  52 65 61 64 65 72 00 00 00 00 2F 4D 69 63 72 6F  Reader..../Micro
-                                             ^^                         ^
-  00000040  73 6F 66 74 2E 58 6E 61 2E 46 72 61 6D 65 77 6F  soft.Xna.Framewo
+                                               ^
+  reader 2: a tail has bytes 20 to 7E without brackets, found ']' (5D)
+  00000050  72 6B 2E 43 6F 6E 74 65 6E 74 2E 42 79 74 65 52  rk.Content.ByteR
+  00000060  65 61 64 65 72 2C 20 61 5D 62 01 00 00 00 00 00  eader, a]b......
+                                    ^^                               ^
 ";
-    assert_eq!(told("bad-10-bracket-in-tail"), expected);
+    assert_eq!(told("bad-37-bracket-in-tail"), expected);
 }
 
 /// The byte above the mark is the byte at the place, in both columns.
@@ -76,10 +75,9 @@ fn the_mark_stands_below_the_place() {
     for file in kept_files() {
         let out = run(&["check", &format!("{}.xnb", file.name)]).out;
         let lines: Vec<&str> = out.lines().collect();
-        let Some(below) = lines
-            .iter()
-            .position(|line| line.trim_start().starts_with("^^"))
-        else {
+        // It stands behind the marks in a reader's name.
+        let marks = |line: &&str| line.trim_start().starts_with("^^");
+        let Some(below) = lines.iter().rposition(marks) else {
             continue;
         };
         let first = lines[0].split(" at ").nth(1).expect("a place");

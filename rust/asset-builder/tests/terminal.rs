@@ -133,15 +133,16 @@ fn no_control_byte_of_a_name_is_printed() {
 
 #[test]
 fn no_control_byte_of_a_reader_name_is_printed() {
-    let mut file = sample("bad-10-bracket-in-tail.xnb");
-    let tail = file.len() - 60;
+    let mut file = sample("bad-37-bracket-in-tail.xnb");
     let place = file
         .windows(4)
         .position(|it| it == b", a]")
         .expect("a tail");
-    assert!(place > tail / 2);
     file[place + 2] = 0x1B;
     let ran = run_in(&scratch("reader"), &["check", "-"], &file);
-    assert!(ran.out.contains(r", \u{1b}]b"), "{}", ran.out);
+    assert!(ran.out.contains(r", \x1B]b"), "{}", ran.out);
+    assert!(!has_control(&ran.out), "{:?}", ran.out);
+    let ran = run_in(&scratch("reader"), &["check", "--json", "-"], &file);
+    assert!(ran.out.contains(r", \u001b]b"), "{}", ran.out);
     assert!(!has_control(&ran.out), "{:?}", ran.out);
 }
