@@ -16,7 +16,7 @@ pub struct Input {
     pub rows: usize,
 }
 
-fn input(group: &'static str, name: impl Into<String>, file: File) -> Input {
+pub fn input(group: &'static str, name: impl Into<String>, file: File) -> Input {
     let written = write(&file);
     Input {
         group,

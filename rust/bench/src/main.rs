@@ -7,6 +7,7 @@ mod branches;
 mod inputs;
 mod marks;
 mod measure;
+mod names;
 mod packs;
 mod salvage;
 mod search;
@@ -17,11 +18,12 @@ use second::NO_ENUMS;
 use std::hint::black_box;
 use xnb::{Loader, Shape};
 
-const PARTS: [(&str, fn()); 12] = [
+const PARTS: [(&str, fn()); 13] = [
     ("builder", builder),
     ("load", load),
     ("load-columns", load_columns),
     ("enums", enums),
+    ("names", names::measure),
     ("utf8", utf8),
     ("rewrite", rewrite),
     ("next", branches::measure),
