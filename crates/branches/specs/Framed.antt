@@ -19,7 +19,7 @@ frameOf r = frame (r .children) (r .parent) (r .branch)
 abbrev pub framed : List Row → List Frame
 framed rs = map frameOf rs
 
-module _ (readers : List Target) (refers : Target → ℕ → Type 0) where
+module _ (readers : List Target) (refers : ℕ → ℕ → Type 0) where
   abbrev Below : (Plan → List ℕ → Type 0) → Type 0
   Below below = rows.Below {A = Row} (λ r. r) (λ t r. r) below
 
@@ -41,5 +41,5 @@ module _ (readers : List Target) (refers : Target → ℕ → Type 0) where
   rows-framed stop (tree k i own cs rest) bs w at n p = absurd w
   rows-framed (put x go) (tree k i own cs rest) bs w at n p =
       let v = value-framed (λ plan b. Lays readers refers plan cs b) (λ plan b v a n p. rowsOf readers refers plan cs b v a n p) cs (λ plan b v a n q. rows-framed plan cs b v a n q) x k i own (w .0) (w .3) at n p in
-      let r = rows-framed (go (told k own)) rest (w .1) (w .4) (at + length (w .0)) (n + suc (size cs)) p in
+      let r = rows-framed (go (told k own cs)) rest (w .1) (w .4) (at + length (w .0)) (n + suc (size cs)) p in
       simp (map-append, v, r)

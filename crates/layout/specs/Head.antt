@@ -6,10 +6,11 @@ use Prim.Native.Nat.{ℕ, _<_, _≤_, _^_, max}
 use lib.ListN.{length, replicate}
 use Rattle.layout.specs.Number.{Seven, little}
 use Rattle.layout.specs.Text.{Character, Utf8s}
-use Rattle.layout.specs.Target.{Target, fixed, char, string, object, texture, texture2D, spriteFont, page, enum, nullable, array, list, dictionary}
+use Rattle.layout.specs.Target.{Target, fixed, char, string, object, texture, texture2D, spriteFont, page, mesh, enum, nullable, array, list, dictionary}
 use Rattle.layout.specs.Fixed.{Fixed}
 use Rattle.layout.specs.Image.{levels, digits}
 use Rattle.layout.specs.Slot.{Slot, raw, slotOf, Plan, stop, each, pairs, leaves, fontSlots, pageSlots}
+use Rattle.layout.specs.Mesh.{planOf}
 
 -- 01: "String: 7-bit byte count, then UTF-8"; the count is not among the own bytes
 unfoldable pub Textual : (own bs : List ℕ) → Type 0
@@ -45,3 +46,4 @@ Head texture own plan bs = ⊥
 Head texture2D own plan bs = Pictured own plan bs
 Head spriteFont own plan bs = (bs ≡ []) × (own ≡ []) × (plan ≡ each fontSlots)
 Head page own plan bs = (bs ≡ []) × (own ≡ []) × (plan ≡ each pageSlots)
+Head (mesh m) own plan bs = (bs ≡ []) × (own ≡ []) × (plan ≡ planOf m)

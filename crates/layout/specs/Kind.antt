@@ -14,7 +14,7 @@ pub data Entry : Type 0 where
 unfoldable pub reader : String → ℕ → Entry
 reader s k = entry (ascii "Microsoft.Xna.Framework.Content." ++ (ascii s ++ ascii "Reader")) k
 
--- the readers in the order of 000 and of 01's kinds, and 01's "One house reader: `Coach.Console.PageReader`"
+-- the readers in the order of 000 and of 01's kinds, 01's "One house reader: `Coach.Console.PageReader`", and those of 02, Req 05
 unfoldable pub readers : List Entry
 readers =
     reader "Byte" 1 ∷ reader "SByte" 2 ∷ reader "Int16" 3 ∷ reader "UInt16" 4 ∷ reader "Int32" 5 ∷ reader "UInt32" 6
@@ -23,13 +23,15 @@ readers =
     ∷ reader "Dictionary" 19 ∷ reader "TimeSpan" 20 ∷ reader "DateTime" 21 ∷ reader "Decimal" 22 ∷ reader "Vector2" 23
     ∷ reader "Vector3" 24 ∷ reader "Vector4" 25 ∷ reader "Matrix" 26 ∷ reader "Quaternion" 27 ∷ reader "Color" 28
     ∷ reader "Point" 29 ∷ reader "Rectangle" 30 ∷ reader "Texture" 31 ∷ reader "Texture2D" 32 ∷ reader "SpriteFont" 33
-    ∷ entry (ascii "Coach.Console.PageReader") 34 ∷ []
+    ∷ entry (ascii "Coach.Console.PageReader") 34
+    ∷ reader "IndexBuffer" 37 ∷ reader "VertexDeclaration" 38 ∷ reader "VertexBuffer" 39 ∷ reader "Model" 40 ∷ []
 
 -- 01: "target type names as 000 gives them", with their namespace
 unfoldable pub target : (space name : String) → ℕ → Entry
 target space name k = entry (ascii space ++ ascii name) k
 
--- 01: "Arguments are target type names as 000 gives them .., or `Coach.Console.Page`. Array and enum types are not known as arguments"; in the order of 000 and of 01's kinds
+-- 01: "Arguments are target type names as 000 gives them .., or `Coach.Console.Page`. Array and enum types are not known as arguments"; in the order of 000 and of 01's kinds.
+-- 02, Req 05: "Their target names count among 01's: no enum, listed or not, may have one"
 unfoldable pub targets : List Entry
 targets =
     target "System." "Byte" 1 ∷ target "System." "SByte" 2 ∷ target "System." "Int16" 3 ∷ target "System." "UInt16" 4
@@ -43,7 +45,9 @@ targets =
     ∷ target "Microsoft.Xna.Framework." "Quaternion" 27 ∷ target "Microsoft.Xna.Framework." "Color" 28
     ∷ target "Microsoft.Xna.Framework." "Point" 29 ∷ target "Microsoft.Xna.Framework." "Rectangle" 30
     ∷ target "Microsoft.Xna.Framework.Graphics." "Texture" 31 ∷ target "Microsoft.Xna.Framework.Graphics." "Texture2D" 32
-    ∷ target "Microsoft.Xna.Framework.Graphics." "SpriteFont" 33 ∷ target "Coach.Console." "Page" 34 ∷ []
+    ∷ target "Microsoft.Xna.Framework.Graphics." "SpriteFont" 33 ∷ target "Coach.Console." "Page" 34
+    ∷ target "Microsoft.Xna.Framework.Graphics." "IndexBuffer" 37 ∷ target "Microsoft.Xna.Framework.Graphics." "VertexDeclaration" 38
+    ∷ target "Microsoft.Xna.Framework.Graphics." "VertexBuffer" 39 ∷ target "Microsoft.Xna.Framework.Graphics." "Model" 40 ∷ []
 
 -- two texts are equal
 unfoldable pub alike : List ℕ → List ℕ → Bool

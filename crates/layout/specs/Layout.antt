@@ -4,10 +4,10 @@ use mathlib.Core.List.{List, [], _++_}
 use mathlib.Core.Logic.{_⊎_}
 use Prim.Native.Nat.{ℕ, suc, _<_, _^_}
 use lib.ListN.{length, getD}
-use Rattle.layout.specs.Number.{Seven, little}
+use Rattle.layout.specs.Number.{Seven, little, valueOf}
 use Rattle.layout.specs.Target.{Target, kindOf, spriteFont, Serves}
 use Rattle.layout.specs.Tree.{Trees, none, tree, told}
-use Rattle.layout.specs.Slot.{Leaf, level, Slot, raw, object, reference, leaf, Plan, stop, put}
+use Rattle.layout.specs.Slot.{Leaf, level, blob, numeric, fieldKind, Keeps, Slot, raw, object, reference, leaf, Plan, stop, put}
 use Rattle.layout.specs.Head.{Head}
 use Rattle.layout.specs.Font.{FontRule}
 
@@ -18,6 +18,8 @@ Reader readers id t = (i : ℕ) × (id ≡ suc i) × (i < length readers) × (ge
 -- what no reader reads, by its own bytes; 01: "per level a 4-byte size and the data"
 unfoldable pub Leafed : Leaf → (kind : ℕ) (own bs : List ℕ) → Type 0
 Leafed (level z) kind own bs = (kind ≡ 35) × (z < 256 ^ 4) × (length own ≡ z) × (bs ≡ little 4 z ++ own)
+Leafed (blob z) kind own bs = (kind ≡ 41) × (length own ≡ z) × (bs ≡ own)
+Leafed (numeric f z rule) kind own bs = (kind ≡ fieldKind f) × (length own ≡ z) × Keeps rule (valueOf own) × (bs ≡ own)
 
 -- a raw value: its head, then its children, whose bytes `below` says; a font keeps its rule
 pub record Raw (below : Plan → List ℕ → Type 0) (t : Target) (kind : ℕ) (own : List ℕ) (cs : Trees) (bs : List ℕ) : Type 0 where
@@ -49,27 +51,27 @@ pub record Object (readers : List Target) (below : Plan → List ℕ → Type 0)
   pub numbered : Seven id number
   pub laid : Raw below target kind own cs value
 
--- 000, "Shared Resources": "serialized as a 7BitEncodedInt resourceId"; `refers` says which ids a reference to a type may have
-pub record Reference (refers : Target → ℕ → Type 0) (t : Target) (kind id : ℕ) (own : List ℕ) (cs : Trees) (bs : List ℕ) : Type 0 where
+-- 000, "Shared Resources": "serialized as a 7BitEncodedInt resourceId"; `refers` says which ids a reference that wants a kind may have
+pub record Reference (refers : ℕ → ℕ → Type 0) (wanted kind id : ℕ) (own : List ℕ) (cs : Trees) (bs : List ℕ) : Type 0 where
   pub kind-of : kind ≡ 36
   pub empty : own ≡ []
   pub childless : cs ≡ none
-  pub named : refers t id
+  pub named : refers wanted id
   pub number : Seven id bs
 
 -- a value in a slot; what has no type id or resource id has 0 there
-unfoldable pub Value : List Target → (Target → ℕ → Type 0) → (Plan → List ℕ → Type 0) → Slot → (kind id : ℕ) (own : List ℕ) (cs : Trees) (bs : List ℕ) → Type 0
+unfoldable pub Value : List Target → (ℕ → ℕ → Type 0) → (Plan → List ℕ → Type 0) → Slot → (kind id : ℕ) (own : List ℕ) (cs : Trees) (bs : List ℕ) → Type 0
 Value readers refers below (raw t) kind id own cs bs = (id ≡ 0) × Raw below t kind own cs bs
 Value readers refers below (object t) kind id own cs bs = Null kind id own cs bs ⊎ Object readers below t kind id own cs bs
-Value readers refers below (reference t) kind id own cs bs = Reference refers t kind id own cs bs
+Value readers refers below (reference wanted) kind id own cs bs = Reference refers wanted kind id own cs bs
 Value readers refers below (leaf x) kind id own cs bs = (id ≡ 0) × (cs ≡ none) × Leafed x kind own bs
 
 -- the bytes that trees may have, standing one after the other as a plan says, under a reader list and a rule for references
-unfoldable pub Lays : List Target → (Target → ℕ → Type 0) → Plan → Trees → List ℕ → Type 0
+unfoldable pub Lays : List Target → (ℕ → ℕ → Type 0) → Plan → Trees → List ℕ → Type 0
 Lays readers refers stop none bs = bs ≡ []
 Lays readers refers (put x go) none bs = ⊥
 Lays readers refers stop (tree k i own cs rest) bs = ⊥
 Lays readers refers (put x go) (tree k i own cs rest) bs =
     (b₁ : List ℕ) × (b₂ : List ℕ) × (bs ≡ b₁ ++ b₂)
     × Value readers refers (λ plan b. Lays readers refers plan cs b) x k i own cs b₁
-    × Lays readers refers (go (told k own)) rest b₂
+    × Lays readers refers (go (told k own cs)) rest b₂

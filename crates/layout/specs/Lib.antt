@@ -11,6 +11,7 @@ pub mod Fixed
 pub mod Image
 pub mod Tree
 pub mod Slot
+pub mod Mesh
 pub mod Head
 pub mod Font
 pub mod Layout

@@ -5,7 +5,7 @@ use mathlib.Core.List.{List}
 use Prim.Native.Nat.{ℕ}
 use lib.Dec.{eqb}
 use Rattle.layout.specs.Number.{between}
-use Rattle.layout.specs.Target.{Target, fixed, char, string, object, texture, texture2D, spriteFont, page, enum, nullable, array, list, dictionary, kindOf, isValue}
+use Rattle.layout.specs.Target.{Target, fixed, char, string, object, texture, texture2D, spriteFont, page, indexBuffer, vertexDeclaration, vertexBuffer, model, mesh, enum, nullable, array, list, dictionary, kindOf, isValue}
 use Rattle.layout.specs.Name.{Name, simple, one, two, text, Formed}
 use Rattle.layout.specs.Kind.{lookup, targets, readers}
 use Rattle.layout.specs.EnumList.{EnumEntry, sizeIn}
@@ -19,11 +19,17 @@ pub data Typed : Type 0 where
 unfoldable pub fixedKind : ℕ → Bool
 fixedKind k = between 1 11 k || between 20 30 k
 
+-- the kinds of mesh types
+unfoldable pub meshed : ℕ → Typed
+meshed k =
+    cond (eqb k 37) (known (mesh indexBuffer)) (cond (eqb k 38) (known (mesh vertexDeclaration))
+    (cond (eqb k 39) (known (mesh vertexBuffer)) (cond (eqb k 40) (known (mesh model)) unknown)))
+
 -- 01: "Enum, Nullable, Array and List take one argument, Dictionary two, the rest none": a kind with no argument
 unfoldable pub plain : ℕ → Typed
 plain k =
     cond (fixedKind k) (known (fixed k)) (cond (eqb k 12) (known char) (cond (eqb k 13) (known string) (cond (eqb k 14) (known object)
-    (cond (eqb k 31) (known texture) (cond (eqb k 32) (known texture2D) (cond (eqb k 33) (known spriteFont) (cond (eqb k 34) (known page) unknown)))))))
+    (cond (eqb k 31) (known texture) (cond (eqb k 32) (known texture2D) (cond (eqb k 33) (known spriteFont) (cond (eqb k 34) (known page) (meshed k))))))))
 
 -- 01: "Nullable's argument must be a value type other than Nullable"
 unfoldable pub nullableOf : Target → Typed

@@ -3,11 +3,24 @@ use mathlib.Core.Bool.{Bool, true, false}
 use mathlib.Core.List.{List}
 use Prim.Native.Nat.{ℕ}
 
+-- 02, Req 05: "Add IndexBuffer, VertexDeclaration, VertexBuffer and Model from 000"
+pub data Mesh : Type 0 where
+  indexBuffer vertexDeclaration vertexBuffer model : Mesh
+  deriving Discrete as mesh-discrete
+
+-- 02, Req 05: "New kinds are 37 to 40 in the order named"
+unfoldable pub meshKind : Mesh → ℕ
+meshKind indexBuffer = 37
+meshKind vertexDeclaration = 38
+meshKind vertexBuffer = 39
+meshKind model = 40
+
 -- `fixed k` is the type of kind k, for a kind whose size 01 fixes; `enum` has its type's name and its size in bytes.
 -- 01: "Targets are equal when heads and arguments are": equal targets are equal here.
 pub data Target : Type 0 where
   fixed : ℕ → Target
   char string object texture texture2D spriteFont page : Target
+  mesh : Mesh → Target
   enum : (name : List ℕ) (size : ℕ) → Target
   nullable array list : Target → Target
   dictionary : Target → Target → Target
@@ -28,6 +41,7 @@ kindOf texture = 31
 kindOf texture2D = 32
 kindOf spriteFont = 33
 kindOf page = 34
+kindOf (mesh m) = meshKind m
 
 -- 01: "Value types are kinds 1 to 12, 15, 16 and 20 to 30"
 unfoldable pub isValue : Target → Bool
@@ -44,6 +58,7 @@ isValue texture = false
 isValue texture2D = false
 isValue spriteFont = false
 isValue page = false
+isValue (mesh m) = false
 
 -- an object declared d may be read by a reader of t: 01: "An object's reader must have the declared target; declared Object takes every target and declared Texture takes Texture2D"
 pub data Serves : Target → Target → Type 0 where

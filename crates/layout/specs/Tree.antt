@@ -36,11 +36,16 @@ childrenAt i none = none
 childrenAt zero (tree k d own cs rest) = cs
 childrenAt (suc i) (tree k d own cs rest) = childrenAt i rest
 
--- the number that a value tells those behind it: a UInt32 its value, a Boolean 0 or 1, all else 0
-unfoldable pub told : (kind : ℕ) (own : List ℕ) → ℕ
-told kind own = cond (eqb kind 6 || eqb kind 11) (valueOf own) 0
+-- the value of the first of some trees, if it is a UInt32
+unfoldable pub firstValue : Trees → ℕ
+firstValue none = 0
+firstValue (tree k i own cs rest) = cond (eqb k 6) (valueOf own) 0
+
+-- the number that a value tells those behind it: a UInt32 its value, a Boolean 0 or 1, a vertex declaration its stride, which is its first field, all else 0
+unfoldable pub told : (kind : ℕ) (own : List ℕ) (children : Trees) → ℕ
+told kind own cs = cond (eqb kind 6 || eqb kind 11) (valueOf own) (cond (eqb kind 38) (firstValue cs) 0)
 
 -- the number that the first of some trees tells
 unfoldable pub toldOf : Trees → ℕ
 toldOf none = 0
-toldOf (tree k i own cs rest) = told k own
+toldOf (tree k i own cs rest) = told k own cs

@@ -38,7 +38,7 @@ count-after none s q = absurd (omega arith)
 count-after (tree k i own cs rest) s q = omega arith
 
 -- the shared objects are as many as the shared count says
-pub shared-count : (readers : List Target) (refers : Target → ℕ → Type 0) (s : ℕ) (ts : Trees) (bs : List ℕ)
+pub shared-count : (readers : List Target) (refers : ℕ → ℕ → Type 0) (s : ℕ) (ts : Trees) (bs : List ℕ)
     → Lays readers refers (objectsPlan s) ts bs → count (sharedOf ts) ≡ s
 unfolding objectsPlan
 shared-count readers refers s ts bs w =

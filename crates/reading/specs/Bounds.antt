@@ -17,7 +17,7 @@ use Rattle.reading.specs.Walk.{Taken, sequence, walk}
 use Rattle.reading.specs.Sound.{ReadValue, walk-sound, walks-sound}
 use Rattle.reading.specs.Drafts.{Below, valueDrafts, draftsOf}
 
-module _ (readers : List Target) (refers : Target → ℕ → Type 0) where
+module _ (readers : List Target) (refers : ℕ → ℕ → Type 0) where
   value-length : (below : Plan → List ℕ → Type 0) (rows : Below below) (cs : Trees) → ((plan : Plan) (b : List ℕ) (v : below plan b) (at n parent : ℕ) → length (rows plan b v at n parent) ≡ size cs)
       → (x : Slot) (kind id : ℕ) (own bs : List ℕ) (w : Value readers refers below x kind id own cs bs) (at n parent : ℕ)
       → length (valueDrafts readers refers below rows x kind id own cs bs w at n parent) ≡ suc (size cs)
@@ -37,7 +37,7 @@ module _ (readers : List Target) (refers : Target → ℕ → Type 0) where
   rows-length stop (tree k i own cs rest) bs w at n parent = absurd w
   rows-length (put x go) (tree k i own cs rest) bs w at n parent =
       let v = value-length (λ plan b. Lays readers refers plan cs b) (λ plan b v a n p. draftsOf readers refers plan cs b v a n p) cs (λ plan b v a n q. rows-length plan cs b v a n q) x k i own (w .0) (w .3) at n parent in
-      let r = rows-length (go (told k own)) rest (w .1) (w .4) (at + length (w .0)) (n + suc (size cs)) parent in
+      let r = rows-length (go (told k own cs)) rest (w .1) (w .4) (at + length (w .0)) (n + suc (size cs)) parent in
       rw (length-append, v, r)
 
 -- what was read ends at or behind its start and inside the file, and took as many rows as it says, within the room

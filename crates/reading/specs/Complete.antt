@@ -8,7 +8,7 @@ use lib.ListN.{length, drop, length-append}
 use borrow.Author.Tests.{lt-ltb, le-leb}
 use Rattle.layout.specs.Target.{Target}
 use Rattle.layout.specs.Tree.{Trees, none, tree, size, depth, told, toldOf}
-use Rattle.layout.specs.Slot.{Leaf, level, Slot, raw, object, reference, leaf, Plan, stop, put}
+use Rattle.layout.specs.Slot.{Leaf, level, blob, numeric, leafKind, Slot, raw, object, reference, leaf, Plan, stop, put}
 use Rattle.layout.specs.Layout.{Leafed, Raw, Value, Lays}
 use Rattle.layout.specs.Resource.{Within}
 use Rattle.layout.specs.Rows.{rawRows, notedRows, valueRows}
@@ -21,9 +21,11 @@ use Rattle.reading.specs.Heads.{headAt, head-reads, leaf-reads}
 use Rattle.reading.specs.Walk.{Outcome, done, before, point, point-is, sequence, rawAt, byReader, objectAt, valueAt, walk}
 use Rattle.reading.specs.Drafts.{Below, rawDrafts, valueDrafts, draftsOf}
 
-leaf-kind : (x : Leaf) (kind : ℕ) (own bs : List ℕ) → Leafed x kind own bs → (kind ≡ 35) × Leafed x 35 own bs
-unfolding Leafed
+leaf-kind : (x : Leaf) (kind : ℕ) (own bs : List ℕ) → Leafed x kind own bs → (kind ≡ leafKind x) × Leafed x (leafKind x) own bs
+unfolding Leafed leafKind
 leaf-kind (level z) kind own bs w = (w .0, (refl, w .1, w .2, w .3))
+leaf-kind (blob z) kind own bs w = (w .0, (refl, w .1, w .2))
+leaf-kind (numeric f z rule) kind own bs w = (w .0, (refl, w .1, w .2, w .3))
 
 module _ (file : List ℕ) (readers : List Target) (shared room : ℕ) where
   -- reading below agrees with the layout below, for the children cs
@@ -114,4 +116,4 @@ module _ (file : List ℕ) (readers : List Target) (shared room : ℕ) where
       (λ plan a u. sequence (λ y b v. walk file readers shared room d y b v (suc used)) plan a u) cs used
       (λ plan b rest′ w′ a q. complete d plan cs b rest′ w′ a (suc used) (suc used) hd′ (omega arith) q)
       x k i own b₁ (b₂ ++ rest) (w .3) at parent e₁ in
-      rw (lt-ltb used room hr′, v, n, complete (suc d) (go (told k own)) more b₂ rest (w .4) (at + length b₁) (used + suc (size cs)) parent (omega arith) (omega arith) e₂, l, p)
+      rw (lt-ltb used room hr′, v, n, complete (suc d) (go (told k own cs)) more b₂ rest (w .4) (at + length b₁) (used + suc (size cs)) parent (omega arith) (omega arith) e₂, l, p)

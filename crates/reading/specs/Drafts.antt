@@ -4,7 +4,7 @@ use mathlib.Core.List.{List, [], _∷_, _++_, map, map-append}
 use mathlib.Core.Logic.{inl, inr}
 use Prim.Native.Nat.{ℕ, suc, _+_}
 use lib.ListN.{length}
-use Rattle.layout.specs.Target.{Target, kindOf}
+use Rattle.layout.specs.Target.{Target}
 use Rattle.layout.specs.Tree.{Trees, none, tree, size, told}
 use Rattle.layout.specs.Slot.{Slot, raw, object, reference, leaf, Plan, stop, put}
 use Rattle.layout.specs.Layout.{Raw, Value, Lays}
@@ -20,12 +20,12 @@ pub record Draft : Type 0 where
   pub row : Row
   pub wants : Wants
 
--- a value's row, and the row of a reference to a resource of a type
+-- a value's row, and the row of a reference that wants a resource of a kind
 abbrev pub drafted : Row → Draft
 drafted r = record { row = r; wants = nothing }
 
-abbrev pub wanting : Target → Row → Draft
-wanting t r = record { row = r; wants = resource (kindOf t) }
+abbrev pub wanting : ℕ → Row → Draft
+wanting kind r = record { row = r; wants = resource kind }
 
 -- the rows without what they want
 abbrev pub bare : List Draft → List Row
@@ -43,16 +43,16 @@ abbrev pub rawDrafts : (below : Plan → List ℕ → Type 0) → Below below �
     → Raw below t kind own cs bs → (first z at number parent id : ℕ) → List Draft
 rawDrafts = rawRows drafted wanting
 
-abbrev pub valueDrafts : (readers : List Target) (refers : Target → ℕ → Type 0) (below : Plan → List ℕ → Type 0) → Below below
+abbrev pub valueDrafts : (readers : List Target) (refers : ℕ → ℕ → Type 0) (below : Plan → List ℕ → Type 0) → Below below
     → (x : Slot) (kind id : ℕ) (own : List ℕ) (cs : Trees) (bs : List ℕ) → Value readers refers below x kind id own cs bs → (at number parent : ℕ) → List Draft
 valueDrafts = valueRows drafted wanting
 
-abbrev pub draftsOf : (readers : List Target) (refers : Target → ℕ → Type 0) (plan : Plan) (ts : Trees) (bs : List ℕ)
+abbrev pub draftsOf : (readers : List Target) (refers : ℕ → ℕ → Type 0) (plan : Plan) (ts : Trees) (bs : List ℕ)
     → Lays readers refers plan ts bs → (at number parent : ℕ) → List Draft
 draftsOf = notedRows drafted wanting
 
 -- the drafts of trees, without what they want, are their rows
-module _ (readers : List Target) (refers : Target → ℕ → Type 0) where
+module _ (readers : List Target) (refers : ℕ → ℕ → Type 0) where
   raw-bare : (below : Plan → List ℕ → Type 0) (drafts : Below below) (lines : rows.Below {A = Row} (λ r. r) (λ t r. r) below)
       → ((plan : Plan) (b : List ℕ) (v : below plan b) (at n parent : ℕ) → bare (drafts plan b v at n parent) ≡ lines plan b v at n parent)
       → (t : Target) (kind : ℕ) (own : List ℕ) (cs : Trees) (bs : List ℕ) (w : Raw below t kind own cs bs) (first z at n parent id : ℕ)
@@ -81,5 +81,5 @@ module _ (readers : List Target) (refers : Target → ℕ → Type 0) where
   drafts-bare (tree k i own cs rest) (put x go) bs w at n parent =
       let v = value-bare (λ plan b. Lays readers refers plan cs b) (λ plan b v a n p. draftsOf readers refers plan cs b v a n p) (λ plan b v a n p. rowsOf readers refers plan cs b v a n p)
       (λ plan b v a n q. drafts-bare cs plan b v a n q) x k i own cs (w .0) (w .3) at n parent in
-      let r = drafts-bare rest (go (told k own)) (w .1) (w .4) (at + length (w .0)) (n + suc (size cs)) parent in
+      let r = drafts-bare rest (go (told k own cs)) (w .1) (w .4) (at + length (w .0)) (n + suc (size cs)) parent in
       simp (map-append, v, r)

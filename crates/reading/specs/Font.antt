@@ -138,13 +138,13 @@ module _ (point : List ℕ → ℕ) where
         test-sound cs (c q) (rw s at e)
 
 -- one of the children that a list of slots has laid down
-pub record Child (readers : List Target) (refers : Target → ℕ → Type 0) (x : Slot) (kind : ℕ) (cs : Trees) : Type 0 where
+pub record Child (readers : List Target) (refers : ℕ → ℕ → Type 0) (x : Slot) (kind : ℕ) (cs : Trees) : Type 0 where
   pub id : ℕ
   pub own : List ℕ
   pub bytes : List ℕ
   pub value : Value readers refers (λ plan b. Lays readers refers plan cs b) x kind id own cs bytes
 
-module _ (readers : List Target) (refers : Target → ℕ → Type 0) where
+module _ (readers : List Target) (refers : ℕ → ℕ → Type 0) where
   pub child-at : (i : ℕ) (slots : List Slot) (x : Slot) (ts : Trees) (bs : List ℕ) → Lays readers refers (each slots) ts bs
       → i < length slots → getD slots i x ≡ x → Child readers refers x (kindAt i ts) (childrenAt i ts)
   unfolding Lays each kindAt childrenAt

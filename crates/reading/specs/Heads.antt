@@ -3,19 +3,21 @@ use mathlib.Core.Path.{_≡_, refl, sym, ap, _∙_}
 use mathlib.Core.Bool.{Bool, true}
 use mathlib.Core.List.{List, [], _∷_, _++_, append-assoc, append-nil}
 use mathlib.Core.Logic.{inl, inr}
-use Prim.Native.Nat.{ℕ, zero, suc, _+_, _-_, _/_, _<_, _≤_, _^_, max}
+use Prim.Native.Nat.{ℕ, zero, suc, _+_, _*_, _-_, _/_, _%_, _<_, _≤_, _^_, max}
 use native.Mathlib.Omega.{arith}
+use native.Mathlib.Nat.{div-add-mod', mul-mod-right}
 use lib.Dec.{ltb, leb, eqb}
 use lib.ListN.{length, take, drop, getD, replicate}
 use lib.Seq.{take-append-seam}
 use borrow.Author.Tests.{leb-true, le-leb, ltb-true, lt-ltb, eqb-true, eq-eqb}
 use Rattle.laws.specs.Ok.{ok-weaken}
-use Rattle.layout.specs.Number.{little}
+use Rattle.layout.specs.Number.{little, valueOf}
 use Rattle.layout.specs.Text.{Character}
-use Rattle.layout.specs.Target.{Target, fixed, char, string, object, texture, texture2D, spriteFont, page, enum, nullable, array, list, dictionary}
+use Rattle.layout.specs.Target.{Target, fixed, char, string, object, texture, texture2D, spriteFont, page, mesh, enum, nullable, array, list, dictionary}
 use Rattle.layout.specs.Fixed.{sizes, Boolean, Fixed}
 use Rattle.layout.specs.Image.{levels, digits}
-use Rattle.layout.specs.Slot.{Leaf, level, Slot, raw, slotOf, Plan, stop, each, pairs, leaves, fontSlots, pageSlots}
+use Rattle.layout.specs.Slot.{Rule, atMost, multipleOf, Keeps, Leaf, level, blob, numeric, leafKind, Slot, raw, slotOf, Plan, stop, each, pairs, leaves, fontSlots, pageSlots}
+use Rattle.layout.specs.Mesh.{planOf}
 use Rattle.layout.specs.Head.{Textual, Flagged, Counted, Pictured, Head}
 use Rattle.layout.specs.Layout.{Leafed}
 use Rattle.reading.specs.Answer.{Answer, refused, read, bind, check, not-read, is-read, ok-bind, ok-check, within, within-true, true-within}
@@ -34,6 +36,21 @@ opening h a b p q = λ i. (p i, q i)
 
 unfoldable pub always : {A : Type 0} → A → Bool
 always a = true
+
+-- the test of a number's rule
+unfoldable pub keeps : Rule → ℕ → Bool
+keeps (atMost m) n = leb n m
+keeps (multipleOf unit) n = eqb (n % unit) 0
+
+keeps-sound : (r : Rule) (n : ℕ) → keeps r n ≡ true → Keeps r n
+unfolding keeps Keeps
+keeps-sound (atMost m) n t = leb-true n m t
+keeps-sound (multipleOf unit) n t = (n / unit, omega (arith, div-add-mod' n unit, eqb-true (n % unit) 0 t))
+
+keeps-complete : (r : Rule) (n : ℕ) → Keeps r n → keeps r n ≡ true
+unfolding keeps Keeps
+keeps-complete (atMost m) n h = le-leb n m h
+keeps-complete (multipleOf unit) n h = eq-eqb (n % unit) 0 (rw (h .1) (mul-mod-right unit (h .0)))
 
 -- after a nullable's first byte
 unfoldable pub flagPlan : Target → List ℕ → Plan
@@ -75,6 +92,8 @@ module _ (file : List ℕ) where
   -- a level's size rule comes before its data's end
   unfoldable pub leafAt : Leaf → ℕ → Answer (List ℕ)
   leafAt (level z) at = bind (littleAt file 4 at at) (λ n e. check (eqb n z) 15 at (some file n at e))
+  leafAt (blob z) at = some file z at at
+  leafAt (numeric f z rule) at = field file (some file z at) (λ own. keeps rule (valueOf own)) (λ own. own) at at
 
   unfoldable pub headAt : Target → ℕ → Answer Opening
   headAt (fixed k) at = fixedHeadAt k at
@@ -90,6 +109,7 @@ module _ (file : List ℕ) where
   headAt texture2D at = imageAt at
   headAt spriteFont at = read ([], each fontSlots) at
   headAt page at = read ([], each pageSlots) at
+  headAt (mesh m) at = read ([], planOf m) at
 
   own-reads : {F : ℕ → List ℕ → Type 0} {r : ℕ → Answer ℕ} → Reads file F r → Reads file (λ own bs. (bs ≡ own) × ((c : ℕ) × F c own)) (ownAt r)
   unfolding ownAt bind
@@ -158,14 +178,22 @@ module _ (file : List ℕ) where
       (λ o bs s w. (w .0, w .1 .0, ap (λ (x : Opening). x .0) (w .3), w .1 .1, ap (λ (x : Opening). x .1) (w .3)))
       (λ o bs w. (w .0, (w .1, w .3), refl, opening o [] (each (slots (w .0))) (w .2) (w .4)))
 
-  pub leaf-reads : (x : Leaf) → Reads file (λ own bs. Leafed x 35 own bs) (leafAt x)
-  unfolding leafAt Leafed
+  pub leaf-reads : (x : Leaf) → Reads file (λ own bs. Leafed x (leafKind x) own bs) (leafAt x)
+  unfolding leafAt Leafed leafKind
   leaf-reads (level z) =
       convert file (bind-reads file (here-reads file (λ p. little-reads file 4 p)) (λ n at. check-reads file (eqb n z) 15 at (some-reads file n at)))
       (λ own bs s w. let q : w .0 ≡ z = eqb-true (w .0) z (w .5 .0) in
       let r : bs ≡ little 4 z ++ own = rw (← q, ← w .4 .1, ← w .5 .1 .0) (w .3) in
       (refl, rw q at (w .4 .0), w .5 .1 .1 ∙ q, r))
       (λ own bs w. (z, little 4 z, own, w .3, (w .1, refl), (eq-eqb z z refl, (refl, w .2))))
+  leaf-reads (blob z) =
+      convert file (here-reads file (λ p. some-reads file z p))
+      (λ own bs s w. (refl, w .1, w .0))
+      (λ own bs w. (w .2, w .1))
+  leaf-reads (numeric f z rule) =
+      convert file (here-reads file (λ p. field-reads file (λ own. keeps rule (valueOf own)) (λ own. own) p (some-reads file z p)))
+      (λ own bs s w. rw (w .3) (refl, w .1 .1, keeps-sound rule (valueOf (w .0)) (w .2), w .1 .0))
+      (λ own bs w. (own, (w .3, w .1), keeps-complete rule (valueOf own) (w .2), refl))
 
   digits-bound : (k x : ℕ) → digits k x ≤ k
   unfolding digits
@@ -273,3 +301,4 @@ module _ (file : List ℕ) where
   head-reads texture2D = image-reads
   head-reads spriteFont = bare-reads (each fontSlots)
   head-reads page = bare-reads (each pageSlots)
+  head-reads (mesh m) = bare-reads (planOf m)

@@ -44,8 +44,8 @@ judged-sound shared (d ∷ rows) x f =
     ok-check (suits shared (d .wants) (d .row .detail)) 17 (d .row .first) _ (λ t. judged-sound shared rows x (λ h. f (t, h)))
 
 -- a rule for references may be changed for another that follows from it and from what the rows keep
-module _ (readers : List Target) (refers refers′ : Target → ℕ → Type 0) (p : Wants → ℕ → Bool)
-    (step : (t : Target) (id : ℕ) → refers t id → p (resource (kindOf t)) id ≡ true → refers′ t id) where
+module _ (readers : List Target) (refers refers′ : ℕ → ℕ → Type 0) (p : Wants → ℕ → Bool)
+    (step : (wanted id : ℕ) → refers wanted id → p (resource wanted) id ≡ true → refers′ wanted id) where
   abbrev Changes : (below below′ : Plan → List ℕ → Type 0) → Below below → Below below′ → Type 0
   Changes below below′ rows rows′ =
       (plan : Plan) (b : List ℕ) (v : below plan b) (at n parent : ℕ) → Every p (rows plan b v at n parent)
@@ -107,17 +107,17 @@ module _ (readers : List Target) (refers refers′ : Target → ℕ → Type 0) 
   change stop (tree k i own cs rest) bs w at n parent a = absurd w
   change (put x go) (tree k i own cs rest) bs w at n parent a =
       let va = valueDrafts readers refers (λ plan b. Lays readers refers plan cs b) (λ plan b v a n p. draftsOf readers refers plan cs b v a n p) x k i own cs (w .0) (w .3) at n parent in
-      let ra = draftsOf readers refers (go (told k own)) rest (w .1) (w .4) (at + length (w .0)) (n + suc (size cs)) parent in
+      let ra = draftsOf readers refers (go (told k own cs)) rest (w .1) (w .4) (at + length (w .0)) (n + suc (size cs)) parent in
       let both = every-parts p va ra a in
       let v = value-change (λ plan b. Lays readers refers plan cs b) (λ plan b. Lays readers refers′ plan cs b)
       (λ plan b v a n p. draftsOf readers refers plan cs b v a n p) (λ plan b v a n p. draftsOf readers refers′ plan cs b v a n p)
       (λ plan b v a n p h. change plan cs b v a n p h) x k i own cs (w .0) (w .3) at n parent (both .0) in
-      let r = change (go (told k own)) rest (w .1) (w .4) (at + length (w .0)) (n + suc (size cs)) parent (both .1) in
+      let r = change (go (told k own cs)) rest (w .1) (w .4) (at + length (w .0)) (n + suc (size cs)) parent (both .1) in
       ((w .0, w .1, w .2, v .0, r .0), rw (v .1, r .1))
 
 -- what the rule for references says, the rows keep; other rows want nothing
-module _ (readers : List Target) (refers : Target → ℕ → Type 0) (p : Wants → ℕ → Bool)
-    (step : (t : Target) (id : ℕ) → refers t id → p (resource (kindOf t)) id ≡ true) (free : (id : ℕ) → p nothing id ≡ true) where
+module _ (readers : List Target) (refers : ℕ → ℕ → Type 0) (p : Wants → ℕ → Bool)
+    (step : (wanted id : ℕ) → refers wanted id → p (resource wanted) id ≡ true) (free : (id : ℕ) → p nothing id ≡ true) where
   abbrev Keeps : (below : Plan → List ℕ → Type 0) → Below below → Type 0
   Keeps below rows = (plan : Plan) (b : List ℕ) (v : below plan b) (at n parent : ℕ) → Every p (rows plan b v at n parent)
 
@@ -140,9 +140,9 @@ module _ (readers : List Target) (refers : Target → ℕ → Type 0) (p : Wants
   every-row stop (tree k i own cs rest) bs w at n parent = absurd w
   every-row (put x go) (tree k i own cs rest) bs w at n parent =
       every-append p (valueDrafts readers refers (λ plan b. Lays readers refers plan cs b) (λ plan b v a n p. draftsOf readers refers plan cs b v a n p) x k i own cs (w .0) (w .3) at n parent)
-      (draftsOf readers refers (go (told k own)) rest (w .1) (w .4) (at + length (w .0)) (n + suc (size cs)) parent)
+      (draftsOf readers refers (go (told k own cs)) rest (w .1) (w .4) (at + length (w .0)) (n + suc (size cs)) parent)
       (value-every (λ plan b. Lays readers refers plan cs b) (λ plan b v a n p. draftsOf readers refers plan cs b v a n p) (λ plan b v a n q. every-row plan cs b v a n q) x k i own cs (w .0) (w .3) at n parent)
-      (every-row (go (told k own)) rest (w .1) (w .4) (at + length (w .0)) (n + suc (size cs)) parent)
+      (every-row (go (told k own cs)) rest (w .1) (w .4) (at + length (w .0)) (n + suc (size cs)) parent)
 
 -- the words of rows
 pub length-flat : (rows : List Row) → length (flat rows) ≡ width * length rows
@@ -159,7 +159,7 @@ roots-append (d ∷ a) b = go (d .row .parent) (roots-append a b) where
   go zero e = ap (λ (l : List ℕ). d .row .kind ∷ l) e
   go (suc parent) e = e
 
-module _ (readers : List Target) (refers : Target → ℕ → Type 0) where
+module _ (readers : List Target) (refers : ℕ → ℕ → Type 0) where
   abbrev NoRoots : (below : Plan → List ℕ → Type 0) → Below below → Type 0
   NoRoots below rows = (plan : Plan) (b : List ℕ) (v : below plan b) (at n parent : ℕ) → rootKinds (rows plan b v at n (suc parent)) ≡ []
 
@@ -183,7 +183,7 @@ module _ (readers : List Target) (refers : Target → ℕ → Type 0) where
       rw (
         roots-append,
         value-roots (λ plan b. Lays readers refers plan cs b) (λ plan b v a n p. draftsOf readers refers plan cs b v a n p) (λ plan b v a n q. no-roots plan cs b v a n q) x k i own cs (w .0) (w .3) at n (suc parent),
-        no-roots (go (told k own)) rest (w .1) (w .4) (at + length (w .0)) (n + suc (size cs)) parent,
+        no-roots (go (told k own cs)) rest (w .1) (w .4) (at + length (w .0)) (n + suc (size cs)) parent,
       )
 
   -- the kinds of the rows with no parent are those of the trees
@@ -196,7 +196,7 @@ module _ (readers : List Target) (refers : Target → ℕ → Type 0) where
       rw (
         roots-append,
         value-roots (λ plan b. Lays readers refers plan cs b) (λ plan b v a n p. draftsOf readers refers plan cs b v a n p) (λ plan b v a n q. no-roots plan cs b v a n q) x k i own cs (w .0) (w .3) at n 0,
-        roots-are (go (told k own)) rest (w .1) (w .4) (at + length (w .0)) (n + suc (size cs)),
+        roots-are (go (told k own cs)) rest (w .1) (w .4) (at + length (w .0)) (n + suc (size cs)),
       )
 
   -- slots and trees are as many

@@ -11,8 +11,8 @@ use lib.ListN.{length, drop, length-drop}
 use lib.Seq.{length-take-le}
 use borrow.Author.Tests.{leb-true}
 use Rattle.laws.specs.Small.{differ}
-use Rattle.layout.specs.Target.{Target, fixed, char, string, object, texture, texture2D, spriteFont, page, enum, nullable, array, list, dictionary}
-use Rattle.layout.specs.Slot.{Leaf, level, Slot, raw, reference, leaf, object as an-object, Plan, stop, put}
+use Rattle.layout.specs.Target.{Target, fixed, char, string, object, texture, texture2D, spriteFont, page, mesh, enum, nullable, array, list, dictionary}
+use Rattle.layout.specs.Slot.{Leaf, level, blob, numeric, Slot, raw, reference, leaf, object as an-object, Plan, stop, put}
 use Rattle.layout.specs.File.{objectsPlan}
 use Rattle.layout.specs.Rows.{row}
 use Rattle.layout.specs.Tree.{toldOf}
@@ -148,6 +148,8 @@ module _ (file : List ℕ) (most : ℕ) (fits : length file ≤ most) where
   leaf-inside : (x : Leaf) (at : ℕ) → at ≤ length file → Inside (leafAt file x at)
   unfolding leafAt
   leaf-inside (level z) at h = tells-bind (little-inside 4 at at h h) (λ n e k. tells-check _ 15 at _ (fault 15 refl refl h) (λ t. some-inside n at e h k))
+  leaf-inside (blob z) at h = some-inside z at at h h
+  leaf-inside (numeric f z rule) at h = field-inside _ _ _ at at h (some-inside z at at h h)
 
   head-inside : (t : Target) (at : ℕ) → at ≤ length file → Inside (headAt file t at)
   unfolding headAt flagAt
@@ -164,6 +166,7 @@ module _ (file : List ℕ) (most : ℕ) (fits : length file ≤ most) where
   head-inside texture2D at h = image-inside at h
   head-inside spriteFont at h = of-read h
   head-inside page at h = of-read h
+  head-inside (mesh m) at h = of-read h
 
   -- ---- values, with the first bytes of their rows
 

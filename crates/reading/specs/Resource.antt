@@ -7,7 +7,6 @@ use Prim.Native.Nat.{ℕ, zero, suc, _≤_}
 use lib.Dec.{eqb}
 use lib.ListN.{length, getD}
 use borrow.Author.Tests.{eqb-true, eq-eqb}
-use Rattle.layout.specs.Target.{Target, kindOf}
 use Rattle.layout.specs.Tree.{Trees, none, tree, count, kindAt}
 use Rattle.layout.specs.Resource.{Resource}
 use Rattle.reading.specs.Drafts.{Wants, nothing, resource}
@@ -52,15 +51,15 @@ suit-complete wanted kind (inr e) = rw (eq-eqb kind wanted e) (always (eqb kind 
   always true = refl
   always false = refl
 
--- a reference to a type may name a shared object just if its id is within their count and suits
-pub resource-sound : (shared : Trees) (t : Target) (id : ℕ) → id ≤ count shared → suits (kinds shared) (resource (kindOf t)) id ≡ true → Resource shared t id
+-- a reference that wants a kind may name a shared object just if its id is within their count and suits
+pub resource-sound : (shared : Trees) (wanted id : ℕ) → id ≤ count shared → suits (kinds shared) (resource wanted) id ≡ true → Resource shared wanted id
 unfolding suits
-resource-sound shared t id h s = record {
+resource-sound shared wanted id h s = record {
   within = h;
-  fitting = λ i e. rw kind-at at (suit-sound (kindOf t) (getD (kinds shared) i 0) (rw e at s));
+  fitting = λ i e. rw kind-at at (suit-sound wanted (getD (kinds shared) i 0) (rw e at s));
 }
 
-pub resource-complete : (shared : Trees) (t : Target) (id : ℕ) → Resource shared t id → suits (kinds shared) (resource (kindOf t)) id ≡ true
+pub resource-complete : (shared : Trees) (wanted id : ℕ) → Resource shared wanted id → suits (kinds shared) (resource wanted) id ≡ true
 unfolding suits
-resource-complete shared t zero w = suit-complete (kindOf t) 0 (inl refl)
-resource-complete shared t (suc i) w = rw kind-at (suit-complete (kindOf t) (kindAt i shared) (w .fitting i refl))
+resource-complete shared wanted zero w = suit-complete wanted 0 (inl refl)
+resource-complete shared wanted (suc i) w = rw kind-at (suit-complete wanted (kindAt i shared) (w .fitting i refl))

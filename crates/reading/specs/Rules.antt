@@ -7,7 +7,7 @@ use native.Mathlib.Omega.{arith}
 use native.Mathlib.Decide.{ℕ-discrete}
 use lib.ListN.{length, getD}
 use Rattle.laws.specs.Small.{differ}
-use Rattle.layout.specs.Target.{Target, target-discrete, fixed, char, string, object, texture, texture2D, spriteFont, page, enum, nullable, array, list, dictionary, Serves, same as serves-same, any as serves-any, picture as serves-picture}
+use Rattle.layout.specs.Target.{Target, mesh-discrete, target-discrete, fixed, char, string, object, texture, texture2D, spriteFont, page, mesh, enum, nullable, array, list, dictionary, Serves, same as serves-same, any as serves-any, picture as serves-picture}
 use Rattle.layout.specs.Slot.{Plan}
 use Rattle.layout.specs.Head.{Head}
 use Rattle.layout.specs.Layout.{Reader}
@@ -28,15 +28,15 @@ true-decided (no n) h = absurd (n h)
 
 -- targets are equal
 unfoldable pub same : Target → Target → Bool
-same t u = decided (target-discrete ℕ-discrete (List-discrete ℕ-discrete) t u)
+same t u = decided (target-discrete ℕ-discrete mesh-discrete (List-discrete ℕ-discrete) t u)
 
 pub same-true : (t u : Target) → same t u ≡ true → t ≡ u
 unfolding same
-same-true t u e = decided-true (target-discrete ℕ-discrete (List-discrete ℕ-discrete) t u) e
+same-true t u e = decided-true (target-discrete ℕ-discrete mesh-discrete (List-discrete ℕ-discrete) t u) e
 
 pub same-refl : (t : Target) → same t t ≡ true
 unfolding same
-same-refl t = true-decided (target-discrete ℕ-discrete (List-discrete ℕ-discrete) t t) refl
+same-refl t = true-decided (target-discrete ℕ-discrete mesh-discrete (List-discrete ℕ-discrete) t t) refl
 
 -- a reader of t serves the declaration d
 unfoldable pub serves : Target → Target → Bool
@@ -87,6 +87,7 @@ invoked texture = missing
 invoked texture2D = found texture2D
 invoked spriteFont = found spriteFont
 invoked page = found page
+invoked (mesh m) = found (mesh m)
 
 unfoldable pub reader : List Target → ℕ → Found
 reader readers zero = missing
@@ -109,6 +110,7 @@ invoked-is texture u e = differ cc
 invoked-is texture2D u e = cc
 invoked-is spriteFont u e = cc
 invoked-is page u e = cc
+invoked-is (mesh m) u e = cc
 
 pub reader-sound : (readers : List Target) (id : ℕ) (u : Target) → reader readers id ≡ found u → Reader readers id u
 unfolding reader Reader
@@ -146,6 +148,7 @@ head-invoked texture own plan bs w = absurd w
 head-invoked texture2D own plan bs w = refl
 head-invoked spriteFont own plan bs w = refl
 head-invoked page own plan bs w = refl
+head-invoked (mesh m) own plan bs w = refl
 
 pub null-id : (readers : List Target) (u : Target) → Reader readers 0 u → ⊥
 unfolding Reader

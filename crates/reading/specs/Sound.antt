@@ -11,7 +11,7 @@ use Rattle.laws.specs.Ok.{ok-weaken}
 use Rattle.layout.specs.Number.{Seven}
 use Rattle.layout.specs.Target.{Target, kindOf, spriteFont}
 use Rattle.layout.specs.Tree.{Trees, none, tree, count, size, depth, childrenAt, toldOf, told}
-use Rattle.layout.specs.Slot.{Slot, raw, object, reference, leaf, Plan, stop, put, each, fontSlots}
+use Rattle.layout.specs.Slot.{leafKind, Slot, raw, object, reference, leaf, Plan, stop, put, each, fontSlots}
 use Rattle.layout.specs.Head.{Head}
 use Rattle.layout.specs.Layout.{Raw, Value, Lays}
 use Rattle.layout.specs.Resource.{Within}
@@ -70,8 +70,8 @@ module _ (file : List ℕ) (readers : List Target) (shared room : ℕ) (small : 
       ok-bind (h x at used)
       (λ a e v. ok-bind (sequence-sound d parent step h (go (toldOf (a .2))) e (a .0))
       (λ b e′ v₀. is-read {a = (b .0, a .1 ++ b .1, before (a .2) (b .2))} (rw (v .tree-is)
-      (let o : toldOf (a .2) ≡ told (v .kind) (v .own) = rw (v .tree-is) in
-      let v′ : Read d (go (told (v .kind) (v .own))) e (a .0) parent b e′ = rw o at v₀ in
+      (let o : toldOf (a .2) ≡ told (v .kind) (v .own) (v .children) = rw (v .tree-is) in
+      let v′ : Read d (go (told (v .kind) (v .own) (v .children))) e (a .0) parent b e′ = rw o at v₀ in
       let b₁ = v .bytes in
       let b₂ = v′ .bytes in
       let q : drop at file ≡ (b₁ ++ b₂) ++ drop e′ file = v .there ∙ ap (λ (l : List ℕ). b₁ ++ l) (v′ .there) ∙ sym (append-assoc b₁ b₂ (drop e′ file)) in
@@ -246,7 +246,7 @@ module _ (file : List ℕ) (readers : List Target) (shared room : ℕ) (small : 
         (record { kind-of = refl; empty = refl; childless = refl; named = leb-true id shared b; number = q .1 }) (q .2) (q .3) refl))
     value-sound (leaf x) at parent =
         ok-bind (leaf-reads file x .sound small at)
-        (λ own next q. childless (leaf x) 35 0 own (q .0) at next parent (λ z. drafted (row 35 at z 0 parent 0 1)) (refl, refl, q .1) (q .2) (q .3) refl)
+        (λ own next q. childless (leaf x) (leafKind x) 0 own (q .0) at next parent (λ z. drafted (row (leafKind x) at z 0 parent 0 1)) (refl, refl, q .1) (q .2) (q .3) refl)
 
   pub walk-sound : (d : ℕ) (x : Slot) (at used parent : ℕ) → Ok (ReadValue d x at used parent) (walk file readers shared room d x at used parent)
   unfolding walk

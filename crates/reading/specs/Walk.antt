@@ -6,7 +6,7 @@ use lib.Dec.{ltb, leb}
 use Rattle.layout.specs.Text.{Character}
 use Rattle.layout.specs.Target.{Target, kindOf}
 use Rattle.layout.specs.Tree.{Trees, none, tree, count, toldOf}
-use Rattle.layout.specs.Slot.{Slot, raw, object, reference, leaf, Plan, stop, put}
+use Rattle.layout.specs.Slot.{leafKind, Slot, raw, object, reference, leaf, Plan, stop, put}
 use Rattle.layout.specs.Rows.{row}
 use Rattle.reading.specs.Answer.{Answer, refused, read, bind, check}
 use Rattle.reading.specs.Seven.{sevenAt}
@@ -71,11 +71,11 @@ module _ (file : List ℕ) (readers : List Target) (shared room : ℕ) where
   unfoldable pub valueAt : (Plan → ℕ → ℕ → Outcome) → Slot → (at used parent : ℕ) → Outcome
   valueAt below (raw t) at used parent = rawAt below t at at used parent 0
   valueAt below (object t) at used parent = bind (sevenAt file at) (λ id next. objectAt below t id at next used parent)
-  valueAt below (reference t) at used parent =
+  valueAt below (reference wanted) at used parent =
       bind (sevenAt file at)
-      (λ id next. check (leb id shared) 16 at (done next (suc used) (wanting t (row 36 at (next - at) 0 parent id 1) ∷ []) (tree 36 id [] none none)))
+      (λ id next. check (leb id shared) 16 at (done next (suc used) (wanting wanted (row 36 at (next - at) 0 parent id 1) ∷ []) (tree 36 id [] none none)))
   valueAt below (leaf x) at used parent =
-      bind (leafAt file x at) (λ own next. done next (suc used) (drafted (row 35 at (next - at) 0 parent 0 1) ∷ []) (tree 35 0 own none none))
+      bind (leafAt file x at) (λ own next. done next (suc used) (drafted (row (leafKind x) at (next - at) 0 parent 0 1) ∷ []) (tree (leafKind x) 0 own none none))
 
   -- 01: "At a value's start: 18, 19, then its bytes"; `depth` is the depth left
   unfoldable pub walk : (depth : ℕ) → Slot → (at used parent : ℕ) → Outcome

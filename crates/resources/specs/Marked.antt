@@ -5,9 +5,9 @@ use mathlib.Core.Logic.{inl, inr}
 use Prim.Native.Nat.{ℕ, suc, _+_, _<_}
 use native.Mathlib.Omega.{arith}
 use lib.ListN.{length, getD}
-use Rattle.layout.specs.Target.{Target, kindOf, fixed, char, string, object, texture, texture2D, spriteFont, page, enum, nullable, array, list, dictionary}
+use Rattle.layout.specs.Target.{Target, kindOf, fixed, char, string, object, texture, texture2D, spriteFont, page, indexBuffer, vertexDeclaration, vertexBuffer, model, mesh, meshKind, enum, nullable, array, list, dictionary}
 use Rattle.layout.specs.Tree.{Trees, none, tree, size, told}
-use Rattle.layout.specs.Slot.{Leaf, level, Slot, raw, object, reference, leaf, Plan, stop, put}
+use Rattle.layout.specs.Slot.{boneField, codeField, uintField, fieldKind, Leaf, level, blob, numeric, Slot, raw, object, reference, leaf, Plan, stop, put}
 use Rattle.layout.specs.Fixed.{sizes}
 use Rattle.layout.specs.Head.{Head}
 use Rattle.layout.specs.Layout.{Raw, Value, Lays, Leafed}
@@ -31,7 +31,7 @@ marked-append (d ∷ a) b h g = (h .0, marked-append a b (h .1) g)
 
 -- no reader reads a shared reference
 head-kind : (t : Target) (own : List ℕ) (plan : Plan) (bs : List ℕ) → Head t own plan bs → kindOf t ≡ 36 → ⊥
-unfolding Head kindOf sizes
+unfolding Head kindOf meshKind sizes
 head-kind (fixed k) own plan bs h e = let s : 0 < getD sizes 36 0 = rw e at (h .1 .sized) in omega arith
 head-kind char own plan bs h e = omega arith
 head-kind string own plan bs h e = omega arith
@@ -45,8 +45,12 @@ head-kind texture own plan bs h e = omega arith
 head-kind texture2D own plan bs h e = omega arith
 head-kind spriteFont own plan bs h e = omega arith
 head-kind page own plan bs h e = omega arith
+head-kind (mesh indexBuffer) own plan bs h e = omega arith
+head-kind (mesh vertexDeclaration) own plan bs h e = omega arith
+head-kind (mesh vertexBuffer) own plan bs h e = omega arith
+head-kind (mesh model) own plan bs h e = omega arith
 
-module _ (readers : List Target) (refers : Target → ℕ → Type 0) where
+module _ (readers : List Target) (refers : ℕ → ℕ → Type 0) where
   abbrev MarkedBelow : (below : Plan → List ℕ → Type 0) → Below below → Type 0
   MarkedBelow below rows = (plan : Plan) (b : List ℕ) (v : below plan b) (at n parent : ℕ) → Marked (rows plan b v at n parent)
 
@@ -58,8 +62,12 @@ module _ (readers : List Target) (refers : Target → ℕ → Type 0) where
       (λ e. head-kind t own (w .plan) (w .head) (w .headed) (sym (w .kind-of) ∙ e), h (w .plan) (w .children) (w .laid) (at + length (w .head)) (suc n) (suc n))
 
   leaf-kind : (x : Leaf) (kind : ℕ) (own bs : List ℕ) → Leafed x kind own bs → kind ≡ 36 → ⊥
-  unfolding Leafed
+  unfolding Leafed fieldKind
   leaf-kind (level z) kind own bs w e = omega (arith, w .0)
+  leaf-kind (blob z) kind own bs w e = omega (arith, w .0)
+  leaf-kind (numeric boneField z rule) kind own bs w e = omega (arith, w .0)
+  leaf-kind (numeric codeField z rule) kind own bs w e = omega (arith, w .0)
+  leaf-kind (numeric uintField z rule) kind own bs w e = omega (arith, w .0)
 
   value-marked : (below : Plan → List ℕ → Type 0) (rows : Below below) → MarkedBelow below rows
       → (x : Slot) (kind id : ℕ) (own : List ℕ) (cs : Trees) (bs : List ℕ) (w : Value readers refers below x kind id own cs bs) (at n parent : ℕ)
@@ -80,6 +88,6 @@ module _ (readers : List Target) (refers : Target → ℕ → Type 0) where
   marked-rows stop (tree k i own cs rest) bs w at n parent = absurd w
   marked-rows (put x go) (tree k i own cs rest) bs w at n parent =
       marked-append (valueDrafts readers refers (λ plan b. Lays readers refers plan cs b) (λ plan b v a n p. draftsOf readers refers plan cs b v a n p) x k i own cs (w .0) (w .3) at n parent)
-      (draftsOf readers refers (go (told k own)) rest (w .1) (w .4) (at + length (w .0)) (n + suc (size cs)) parent)
+      (draftsOf readers refers (go (told k own cs)) rest (w .1) (w .4) (at + length (w .0)) (n + suc (size cs)) parent)
       (value-marked (λ plan b. Lays readers refers plan cs b) (λ plan b v a n p. draftsOf readers refers plan cs b v a n p) (λ plan b v a n q. marked-rows plan cs b v a n q) x k i own cs (w .0) (w .3) at n parent)
-      (marked-rows (go (told k own)) rest (w .1) (w .4) (at + length (w .0)) (n + suc (size cs)) parent)
+      (marked-rows (go (told k own cs)) rest (w .1) (w .4) (at + length (w .0)) (n + suc (size cs)) parent)

@@ -88,7 +88,7 @@ module _ (file : List ℕ) where
       rw (i .0, i .1, i .2, no-count kind (at + length bs) (b .0), b .1, append-nil (shortest id)) z
 
   -- the children cs, by the rows of their trees
-  module _ (readers : List Target) (refers : Target → ℕ → Type 0) (cs : Trees)
+  module _ (readers : List Target) (refers : ℕ → ℕ → Type 0) (cs : Trees)
       (h : (plan : Plan) (b : List ℕ) (v : Lays readers refers plan cs b) (at n q : ℕ) (rest : List ℕ) → drop at file ≡ b ++ rest
       → Shortened at (at + length b) (rowsPlaces file (rowsOf readers refers plan cs b v at n q)) (short cs)) where
     abbrev Under : Plan → List ℕ → Type 0
@@ -135,7 +135,7 @@ module _ (file : List ℕ) where
         rw (w .0, w .1, i .0, i .1, i .2, no-count kind at (e .2), e .0, append-nil bs) z
 
   -- trees that stand in the file, with the numbers of their rows in their shortest forms, are their shortest bytes
-  pub lays-shortened : (readers : List Target) (refers : Target → ℕ → Type 0) (plan : Plan) (ts : Trees) (bs : List ℕ) (w : Lays readers refers plan ts bs) (at n q : ℕ) (rest : List ℕ)
+  pub lays-shortened : (readers : List Target) (refers : ℕ → ℕ → Type 0) (plan : Plan) (ts : Trees) (bs : List ℕ) (w : Lays readers refers plan ts bs) (at n q : ℕ) (rest : List ℕ)
       → drop at file ≡ bs ++ rest → Shortened at (at + length bs) (rowsPlaces file (rowsOf readers refers plan ts bs w at n q)) (short ts)
   unfolding Lays notedRows short
   lays-shortened readers refers stop none bs w at n q rest d = rw none-places (copied rest (rw w at d) (ap (λ (b : List ℕ). at + length b) w))
@@ -144,5 +144,5 @@ module _ (file : List ℕ) where
   lays-shortened readers refers (put x go) (tree k i own cs others) bs w at n q rest d =
       let c = split at bs (w .0) (w .1) rest (w .2) d in
       let v = value-shortened readers refers cs (λ plan b v at n q rest d. lays-shortened readers refers plan cs b v at n q rest d) x k i own (w .0) (w .3) at n q (w .1 ++ rest) (c .0) in
-      let r = lays-shortened readers refers (go (told k own)) others (w .1) (w .4) (at + length (w .0)) (n + suc (size cs)) q rest (c .1) in
+      let r = lays-shortened readers refers (go (told k own cs)) others (w .1) (w .4) (at + length (w .0)) (n + suc (size cs)) q rest (c .1) in
       rw (places-append, c .2) (joined v r)

@@ -8,9 +8,9 @@ use native.Mathlib.Omega.{arith}
 use lib.Dec.{eqb}
 use lib.ListN.{length, length-append, replicate, length-replicate}
 use Rattle.layout.specs.Number.{Seven, little}
-use Rattle.layout.specs.Target.{Target, fixed, char, string, object as anything, texture, texture2D, spriteFont, page, enum, nullable, array, list, dictionary, kindOf}
+use Rattle.layout.specs.Target.{Target, fixed, char, string, object as anything, texture, texture2D, spriteFont, page, indexBuffer, vertexDeclaration, vertexBuffer, model, mesh, enum, nullable, array, list, dictionary, kindOf, meshKind}
 use Rattle.layout.specs.Tree.{Trees, none, tree, count, told}
-use Rattle.layout.specs.Slot.{Leaf, level, Slot, raw, object, reference, leaf, slotOf, Plan, stop, put, each, pairs, leaves}
+use Rattle.layout.specs.Slot.{boneField, codeField, uintField, fieldKind, Leaf, level, blob, numeric, Slot, raw, object, reference, leaf, slotOf, Plan, stop, put, each, pairs, leaves}
 use Rattle.layout.specs.Fixed.{sizes}
 use Rattle.layout.specs.Image.{levels}
 use Rattle.layout.specs.Head.{Head, Textual, Counted, Pictured}
@@ -81,7 +81,7 @@ abbrev Counts : Plan → ℕ → Type 0
 Counts plan n = (slots : List Slot) → plan ≡ each slots → n ≡ length slots
 
 pub head-form : (t : Target) (own : List ℕ) (plan : Plan) (bs : List ℕ) → Head t own plan bs → (n : ℕ) → Counts plan n → Form (Head t own plan) (kindOf t) own n bs
-unfolding Head Textual Counted Pictured kindOf body numbered sizes
+unfolding Head Textual Counted Pictured kindOf meshKind body numbered sizes
 head-form (fixed k) own plan bs w n c =
     let z = w .1 .sized in
     plain (sized-plain k z .0) (sized-plain k z .1)
@@ -108,6 +108,10 @@ head-form texture2D own plan bs w n c =
     plain refl refl (w .12 ∙ ap (λ (k : ℕ). own ++ little 4 k) (sym l)) w
 head-form spriteFont own plan bs w n c = plain refl refl (w .0 ∙ sym (w .1)) w
 head-form page own plan bs w n c = plain refl refl (w .0 ∙ sym (w .1)) w
+head-form (mesh indexBuffer) own plan bs w n c = plain refl refl (w .0 ∙ sym (w .1)) w
+head-form (mesh vertexDeclaration) own plan bs w n c = plain refl refl (w .0 ∙ sym (w .1)) w
+head-form (mesh vertexBuffer) own plan bs w n c = plain refl refl (w .0 ∙ sym (w .1)) w
+head-form (mesh model) own plan bs w n c = plain refl refl (w .0 ∙ sym (w .1)) w
 
 form-short : {P : List ℕ → Type 0} {kind : ℕ} {own : List ℕ} {n : ℕ} {head : List ℕ} → Form P kind own n head → Shortens P (body kind own n) head
 unfolding body
@@ -122,10 +126,14 @@ form-numbered (plain m q e w) = m
 form-numbered (text q number s e f) = rw q
 
 pub leaf-body : (x : Leaf) (kind : ℕ) (own bs : List ℕ) → Leafed x kind own bs → (body kind own 0 ≡ bs) × (numbered kind 0 ≡ false) × (eqb kind 13 ≡ false)
-unfolding Leafed body numbered
+unfolding Leafed fieldKind body numbered
 leaf-body (level z) kind own bs w = rw (w .0) (ap (λ (k : ℕ). little 4 k ++ own) (w .2) ∙ sym (w .3), refl, refl)
+leaf-body (blob z) kind own bs w = rw (w .0) (sym (w .2), refl, refl)
+leaf-body (numeric boneField z rule) kind own bs w = rw (w .0) (sym (w .3), refl, refl)
+leaf-body (numeric codeField z rule) kind own bs w = rw (w .0) (sym (w .3), refl, refl)
+leaf-body (numeric uintField z rule) kind own bs w = rw (w .0) (sym (w .3), refl, refl)
 
-module _ (readers : List Target) (refers : Target → ℕ → Type 0) (cs : Trees) where
+module _ (readers : List Target) (refers : ℕ → ℕ → Type 0) (cs : Trees) where
   -- what a value's children stand in
   abbrev Under : Plan → List ℕ → Type 0
   Under plan b = Lays readers refers plan cs b
@@ -174,13 +182,13 @@ module _ (readers : List Target) (refers : Target → ℕ → Type 0) (cs : Tree
         rw (w .0, w .1, e .1, append-nil) (same-shortens (λ b. (_≡_ {A = ℕ} 0 0) × (_≡_ {A = Trees} none none) × Leafed x kind own b) (body kind own 0) bs (e .0) (refl, refl, w .2))
 
 -- the shortest bytes of trees are bytes of the trees, none are shorter, and none other are as short
-pub lays-short : (readers : List Target) (refers : Target → ℕ → Type 0) (plan : Plan) (ts : Trees) (bs : List ℕ) → Lays readers refers plan ts bs → Shortens (Lays readers refers plan ts) (short ts) bs
+pub lays-short : (readers : List Target) (refers : ℕ → ℕ → Type 0) (plan : Plan) (ts : Trees) (bs : List ℕ) → Lays readers refers plan ts bs → Shortens (Lays readers refers plan ts) (short ts) bs
 unfolding Lays short
 lays-short readers refers stop none bs w = rw w (record { form = refl; no-longer = omega arith; same = λ e. refl })
 lays-short readers refers (put x go) none bs w = absurd w
 lays-short readers refers stop (tree k i own cs rest) bs w = absurd w
 lays-short readers refers (put x go) (tree k i own cs rest) bs w =
     let v = value-short readers refers cs (λ plan b y. lays-short readers refers plan cs b y) x k i own (w .0) (w .3) in
-    let r = lays-short readers refers (go (told k own)) rest (w .1) (w .4) in
+    let r = lays-short readers refers (go (told k own cs)) rest (w .1) (w .4) in
     let s = idBytes k i ++ (body k own (count cs) ++ short cs) in
     rw (w .2) (shortens-append (s, short rest, refl, v .form, r .form) v r)
