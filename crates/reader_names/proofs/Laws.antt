@@ -15,7 +15,12 @@ use Rattle.names.proofs.Laws.{cons-at, rest}
 use Rattle.io.specs.Counts.{Counts}
 use Rattle.types.specs.declared.Resolved.{Resolved}
 use Rattle.types.specs.Contract.{told, resolution, Resolves}
-use Rattle.types.specs.Meaning.{refusal-bounds, refused-is}
+use Rattle.types.specs.Meaning.{Refusal, broken-name, no-target, refused-is}
+use Rattle.types.specs.Complaints.{leftmost-within}
+use Rattle.names.specs.Faults.{fault-number}
+use Rattle.names.specs.Complete.{length-write}
+use Rattle.names.specs.Heading.{long}
+use Rattle.layout.specs.EnumList.{EnumEntry}
 use Rattle.reader_names.specs.Lines.{number, refusal, inLine, lineSize, refusals, all, Judges}
 
 -- an empty name
@@ -36,6 +41,13 @@ judged-is s enums c c′ r h m b l w k e =
     let x : placed s 0 0 ≡ true = rw (le-leb 0 16777216 (omega arith), le-leb (0 + length s) 16777216 (omega arith)) in
     let q : number (told r) ≡ number (resolution [] true 187 0 0 (nameOf 0 s)) = ap number (w .answers) ∙ rw (b, x, l) in
     sym e ∙ q ∙ sym p
+
+-- a refusal's number is one of 11 and 33 to 38, and its place in the name or at its end
+refusal-bounds : {es : List EnumEntry} {s : List ℕ} {at number place : ℕ} → Refusal es s at number place → (number ≤ 38) × (place ≤ at + length s)
+refusal-bounds (broken-name i e f _) = (fault-number f .1, omega (arith, e, f .inside))
+refusal-bounds {es} {s} {at} (no-target n f e t k l) =
+    let z : length s ≡ long n = ap length e ∙ length-write n [] ∙ omega arith in
+    (omega (arith, k), omega (arith, l, leftmost-within es n at))
 
 -- a refusal's number and place fit in one number
 pub bounded : (s enums c c′ : List ℕ) (r : Resolved) (number place : ℕ) → length s ≤ 1024 → Resolves (enumsOf enums) s 0 c c′ 0 r → told r ≡ refused number place → (number ≤ 38) × (place ≤ 1024)

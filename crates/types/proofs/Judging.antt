@@ -1,20 +1,20 @@
 -- The codes of a name's heads are complained of where the heads are. Assumes nothing.
 use mathlib.Core.Path.{_≡_, refl, sym, ap, _∙_}
-use mathlib.Core.Bool.{Bool, true, false, _&&_, _||_, cond}
+use mathlib.Core.Bool.{Bool, true, false, not, _&&_, _||_, and-true, cond}
 use mathlib.Core.List.{List, [], _∷_, _++_, append-assoc, append-nil}
 use mathlib.Core.Logic.{_⊎_, inl, inr}
-use Prim.Native.Nat.{ℕ, suc, _+_, _*_, _/_, _%_, _<_}
+use Prim.Native.Nat.{ℕ, suc, _+_, _*_, _/_, _%_, _<_, _≤_}
 use native.Mathlib.Omega.{arith}
 use lib.Dec.{eqb, ltb, leb}
 use lib.ListN.{length}
 use borrow.Author.Tests.{eqb-true, eqb-false, eq-eqb, ne-eqb, lt-ltb, le-ltb, ltb-true, lt-leb, le-leb}
 use Rattle.laws.specs.Small.{both}
-use Rattle.layout.specs.Target.{enum, kindOf, isValue}
+use Rattle.layout.specs.Target.{Target, enum, nullable, list, dictionary, kindOf, meshKind, isValue}
 use Rattle.layout.specs.Name.{Name, simple, one, two}
 use Rattle.layout.specs.Number.{between}
 use Rattle.layout.specs.Kind.{Entry, entry, alike, lookup, target, targets, reader, readers}
 use Rattle.layout.specs.EnumList.{EnumEntry, EnumSize, sizeIn}
-use Rattle.layout.specs.Named.{unknown, known, fixedKind, plain, listedEnum, typeOf, sizeOrFour, enumOf}
+use Rattle.layout.specs.Named.{Typed, unknown, known, fixedKind, meshed, plain, nullableOf, wrapped, paired, listedEnum, typeOf, sizeOrFour, enumOf, arrayOf, readerOf}
 use Rattle.names.specs.Codes.{kind-is-small, codes-append}
 use Rattle.names.specs.Heading.{long, headings}
 use Rattle.names.specs.Kind.{node, word, enumKind, kindIn, codes}
@@ -25,17 +25,17 @@ use Rattle.types.specs.Word.{word-node, word-place}
 use Rattle.types.specs.Coded.{kind-taken}
 
 plain-tested : ℕ → Bool
-plain-tested k = agrees (isKnown (plain k)) (between 1 14 k || between 20 34 k)
+plain-tested k = agrees (isKnown (plain k)) (between 1 14 k || (between 20 34 k || between 37 40 k))
 
-pub plain-test : (k : ℕ) → k < 60 → (between 1 14 k || between 20 34 k) ≡ isKnown (plain k)
-unfolding plain-tested agrees allBelow isKnown plain fixedKind
-plain-test k h = agree (isKnown (plain k)) (between 1 14 k || between 20 34 k) (below-is plain-tested 60 k refl h)
+pub plain-test : (k : ℕ) → k < 60 → (between 1 14 k || (between 20 34 k || between 37 40 k)) ≡ isKnown (plain k)
+unfolding plain-tested agrees allBelow isKnown meshed plain fixedKind
+plain-test k h = agree (isKnown (plain k)) (between 1 14 k || (between 20 34 k || between 37 40 k)) (below-is plain-tested 60 k refl h)
 
 value-tested : ℕ → Bool
 value-tested k = agrees (valuable (plain k)) (valueOk k)
 
 value-test : (k : ℕ) → k < 60 → valueOk k ≡ valuable (plain k)
-unfolding value-tested agrees allBelow valueOk listedKind plain fixedKind isValue kindOf
+unfolding value-tested agrees allBelow valuable valueOk listedKind meshed plain fixedKind isValue kindOf meshKind
 value-test k h = agree (valuable (plain k)) (valueOk k) (below-is value-tested 60 k refl h)
 
 eqb-as : (a b c d : ℕ) (x : Bool) → (a ≡ b → c ≡ d) → (c ≡ d → a ≡ b) → eqb c d ≡ x → eqb a b ≡ x
@@ -136,7 +136,7 @@ reader-below h = lookup-below h readers refl
 -- a head that is no target name, with no argument: a listed enum type, or nothing known
 listed-judged : (after : Bool) (h : List ℕ) (z : ℕ) → (z ≡ 0) ⊎ EnumSize z
     → (cond after (valueOk (node (enumKind z) 0)) (headOk (node (enumKind z) 0)) ≡ fitting after (listedEnum h z)) × ((eqb (node (enumKind z) 0) 0 || listedKind (node (enumKind z) 0)) ≡ true)
-unfolding EnumSize listedEnum enumKind isKnown isValue kindOf plain fixedKind headOk valueOk listedKind
+unfolding EnumSize listedEnum enumKind fitting isKnown valuable isValue kindOf meshed plain fixedKind headOk valueOk listedKind
 listed-judged true h z (inl w) = rw w (refl, refl)
 listed-judged false h z (inl w) = rw w (refl, refl)
 listed-judged true h z (inr (inl w)) = rw w (refl, refl)
@@ -150,6 +150,7 @@ listed-judged false h z (inr (inr (inr (inr w)))) = rw w (refl, refl)
 
 simple-judged : (after : Bool) (h : List ℕ) (k z : ℕ) → k < 60 → (z ≡ 0) ⊎ EnumSize z → (b : Bool)
     → cond after (valueOk (node (cond b (enumKind z) k) 0)) (headOk (node (cond b (enumKind z) k) 0)) ≡ fitting after (cond b (listedEnum h z) (plain k))
+unfolding fitting
 simple-judged after h k z s w true = listed-judged after h z w .0
 simple-judged after h k z s w false = rw (none-value k s, none-head k s)
 
@@ -174,7 +175,7 @@ module _ (es : List EnumEntry) (sized : (h : List ℕ) → (sizeIn es h ≡ 0 �
 
   -- the codes of an argument's heads are complained of where the heads are
   pub argument-judged : (n : Name) (p : ℕ) (after : Bool) (r : List ℕ) → badArguments after (codes es false (headings p n) ++ r) ≡ typeFaults es after p n ++ badArguments false r
-  unfolding badArguments headings codes typeOf typeFaults kindIn
+  unfolding badArguments headings codes typeOf typeFaults fitting kindIn
   argument-judged (simple h t) p after r =
       let k = kindIn es false h 0 in
       let s : k < 64 = kind-is-small es false h 0 in

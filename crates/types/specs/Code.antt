@@ -5,15 +5,15 @@ use mathlib.Core.List.{List, [], _∷_, _++_}
 use Prim.Native.Nat.{ℕ, suc, _+_}
 use lib.ListN.{take, drop}
 use Rattle.layout.specs.Name.{headByte}
-use Rattle.layout.specs.Target.{Target, fixed, char, string, object, texture, texture2D, spriteFont, page, enum, nullable, array, list, dictionary}
+use Rattle.layout.specs.Target.{Target, fixed, char, string, object, texture, texture2D, spriteFont, page, mesh, meshKind, enum, nullable, array, list, dictionary}
 use Rattle.layout.specs.EnumList.{EnumSize}
 use Rattle.layout.specs.Named.{fixedKind}
 use Rattle.names.specs.Parse.{span}
 use Rattle.names.specs.Kind.{word, enumKind}
 
--- the types that fonts and pages declare, and Object, stand in so many codes at the start of the array
+-- the types that fonts, pages and meshes declare stand in so many codes at the start of the array
 abbrev pub preludeSize : ℕ
-preludeSize = 11
+preludeSize = 12
 
 -- the head that stands at a place of a file: as many bytes from there on as may stand in a head
 unfoldable pub headAt : (file : List ℕ) (place : ℕ) → List ℕ
@@ -34,6 +34,7 @@ codeKind texture = 31
 codeKind texture2D = 32
 codeKind spriteFont = 33
 codeKind page = 34
+codeKind (mesh m) = meshKind m
 
 -- the code of a kind with no argument, at some place
 unfoldable pub Alone : (kind : ℕ) → List ℕ → Type 0
@@ -58,6 +59,7 @@ Coded file texture ws = Alone 31 ws
 Coded file texture2D ws = Alone 32 ws
 Coded file spriteFont ws = Alone 33 ws
 Coded file page ws = Alone 34 ws
+Coded file (mesh m) ws = Alone (meshKind m) ws
 
 -- how many codes a type has
 unfoldable pub codeSize : Target → ℕ
@@ -74,6 +76,7 @@ codeSize texture = 1
 codeSize texture2D = 1
 codeSize spriteFont = 1
 codeSize page = 1
+codeSize (mesh m) = 1
 
 -- each `fixed` in it has one of the kinds that are `fixed` targets, and each enum one of 02's sizes, so that no two types have one code
 unfoldable pub Lawful : Target → Type 0
@@ -90,6 +93,7 @@ Lawful texture = Unit {0}
 Lawful texture2D = Unit {0}
 Lawful spriteFont = Unit {0}
 Lawful page = Unit {0}
+Lawful (mesh m) = Unit {0}
 
 -- a lawful type stands at a place: the codes from there on begin with its codes
 pub record Stands (file codes : List ℕ) (place : ℕ) (t : Target) : Type 0 where

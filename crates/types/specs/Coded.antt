@@ -7,23 +7,23 @@ use Prim.Native.Char.{code}
 use Prim.Native.Nat.{ℕ, zero, suc, _+_, _*_, _%_, _<_}
 use native.Mathlib.Omega.{arith}
 use lib.Dec.{eqb}
-use lib.ListN.{length, drop}
+use lib.ListN.{length, take, drop}
 use lib.Seq.{take-append-seam, drop-drop, drop-append-add}
 use borrow.Author.Tests.{eqb-true, eqb-false, eq-eqb, ne-eqb}
 use Rattle.laws.specs.Small.{differ}
 use Rattle.laws.specs.Ok as law
 use Rattle.laws.specs.Ok.{ok-pick}
 use Rattle.layout.specs.Text.{ascii}
-use Rattle.layout.specs.Target.{Target, fixed, char, string, object, texture, texture2D, spriteFont, page, enum, nullable, array, list, dictionary, kindOf, isValue}
+use Rattle.layout.specs.Target.{Target, fixed, char, string, object, texture, texture2D, spriteFont, page, Mesh, indexBuffer, vertexDeclaration, vertexBuffer, model, mesh, meshKind, enum, nullable, array, list, dictionary, kindOf, isValue}
 use Rattle.layout.specs.Name.{Tail, Name, simple, one, two, headByte, Head, writeTail, write, Formed}
 use Rattle.layout.specs.Kind.{lookup, targets, readers}
 use Rattle.layout.specs.EnumList.{EnumEntry, EnumSize, sizeIn}
-use Rattle.layout.specs.Named.{Typed, unknown, known, fixedKind, plain, nullableOf, wrapped, paired, listedEnum, typeOf, sizeOrFour, enumOf, arrayOf, readerOf}
+use Rattle.layout.specs.Named.{Typed, unknown, known, fixedKind, meshed, plain, nullableOf, wrapped, paired, listedEnum, typeOf, sizeOrFour, enumOf, arrayOf, readerOf}
 use Rattle.names.specs.Parse.{span}
 use Rattle.names.specs.Complete.{bracket, span-all, tail-opens, further}
 use Rattle.names.specs.Heading.{long, headings}
 use Rattle.names.specs.Codes.{codes-append, lookup-is-small}
-use Rattle.names.specs.Kind.{codes, listed, word, enumKind, kindIn}
+use Rattle.names.specs.Kind.{codes, listed, node, word, enumKind, kindIn}
 use Rattle.types.specs.Code.{headAt, Alone, Before, Coded, Lawful}
 use Rattle.types.specs.Contract.{enumWord, settled, settledSize}
 use Rattle.types.specs.Word.{word-node, enum-kind}
@@ -44,13 +44,19 @@ any-type (known t) = some tt
 
 -- by the kinds that take no argument
 module _ {P : Target → Type 0} (k : ℕ) where
+  ok-mesh : ((m : Mesh) → k ≡ meshKind m → P (mesh m)) → Ok P (meshed k)
+  unfolding meshed meshKind
+  ok-mesh f =
+      ok-pick (eqb k 37) (λ b. some (f indexBuffer (eqb-true k 37 b))) (ok-pick (eqb k 38) (λ b. some (f vertexDeclaration (eqb-true k 38 b)))
+      (ok-pick (eqb k 39) (λ b. some (f vertexBuffer (eqb-true k 39 b))) (ok-pick (eqb k 40) (λ b. some (f model (eqb-true k 40 b))) none)))
+
   pub ok-plain : (fixedKind k ≡ true → P (fixed k)) → (k ≡ 12 → P char) → (k ≡ 13 → P string) → (k ≡ 14 → P object) → (k ≡ 31 → P texture) → (k ≡ 32 → P texture2D)
-      → (k ≡ 33 → P spriteFont) → (k ≡ 34 → P page) → Ok P (plain k)
+      → (k ≡ 33 → P spriteFont) → (k ≡ 34 → P page) → ((m : Mesh) → k ≡ meshKind m → P (mesh m)) → Ok P (plain k)
   unfolding plain
-  ok-plain f c s o t u w p =
+  ok-plain f c s o t u w p m =
       ok-pick (fixedKind k) (λ b. some (f b)) (ok-pick (eqb k 12) (λ b. some (c (eqb-true k 12 b))) (ok-pick (eqb k 13) (λ b. some (s (eqb-true k 13 b)))
       (ok-pick (eqb k 14) (λ b. some (o (eqb-true k 14 b))) (ok-pick (eqb k 31) (λ b. some (t (eqb-true k 31 b))) (ok-pick (eqb k 32) (λ b. some (u (eqb-true k 32 b)))
-      (ok-pick (eqb k 33) (λ b. some (w (eqb-true k 33 b))) (ok-pick (eqb k 34) (λ b. some (p (eqb-true k 34 b))) none)))))))
+      (ok-pick (eqb k 33) (λ b. some (w (eqb-true k 33 b))) (ok-pick (eqb k 34) (λ b. some (p (eqb-true k 34 b))) (ok-mesh m))))))))
 
 -- by the kinds that take one argument and two, where Q is known of an argument
 module _ {P Q : Target → Type 0} (k : ℕ) where
@@ -101,7 +107,7 @@ module _ (file : List ℕ) (es : List EnumEntry) (sized : (h : List ℕ) → (si
   plain-coded : (k p : ℕ) → Ok (Is (word k 0 p ∷ [])) (plain k)
   unfolding Lawful Coded Alone
   plain-coded k p =
-      ok-plain k (λ b. (b, (p, refl))) (λ e. (tt, (p, rw e))) (λ e. (tt, (p, rw e))) (λ e. (tt, (p, rw e))) (λ e. (tt, (p, rw e))) (λ e. (tt, (p, rw e))) (λ e. (tt, (p, rw e))) (λ e. (tt, (p, rw e)))
+      ok-plain k (λ b. (b, (p, refl))) (λ e. (tt, (p, rw e))) (λ e. (tt, (p, rw e))) (λ e. (tt, (p, rw e))) (λ e. (tt, (p, rw e))) (λ e. (tt, (p, rw e))) (λ e. (tt, (p, rw e))) (λ e. (tt, (p, rw e))) (λ m e. (tt, (p, rw e)))
 
   -- a head that is no target's, with no argument: listed
   listed-coded : (h : List ℕ) (p : ℕ) → headAt file p ≡ h → Ok (Is (word (enumKind (sizeIn es h)) 0 p ∷ [])) (listedEnum h (sizeIn es h))

@@ -1,6 +1,6 @@
 -- 11 complains of a head exactly where the name has no target. Assumes nothing.
 use mathlib.Core.Path.{_≡_, refl, sym, ap, _∙_}
-use mathlib.Core.Bool.{Bool, true, false, not, _&&_, cond}
+use mathlib.Core.Bool.{Bool, true, false, not, _&&_, and-true, cond}
 use mathlib.Core.List.{List, [], _∷_, _++_}
 use Prim.Native.Nat.{ℕ, _+_, _≤_}
 use native.Mathlib.Omega.{arith}
@@ -31,12 +31,12 @@ fine-unless true p = refl
 fine-unless false p = refl
 
 nullable-known : (v : Bool) (t : Target) → (isKnown (cond v (known (nullable t)) unknown) ≡ v) × (valuable (cond v (known (nullable t)) unknown) ≡ false)
-unfolding isKnown isValue kindOf
+unfolding isKnown valuable isValue kindOf
 nullable-known true t = (refl, refl)
 nullable-known false t = (refl, refl)
 
 one-known : (after p q : Bool) (t : Target) → (cond after false (cond p true q) && fitting p (known t)) ≡ fitting after (cond p (nullableOf t) (cond q (known (list t)) unknown))
-unfolding nullableOf isKnown isValue kindOf
+unfolding fitting nullableOf valuable isKnown isValue kindOf
 one-known true true q t = sym (nullable-known (isValue t && not (eqb (kindOf t) 16)) t .1)
 one-known true false true t = refl
 one-known true false false t = refl
@@ -50,7 +50,7 @@ and-false true = refl
 and-false false = refl
 
 no-type : (after : Bool) → fitting after unknown ≡ false
-unfolding isKnown
+unfolding fitting valuable isKnown
 no-type true = refl
 no-type false = refl
 
@@ -60,7 +60,7 @@ one-is after k unknown = rw (no-type (eqb k 16), no-type after) (and-false (cond
 one-is after k (known t) = one-known after (eqb k 16) (eqb k 18) t
 
 two-known : (after p : Bool) (t u : Target) → (cond after false p && (fitting false (known t) && fitting false (known u))) ≡ fitting after (cond p (known (dictionary t u)) unknown)
-unfolding isKnown isValue kindOf
+unfolding fitting valuable isKnown isValue kindOf
 two-known true true t u = refl
 two-known true false t u = refl
 two-known false true t u = refl

@@ -1,19 +1,20 @@
 -- Codes begin with those of one type only, and two runs of codes that agree are of one type. Assumes nothing.
 use mathlib.Core.Path.{_≡_, refl, sym, ap, _∙_}
-use mathlib.Core.Bool.{Bool, true, false, cond}
+use mathlib.Core.Bool.{Bool, true, false, _&&_, cond}
 use mathlib.Core.List.{List, [], _∷_, _++_, append-assoc}
-use Prim.Native.Nat.{ℕ, _+_, _/_, _%_, _<_, _≤_}
+use Prim.Native.Nat.{ℕ, _+_, _*_, _/_, _%_, _<_, _≤_}
 use native.Mathlib.Omega.{arith}
-use lib.Dec.{eqb, ltb}
+use lib.Dec.{eqb, ltb, leb}
 use borrow.Author.Tests.{lt-ltb, le-ltb, ltb-true, ltb-false, lt-leb, le-leb, eqb-true, eq-eqb}
 use Rattle.laws.specs.Small.{both}
-use Rattle.layout.specs.Target.{Target, fixed, char, string, object, texture, texture2D, spriteFont, page, enum, nullable, array, list, dictionary}
+use Rattle.layout.specs.Target.{Target, fixed, char, string, object, texture, texture2D, spriteFont, page, mesh, meshKind, enum, nullable, array, list, dictionary}
+use Rattle.layout.specs.Kind.{alike}
 use Rattle.layout.specs.Named.{Typed, unknown, known, fixedKind, plain}
 use Rattle.names.specs.Codes.{alike-then, alike-self}
 use Rattle.names.specs.Kind.{node, word, enumKind}
 use Rattle.types.specs.Code.{headAt, Alone, Before, Coded, Lawful}
 use Rattle.types.specs.Place.{sameName, sameCode}
-use Rattle.types.specs.Word.{word-node, word-kind, word-place, fixed-small, enumSize, enum-kind}
+use Rattle.types.specs.Word.{word-node, word-kind, word-place, fixed-small, mesh-small, mesh-plain, enumSize, enum-kind}
 
 leafOf : Typed → Target
 leafOf unknown = object
@@ -72,6 +73,7 @@ module _ (file : List ℕ) where
   decode-code texture2D ws rest l w = decode-alone 32 texture2D ws rest (omega arith) refl w
   decode-code spriteFont ws rest l w = decode-alone 33 spriteFont ws rest (omega arith) refl w
   decode-code page ws rest l w = decode-alone 34 page ws rest (omega arith) refl w
+  decode-code (mesh m) ws rest l w = decode-alone (meshKind m) (mesh m) ws rest (mesh-small m) (mesh-plain m) w
 
   -- two runs of codes are the same, code by code
   unfoldable pub Pairwise : List ℕ → List ℕ → Type 0
@@ -162,6 +164,7 @@ module _ (file : List ℕ) where
   coded-same texture2D ws us l w v = alone-same 32 ws us (omega arith) w v
   coded-same spriteFont ws us l w v = alone-same 33 ws us (omega arith) w v
   coded-same page ws us l w v = alone-same 34 ws us (omega arith) w v
+  coded-same (mesh m) ws us l w v = alone-same (meshKind m) ws us (mesh-small m) w v
 
   -- codes that begin with those of two types: the types are equal
   pub unique : (d t : Target) (ws us r s : List ℕ) → Lawful d → Lawful t → Coded file d ws → Coded file t us → ws ++ r ≡ us ++ s → d ≡ t

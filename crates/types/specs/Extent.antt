@@ -6,11 +6,11 @@ use Prim.Native.Nat.{ℕ, zero, suc, _+_, _%_, _<_}
 use native.Mathlib.Omega.{arith}
 use lib.ListN.{length, getD, length-append}
 use Rattle.laws.specs.Small.{differ, both}
-use Rattle.layout.specs.Target.{Target, fixed, char, string, object, texture, texture2D, spriteFont, page, enum, nullable, array, list, dictionary}
+use Rattle.layout.specs.Target.{Target, fixed, char, string, object, texture, texture2D, spriteFont, page, mesh, meshKind, enum, nullable, array, list, dictionary}
 use Rattle.names.specs.Kind.{word, enumKind}
 use Rattle.types.specs.Code.{Alone, Before, Coded, codeKind, codeSize, Lawful}
 use Rattle.types.specs.Place.{arity, extent, sameCode, agree}
-use Rattle.types.specs.Word.{word-kind, word-arity, fixed-small, enum-kind}
+use Rattle.types.specs.Word.{word-kind, word-arity, fixed-small, mesh-small, enum-kind}
 use Rattle.types.specs.Decode.{Pairwise}
 
 -- the codes of n types, and no more: each code is followed by as many types as it has arguments
@@ -50,6 +50,7 @@ module _ (file : List ℕ) where
   whole-code texture2D ws n s l c w = whole-alone 32 ws n s (omega arith) c w
   whole-code spriteFont ws n s l c w = whole-alone 33 ws n s (omega arith) c w
   whole-code page ws n s l c w = whole-alone 34 ws n s (omega arith) c w
+  whole-code (mesh m) ws n s l c w = whole-alone (meshKind m) ws n s (omega (arith, mesh-small m)) c w
 
   alone : (t : Target) (ws : List ℕ) → Lawful t → Coded file t ws → Whole ws 1
   unfolding Whole
@@ -138,6 +139,7 @@ module _ (file : List ℕ) where
   code-kind texture2D ws rest l c = alone-kind 32 ws rest (omega arith) c
   code-kind spriteFont ws rest l c = alone-kind 33 ws rest (omega arith) c
   code-kind page ws rest l c = alone-kind 34 ws rest (omega arith) c
+  code-kind (mesh m) ws rest l c = alone-kind (meshKind m) ws rest (omega (arith, mesh-small m)) c
 
   alone-size : (k : ℕ) (ws : List ℕ) → Alone k ws → length ws ≡ 1
   unfolding Alone
@@ -163,3 +165,4 @@ module _ (file : List ℕ) where
   code-size texture2D ws c = alone-size 32 ws c
   code-size spriteFont ws c = alone-size 33 ws c
   code-size page ws c = alone-size 34 ws c
+  code-size (mesh m) ws c = alone-size (meshKind m) ws c

@@ -6,22 +6,22 @@ use mathlib.Core.Logic.{_⊎_, inl, inr}
 use Prim.Native.Nat.{ℕ, suc, _+_, _-_, _%_, _≤_, _<_}
 use native.Mathlib.Omega.{arith}
 use lib.Dec.{eqb, ltb, leb}
-use lib.ListN.{length, take, drop, getD, set}
+use lib.ListN.{length, take, drop, getD, set, length-append}
 use lib.Seq.{drop-drop, drop-append-seam, getD-drop, drop-set-add, length-take-le, sets, sets-eq}
 use borrow.Author.Tests.{eqb-true, ltb-true, le-leb, lt-leb}
 use Rattle.laws.specs.Small.{differ, both}
 use Rattle.laws.specs.Ok.{ok-pick, ok-weaken}
-use Rattle.layout.specs.Target.{Target, fixed, char, string, object, texture, texture2D, spriteFont, page, enum, nullable, array, list, dictionary, kindOf, isValue, Serves, same, any, picture}
+use Rattle.layout.specs.Target.{Target, fixed, char, string, object, texture, texture2D, spriteFont, page, indexBuffer, vertexDeclaration, vertexBuffer, model, mesh, meshKind, enum, nullable, array, list, dictionary, kindOf, isValue, Serves, same, any, picture}
 use Rattle.layout.specs.Fixed.{sizes}
 use Rattle.layout.specs.Name.{Name, simple, one, two}
 use Rattle.layout.specs.Kind.{lookup, readers, targets}
 use Rattle.layout.specs.EnumList.{EnumEntry, EnumSize, sizeIn}
-use Rattle.layout.specs.Named.{Typed, unknown, known, fixedKind, plain, wrapped, paired, listedEnum, typeOf, sizeOrFour, enumOf, readerOf}
+use Rattle.layout.specs.Named.{Typed, unknown, known, fixedKind, meshed, plain, wrapped, paired, listedEnum, typeOf, sizeOrFour, enumOf, readerOf}
 use Rattle.names.specs.Kind.{enumKind}
 use Rattle.types.specs.Finite.{allBelow, below-is}
 use Rattle.types.specs.Code.{Before, Coded, codeKind, codeSize, Lawful, Stands}
-use Rattle.types.specs.Place.{kindAt, valueKind, extent, placeAfter, equalAt, fitsAt}
-use Rattle.types.specs.Word.{fixed-small, enum-kind}
+use Rattle.types.specs.Place.{kindAt, valueKind, extent, placeAfter, agree, equalAt, fitsAt}
+use Rattle.types.specs.Word.{fixed-small, mesh-small, mesh-plain, enum-kind}
 use Rattle.types.specs.Contract.{settled}
 use Rattle.types.specs.Coded.{Ok, none, some, ok-either, any-type, ok-plain, ok-wrapped, ok-paired, ok-array, Leaves}
 use Rattle.types.specs.Decode.{alike-types, coded-same}
@@ -106,7 +106,7 @@ module _ {file c : List ℕ} {a b : ℕ} {t : Target} (p : Stands file c a t) (q
 
 -- no enum's code has a kind of 01 that takes no argument
 enum-other : (z : ℕ) (t : Target) → EnumSize z → plain (enumKind z) ≡ known t → ⊥
-unfolding EnumSize enumKind plain fixedKind
+unfolding EnumSize enumKind meshed plain fixedKind
 enum-other z t (inl e) q = let h : unknown ≡ known t = rw e at q in differ cc
 enum-other z t (inr (inl e)) q = let h : unknown ≡ known t = rw e at q in differ cc
 enum-other z t (inr (inr (inl e))) q = let h : unknown ≡ known t = rw e at q in differ cc
@@ -114,7 +114,7 @@ enum-other z t (inr (inr (inr e))) q = let h : unknown ≡ known t = rw e at q i
 
 -- a lawful type whose kind takes no argument is the type of that kind
 kind-type : (d t : Target) → Lawful d → plain (codeKind d) ≡ known t → d ≡ t
-unfolding Lawful plain codeKind fixedKind
+unfolding Lawful meshed plain codeKind fixedKind
 kind-type (fixed k) t w e = let h : known (fixed k) ≡ known t = rw w at e in cc
 kind-type char t w e = cc
 kind-type string t w e = cc
@@ -128,6 +128,7 @@ kind-type texture t w e = cc
 kind-type texture2D t w e = cc
 kind-type spriteFont t w e = cc
 kind-type page t w e = cc
+kind-type (mesh m) t w e = let h : known (mesh m) ≡ known t = sym (mesh-plain m) ∙ e in cc
 
 pub of-kind : (d t : Target) (k : ℕ) → Lawful d → codeKind d ≡ k → plain k ≡ known t → d ≡ t
 of-kind d t k w e q = kind-type d t w (ap plain e ∙ q)
@@ -148,6 +149,7 @@ kind-of-code texture w = refl
 kind-of-code texture2D w = refl
 kind-of-code spriteFont w = refl
 kind-of-code page w = refl
+kind-of-code (mesh m) w = rw (lt-leb 60 (meshKind m) (mesh-small m))
 
 last-true : (a b : Bool) → cond a true (cond b true true) ≡ true
 last-true true b = refl
@@ -192,7 +194,7 @@ fixed-has-size k e = ltb-true 0 (getD sizes k 0) (both (ltb 0 (getD sizes k 0)) 
 
 -- a type is a value type exactly if its kind is one of 01's
 pub value-is : (t : Target) → Lawful t → valueKind (kindOf t) ≡ isValue t
-unfolding Lawful valueKind kindOf isValue
+unfolding Lawful valueKind kindOf meshKind isValue
 value-is (fixed k) w = both (ltb 0 (getD sizes k 0)) (valueKind k) (fixed-test k w) .1
 value-is char w = refl
 value-is string w = refl
@@ -206,6 +208,10 @@ value-is texture w = refl
 value-is texture2D w = refl
 value-is spriteFont w = refl
 value-is page w = refl
+value-is (mesh indexBuffer) w = refl
+value-is (mesh vertexDeclaration) w = refl
+value-is (mesh vertexBuffer) w = refl
+value-is (mesh model) w = refl
 
 -- a name's own head
 unfoldable pub headOf : Name → List ℕ
@@ -215,7 +221,7 @@ headOf (two h a b t) = h
 
 plain-kind : (k : ℕ) → Ok (λ t. kindOf t ≡ k) (plain k)
 unfolding kindOf
-plain-kind k = ok-plain k (λ _. refl) sym sym sym sym sym sym sym
+plain-kind k = ok-plain k (λ _. refl) sym sym sym sym sym sym sym (λ m e. sym e)
 
 wrapped-kind : (k : ℕ) (r : Typed) → Ok (λ t. kindOf t ≡ k) (wrapped k r)
 unfolding kindOf

@@ -10,7 +10,7 @@ use borrow.Author.Tests.{leb-true, eqb-true, eq-eqb}
 use Rattle.laws.specs.Small.{differ, both}
 use Rattle.laws.specs.Ok.{ok-pick}
 use Rattle.layout.specs.Text.{ascii}
-use Rattle.layout.specs.Target.{Target}
+use Rattle.layout.specs.Target.{Target, Mesh, indexBuffer, vertexDeclaration, vertexBuffer, model, mesh, meshKind}
 use Rattle.layout.specs.Name.{Name, simple, one, two, text, Formed}
 use Rattle.layout.specs.Kind.{Entry, entry, alike, lookup, reader, readers, target, targets}
 use Rattle.layout.specs.EnumList.{EnumEntry, sizeIn}
@@ -65,11 +65,19 @@ reader-long h z = lookup-long (λ k. 22) h readers refl z
 abbrev Few : (bytes : ℕ) → Target → Type 0
 Few n t = 11 * codeSize t ≤ n
 
+-- no mesh type has kind 0
+mesh-some : (m : Mesh) → meshKind m ≡ 0 → ⊥
+unfolding meshKind
+mesh-some indexBuffer e = omega arith
+mesh-some vertexDeclaration e = omega arith
+mesh-some vertexBuffer e = omega arith
+mesh-some model e = omega arith
+
 plain-few : (k n : ℕ) → ((k ≡ 0 → ⊥) → 11 ≤ n) → Ok (Few n) (plain k)
 unfolding fixedKind codeSize
 plain-few k n f =
     let g : (m : ℕ) → k ≡ suc m → 11 ≤ n = λ m e. f (λ z. omega arith) in
-    ok-plain k (λ b. f (λ z. let y : false ≡ true = ap fixedKind (sym z) ∙ b in differ cc)) (g 11) (g 12) (g 13) (g 30) (g 31) (g 32) (g 33)
+    ok-plain k (λ b. f (λ z. let y : false ≡ true = ap fixedKind (sym z) ∙ b in differ cc)) (g 11) (g 12) (g 13) (g 30) (g 31) (g 32) (g 33) (λ m e. f (λ z. mesh-some m (sym e ∙ z)))
 
 wrapped-few : (k m n : ℕ) {r : Typed} → Ok (Few m) r → ((k ≡ 0 → ⊥) → 11 + m ≤ n) → Ok (Few n) (wrapped k r)
 unfolding codeSize

@@ -15,8 +15,8 @@ ghost use Rattle.types.specs.Settling.{Settles};
 ghost use Rattle.types.specs.Contract.{enumWord, Resolves};
 use names::Named;
 
-// The types that fonts and pages declare, and Object, have so many codes, at the start of the array.
-pub const PRELUDE: usize = 11;
+// The types that fonts, pages and meshes declare have so many codes, at the start of the array.
+pub const PRELUDE: usize = 12;
 
 // The kind of the type at a place, as its code has it.
 pub fn kind_at(codes: &[u32], a: usize) -> u32
@@ -137,7 +137,10 @@ fn plain_ok(b: u32) -> bool
     if within(1, 14, b) {
         return true;
     }
-    within(20, 34, b)
+    if within(20, 34, b) {
+        return true;
+    }
+    within(37, 40, b)
 }
 
 fn head_ok(b: u32) -> bool
