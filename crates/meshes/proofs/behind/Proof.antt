@@ -1,0 +1,154 @@
+use borrow.Author.Tests.{ne-eqb}
+use Rattle.meshes.specs.Stages.{behindOf}
+use borrow.Author.Needs.{needs}
+use Rattle.meshes.proofs.behind.Statement.{statement}
+use Rattle.meshes.proofs.behind.Tie as tie
+
+at-field-requires : tie.Need-at-field-requires
+at-field-requires c κs = search needs
+
+at-field-requires-2 : tie.Need-at-field-requires-2
+at-field-requires-2 c κs = search needs
+
+at-field-requires-3 : tie.Need-at-field-requires-3
+at-field-requires-3 c κs = search needs
+
+to-elements-requires : tie.Need-to-elements-requires
+to-elements-requires c κs = search needs
+
+to-elements-requires-2 : tie.Need-to-elements-requires-2
+to-elements-requires-2 c κs = search needs
+
+at-field-requires-4 : tie.Need-at-field-requires-4
+at-field-requires-4 c κs = search needs
+
+at-field-requires-5 : tie.Need-at-field-requires-5
+at-field-requires-5 c κs = search needs
+
+at-field-requires-6 : tie.Need-at-field-requires-6
+at-field-requires-6 c κs = search needs
+
+to-names-requires : tie.Need-to-names-requires
+to-names-requires c κs = search needs
+
+to-names-requires-2 : tie.Need-to-names-requires-2
+to-names-requires-2 c κs = search needs
+
+to-children-requires : tie.Need-to-children-requires
+to-children-requires c κs = search needs
+
+to-children-requires-2 : tie.Need-to-children-requires-2
+to-children-requires-2 c κs = search needs
+
+to-meshes-requires : tie.Need-to-meshes-requires
+to-meshes-requires c κs = search needs
+
+to-parts-requires : tie.Need-to-parts-requires
+to-parts-requires c κs = search needs
+
+to-parts-requires-2 : tie.Need-to-parts-requires-2
+to-parts-requires-2 c κs = search needs
+
+onward-requires : tie.Need-onward-requires
+onward-requires c κs = search needs
+
+returns : tie.Need-returns
+unfolding behindOf
+returns c = rw (c .before .match .keys1) (c .at-field .ensures)
+
+returns-2 : tie.Need-returns-2
+unfolding behindOf
+returns-2 c = rw (c .before .match .keys2) (c .at-field2 .ensures)
+
+returns-3 : tie.Need-returns-3
+unfolding behindOf
+returns-3 c = rw (c .before .match .keys3) (c .at-field3 .ensures)
+
+returns-4 : tie.Need-returns-4
+unfolding behindOf
+returns-4 c = rw (c .before .match .keys4) (c .to-elements .ensures)
+
+returns-5 : tie.Need-returns-5
+unfolding behindOf
+returns-5 c = rw (c .before .match .keys5) (c .to-elements2 .ensures)
+
+returns-6 : tie.Need-returns-6
+unfolding behindOf
+returns-6 c = rw (c .before .match .keys6) (c .at-field4 .ensures)
+
+returns-7 : tie.Need-returns-7
+unfolding behindOf
+returns-7 c = rw (c .before .match .keys7) (c .at-field5 .ensures)
+
+returns-8 : tie.Need-returns-8
+unfolding behindOf
+returns-8 c = rw (c .before .match .keys8) (c .at-field6 .ensures)
+
+returns-9 : tie.Need-returns-9
+unfolding behindOf
+returns-9 c = rw (c .before .match .keys9) (c .to-names .ensures)
+
+returns-10 : tie.Need-returns-10
+unfolding behindOf
+returns-10 c = rw (c .before .match .keys10) (c .to-names2 .ensures)
+
+returns-11 : tie.Need-returns-11
+unfolding behindOf
+returns-11 c = rw (c .before .match .keys11) (c .to-children .ensures)
+
+returns-12 : tie.Need-returns-12
+unfolding behindOf
+returns-12 c = rw (c .before .match .keys12) (c .to-children2 .ensures)
+
+returns-13 : tie.Need-returns-13
+unfolding behindOf
+returns-13 c = rw (c .before .match .keys13) (c .to-meshes .ensures)
+
+returns-14 : tie.Need-returns-14
+unfolding behindOf
+returns-14 c = rw (c .before .match .keys14) (c .to-parts .ensures)
+
+returns-15 : tie.Need-returns-15
+unfolding behindOf
+returns-15 c = rw (c .before .match .keys15) (c .to-parts2 .ensures)
+
+returns-16 : tie.Need-returns-16
+unfolding behindOf
+returns-16 c = simp (ne-eqb _ _ (c .before .match .rest .0 .0 .0 .0 .0 .0 .0 .0 .0 .0 .0 .0 .0 .0 .1), ne-eqb _ _ (c .before .match .rest .0 .0 .0 .0 .0 .0 .0 .0 .0 .0 .0 .0 .0 .1), ne-eqb _ _ (c .before .match .rest .0 .0 .0 .0 .0 .0 .0 .0 .0 .0 .0 .0 .1), ne-eqb _ _ (c .before .match .rest .0 .0 .0 .0 .0 .0 .0 .0 .0 .0 .0 .1), ne-eqb _ _ (c .before .match .rest .0 .0 .0 .0 .0 .0 .0 .0 .0 .0 .1), ne-eqb _ _ (c .before .match .rest .0 .0 .0 .0 .0 .0 .0 .0 .0 .1), ne-eqb _ _ (c .before .match .rest .0 .0 .0 .0 .0 .0 .0 .0 .1), ne-eqb _ _ (c .before .match .rest .0 .0 .0 .0 .0 .0 .0 .1), ne-eqb _ _ (c .before .match .rest .0 .0 .0 .0 .0 .0 .1), ne-eqb _ _ (c .before .match .rest .0 .0 .0 .0 .0 .1), ne-eqb _ _ (c .before .match .rest .0 .0 .0 .0 .1), ne-eqb _ _ (c .before .match .rest .0 .0 .0 .1), ne-eqb _ _ (c .before .match .rest .0 .0 .1), ne-eqb _ _ (c .before .match .rest .0 .1), ne-eqb _ _ (c .before .match .rest .1)) (c .onward .ensures)
+
+pub behind-spec : {M : Type 1} → statement M
+behind-spec =
+    tie.close
+    (tie.spec
+    at-field-requires
+    at-field-requires-2
+    at-field-requires-3
+    to-elements-requires
+    to-elements-requires-2
+    at-field-requires-4
+    at-field-requires-5
+    at-field-requires-6
+    to-names-requires
+    to-names-requires-2
+    to-children-requires
+    to-children-requires-2
+    to-meshes-requires
+    to-parts-requires
+    to-parts-requires-2
+    onward-requires
+    returns
+    returns-2
+    returns-3
+    returns-4
+    returns-5
+    returns-6
+    returns-7
+    returns-8
+    returns-9
+    returns-10
+    returns-11
+    returns-12
+    returns-13
+    returns-14
+    returns-15
+    returns-16)
