@@ -1,15 +1,16 @@
 -- Laws of opening values with children. Assumes nothing.
 use mathlib.Core.Path.{_≡_, refl, sym, ap, _∙_}
-use mathlib.Core.Bool.{Bool, true, false}
+use mathlib.Core.Bool.{Bool, true, false, _&&_}
+use mathlib.Core.Logic.{_⊎_, inl, inr}
 use mathlib.Core.List.{List, [], _∷_}
-use Prim.Native.Nat.{ℕ, zero, suc, _+_, _*_, _-_, _<_}
+use Prim.Native.Nat.{ℕ, zero, suc, _+_, _*_, _-_, _<_, _≤_}
 use native.Mathlib.Omega.{arith}
 use lib.Dec.{leb}
-use lib.ListN.{length, drop, getD, replicate, length-drop, length-append}
+use lib.ListN.{length, drop, getD, replicate, length-drop, length-append, List·getD-eq-default}
 use lib.Seq.{drop-cons}
-use borrow.Author.Tests.{lt-leb, leb-true}
+use borrow.Author.Tests.{lt-leb, le-leb, leb-true}
 use Rattle.laws.specs.Small.{differ}
-use Rattle.layout.specs.Target.{Target, fixed, char, string, object as anything, texture, texture2D, spriteFont, page, enum, nullable, array, list, dictionary}
+use Rattle.layout.specs.Target.{Target, fixed, char, string, object as anything, texture, texture2D, spriteFont, page, Mesh, indexBuffer, vertexDeclaration, vertexBuffer, model, mesh, meshKind, enum, nullable, array, list, dictionary}
 use Rattle.layout.specs.Slot as L
 use Rattle.layout.specs.Slot.{stop, each, raw, slotOf, pairs, fontSlots, pageSlots}
 use Rattle.reading.specs.Answer.{Answer, refused, read, bind, check}
@@ -19,13 +20,14 @@ use Rattle.reading.specs.Fixed.{isBoolean}
 use Rattle.reading.specs.Heads.{Opening, headAt, countAt, flagAt, flagPlan, always}
 use Rattle.table.specs.Leaf.{mute}
 use Rattle.heads.specs.declared.nest.Below.{Below}
-use Rattle.heads.specs.declared.nest.Below.the-variants.{Nothing}
+use Rattle.heads.specs.declared.nest.Below.the-variants.{Nothing, Nested}
+use Rattle.heads.specs.declared.nest.Nest.the-variants.{Mesh as Nest-mesh}
 use Rattle.heads.specs.declared.open.Opened.{Opened}
 use Rattle.heads.specs.declared.open.Opened.the-variants.{Refused, Head}
-use Rattle.heads.specs.Nests.{BelowIs}
+use Rattle.heads.specs.Nests.{BelowIs, below-plan, mesh-nest}
 use lib.Dec.{ltb}
 use Rattle.layout.specs.Fixed.{sizes}
-use Rattle.layout.specs.Number.{valueOf}
+use Rattle.layout.specs.Number.{valueOf, between}
 use Rattle.reading.specs.Seven.{sevenAt}
 use Rattle.reading.specs.Utf8.{utf8s, charAt}
 use Rattle.reading.specs.Fixed.{fixedAt}
@@ -49,14 +51,14 @@ unfolding mute each
 alone-read file codes (refused m q) padding q′ s = differ cc
 alone-read file codes (read o f) padding {e} q s =
     let e₁ : e ≡ f = cc in
-    rw e₁ (record { below = Nothing padding; is = refl; slots = []; plan = s o f refl; stands = refl })
+    rw e₁ (record { below = Nothing padding; is = refl; goes = s o f refl })
 
 -- an answer that is known
 pub opens-refused : (file codes : List ℕ) (x : Answer Opening) {n p : ℕ} → x ≡ refused n p → Opens file codes x (Refused n p)
 opens-refused file codes x e = rw e refl
 
 pub opens-head : (file codes : List ℕ) (x : Answer Opening) {own : List ℕ} (slots : List L.Slot) {e : ℕ} (below : Below) → x ≡ read (own, each slots) e → BelowIs file codes below slots → Opens file codes x (Head e below)
-opens-head file codes x {own} slots {e} below q b = rw q (record { below = below; is = refl; slots = slots; plan = refl; stands = b })
+opens-head file codes x {own} slots {e} below q b = rw q (record { below = below; is = refl; goes = below-plan file codes below slots b })
 
 module _ (file : List ℕ) (at : ℕ) where
   count-refused : (slots : ℕ → List L.Slot) {n p : ℕ} → littleAt file 4 at at ≡ refused n p → countAt file slots at ≡ refused n p
@@ -173,6 +175,19 @@ leaf-stops file at (of-enum {z = z} s) = whole-stops file (some file z at at)
 leaf-stops file at of-char = whole-stops file (ownAt file (charAt file) at)
 leaf-stops file at of-string = text-stops file at (sevenAt file at)
 
+-- the fields of a mesh type
+pub opens-mesh : (file codes : List ℕ) (m : Mesh) (at : ℕ) → Opens file codes (headAt file (mesh m) at) (Head at (Nested (Nest-mesh (meshKind m))))
+unfolding headAt
+opens-mesh file codes m at = record { below = Nested (Nest-mesh (meshKind m)); is = refl; goes = mesh-nest file codes m }
+
+-- 37 to 40
+pub mesh-range : (m : Mesh) → (37 ≤ meshKind m) × (meshKind m ≤ 40)
+unfolding meshKind
+mesh-range indexBuffer = omega arith
+mesh-range vertexDeclaration = omega arith
+mesh-range vertexBuffer = omega arith
+mesh-range model = omega arith
+
 -- by the kind of a type whose reader is invoked
 module _ (file codes : List ℕ) (t at : ℕ) (r : Opened) where
   pub by-kind : (x : Target) → Stands file codes t x
@@ -185,22 +200,24 @@ module _ (file codes : List ℕ) (t at : ℕ) (r : Opened) where
       → (codeKind x ≡ 32 → Opens file codes (headAt file texture2D at) r)
       → (codeKind x ≡ 33 → Opens file codes (headAt file spriteFont at) r)
       → (codeKind x ≡ 34 → Opens file codes (headAt file page at) r)
+      → ((m : Mesh) → codeKind x ≡ meshKind m → Opens file codes (headAt file (mesh m) at) r)
       → (Leafy x → Opens file codes (headAt file x at) r)
       → Opens file codes (headAt file x at) r
   unfolding codeKind headAt Lawful
-  by-kind (fixed k) s o x n m l d i f p e = e (of-fixed (fixed-has-size k (s .lawful)))
-  by-kind char s o x n m l d i f p e = e of-char
-  by-kind string s o x n m l d i f p e = e of-string
-  by-kind anything s o x n m l d i f p e = o refl
-  by-kind (enum name z) s o x n m l d i f p e = e (of-enum (s .lawful))
-  by-kind (nullable u) s o x n m l d i f p e = n refl u (nullable-argument s)
-  by-kind (array u) s o x n m l d i f p e = rw (array-list file at u) (m refl u (array-argument s))
-  by-kind (list u) s o x n m l d i f p e = l refl u (list-argument s)
-  by-kind (dictionary u w) s o x n m l d i f p e = d refl u w (dictionary-key s) (dictionary-value s)
-  by-kind texture s o x n m l d i f p e = x refl
-  by-kind texture2D s o x n m l d i f p e = i refl
-  by-kind spriteFont s o x n m l d i f p e = f refl
-  by-kind page s o x n m l d i f p e = p refl
+  by-kind (fixed k) s o x n m l d i f p g e = e (of-fixed (fixed-has-size k (s .lawful)))
+  by-kind char s o x n m l d i f p g e = e of-char
+  by-kind string s o x n m l d i f p g e = e of-string
+  by-kind anything s o x n m l d i f p g e = o refl
+  by-kind (enum name z) s o x n m l d i f p g e = e (of-enum (s .lawful))
+  by-kind (nullable u) s o x n m l d i f p g e = n refl u (nullable-argument s)
+  by-kind (array u) s o x n m l d i f p g e = rw (array-list file at u) (m refl u (array-argument s))
+  by-kind (list u) s o x n m l d i f p g e = l refl u (list-argument s)
+  by-kind (dictionary u w) s o x n m l d i f p g e = d refl u w (dictionary-key s) (dictionary-value s)
+  by-kind texture s o x n m l d i f p g e = x refl
+  by-kind texture2D s o x n m l d i f p g e = i refl
+  by-kind spriteFont s o x n m l d i f p g e = f refl
+  by-kind page s o x n m l d i f p g e = p refl
+  by-kind (mesh u) s o x n m l d i f p g e = g u refl
 
 pub font-head : (file : List ℕ) (at : ℕ) → headAt file spriteFont at ≡ read ([], each fontSlots) at
 unfolding headAt
@@ -227,6 +244,25 @@ pub never-leaf : {x : Target} → codeKind x ≡ 14 → Leafy x → ⊥
 unfolding sizes
 never-leaf e l = leaf-kind 14 e (omega arith) (λ q. omega arith) (λ q. omega arith) refl l
 
+-- nor is a mesh type's
+pub between-leaf : {x : Target} {n : ℕ} → codeKind x ≡ n → 37 ≤ n → n < 41 → Leafy x → ⊥
+unfolding sizes
+between-leaf {x} {n} e a b l = leaf-kind n e (omega arith) (λ q. omega arith) (λ q. omega arith) (List·getD-eq-default sizes 0 {n = n} (omega arith)) l
+
+-- the kinds of mesh types are 37 to 40
+pub mesh-inside : (m : Mesh) {n : ℕ} → meshKind m ≡ n → between 37 40 n ≡ false → ⊥
+mesh-inside m {n} e f =
+    let t : between 37 40 n ≡ true = rw (← e, le-leb 37 (meshKind m) (mesh-range m .0), le-leb (meshKind m) 40 (mesh-range m .1)) in
+    differ cc
+
+-- a kind that is before or behind them is none of theirs
+pub outside : (n : ℕ) {A B : Type 0} → A ⊎ B → (A → n < 37) → (B → 41 ≤ n) → between 37 40 n ≡ false
+outside n (inl a) f g = rw (lt-leb 37 n (f a))
+outside n (inr b) f g = rw (lt-leb n 40 (omega (arith, g b))) (last (leb 37 n)) where
+  last : (b : Bool) → (b && false) ≡ false
+  last true = refl
+  last false = refl
+
 -- a type stands inside the codes
 size-some : (t : Target) → 0 < codeSize t
 unfolding codeSize
@@ -243,6 +279,7 @@ size-some texture = omega arith
 size-some texture2D = omega arith
 size-some spriteFont = omega arith
 size-some page = omega arith
+size-some (mesh m) = omega arith
 
 pub stands-inside : {file codes : List ℕ} {place : ℕ} {t : Target} → Stands file codes place t → place < length codes
 stands-inside {file} {codes} {place} {t} s =

@@ -144,9 +144,12 @@ module _ (file : List ℕ) where
       rw q (record {
         below = Simple (Levels f w h n);
         is = refl;
-        slots = leaves (levels f w h n);
-        plan = refl;
-        stands = (alike-same (leaves (levels f w h n)), (a, b, c, d, g, omega (arith, chain-bound w h c g)));
+        goes = record {
+          slots = leaves (levels f w h n);
+          are = refl;
+          alike = alike-same (leaves (levels f w h n));
+          lawful = (a, b, c, d, g, omega (arith, chain-bound w h c g));
+        };
       })
 
 -- the padding of a count, the number of own bytes, or that nothing stands below, matters to no end

@@ -8,20 +8,28 @@ use lib.Dec.{eqb}
 use lib.ListN.{length, getD, replicate, drop, drop-of-length-le, length-replicate, getD-replicate}
 use lib.Seq.{drop-cons}
 use borrow.Author.Tests.{eqb-true, eqb-false}
-use Rattle.layout.specs.Target.{Target, fixed, char, string, object as anything, texture2D, page, nullable, list, kindOf}
+use Rattle.layout.specs.Target as Target
+use Rattle.layout.specs.Target.{Target, fixed, char, string, object as anything, texture2D, page, vertexDeclaration, mesh, meshKind, nullable, list, kindOf}
 use Rattle.layout.specs.Fixed.{sizes}
 use Rattle.layout.specs.Slot as L
 use Rattle.layout.specs.Slot.{Plan, stop, put, each, raw, object, reference, pairs, fontSlots, pageSlots}
 use Rattle.layout.specs.Named.{fixedKind}
+use Rattle.layout.specs.Mesh.{planOf}
 use Rattle.types.specs.Code.{Alone, Before, Coded, Lawful, Stands}
 use Rattle.leaves.specs.declared.plain.Plain.the-variants.{Fixed, Reference}
-use Rattle.leaves.specs.Plain.{referenced}
 use Rattle.leaves.specs.Like.{Alike, same}
+use Rattle.leaves.specs.declared.run.Run.{Run}
+use Rattle.meshes.specs.declared.Stage.{Stage as Fields}
+use Rattle.meshes.specs.declared.Field.{Field}
+use Rattle.meshes.specs.declared.Field.the-variants.{Plain, Text, Anything, Declaration}
+use Rattle.meshes.specs.Stages.{stageOf, firstField, fieldOf, behindOf, toldSize, toldAt}
+use Rattle.meshes.specs.Follows as Meshes
+use Rattle.meshes.specs.Follows.{fieldSlot, ended, Telling, Follows, mesh-follows, ends-stop, goes-on, FieldLawful, field-lawful}
 use Rattle.leaves.specs.Run.{runSlots, LawfulRun, length-pairs, pair-even, pair-odd}
 use Rattle.heads.specs.declared.slot.Slot.{Slot}
 use Rattle.heads.specs.declared.slot.Slot.the-variants.{Simple, Raw, Object}
 use Rattle.heads.specs.declared.nest.Nest.{Nest}
-use Rattle.heads.specs.declared.nest.Nest.the-variants.{Each, Pairs, Font, Page}
+use Rattle.heads.specs.declared.nest.Nest.the-variants.{Each, Pairs, Font, Page, Mesh}
 use Rattle.heads.specs.declared.nest.Stage.{Stage}
 use Rattle.heads.specs.declared.nest.Below.{Below}
 use Rattle.heads.specs.declared.nest.Below.the-variants.{Nothing, Nested}
@@ -40,12 +48,13 @@ pub record PairsAre (file codes : List ℕ) (s t : Slot) (n : ℕ) (slots : List
   pub key-is : SlotIs file codes s key
   pub value-is : SlotIs file codes t value
 
--- the slots that stand below
+-- the slots that stand below; a mesh's fields stand in no list that is known before they are read
 abbrev pub SlotsAre : (file codes : List ℕ) → Nest → List L.Slot → Type 0
 SlotsAre file codes (Each s n) slots = EachIs file codes s n slots
 SlotsAre file codes (Pairs s t n) slots = PairsAre file codes s t n slots
 SlotsAre file codes Font slots = slots ≡ fontSlots
 SlotsAre file codes Page slots = slots ≡ pageSlots
+SlotsAre file codes (Mesh kind) slots = ⊥
 
 abbrev pub BelowIs : (file codes : List ℕ) → Below → List L.Slot → Type 0
 BelowIs file codes (Nothing padding) slots = slots ≡ []
@@ -58,9 +67,10 @@ pub record ChildIs (file codes : List ℕ) (slots : List L.Slot) (i : ℕ) (s : 
   pub at : getD slots i slot ≡ slot
   pub is : SlotIs file codes s slot
 
--- the types that fonts and pages declare, at the start of the codes: Texture2D, list of Rectangle, list of Char, list of Vector3, String, nullable Char, Object
+-- the types that fonts, pages and meshes declare, at the start of the codes:
+-- Texture2D, list of Rectangle, list of Char, list of Vector3, String, nullable Char, Object, VertexDeclaration
 unfoldable pub prelude : List ℕ
-prelude = 32 ∷ 82 ∷ 30 ∷ 82 ∷ 12 ∷ 82 ∷ 24 ∷ 13 ∷ 80 ∷ 12 ∷ 14 ∷ []
+prelude = 32 ∷ 82 ∷ 30 ∷ 82 ∷ 12 ∷ 82 ∷ 24 ∷ 13 ∷ 80 ∷ 12 ∷ 14 ∷ 38 ∷ []
 
 pub record Prelude (codes : List ℕ) : Type 0 where
   pub rest : List ℕ
@@ -70,6 +80,12 @@ unfoldable pub fontChild : ℕ → Slot
 fontChild i =
     cond (eqb i 0) (Object 0) (cond (eqb i 1) (Object 1) (cond (eqb i 2) (Object 1) (cond (eqb i 3) (Object 3)
     (cond (eqb i 4) (Simple (Fixed 5 4)) (cond (eqb i 5) (Simple (Fixed 9 4)) (cond (eqb i 6) (Object 5) (Raw 8)))))))
+
+unfoldable pub fieldChild : Field → Slot
+fieldChild (Plain p) = Simple p
+fieldChild Text = Object 7
+fieldChild Anything = Object 10
+fieldChild Declaration = Raw 11
 
 unfoldable pub pageChild : ℕ → Slot
 pageChild i = cond (eqb i 0) (Object 7) (cond (eqb i 1) (Simple (Fixed 30 16)) (cond (eqb i 2) (Simple (Reference 32)) (Simple (Reference 34))))
@@ -95,11 +111,11 @@ module _ (file codes : List ℕ) (p : Prelude codes) where
   font-child (suc (suc (suc (suc (suc (suc (suc (suc i)))))))) h = absurd (omega arith)
 
   pub page-child : (i : ℕ) → i < length pageSlots → ChildIs file codes pageSlots i (pageChild i)
-  unfolding pageSlots pageChild prelude Coded Alone Before Lawful fixedKind sizes referenced kindOf
+  unfolding pageSlots pageChild prelude Coded Alone Before Lawful fixedKind sizes kindOf
   page-child zero h = record { slot = object string; at = refl; is = declared 7 string (13 ∷ []) _ tt (0, refl) refl }
   page-child (suc zero) h = record { slot = raw (fixed 30); at = refl; is = (same, (refl, omega arith)) }
-  page-child (suc (suc zero)) h = record { slot = reference texture2D; at = refl; is = (same, refl) }
-  page-child (suc (suc (suc zero))) h = record { slot = reference page; at = refl; is = (same, refl) }
+  page-child (suc (suc zero)) h = record { slot = reference (kindOf texture2D); at = refl; is = (same, tt) }
+  page-child (suc (suc (suc zero))) h = record { slot = reference (kindOf page); at = refl; is = (same, tt) }
   page-child (suc (suc (suc (suc i)))) h = absurd (omega arith)
 
   -- 01: "The primary and shared objects are declared Object"
@@ -107,45 +123,123 @@ module _ (file codes : List ℕ) (p : Prelude codes) where
   unfolding prelude Coded Alone Lawful
   object-at = declared 10 anything (14 ∷ []) _ tt (0, refl) refl
 
--- how many values stand below
+  -- a field of a mesh
+  pub field-child : (f : Field) → FieldLawful f → SlotIs file codes (fieldChild f) (fieldSlot f)
+  unfolding prelude Coded Alone Lawful meshKind fieldChild
+  field-child (Plain q) l = (same, l)
+  field-child Text l = declared 7 string (13 ∷ []) _ tt (0, refl) refl
+  field-child Anything l = object-at
+  field-child Declaration l = record { type = mesh vertexDeclaration; is = refl; stands = stands 11 (mesh vertexDeclaration) (38 ∷ []) _ tt (0, refl) refl }
+
+-- how many values there are up to a field of a mesh that stands next, unless its fields have ended
+abbrev pub counted : (next : ℕ) → Fields → ℕ
+counted next f = cond (ended f) next (next + 1)
+
+-- the first of so many values, and a field of a mesh
+abbrev pub listed : (count : ℕ) → Stage
+listed count = record { next = 0; count = count; mesh = stageOf 35 0 0 0 }
+
+abbrev pub standing : (next : ℕ) → Fields → Stage
+standing next f = record { next = next; count = counted next f; mesh = f }
+
+-- how many values stand below, as far as is known, and the field that a mesh begins with
 abbrev pub countOf : Nest → ℕ
 countOf (Each s n) = n
 countOf (Pairs s t n) = 2 * n
 countOf Font = 8
 countOf Page = 4
+countOf (Mesh kind) = counted 0 (firstField kind)
 
--- where a walk over a nest begins, and how far it is behind the value that stood next
+abbrev pub fieldsOf : Nest → Fields
+fieldsOf (Each s n) = stageOf 35 0 0 0
+fieldsOf (Pairs s t n) = stageOf 35 0 0 0
+fieldsOf Font = stageOf 35 0 0 0
+fieldsOf Page = stageOf 35 0 0 0
+fieldsOf (Mesh kind) = firstField kind
+
+-- where a walk over a nest begins
 abbrev pub beginOf : Nest → Stage
-beginOf nest = record { next = 0; count = countOf nest }
+beginOf nest = record { next = 0; count = countOf nest; mesh = fieldsOf nest }
 
-abbrev pub afterOf : Stage → Stage
-afterOf stage = record { next = (stage .next + 1) % 2 ^ 32; count = stage .count }
+-- how the value that stands next in a nest stands
+abbrev pub slotAt : Nest → Stage → Slot
+slotAt (Each s n) stage = s
+slotAt (Pairs s t n) stage = cond (eqb (stage .next % 2) 0) s t
+slotAt Font stage = fontChild (stage .next)
+slotAt Page stage = pageChild (stage .next)
+slotAt (Mesh kind) stage = fieldChild (fieldOf (stage .mesh))
 
--- how value i of a nest stands
-abbrev pub slotAt : Nest → (i : ℕ) → Slot
-slotAt (Each s n) i = s
-slotAt (Pairs s t n) i = cond (eqb (i % 2) 0) s t
-slotAt Font i = fontChild i
-slotAt Page i = pageChild i
+-- the field behind the one that stood next, whose first byte is at `at`, and how many values there are then
+abbrev pub fieldsAfter : (file : List ℕ) (at : ℕ) → Nest → Fields → Fields
+fieldsAfter file at (Each s n) f = f
+fieldsAfter file at (Pairs s t n) f = f
+fieldsAfter file at Font f = f
+fieldsAfter file at Page f = f
+fieldsAfter file at (Mesh kind) f = behindOf f (toldAt file (f .step) at)
 
--- the plan that is left at a stage
-pub record StageIs (file codes : List ℕ) (nest : Nest) (stage : Stage) (plan : Plan) : Type 0 where
+abbrev pub countAfter : Nest → (next count : ℕ) → Fields → ℕ
+countAfter (Each s n) next count f = count
+countAfter (Pairs s t n) next count f = count
+countAfter Font next count f = count
+countAfter Page next count f = count
+countAfter (Mesh kind) next count f = counted next f
+
+-- how far the walk is behind the value that stood next
+abbrev pub afterOf : (file : List ℕ) (at : ℕ) → Nest → Stage → Stage
+afterOf file at nest stage =
+    let next = (stage .next + 1) % 2 ^ 32 in
+    let f = fieldsAfter file at nest (stage .mesh) in
+    record { next = next; count = countAfter nest next (stage .count) f; mesh = f }
+
+-- the stage behind a value of so many
+abbrev pub onwardOf : Stage → Stage
+onwardOf stage = record { next = (stage .next + 1) % 2 ^ 32; count = stage .count; mesh = stage .mesh }
+
+-- the plan that is left at a stage: of slots that are known, and of the fields of a mesh
+pub record ListStage (file codes : List ℕ) (nest : Nest) (stage : Stage) (plan : Plan) : Type 0 where
   pub slots : List L.Slot
   pub are : SlotsAre file codes nest slots
   pub counts : stage .count ≡ length slots
   pub left : plan ≡ each (drop (stage .next) slots)
 
+pub record MeshStage (stage : Stage) (plan : Plan) : Type 0 where
+  pub follows : Follows (stage .mesh) plan
+  pub counts : stage .count ≡ counted (stage .next) (stage .mesh)
+
+abbrev pub StageIs : (file codes : List ℕ) → Nest → Stage → Plan → Type 0
+StageIs file codes (Each s n) stage plan = ListStage file codes (Each s n) stage plan
+StageIs file codes (Pairs s t n) stage plan = ListStage file codes (Pairs s t n) stage plan
+StageIs file codes Font stage plan = ListStage file codes Font stage plan
+StageIs file codes Page stage plan = ListStage file codes Page stage plan
+StageIs file codes (Mesh kind) stage plan = MeshStage stage plan
+
 -- the plan of a nest
 abbrev pub NestIs : (file codes : List ℕ) → Nest → Plan → Type 0
 NestIs file codes nest plan = StageIs file codes nest (beginOf nest) plan
 
--- what stands next is what the plan puts next, and the stage behind it goes by the plan, whatever the value tells
+-- the plan of what stands below
+pub record RunPlan (run : Run) (plan : Plan) : Type 0 where
+  pub slots : List L.Slot
+  pub are : plan ≡ each slots
+  pub alike : Alike slots (runSlots run)
+  pub lawful : LawfulRun run
+
+abbrev pub BelowPlan : (file codes : List ℕ) → Below → Plan → Type 0
+BelowPlan file codes (Nothing padding) plan = plan ≡ stop
+BelowPlan file codes (SimpleRun run) plan = RunPlan run plan
+BelowPlan file codes (Nested nest) plan = NestIs file codes nest plan
+
+-- the number that a value in a slot tells, if it tells one, is the one that stands at its first byte
+abbrev pub Heard : (file : List ℕ) → L.Slot → (at told : ℕ) → Type 0
+Heard file x at told = (step : ℕ) → Telling x (toldSize step) → toldAt file step at ≡ told
+
+-- what stands next is what the plan puts next, and the stage behind it goes by the plan and the number that the value tells
 pub record Puts (file codes : List ℕ) (nest : Nest) (stage : Stage) (plan : Plan) : Type 0 where
   pub x : L.Slot
   pub go : ℕ → Plan
   pub puts : plan ≡ put x go
-  pub is : SlotIs file codes (slotAt nest (stage .next)) x
-  pub left : stage .next + 1 < 2 ^ 32 → (n : ℕ) → StageIs file codes nest (afterOf stage) (go n)
+  pub is : SlotIs file codes (slotAt nest stage) x
+  pub left : stage .next + 1 < 2 ^ 32 → (at told : ℕ) → Heard file x at told → StageIs file codes nest (afterOf file at nest stage) (go told)
 
 module _ (file codes : List ℕ) where
   pub begins : (nest : Nest) (slots : List L.Slot) → SlotsAre file codes nest slots → NestIs file codes nest (each slots)
@@ -154,6 +248,17 @@ module _ (file codes : List ℕ) where
   begins (Pairs s t n) slots w = record { slots = slots; are = w; counts = sym (ap length (w .are) ∙ length-pairs n (w .key) (w .value)); left = refl }
   begins Font slots w = record { slots = slots; are = w; counts = sym (ap length w); left = refl }
   begins Page slots w = record { slots = slots; are = w; counts = sym (ap length w); left = refl }
+  begins (Mesh kind) slots w = absurd w
+
+  pub below-plan : (below : Below) (slots : List L.Slot) → BelowIs file codes below slots → BelowPlan file codes below (each slots)
+  unfolding each
+  below-plan (Nothing padding) slots w = ap each w
+  below-plan (SimpleRun run) slots w = record { slots = slots; are = refl; alike = w .0; lawful = w .1 }
+  below-plan (Nested nest) slots w = begins nest slots w
+
+  -- the fields of a mesh type
+  pub mesh-nest : (m : Target.Mesh) → NestIs file codes (Mesh (meshKind m)) (planOf m)
+  mesh-nest m = record { follows = mesh-follows m; counts = refl }
 
   turn-child : (s t : Slot) (n i : ℕ) (slots : List L.Slot) → PairsAre file codes s t n slots → i < length slots → (b : Bool) → eqb (i % 2) 0 ≡ b → ChildIs file codes slots i (cond b s t)
   turn-child s t n i slots w h true e =
@@ -163,30 +268,77 @@ module _ (file codes : List ℕ) where
       let l : length slots ≡ 2 * n = ap length (w .are) ∙ length-pairs n (w .key) (w .value) in
       record { slot = w .value; at = rw (w .are) (pair-odd n i (w .key) (w .value) (w .value) (omega arith) (eqb-false (i % 2) 0 e)); is = w .value-is }
 
-  child-is : Prelude codes → (nest : Nest) (slots : List L.Slot) (i : ℕ) → SlotsAre file codes nest slots → i < length slots → ChildIs file codes slots i (slotAt nest i)
-  child-is p (Each s n) slots i w h =
+  each-child : (s : Slot) (n i : ℕ) (slots : List L.Slot) → EachIs file codes s n slots → i < length slots → ChildIs file codes slots i s
+  each-child s n i slots w h =
       let l : length slots ≡ n = ap length (w .are) ∙ length-replicate n (w .slot) in
       record { slot = w .slot; at = rw (w .are) (getD-replicate n i (w .slot) (w .slot) (omega arith)); is = w .is }
-  child-is p (Pairs s t n) slots i w h = turn-child s t n i slots w h (eqb (i % 2) 0) refl
-  child-is p Font slots i w h = rw w (font-child file codes p i (rw w at h))
-  child-is p Page slots i w h = rw w (page-child file codes p i (rw w at h))
 
-  module _ (nest : Nest) (stage : Stage) (plan : Plan) (w : StageIs file codes nest stage plan) where
-    -- nothing stands next
-    pub ends : stage .count ≤ stage .next → plan ≡ stop
-    unfolding each
-    ends h = w .left ∙ ap each (drop-of-length-le (w .slots) {i = stage .next} (omega (arith, h, w .counts)))
+  child-is : Prelude codes → (nest : Nest) (slots : List L.Slot) (stage : Stage) → SlotsAre file codes nest slots → stage .next < length slots → ChildIs file codes slots (stage .next) (slotAt nest stage)
+  child-is p (Each s n) slots stage w h = each-child s n (stage .next) slots w h
+  child-is p (Pairs s t n) slots stage w h = turn-child s t n (stage .next) slots w h (eqb (stage .next % 2) 0) refl
+  child-is p Font slots stage w h = rw w (font-child file codes p (stage .next) (rw w at h))
+  child-is p Page slots stage w h = rw w (page-child file codes p (stage .next) (rw w at h))
+  child-is p (Mesh kind) slots stage w h = absurd w
 
-    -- a value stands next
-    pub goes : Prelude codes → stage .next < stage .count → Puts file codes nest stage plan
+  module _ (nest : Nest) (stage : Stage) (plan : Plan) (w : ListStage file codes nest stage plan) where
+    list-ends : stage .count ≤ stage .next → plan ≡ stop
     unfolding each
-    goes p h =
+    list-ends h = w .left ∙ ap each (drop-of-length-le (w .slots) {i = stage .next} (omega (arith, h, w .counts)))
+
+    -- the slots behind the one that stands next
+    behind : stage .next + 1 < 2 ^ 32 → ListStage file codes nest (onwardOf stage) (each (drop (suc (stage .next)) (w .slots)))
+    behind f = record { slots = w .slots; are = w .are; counts = w .counts; left = let z : (stage .next + 1) % 2 ^ 32 ≡ suc (stage .next) = omega (arith, f) in rw z refl }
+
+    list-goes : Prelude codes → stage .next < stage .count
+        → ((at : ℕ) (q : Plan) → ListStage file codes nest (onwardOf stage) q → StageIs file codes nest (afterOf file at nest stage) q) → Puts file codes nest stage plan
+    unfolding each
+    list-goes p h on =
         let i : stage .next < length (w .slots) = omega (arith, h, w .counts) in
-        let c = child-is p nest (w .slots) (stage .next) (w .are) i in
+        let c = child-is p nest (w .slots) stage (w .are) i in
         record {
           x = c .slot;
           go = λ n. each (drop (suc (stage .next)) (w .slots));
           puts = w .left ∙ rw (drop-cons (w .slots) (stage .next) (c .slot) i, c .at) refl;
           is = c .is;
-          left = λ f n. record { slots = w .slots; are = w .are; counts = w .counts; left = let z : (stage .next + 1) % 2 ^ 32 ≡ suc (stage .next) = omega (arith, f) in rw z refl };
+          left = λ f at told heard. on at (each (drop (suc (stage .next)) (w .slots))) (behind f);
         }
+
+  module _ (kind : ℕ) (stage : Stage) (plan : Plan) (w : MeshStage stage plan) where
+    by-end : (b : Bool) → ended (stage .mesh) ≡ b → stage .count ≡ cond b (stage .next) (stage .next + 1)
+    by-end b e = w .counts ∙ ap (λ (x : Bool). cond x (stage .next) (stage .next + 1)) e
+
+    mesh-ends : stage .count ≤ stage .next → plan ≡ stop
+    mesh-ends h = go (ended (stage .mesh)) refl where
+      go : (b : Bool) → ended (stage .mesh) ≡ b → plan ≡ stop
+      go true e = ends-stop (w .follows) e
+      go false e = absurd (omega (arith, h, by-end false e))
+
+    mesh-goes : Prelude codes → stage .next < stage .count → Puts file codes (Mesh kind) stage plan
+    mesh-goes p h =
+        let n = goes-on (w .follows) (still (ended (stage .mesh)) refl) in
+        record {
+          x = Meshes.slotAt (stage .mesh);
+          go = n .go;
+          puts = n .puts;
+          is = field-child file codes p (fieldOf (stage .mesh)) (field-lawful (stage .mesh));
+          left = λ f at told heard. record { follows = n .follows (toldAt file (stage .mesh .step) at) told (heard (stage .mesh .step)); counts = refl };
+        } where
+          still : (b : Bool) → ended (stage .mesh) ≡ b → ended (stage .mesh) ≡ false
+          still true e = absurd (omega (arith, h, by-end true e))
+          still false e = e
+
+  -- nothing stands next
+  pub ends : (nest : Nest) (stage : Stage) (plan : Plan) → StageIs file codes nest stage plan → stage .count ≤ stage .next → plan ≡ stop
+  ends (Each s n) stage plan w h = list-ends (Each s n) stage plan w h
+  ends (Pairs s t n) stage plan w h = list-ends (Pairs s t n) stage plan w h
+  ends Font stage plan w h = list-ends Font stage plan w h
+  ends Page stage plan w h = list-ends Page stage plan w h
+  ends (Mesh kind) stage plan w h = mesh-ends kind stage plan w h
+
+  -- a value stands next
+  pub goes : (nest : Nest) (stage : Stage) (plan : Plan) → StageIs file codes nest stage plan → Prelude codes → stage .next < stage .count → Puts file codes nest stage plan
+  goes (Each s n) stage plan w p h = list-goes (Each s n) stage plan w p h (λ at q v. v)
+  goes (Pairs s t n) stage plan w p h = list-goes (Pairs s t n) stage plan w p h (λ at q v. v)
+  goes Font stage plan w p h = list-goes Font stage plan w p h (λ at q v. v)
+  goes Page stage plan w p h = list-goes Page stage plan w p h (λ at q v. v)
+  goes (Mesh kind) stage plan w p h = mesh-goes kind stage plan w p h

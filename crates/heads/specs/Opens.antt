@@ -9,7 +9,6 @@ use Rattle.layout.specs.Target.{Target, fixed, char, string, enum}
 use Rattle.layout.specs.EnumList.{EnumSize}
 use Rattle.layout.specs.Image.{levels, digits}
 use Rattle.layout.specs.Fixed.{sizes}
-use Rattle.layout.specs.Slot as L
 use Rattle.layout.specs.Slot.{stop, each, leaves}
 use Rattle.reading.specs.Answer.{Answer, refused, read, bind, check, within}
 use Rattle.reading.specs.Little.{littleAt}
@@ -17,15 +16,13 @@ use Rattle.reading.specs.Heads.{Opening}
 use Rattle.heads.specs.declared.nest.Below.{Below}
 use Rattle.heads.specs.declared.open.Opened.{Opened}
 use Rattle.heads.specs.declared.open.Opened.the-variants.{Refused, Head}
-use Rattle.heads.specs.Nests.{BelowIs}
+use Rattle.heads.specs.Nests.{BelowPlan}
 
--- a head was read: where it ends, and the slots of what stands below it
+-- a head was read: where it ends, and what stands below it
 pub record OpenIs (file codes : List ℕ) (o : Opening) (e : ℕ) (r : Opened) : Type 0 where
   pub below : Below
   pub is : r ≡ Head e below
-  pub slots : List L.Slot
-  pub plan : o .1 ≡ each slots
-  pub stands : BelowIs file codes below slots
+  pub goes : BelowPlan file codes below (o .1)
 
 abbrev pub Opens : (file codes : List ℕ) → Answer Opening → Opened → Type 0
 Opens file codes (refused n p) r = r ≡ Refused n p

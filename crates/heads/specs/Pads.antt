@@ -8,6 +8,7 @@ use lib.ListN.{length}
 use native.Mathlib.Omega.{arith}
 use borrow.Author.Tests.{eqb-true, ne-eqb, leb-true}
 use Rattle.laws.specs.Small.{differ}
+use Rattle.layout.specs.Number.{between}
 use Rattle.layout.specs.Image.{digits}
 use Rattle.reading.specs.Answer.{Answer, refused, read}
 use Rattle.reading.specs.Seven.{sevenAt}
@@ -22,7 +23,7 @@ use Rattle.types.specs.Place.{kindAt, placeAfter}
 use Rattle.leaves.specs.Text.{ownSize}
 use Rattle.heads.specs.declared.slot.Slot.{Slot}
 use Rattle.heads.specs.declared.slot.Slot.the-variants.{Simple, Raw, Object}
-use Rattle.heads.specs.declared.nest.Nest.the-variants.{Font, Page}
+use Rattle.heads.specs.declared.nest.Nest.the-variants.{Font, Page, Mesh}
 use Rattle.heads.specs.declared.nest.Below.{Below}
 use Rattle.heads.specs.declared.nest.Below.the-variants.{Nothing, Nested}
 use Rattle.heads.specs.declared.nest.Below.the-variants.{Simple as SimpleRun}
@@ -121,6 +122,11 @@ module _ (file codes : List ℕ) where
       go false true e f = rw (with-count file kind at f) (alone-tells (padOf (sevenAt file at) at) (ownSize (textAt file at)))
       go false false e f = rw (without-count file kind at f) (alone-tells 0 (sized (fixedAt file kind (bytesOf kind) at)))
 
+    -- a mesh type has no count
+    mesh-tells : (b : Bool) → between 37 40 kind ≡ b → Tells pad (cond b (Head at (Nested (Mesh kind))) (aloneAs (leafAs file kind at)))
+    mesh-tells true e = sym (without-count file kind at (ne-eqb kind 13 (λ q. let z : between 37 40 13 ≡ true = rw q at e in differ cc)))
+    mesh-tells false e = leaf-tells
+
     kind-tells : Tells pad (kindAs file codes kind a at)
     unfolding kindAs
     kind-tells =
@@ -132,7 +138,7 @@ module _ (file codes : List ℕ) where
         (other 31 refl _ _ tt
         (other 32 refl _ _ (image-tells (rangedAt file 0 18 at))
         (other 33 refl _ _ refl
-        (other 34 refl _ _ refl leaf-tells))))))))
+        (other 34 refl _ _ refl (mesh-tells (between 37 40 kind) refl)))))))))
 
   -- the count is a text's alone, whichever of an enum's kinds is asked for
   row-count : (k at : ℕ) → countPlaces file (rowKind k) at ≡ countPlaces file k at

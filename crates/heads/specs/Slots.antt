@@ -8,7 +8,7 @@ use native.Mathlib.Omega.{arith}
 use lib.Dec.{eqb, leb, ltb}
 use lib.ListN.{getD, List·getD-eq-default}
 use borrow.Author.Tests.{eqb-false, ne-eqb, le-leb, lt-leb, ltb-true, ltb-false}
-use Rattle.layout.specs.Target.{Target, fixed, char, string, object as anything, texture, texture2D, spriteFont, page, enum, nullable, array, list, dictionary, kindOf, isValue}
+use Rattle.layout.specs.Target.{Target, fixed, char, string, object as anything, texture, texture2D, spriteFont, page, indexBuffer, vertexDeclaration, vertexBuffer, model, mesh, meshKind, enum, nullable, array, list, dictionary, kindOf, isValue}
 use Rattle.layout.specs.Fixed.{sizes}
 use Rattle.layout.specs.EnumList.{EnumSize}
 use Rattle.layout.specs.Slot.{raw, object, slotOf, rawOrObject}
@@ -127,7 +127,7 @@ enum-sort name z l =
     a-plain {t = enum name z} (λ q. let e : enumKind z ≡ 12 = q in omega arith) (λ q. let e : enumKind z ≡ 16 = q in omega arith) (λ q. size-some z l (sym (enum-bytes z l) ∙ q)) refl (rw p enums) (rw p tt)
 
 sort-of : (t : Target) → LawfulTarget t → Sort t
-unfolding codeKind isValue bytesOf sizes
+unfolding codeKind meshKind isValue bytesOf sizes
 sort-of (fixed k) l = fixed-sort k l
 sort-of char l = a-char
 sort-of string l = a-boxed {t = string} (eqb-false 13 12 refl) (eqb-false 13 16 refl) refl refl
@@ -141,6 +141,10 @@ sort-of texture l = a-boxed {t = texture} (eqb-false 31 12 refl) (eqb-false 31 1
 sort-of texture2D l = a-boxed {t = texture2D} (eqb-false 32 12 refl) (eqb-false 32 16 refl) refl refl
 sort-of spriteFont l = a-boxed {t = spriteFont} (eqb-false 33 12 refl) (eqb-false 33 16 refl) refl refl
 sort-of page l = a-boxed {t = page} (eqb-false 34 12 refl) (eqb-false 34 16 refl) refl refl
+sort-of (mesh indexBuffer) l = a-boxed {t = mesh indexBuffer} (eqb-false 37 12 refl) (eqb-false 37 16 refl) refl refl
+sort-of (mesh vertexDeclaration) l = a-boxed {t = mesh vertexDeclaration} (eqb-false 38 12 refl) (eqb-false 38 16 refl) refl refl
+sort-of (mesh vertexBuffer) l = a-boxed {t = mesh vertexBuffer} (eqb-false 39 12 refl) (eqb-false 39 16 refl) refl refl
+sort-of (mesh model) l = a-boxed {t = mesh model} (eqb-false 40 12 refl) (eqb-false 40 16 refl) refl refl
 
 -- an element or a field of a type, and a raw value of it, by the kind of its code
 module _ {file codes : List ℕ} {a : ℕ} where

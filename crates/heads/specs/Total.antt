@@ -4,6 +4,7 @@ use mathlib.Core.List.{List}
 use Prim.Native.Nat.{ℕ, _+_, max}
 use lib.Dec.{leb, eqb}
 use lib.ListN.{length}
+use Rattle.layout.specs.Number.{between}
 use Rattle.layout.specs.Image.{digits}
 use Rattle.reading.specs.Answer.{Answer, refused, read}
 use Rattle.reading.specs.Seven.{sevenAt}
@@ -17,7 +18,7 @@ use Rattle.leaves.specs.declared.run.Run.the-variants.{Same, Turns, Levels}
 use Rattle.leaves.specs.Text.{ownSize}
 use Rattle.heads.specs.declared.slot.Slot.{Slot}
 use Rattle.heads.specs.declared.slot.Slot.the-variants.{Simple, Raw, Object}
-use Rattle.heads.specs.declared.nest.Nest.the-variants.{Each, Pairs, Font, Page}
+use Rattle.heads.specs.declared.nest.Nest.the-variants.{Each, Pairs, Font, Page, Mesh}
 use Rattle.heads.specs.declared.nest.Below.{Below}
 use Rattle.heads.specs.declared.nest.Below.the-variants.{Nothing, Nested}
 use Rattle.heads.specs.declared.nest.Below.the-variants.{Simple as SimpleRun}
@@ -97,7 +98,8 @@ kindAs file codes kind a at =
     (cond (eqb kind 31) (Refused 13 at)
     (cond (eqb kind 32) (imageAs file (rangedAt file 0 18 at))
     (cond (eqb kind 33) (Head at (Nested Font))
-    (cond (eqb kind 34) (Head at (Nested Page)) (aloneAs (leafAs file kind at))))))))))
+    (cond (eqb kind 34) (Head at (Nested Page))
+    (cond (between 37 40 kind) (Head at (Nested (Mesh kind))) (aloneAs (leafAs file kind at)))))))))))
 
 unfoldable pub openAs : (file codes : List ℕ) (t at : ℕ) → Opened
 openAs file codes t at = cond (leb (length codes) t) (Refused 13 at) (kindAs file codes (kindAt codes t) (t + 1) at)

@@ -235,6 +235,7 @@ pub fn open(file: &[u8], codes: &[u32], t: usize, at: usize) -> Opened
         32 => image_head(file, at),
         33 => Opened::Head(at, Below::Nested(Nest::Font)),
         34 => Opened::Head(at, Below::Nested(Nest::Page)),
+        37..=40 => Opened::Head(at, Below::Nested(Nest::Mesh(kind))),
         _ => alone(leaf_at(file, kind, at)),
     }
 }

@@ -1,16 +1,16 @@
 -- Values that have no children and need no reader list. Assumes nothing.
 use mathlib.Core.Path.{_≡_, refl, ap, _∙_}
-use mathlib.Core.Bool.{Bool, true, false, cond}
+use mathlib.Core.Bool.{Bool, true, false}
 use mathlib.Core.List.{List, [], _∷_}
 use Prim.Native.Nat.{ℕ, zero, suc, _*_, _-_, _≤_, _<_, _^_}
 use native.Mathlib.Omega.{arith}
 use lib.Dec.{leb, ltb, eqb}
 use lib.ListN.{length, getD, take, drop}
 use borrow.Author.Tests.{lt-ltb, le-ltb, ltb-true, le-leb, lt-leb}
-use Rattle.layout.specs.Target.{Target, fixed, char, texture2D, page, enum, kindOf, spriteFont}
+use Rattle.layout.specs.Target.{Target, fixed, char, enum, kindOf, spriteFont}
 use Rattle.layout.specs.Tree.{none, tree, count}
 use Rattle.layout.specs.Fixed.{sizes}
-use Rattle.layout.specs.Slot.{Slot, raw, reference, leaf, level, Plan, stop}
+use Rattle.layout.specs.Slot.{fieldKind, Leaf, level, blob, leafKind, Slot, raw, reference, leaf, Plan, stop}
 use Rattle.layout.specs.Rows.{row, width}
 use Rattle.reading.specs.Answer.{Answer, refused, read, bind, check}
 use Rattle.reading.specs.Seven.{sevenAt, seven-next}
@@ -19,7 +19,7 @@ use Rattle.reading.specs.Reads.{Small, Reads, reads-bounds, some, some-reads, h
 use Rattle.reading.specs.Fixed.{rule, fixedAt, sized, fixed-reads}
 use Rattle.reading.specs.Rules.{same, decided}
 use Rattle.reading.specs.Font.{fontOk, fontIf}
-use Rattle.reading.specs.Heads.{Opening, headAt, leafAt, whole, ownAt, fixedHeadAt, leaf-reads as level-reads}
+use Rattle.reading.specs.Heads.{Opening, headAt, leafAt, whole, ownAt, fixedHeadAt, leaf-reads}
 use Rattle.reading.specs.Walk.{Outcome, done, sequence, rawAt, valueAt, walk}
 use Rattle.table.specs.declared.Head.{Head}
 use Rattle.table.specs.Contract.{Seen, seen, Free, Ahead, Walked}
@@ -30,13 +30,10 @@ use Rattle.places.specs.Word.{inWord, in-word}
 use Rattle.places.specs.Places.{numbered}
 use Rattle.places.specs.Padding.{no-number, id-alone, reference-numbered, sized-plain, pad-few}
 use Rattle.leaves.specs.declared.plain.Plain.{Plain}
-use Rattle.leaves.specs.declared.plain.Plain.the-variants.{Fixed, Enum, Char, Level, Reference}
+use Rattle.leaves.specs.declared.plain.Plain.the-variants.{Fixed, Enum, Char, Level, Reference, Blob, Bone, Code, DataSize}
 use Rattle.reading.specs.Drafts.{nothing, resource, drafted}
 use Rattle.ids.specs.declared.Grid.{Grid}
-
--- the type that a reference which wants a kind refers to
-unfoldable pub referenced : ℕ → Target
-referenced wanted = cond (eqb wanted 32) texture2D page
+use Rattle.fields.specs.Ruled.{boneLeaf, codeLeaf, sizeLeaf}
 
 -- how the value stands; an enum's name makes no difference to its values, so it stands for those of every name
 abbrev pub plainSlot : Plain → Slot
@@ -44,15 +41,23 @@ plainSlot (Fixed kind size) = raw (fixed kind)
 plainSlot (Enum size) = raw (enum [] size)
 plainSlot Char = raw char
 plainSlot (Level size) = leaf (level size)
-plainSlot (Reference wanted) = reference (referenced wanted)
+plainSlot (Reference wanted) = reference wanted
+plainSlot (Blob size) = leaf (blob size)
+plainSlot (Bone bones) = leaf (boneLeaf bones)
+plainSlot (Code last) = leaf (codeLeaf last)
+plainSlot (DataSize flag) = leaf (sizeLeaf flag)
 
--- the size is that of the kind, and a reference wants a kind that a reference can want
+-- the size is that of the kind
 abbrev pub Lawful : Plain → Type 0
 Lawful (Fixed kind size) = (size ≡ getD sizes kind 0) × (0 < size)
 Lawful (Enum size) = Unit {0}
 Lawful Char = Unit {0}
 Lawful (Level size) = Unit {0}
-Lawful (Reference wanted) = kindOf (referenced wanted) ≡ wanted
+Lawful (Reference wanted) = Unit {0}
+Lawful (Blob size) = Unit {0}
+Lawful (Bone bones) = Unit {0}
+Lawful (Code last) = Unit {0}
+Lawful (DataSize flag) = Unit {0}
 
 -- a value may begin at a place: the words have so many rows, and all numbers fit
 pub record Begin (file words : List ℕ) (g : Grid) (at used : ℕ) : Type 0 where
@@ -72,6 +77,10 @@ plainAt file shared (Enum size) at = sized (fixedAt file 15 size at)
 plainAt file shared Char at = charAt file at
 plainAt file shared (Level size) at = sized (leafAt file (level size) at)
 plainAt file shared (Reference wanted) at = bind (sevenAt file at) (λ id next. check (leb id shared) 16 at (read id next))
+plainAt file shared (Blob size) at = sized (leafAt file (blob size) at)
+plainAt file shared (Bone bones) at = sized (leafAt file (boneLeaf bones) at)
+plainAt file shared (Code last) at = sized (leafAt file (codeLeaf last) at)
+plainAt file shared (DataSize flag) at = sized (leafAt file (sizeLeaf flag) at)
 
 -- the padding of its number, which a reference alone has; else that of its id
 unfoldable pub plainPad : List ℕ → Plain → (padding at : ℕ) → ℕ
@@ -80,6 +89,10 @@ plainPad file (Enum size) padding at = padding
 plainPad file Char padding at = padding
 plainPad file (Level size) padding at = padding
 plainPad file (Reference wanted) padding at = padOf (sevenAt file at) at
+plainPad file (Blob size) padding at = padding
+plainPad file (Bone bones) padding at = padding
+plainPad file (Code last) padding at = padding
+plainPad file (DataSize flag) padding at = padding
 
 -- 18, then 19, then the bytes
 unfoldable pub plainValue : List ℕ → (room shared : ℕ) → Plain → (at used depth : ℕ) → Answer ℕ
@@ -98,6 +111,10 @@ plainWords g w (Enum size) h x = leafWords g w h 15 0 x
 plainWords g w Char h x = leafWords g w h 12 0 x
 plainWords g w (Level size) h x = leafWords g w h 35 0 x
 plainWords g w (Reference wanted) h x = leafWords g w (named h x) 36 wanted x
+plainWords g w (Blob size) h x = leafWords g w h 41 0 x
+plainWords g w (Bone bones) h x = leafWords g w h 42 0 x
+plainWords g w (Code last) h x = leafWords g w h 5 0 x
+plainWords g w (DataSize flag) h x = leafWords g w h 6 0 x
 
 -- the words once the bytes at the head's first byte are read, or refused
 abbrev pub plainLeft : Grid → (file words : List ℕ) (shared : ℕ) → Plain → Head → List ℕ
@@ -113,6 +130,10 @@ kept g w (Enum size) h n q = refl
 kept g w Char h n q = refl
 kept g w (Level size) h n q = refl
 kept g w (Reference wanted) h n q = refl
+kept g w (Blob size) h n q = refl
+kept g w (Bone bones) h n q = refl
+kept g w (Code last) h n q = refl
+kept g w (DataSize flag) h n q = refl
 
 -- the value's row
 abbrev pub plainSeen : Plain → Head → Answer ℕ → Answer Seen
@@ -121,6 +142,10 @@ plainSeen (Enum size) h x = leafOf h 15 nothing x
 plainSeen Char h x = leafOf h 12 nothing x
 plainSeen (Level size) h x = leafOf h 35 nothing x
 plainSeen (Reference wanted) h x = leafOf (named h x) 36 (resource wanted) x
+plainSeen (Blob size) h x = leafOf h 41 nothing x
+plainSeen (Bone bones) h x = leafOf h 42 nothing x
+plainSeen (Code last) h x = leafOf h 5 nothing x
+plainSeen (DataSize flag) h x = leafOf h 6 nothing x
 
 -- a raw value has no number, and a reference has its resource id
 module _ (file : List ℕ) (small : Small file) (used at parent : ℕ) where
@@ -144,6 +169,10 @@ module _ (file : List ℕ) (small : Small file) (used at parent : ℕ) where
   plain-written g w (Level size) l x f a = leaf-walked g file w (headOf used at parent 0 0) 35 nothing x f a (plain-pads 35 refl refl)
   plain-written g w (Reference wanted) l (refused n p) f a = record { answers = refl; writes = refl }
   plain-written g w (Reference wanted) l (read id next) f a = leaf-walked g file w (headOf used at parent id (padOf (sevenAt file at) at)) 36 (resource wanted) (read id next) f a (reference-pads id)
+  plain-written g w (Blob size) l x f a = leaf-walked g file w (headOf used at parent 0 0) 41 nothing x f a (plain-pads 41 refl refl)
+  plain-written g w (Bone bones) l x f a = leaf-walked g file w (headOf used at parent 0 0) 42 nothing x f a (plain-pads 42 refl refl)
+  plain-written g w (Code last) l x f a = leaf-walked g file w (headOf used at parent 0 0) 5 nothing x f a (plain-pads 5 refl refl)
+  plain-written g w (DataSize flag) l x f a = leaf-walked g file w (headOf used at parent 0 0) 6 nothing x f a (plain-pads 6 refl refl)
 
 fixed-none : (k : ℕ) → same (fixed k) spriteFont ≡ false
 unfolding same decided
@@ -202,11 +231,16 @@ module _ (file : List ℕ) (readers : List Target) (shared room : ℕ) (below : 
     go (refused n p) = refl
     go (read c e) = refl
 
-  leaf-seen : (r : Answer (List ℕ)) (at used parent : ℕ)
-      → seen (bind r (λ own next. done next (suc used) (drafted (row 35 at (next - at) 0 parent 0 1) ∷ []) (tree 35 0 own none none))) ≡ leafOf (headOf used at parent 0 0) 35 nothing r
+  -- a leaf, by what reading it answers
+  kind-seen : (k : ℕ) (r : Answer (List ℕ)) (at used parent : ℕ)
+      → seen (bind r (λ own next. done next (suc used) (drafted (row k at (next - at) 0 parent 0 1) ∷ []) (tree k 0 own none none))) ≡ leafOf (headOf used at parent 0 0) k nothing r
   unfolding bind seen
-  leaf-seen (refused n p) at used parent = refl
-  leaf-seen (read own e) at used parent = refl
+  kind-seen k (refused n p) at used parent = refl
+  kind-seen k (read own e) at used parent = refl
+
+  leaf-seen : (x : Leaf) (at used parent : ℕ) → seen (valueAt file readers shared room below (leaf x) at used parent) ≡ leafOf (headOf used at parent 0 0) (leafKind x) nothing (sized (leafAt file x at))
+  unfolding valueAt
+  leaf-seen x at used parent = kind-seen (leafKind x) (leafAt file x at) at used parent ∙ sized-leaf (headOf used at parent 0 0) (leafKind x) (leafAt file x at)
 
   reference-seen : (r : Answer ℕ) (wanted at used parent : ℕ)
       → seen (bind r (λ id next. check (leb id shared) 16 at (done next (suc used) (record { row = row 36 at (next - at) 0 parent id 1; wants = resource wanted } ∷ []) (tree 36 id [] none none))))
@@ -222,15 +256,19 @@ module _ (file : List ℕ) (readers : List Target) (shared room : ℕ) (below : 
   -- what a value in such a slot answers, whatever the reader list is
   plain-seen : (p : Plain) → Lawful p → (at used parent : ℕ)
       → seen (valueAt file readers shared room below (plainSlot p) at used parent) ≡ plainSeen p (headOf used at parent 0 0) (plainAt file shared p at)
-  unfolding valueAt plainAt kindOf
+  unfolding valueAt plainAt kindOf leafKind fieldKind
   plain-seen (Fixed kind size) l at used parent =
       raw-leaf (fixed kind) (fixed-none kind) (fixedAt file kind size at) at at used parent 0 0 (fixed-head file kind size l at) ∙ sized-leaf (headOf used at parent 0 0) kind (fixedAt file kind size at)
   plain-seen (Enum size) l at used parent =
       raw-leaf (enum [] size) (enum-none [] size) (fixedAt file 15 size at) at at used parent 0 0 (enum-head file [] size at) ∙ sized-leaf (headOf used at parent 0 0) 15 (fixedAt file 15 size at)
   plain-seen Char l at used parent =
       raw-leaf char char-none (ownAt file (charAt file) at) at at used parent 0 0 (char-head file at) ∙ char-own at (headOf used at parent 0 0) 12
-  plain-seen (Level size) l at used parent = leaf-seen (leafAt file (level size) at) at used parent ∙ sized-leaf (headOf used at parent 0 0) 35 (leafAt file (level size) at)
-  plain-seen (Reference wanted) l at used parent = rw l (reference-seen (sevenAt file at) wanted at used parent)
+  plain-seen (Level size) l at used parent = leaf-seen (level size) at used parent
+  plain-seen (Reference wanted) l at used parent = reference-seen (sevenAt file at) wanted at used parent
+  plain-seen (Blob size) l at used parent = leaf-seen (blob size) at used parent
+  plain-seen (Bone bones) l at used parent = leaf-seen (boneLeaf bones) at used parent
+  plain-seen (Code last) l at used parent = leaf-seen (codeLeaf last) at used parent
+  plain-seen (DataSize flag) l at used parent = leaf-seen (sizeLeaf flag) at used parent
 
 -- what is read from inside a file ends inside it
 ahead-read : {file : List ℕ} {A : Type 0} {F : A → List ℕ → Type 0} {r : ℕ → Answer A} → Reads file F r → Small file
@@ -245,13 +283,20 @@ unfolding sized
 ahead-sized at (refused n p) h = h
 ahead-sized at (read own e) h = h
 
+ahead-leaf : (file : List ℕ) → Small file → (x : Leaf) (at : ℕ) → at ≤ length file → length file < 2 ^ 32 → Ahead at (sized (leafAt file x at))
+ahead-leaf file s x at h f = ahead-sized at (leafAt file x at) (ahead-read (leaf-reads file x) s at h f)
+
 plain-ahead : (file : List ℕ) → Small file → (shared : ℕ) (p : Plain) → Lawful p → (at : ℕ) → at ≤ length file → length file < 2 ^ 32 → Ahead at (plainAt file shared p at)
 unfolding plainAt bind check fixedAt
 plain-ahead file s shared (Fixed kind size) l at h f = rw (l .0) (ahead-sized at (fixedAt file kind (getD sizes kind 0) at) (ahead-read (fixed-reads file kind (omega arith)) s at h f))
 plain-ahead file s shared (Enum size) l at h f =
     ahead-sized at (fixedAt file 15 size at) (ahead-read (here-reads file (λ p. field-reads file (rule 15) (λ own. own) p (some-reads file size p))) s at h f)
 plain-ahead file s shared Char l at h f = ahead-read (char-reads file) s at h f
-plain-ahead file s shared (Level size) l at h f = ahead-sized at (leafAt file (level size) at) (ahead-read (level-reads file (level size)) s at h f)
+plain-ahead file s shared (Level size) l at h f = ahead-leaf file s (level size) at h f
+plain-ahead file s shared (Blob size) l at h f = ahead-leaf file s (blob size) at h f
+plain-ahead file s shared (Bone bones) l at h f = ahead-leaf file s (boneLeaf bones) at h f
+plain-ahead file s shared (Code last) l at h f = ahead-leaf file s (codeLeaf last) at h f
+plain-ahead file s shared (DataSize flag) l at h f = ahead-leaf file s (sizeLeaf flag) at h f
 plain-ahead file s shared (Reference wanted) l at h f = go (sevenAt file at) refl where
   told : (b : Bool) (id next : ℕ) → (at ≤ next) × (next < 2 ^ 32) → Ahead at (check b 16 at (read id next))
   told true id next a = a

@@ -13,13 +13,18 @@ ghost use Rattle.table.specs.Leaf.{leafAnswer};
 ghost use Rattle.leaves.specs.Plain.{plainAt, plainPad, plainValue, plainLeft, valueLeft};
 
 // How such a value stands: raw of a kind of fixed size, with the size; a raw enum of a size; a raw character; an image level of a size;
-// a reference that wants a kind.
+// a reference that wants a kind; data bytes, so many; a bone reference under a bone count; a code up to the last one;
+// the size of index data under its flag.
 pub enum Plain {
     Fixed(u32, usize),
     Enum(usize),
     Char,
     Level(u64),
     Reference(u32),
+    Blob(u64),
+    Bone(u32),
+    Code(u32),
+    DataSize(u32),
 }
 
 // Whether a resource id is above the shared count.
@@ -77,32 +82,24 @@ fn plain_value(
 {
     let at = h.first;
     match slot {
-        Plain::Fixed(kind, size) => table::leaf(
-            words,
-            grid,
-            h,
-            kind,
-            0,
-            values::fixed_at(file, kind, size, at),
-        ),
-        Plain::Enum(size) => table::leaf(
-            words,
-            grid,
-            h,
-            15,
-            0,
-            values::fixed_at(file, 15, size, at),
-        ),
+        Plain::Fixed(kind, size) => {
+            let read = values::fixed_at(file, kind, size, at);
+            table::leaf(words, grid, h, kind, 0, read)
+        }
+        Plain::Enum(size) => {
+            let read = values::fixed_at(file, 15, size, at);
+            table::leaf(words, grid, h, 15, 0, read)
+        }
         Plain::Char => table::leaf(words, grid, h, 12, 0, text::char_at(file, at)),
-        Plain::Level(size) => table::leaf(
-            words,
-            grid,
-            h,
-            35,
-            0,
-            crate::read::level_at(file, size, at),
-        ),
+        Plain::Level(size) => {
+            let read = crate::read::level_at(file, size, at);
+            table::leaf(words, grid, h, 35, 0, read)
+        }
         Plain::Reference(wanted) => reference(file, words, grid, shared, wanted, h),
+        Plain::Blob(size) => table::leaf(words, grid, h, 41, 0, fields::data_at(file, size, at)),
+        Plain::Bone(bones) => table::leaf(words, grid, h, 42, 0, fields::bone_at(file, bones, at)),
+        Plain::Code(last) => table::leaf(words, grid, h, 5, 0, fields::code_at(file, last, at)),
+        Plain::DataSize(flag) => table::leaf(words, grid, h, 6, 0, fields::size_at(file, flag, at)),
     }
 }
 

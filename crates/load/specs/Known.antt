@@ -15,7 +15,7 @@ use Rattle.heads.specs.Nests.{Prelude, NestIs}
 use Rattle.objects.specs.Start.{Has, Ided, positionOfSlot}
 use Rattle.ids.specs.declared.Grid.{Grid}
 
--- the codes hold the types of some readers and those that fonts and pages declare
+-- the codes hold the types of some readers and those that fonts, pages and meshes declare
 pub record Known (file codes : List ℕ) (rd : Readers) : Type 0 where
   pub readers : List Target
   pub listed : Listed file codes rd readers

@@ -37,6 +37,7 @@ use Rattle.answers.specs.declared.Number.the-variants.{Read as Header-read, Ref
 use Rattle.header.specs.Header.{toHeader, headerOf}
 use Rattle.heads.specs.declared.nest.Nest.the-variants.{Each}
 use Rattle.heads.specs.declared.slot.Slot.the-variants.{Object}
+use Rattle.types.specs.Code.{preludeSize}
 use Rattle.heads.specs.Nests.{Prelude, prelude, NestIs, begins, object-at}
 use Rattle.resources.specs.declared.Settled.{Settled}
 use Rattle.resources.specs.declared.Settled.the-variants.{Fine, Wrong}
@@ -174,9 +175,9 @@ module _ (g : Grid) (file : List ℕ) (small : Small file) (codes : List ℕ) (s
         → ((rows : List Row) → inWord (padding + rowsPadding file rows) ≡ total (length readers) rows) → inWord (padding + sum) ≡ total (length readers) (bare (o .taken .1))
     objects-padded total padding o t = rw (← o .pads) (word-more padding (rowsPadding file (bare (o .taken .1)))) ∙ t (bare (o .taken .1))
 
--- the codes keep the types that fonts and pages declare
-pub kept-prelude : (codes : List ℕ) → take 11 codes ≡ prelude → Prelude codes
-kept-prelude codes e = record { rest = drop 11 codes; begins = sym (take-append-drop 11 codes) ∙ ap (λ (x : List ℕ). x ++ drop 11 codes) e }
+-- the codes keep the types that fonts, pages and meshes declare
+pub kept-prelude : (codes : List ℕ) → take preludeSize codes ≡ prelude → Prelude codes
+kept-prelude codes e = record { rest = drop preludeSize codes; begins = sym (take-append-drop preludeSize codes) ∙ ap (λ (x : List ℕ). x ++ drop preludeSize codes) e }
 
 -- where the lists end
 pub lists-inside : (es : List EnumEntry) (file : List ℕ) → Small file → (at : ℕ) → at ≤ length file → {l : List (List ℕ) × List Target × ℕ} {e : ℕ} → listsAt (judgedName es) file at ≡ read l e → e ≤ length file
@@ -258,7 +259,8 @@ pub suffice-refused : (file : List ℕ) (at room : ℕ) {n p : ℕ} → length f
 suffice-refused file at room s e = enough-for file at room s true (rw e refl)
 
 -- the stores that make the start of the codes
-pub prelude-stored : (l : List ℕ) → 11 ≤ length l → take 11 (set (set (set (set (set (set (set (set (set (set (set l 0 32) 1 82) 2 30) 3 82) 4 12) 5 82) 6 24) 7 13) 8 80) 9 12) 10 14) ≡ prelude
+pub prelude-stored : (l : List ℕ) → preludeSize ≤ length l
+    → take preludeSize (set (set (set (set (set (set (set (set (set (set (set (set l 0 32) 1 82) 2 30) 3 82) 4 12) 5 82) 6 24) 7 13) 8 80) 9 12) 10 14) 11 38) ≡ prelude
 unfolding prelude
 prelude-stored [] h = absurd (omega arith)
 prelude-stored (a0 ∷ []) h = absurd (omega arith)
@@ -271,7 +273,8 @@ prelude-stored (a0 ∷ a1 ∷ a2 ∷ a3 ∷ a4 ∷ a5 ∷ a6 ∷ []) h = absurd 
 prelude-stored (a0 ∷ a1 ∷ a2 ∷ a3 ∷ a4 ∷ a5 ∷ a6 ∷ a7 ∷ []) h = absurd (omega arith)
 prelude-stored (a0 ∷ a1 ∷ a2 ∷ a3 ∷ a4 ∷ a5 ∷ a6 ∷ a7 ∷ a8 ∷ []) h = absurd (omega arith)
 prelude-stored (a0 ∷ a1 ∷ a2 ∷ a3 ∷ a4 ∷ a5 ∷ a6 ∷ a7 ∷ a8 ∷ a9 ∷ []) h = absurd (omega arith)
-prelude-stored (a0 ∷ a1 ∷ a2 ∷ a3 ∷ a4 ∷ a5 ∷ a6 ∷ a7 ∷ a8 ∷ a9 ∷ a10 ∷ l) h = refl
+prelude-stored (a0 ∷ a1 ∷ a2 ∷ a3 ∷ a4 ∷ a5 ∷ a6 ∷ a7 ∷ a8 ∷ a9 ∷ a10 ∷ []) h = absurd (omega arith)
+prelude-stored (a0 ∷ a1 ∷ a2 ∷ a3 ∷ a4 ∷ a5 ∷ a6 ∷ a7 ∷ a8 ∷ a9 ∷ a10 ∷ a11 ∷ l) h = refl
 
 -- all words cleared
 none-kept : (mid : List ℕ) (n : ℕ) → length mid ≡ n → cleared mid 0 ≡ replicate n 0

@@ -172,8 +172,7 @@ module _ (g : Grid) (file : List ℕ) {codes words : List ℕ} (h : Head) (at : 
   counted = headOf (h .row .0) (h .first) (h .parent) (h .detail) (inWord (h .padding + count))
 
   stops : o .o .1 ≡ stop
-  unfolding each
-  stops = o .plan ∙ ap each (o .stands)
+  stops = o .goes
 
   head-seen : seen (rawOf file readers shared (g .room) depth t h at) ≡ leafOf {A = ℕ} h (kindOf t) nothing (read 0 next)
   unfolding rawAt bind check seen sequence Tree.count
@@ -195,19 +194,19 @@ module _ (g : Grid) (file : List ℕ) {codes words : List ℕ} (h : Head) (at : 
 
 -- the children were walked and the raw value, which has no count, ends
 pub raw-ends : (g : Grid) (file : List ℕ) {codes words w₁ : List ℕ} (h : Head) (at : ℕ) {next : ℕ} {below : Below} (t : Target) (readers : List Target) (shared depth n kind : ℕ) (walked : Walk)
-    → Small file → Ready file words g h at → Lawful t → (o : OpenedAs file codes t at next below) → belowPad below ≡ 0 → Children-are g file readers shared depth (each (o .slots)) next (h .row .0 + 1) n → kind ≡ kindOf t
-    → Walked g file words w₁ (h .row .0 + 1) (seen (sequence (λ y b v. walk file readers shared (g .room) depth y b v (h .row .0 + 1)) (each (o .slots)) next (h .row .0 + 1))) walked
+    → Small file → Ready file words g h at → Lawful t → (o : OpenedAs file codes t at next below) → belowPad below ≡ 0 → Children-are g file readers shared depth (o .o .1) next (h .row .0 + 1) n → kind ≡ kindOf t
+    → Walked g file words w₁ (h .row .0 + 1) (seen (sequence (λ y b v. walk file readers shared (g .room) depth y b v (h .row .0 + 1)) (o .o .1) next (h .row .0 + 1))) walked
     → Walked g file words (closeWords g file w₁ h kind n walked) (h .row .0) (seen (rawOf file readers shared (g .room) depth t h at)) (closeAnswer g file w₁ h kind at walked)
 raw-ends g file {codes} {words} {w₁} h at {next} t readers shared depth n kind walked s r l o z e k c =
-    let fits = close-ready t readers shared depth (each (o .slots)) walked s r (o .is) c in
-    let p : Children-are g file readers shared depth (each (o .slots)) next (suc (h .row .0)) n × Walked g file words w₁ (suc (h .row .0)) (seen (sequence (λ y b v. walk file readers shared (g .room) depth y b v (suc (h .row .0))) (each (o .slots)) next (suc (h .row .0)))) walked
-    = subst (λ m. Children-are g file readers shared depth (each (o .slots)) next m n × Walked g file words w₁ m (seen (sequence (λ y b v. walk file readers shared (g .room) depth y b v m) (each (o .slots)) next m)) walked) (add-one (h .row .0)) (e, c) in
-    rw k (raw-closed g file s readers shared depth t l h at words (r .long) (r .few) (r .free) (r .ided) (sym (o .pads) ∙ z) (o .is) (each (o .slots)) (o .plan) w₁ n walked fits (p .0) (p .1))
+    let fits = close-ready t readers shared depth (o .o .1) walked s r (o .is) c in
+    let p : Children-are g file readers shared depth (o .o .1) next (suc (h .row .0)) n × Walked g file words w₁ (suc (h .row .0)) (seen (sequence (λ y b v. walk file readers shared (g .room) depth y b v (suc (h .row .0))) (o .o .1) next (suc (h .row .0)))) walked
+    = subst (λ m. Children-are g file readers shared depth (o .o .1) next m n × Walked g file words w₁ m (seen (sequence (λ y b v. walk file readers shared (g .room) depth y b v m) (o .o .1) next m)) walked) (add-one (h .row .0)) (e, c) in
+    rw k (raw-closed g file s readers shared depth t l h at words (r .long) (r .few) (r .free) (r .ided) (sym (o .pads) ∙ z) (o .is) (o .o .1) refl w₁ n walked fits (p .0) (p .1))
 
 -- the same for a kind without a rule
 pub plain-ends : (g : Grid) (file : List ℕ) {codes words w₁ : List ℕ} (h : Head) (at : ℕ) {next : ℕ} {below : Below} (t : Target) (readers : List Target) (shared depth n kind : ℕ) (walked : Walk)
-    → (kind ≡ 33 → ⊥) → Small file → Ready file words g h at → Lawful t → (o : OpenedAs file codes t at next below) → belowPad below ≡ 0 → Children-are g file readers shared depth (each (o .slots)) next (h .row .0 + 1) n → kind ≡ kindOf t
-    → Walked g file words w₁ (h .row .0 + 1) (seen (sequence (λ y b v. walk file readers shared (g .room) depth y b v (h .row .0 + 1)) (each (o .slots)) next (h .row .0 + 1))) walked
+    → (kind ≡ 33 → ⊥) → Small file → Ready file words g h at → Lawful t → (o : OpenedAs file codes t at next below) → belowPad below ≡ 0 → Children-are g file readers shared depth (o .o .1) next (h .row .0 + 1) n → kind ≡ kindOf t
+    → Walked g file words w₁ (h .row .0 + 1) (seen (sequence (λ y b v. walk file readers shared (g .room) depth y b v (h .row .0 + 1)) (o .o .1) next (h .row .0 + 1))) walked
     → Walked g file words (plainWords g w₁ h kind n walked) (h .row .0) (seen (rawOf file readers shared (g .room) depth t h at)) (topped (h .padding) walked)
 unfolding keeps
 plain-ends g file h at t readers shared depth n kind (Walk-done r) x s y l o q e k c =
@@ -229,10 +228,10 @@ got-as y p q r t = rw (p, q, r, t) y
 
 -- the children were refused, and so is the raw value
 pub raw-lost : (g : Grid) (file : List ℕ) {codes words w₁ : List ℕ} (h : Head) (at : ℕ) {next : ℕ} {below : Below} (t : Target) (readers : List Target) (shared depth : ℕ) {n p : ℕ}
-    → (o : OpenedAs file codes t at next below) → sequence (λ y b v. walk file readers shared (g .room) depth y b v (h .row .0 + 1)) (each (o .slots)) next (h .row .0 + 1) ≡ refused n p
+    → (o : OpenedAs file codes t at next below) → sequence (λ y b v. walk file readers shared (g .room) depth y b v (h .row .0 + 1)) (o .o .1) next (h .row .0 + 1) ≡ refused n p
     → Walked g file words w₁ (h .row .0) (seen (rawOf file readers shared (g .room) depth t h at)) (Walk-refused n p)
 unfolding rawAt bind
 raw-lost g file h at {next} t readers shared depth {n} {p} o e =
-    let q : sequence (λ y b v. walk file readers shared (g .room) depth y b v (suc (h .row .0))) (each (o .slots)) next (suc (h .row .0)) ≡ refused n p
-    = subst (λ m. sequence (λ y b v. walk file readers shared (g .room) depth y b v m) (each (o .slots)) next m ≡ refused n p) (add-one (h .row .0)) e in
-    refusing (rw (o .is, o .plan, q))
+    let q : sequence (λ y b v. walk file readers shared (g .room) depth y b v (suc (h .row .0))) (o .o .1) next (suc (h .row .0)) ≡ refused n p
+    = subst (λ m. sequence (λ y b v. walk file readers shared (g .room) depth y b v m) (o .o .1) next m ≡ refused n p) (add-one (h .row .0)) e in
+    refusing (rw (o .is, q))

@@ -23,7 +23,8 @@ use Rattle.leaves.specs.Run.{begin-on}
 use Rattle.heads.specs.declared.nest.Nest.{Nest}
 use Rattle.heads.specs.declared.nest.Stage.{Stage}
 use Rattle.heads.specs.Slots.{SlotIs}
-use Rattle.heads.specs.Nests.{Prelude, NestIs, StageIs, beginOf, afterOf, slotAt, ends, goes}
+use Rattle.heads.specs.Nests.{Prelude, NestIs, StageIs, Heard, beginOf, afterOf, slotAt, ends, goes}
+use Rattle.meshes.specs.Tells.{told-is}
 use Rattle.load.specs.declared.walk.Children.{Children}
 use Rattle.load.specs.declared.walk.Children.the-variants.{Done, Refused}
 use Rattle.load.specs.Walks.{walk-takes}
@@ -87,8 +88,8 @@ module _ (g : Grid) (file codes : List ℕ) (readers : List Target) (shared dept
     pub record Next (w : List ℕ) (stage : Stage) (next row sum : ℕ) : Type 0 where
       pub x : L.Slot
       pub go : ℕ → Plan
-      pub is : SlotIs file codes (slotAt nest (stage .next)) x
-      pub left : stage .next + 1 < 2 ^ 32 → (n : ℕ) → StageIs file codes nest (afterOf stage) (go n)
+      pub is : SlotIs file codes (slotAt nest stage) x
+      pub left : stage .next + 1 < 2 ^ 32 → (first told : ℕ) → Heard file x first told → StageIs file codes nest (afterOf file first nest stage) (go told)
       pub read-so : Reading g file step plan₀ w₀ at used w (put x go) next row sum (stage .next)
       pub ahead : used + stage .next ≤ row
 
@@ -111,7 +112,7 @@ module _ (g : Grid) (file codes : List ℕ) (readers : List Target) (shared dept
 
     -- the value is walked
     pub next-walked : {w w′ : List ℕ} {stage : Stage} {next row sum a u p : ℕ} → Small file → Begin file w₀ g at used → (v : Next w stage next row sum) → Got g file w w′ row (step (v .x) next row) a u p
-        → Standing w′ (afterOf stage) a u (inWord (sum + p)) × (row < u) × (u ≤ g .room)
+        → Standing w′ (afterOf file next nest stage) a u (inWord (sum + p)) × (row < u) × (u ≤ g .room)
     next-walked {w′ = w′} {stage} {next} {row} {sum} {a} {u} {p} small b v y =
         let t = walk-takes file readers shared (g .room) small depth (v .x) next row used (y .taken) a (y .is) in
         let s : row < u = omega (arith, t, y .rows-used) in
@@ -123,7 +124,7 @@ module _ (g : Grid) (file codes : List ℕ) (readers : List Target) (shared dept
         let z : stage .next + 1 ≡ (stage .next + 1) % 2 ^ 32 = omega (arith, k) in (
           record {
             plan = plan;
-            is = v .left k (toldOf (y .taken .2));
+            is = v .left k next (toldOf (y .taken .2)) (λ n t. told-is file readers shared (g .room) small n t depth next row used (y .taken) a (y .is));
             read-so = subst (λ i. Reading g file step plan₀ w₀ at used w′ plan a u (inWord (sum + p)) i) z r;
             ahead = omega (arith, v .ahead, s, z);
           },

@@ -7,7 +7,6 @@ use lib.ListN.{length}
 use Rattle.laws.specs.Small.{differ}
 use Rattle.layout.specs.Target.{Target, kindOf}
 use Rattle.layout.specs.Slot as L
-use Rattle.layout.specs.Slot.{each}
 use Rattle.reading.specs.Answer.{Answer, refused, read}
 use Rattle.reading.specs.Reads.{Small, reads-bounds}
 use Rattle.reading.specs.Heads.{Opening, headAt, head-reads}
@@ -24,7 +23,7 @@ use Rattle.heads.specs.declared.nest.Below.{Below}
 use Rattle.heads.specs.declared.open.Opened.{Opened}
 use Rattle.heads.specs.declared.open.Opened.the-variants.{Head as Opened-head, Refused as Opened-refused}
 use Rattle.heads.specs.Opens.{Opens}
-use Rattle.heads.specs.Nests.{BelowIs}
+use Rattle.heads.specs.Nests.{BelowPlan}
 use Rattle.heads.specs.Pads.{belowPad}
 use Rattle.places.specs.Places.{countPlaces}
 use Rattle.places.specs.Padding.{padding}
@@ -36,9 +35,7 @@ use Rattle.ids.specs.declared.Grid.{Grid}
 pub record OpenedAs (file codes : List ℕ) (t : Target) (at next : ℕ) (below : Below) : Type 0 where
   pub o : Opening
   pub is : headAt file t at ≡ read o next
-  pub slots : List L.Slot
-  pub plan : o .1 ≡ each slots
-  pub stands : BelowIs file codes below slots
+  pub goes : BelowPlan file codes below (o .1)
   pub pads : belowPad below ≡ padding file (countPlaces file (kindOf t) at)
 
 pub opened-as : (file codes : List ℕ) (t : Target) (at : ℕ) {next : ℕ} {below : Below} {r : Opened} → Opens file codes (headAt file t at) r → r ≡ Opened-head next below
@@ -50,7 +47,7 @@ opened-as file codes t at {next} {below} {r} w e p = go (headAt file t at) refl 
       let q : Opened-head f (w .below) ≡ Opened-head next below = sym (w .is) ∙ e in
       let e₁ : f ≡ next = cc in
       let e₂ : w .below ≡ below = cc in
-      record { o = o; is = h ∙ ap (read o) e₁; slots = w .slots; plan = w .plan; stands = subst (λ b. BelowIs file codes b (w .slots)) e₂ (w .stands); pads = p }
+      record { o = o; is = h ∙ ap (read o) e₁; goes = subst (λ b. BelowPlan file codes b (o .1)) e₂ (w .goes); pads = p }
 
 pub refused-as : (file codes : List ℕ) {n p : ℕ} {r : Opened} (x : Answer Opening) → Opens file codes x r → r ≡ Opened-refused n p → x ≡ refused n p
 refused-as file codes {n} {p} (refused m q) w e =

@@ -126,6 +126,7 @@ fn put_prelude(codes: &mut [u32])
     codes[8] = 80;
     codes[9] = 12;
     codes[10] = 14;
+    codes[11] = 38;
 }
 
 // What stands behind the header, where the codes suffice for the file's readers.
@@ -165,7 +166,7 @@ fn none_listed(file: &[u8], enums: &[u8], words: &mut [u32], grid: Grid, at: usi
     requires { ⌜ Behind (now file) (now words) grid at × (enough (now file) at (codesFor 0) ≡ true) ⌝ }
     ensures { λ r. ⌜ ListsLoad grid (enumsOf (now (enums .entry))) (now (file .entry)) at (now (words .entry)) (now (words .exit)) r ⌝ }
 {
-    let mut codes = [0u32; 11];
+    let mut codes = [0u32; 12];
     listed(file, enums, &mut codes, words, grid, at)
 }
 
@@ -173,7 +174,7 @@ fn few_listed(file: &[u8], enums: &[u8], words: &mut [u32], grid: Grid, at: usiz
     requires { ⌜ Behind (now file) (now words) grid at × (enough (now file) at (codesFor 8) ≡ true) ⌝ }
     ensures { λ r. ⌜ ListsLoad grid (enumsOf (now (enums .entry))) (now (file .entry)) at (now (words .entry)) (now (words .exit)) r ⌝ }
 {
-    let mut codes = [0u32; 849];
+    let mut codes = [0u32; 850];
     listed(file, enums, &mut codes, words, grid, at)
 }
 
@@ -181,7 +182,7 @@ fn many_listed(file: &[u8], enums: &[u8], words: &mut [u32], grid: Grid, at: usi
     requires { ⌜ Behind (now file) (now words) grid at × (enough (now file) at (codesFor 64) ≡ true) ⌝ }
     ensures { λ r. ⌜ ListsLoad grid (enumsOf (now (enums .entry))) (now (file .entry)) at (now (words .entry)) (now (words .exit)) r ⌝ }
 {
-    let mut codes = [0u32; 6057];
+    let mut codes = [0u32; 6058];
     listed(file, enums, &mut codes, words, grid, at)
 }
 

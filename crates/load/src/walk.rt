@@ -295,7 +295,8 @@ pub(crate) fn nested(
     let mut row = used;
     let mut sum = 0;
     while (stage.next as u64) < stage.count {
-        let slot = heads::nest::slot_at(nest, stage.next);
+        let slot = heads::nest::slot_at(nest, stage);
+        let first = next;
         let position = objects::start::reader_position(file, slot, next);
         let target = rd.targets[position];
         match value(
@@ -360,7 +361,7 @@ pub(crate) fn nested(
                 }
             }
         }
-        stage = heads::nest::after(stage);
+        stage = heads::nest::after(file, nest, stage, first);
     }
     Children::Done {
         count: stage.next,

@@ -7,7 +7,7 @@ use native.Mathlib.Omega.{arith}
 use lib.Dec.{eqb, leb}
 use lib.ListN.{length}
 use borrow.Author.Tests.{eqb-true, eqb-false}
-use Rattle.layout.specs.Target.{Target, fixed, char, string, object as anything, texture, texture2D, spriteFont, page, enum, nullable, array, list, dictionary, kindOf}
+use Rattle.layout.specs.Target.{Target, fixed, char, string, object as anything, texture, texture2D, spriteFont, page, indexBuffer, vertexDeclaration, vertexBuffer, model, mesh, meshKind, enum, nullable, array, list, dictionary, kindOf}
 use Rattle.layout.specs.Tree.{Trees, none, tree, count, size}
 use Rattle.layout.specs.Slot as L
 use Rattle.layout.specs.Slot.{Plan, each, fontSlots}
@@ -62,7 +62,7 @@ Closable h (Refused m p) = Unit {0}
 Closable h (Done r) = (h .first ≤ r .next) × (r .next < 2 ^ 32)
 
 -- as many children as slots, and a row for each
-laid-count : (readers : List Target) (refers : Target → ℕ → Type 0) (slots : List L.Slot) (ts : Trees) (bs : List ℕ) → Lays readers refers (each slots) ts bs → (count ts ≡ length slots) × (count ts ≤ size ts)
+laid-count : (readers : List Target) (refers : ℕ → ℕ → Type 0) (slots : List L.Slot) (ts : Trees) (bs : List ℕ) → Lays readers refers (each slots) ts bs → (count ts ≡ length slots) × (count ts ≤ size ts)
 unfolding Lays each count size
 laid-count readers refers [] none bs w = (refl, omega arith)
 laid-count readers refers [] (tree k i own cs rest) bs w = absurd w
@@ -80,7 +80,7 @@ code-of-kind t l k n e = go (leb 60 (codeKind t)) (sym (kind-of-code t l) ∙ e)
 
 -- no type's raw values are null or shared references
 pub unnumbered : (t : Target) → Lawful t → numbered (kindOf t) 0 ≡ false
-unfolding numbered kindOf Lawful
+unfolding numbered kindOf meshKind Lawful
 unnumbered (fixed k) l = sized-plain k (fixed-has-size k l) .0
 unnumbered char l = refl
 unnumbered string l = refl
@@ -94,6 +94,10 @@ unnumbered texture l = refl
 unnumbered texture2D l = refl
 unnumbered spriteFont l = refl
 unnumbered page l = refl
+unnumbered (mesh indexBuffer) l = refl
+unnumbered (mesh vertexDeclaration) l = refl
+unnumbered (mesh vertexBuffer) l = refl
+unnumbered (mesh model) l = refl
 
 -- the padding of a value's row and of the rows below it: that of its id, of its count, and theirs
 module _ (file : List ℕ) (t : Target) (lawful : Lawful t) (first at id padding : ℕ) (ided : Ided file first at id padding) where

@@ -8,7 +8,7 @@ use native.Mathlib.Omega.{arith}
 use lib.ListN.{length, getD}
 use borrow.Author.Tests.{lt-ltb, le-ltb}
 use Rattle.laws.specs.Small.{differ}
-use Rattle.layout.specs.Target.{Target, fixed, char, string, object as anything, texture, texture2D, spriteFont, page, enum, nullable, array, list, dictionary}
+use Rattle.layout.specs.Target.{Target, fixed, char, string, object as anything, texture, texture2D, spriteFont, page, mesh, enum, nullable, array, list, dictionary}
 use Rattle.layout.specs.Tree.{none, tree}
 use Rattle.layout.specs.Slot as L
 use Rattle.layout.specs.Slot.{Plan, raw, object}
@@ -120,6 +120,7 @@ always texture a b = absurd (b refl)
 always texture2D a b = refl
 always spriteFont a b = refl
 always page a b = refl
+always (mesh m) a b = refl
 
 -- the reader at place i of a list that the code has
 module _ {file codes : List ℕ} {rd : Readers} {count i target : ℕ} (has : Has rd count (positionIn (suc i)) target) {readers : List Target} {declared : ℕ} {d : Target} (l : Listed file codes rd readers) (s : Stands file codes declared d) where

@@ -45,7 +45,12 @@ slice-write-codes-10 c =
     simp length-set (omega (arith, c .pre))
 
 slice-write-codes-11 : tie.Need-slice-write-codes-11
-slice-write-codes-11 c = search needs
+slice-write-codes-11 c =
+    simp length-set (omega (arith, c .pre))
+
+slice-write-codes-12 : tie.Need-slice-write-codes-12
+slice-write-codes-12 c =
+    simp length-set (omega (arith, c .pre))
 
 same-length : tie.Need-same-length
 same-length c = search needs
@@ -69,5 +74,6 @@ put-prelude-spec =
     slice-write-codes-9
     slice-write-codes-10
     slice-write-codes-11
+    slice-write-codes-12
     same-length
     returns)

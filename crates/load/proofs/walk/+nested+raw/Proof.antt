@@ -13,7 +13,7 @@ use Rattle.heads.specs.Slots.{row-kind}
 use Rattle.places.specs.Word.{inWord}
 use Rattle.table.specs.Loop.{same, Got, got, lost}
 use Rattle.readers.specs.Listed.{Listed}
-use Rattle.heads.specs.Nests.{NestIs, begins, afterOf}
+use Rattle.heads.specs.Nests.{NestIs, afterOf}
 use Rattle.objects.specs.Start.{position-in-list}
 use Rattle.load.specs.Walks.{begin-below}
 use Rattle.load.specs.Turns.{Standing, standing, standing-begin, value-next, nothing-next, next-lost, next-walked, counts-walked, counts-refused}
@@ -516,7 +516,7 @@ nested-walked : (t : ℕ) (c : nested-lts.After-after (
   after-reads.Asked,
   after-reads.Learnt,
 ) (nested-at t) nested.Post nested-Inv-loop nested-μ-loop) (readers : List Target) (plan : L.Plan) → Listed ((c .before .before .before .before .before .before .before .before .before .before .before .before .before .before .before .before .before .args) .file .now) ((c .before .before .before .before .before .before .before .before .before .before .before .before .before .before .before .before .before .args) .codes .now) ((c .before .before .before .before .before .before .before .before .before .before .before .before .before .before .before .before .before .args) .t3) readers → NestIs ((c .before .before .before .before .before .before .before .before .before .before .before .before .before .before .before .before .before .args) .file .now) ((c .before .before .before .before .before .before .before .before .before .before .before .before .before .before .before .before .before .args) .codes .now) ((c .before .before .before .before .before .before .before .before .before .before .before .before .before .before .before .before .before .args) .nest) plan
-    → Standing ((c .before .before .before .before .before .before .before .before .before .before .before .before .before .before .before .before .before .args) .grid) ((c .before .before .before .before .before .before .before .before .before .before .before .before .before .before .before .before .before .args) .file .now) ((c .before .before .before .before .before .before .before .before .before .before .before .before .before .before .before .before .before .args) .codes .now) readers ((c .before .before .before .before .before .before .before .before .before .before .before .before .before .before .before .before .before .args) .shared) ((c .before .before .before .before .before .before .before .before .before .before .before .before .before .before .before .before .before .args) .depth) plan ((c .before .before .before .before .before .before .before .before .before .before .before .before .before .before .before .before .before .args) .words .now) ((c .before .before .before .before .before .before .before .before .before .before .before .before .before .before .before .before .before .args) .at) ((c .before .before .before .before .before .before .before .before .before .before .before .before .before .before .before .before .before .args) .used) ((c .before .before .before .before .before .before .before .before .before .before .before .before .before .before .before .before .before .args) .nest) ((c .before .match) .words) (afterOf ((c .before .before .before .before .before .before .before .before .before .before .before .before .loop) .stage)) ((c .before .match) .next) ((c .before .match) .row) ((c .before .match) .sum) × ((c .before .before .before .before .before .before .before .before .before .before .before .before .loop) .row < (c .before .match) .row) × ((c .before .match) .row ≤ (c .before .before .before .before .before .before .before .before .before .before .before .before .before .before .before .before .before .args) .grid .room)
+    → Standing ((c .before .before .before .before .before .before .before .before .before .before .before .before .before .before .before .before .before .args) .grid) ((c .before .before .before .before .before .before .before .before .before .before .before .before .before .before .before .before .before .args) .file .now) ((c .before .before .before .before .before .before .before .before .before .before .before .before .before .before .before .before .before .args) .codes .now) readers ((c .before .before .before .before .before .before .before .before .before .before .before .before .before .before .before .before .before .args) .shared) ((c .before .before .before .before .before .before .before .before .before .before .before .before .before .before .before .before .before .args) .depth) plan ((c .before .before .before .before .before .before .before .before .before .before .before .before .before .before .before .before .before .args) .words .now) ((c .before .before .before .before .before .before .before .before .before .before .before .before .before .before .before .before .before .args) .at) ((c .before .before .before .before .before .before .before .before .before .before .before .before .before .before .before .before .before .args) .used) ((c .before .before .before .before .before .before .before .before .before .before .before .before .before .before .before .before .before .args) .nest) ((c .before .match) .words) (afterOf ((c .before .before .before .before .before .before .before .before .before .before .before .before .before .before .before .before .before .args) .file .now) ((c .before .before .before .before .before .before .before .before .before .before .before .before .loop) .next) ((c .before .before .before .before .before .before .before .before .before .before .before .before .before .before .before .before .before .args) .nest) ((c .before .before .before .before .before .before .before .before .before .before .before .before .loop) .stage)) ((c .before .match) .next) ((c .before .match) .row) ((c .before .match) .sum) × ((c .before .before .before .before .before .before .before .before .before .before .before .before .loop) .row < (c .before .match) .row) × ((c .before .match) .row ≤ (c .before .before .before .before .before .before .before .before .before .before .before .before .before .before .before .before .before .args) .grid .room)
 nested-walked t c readers plan l n =
     let a = (c .before .before .before .before .before .before .before .before .before .before .before .before .before .before .before .before .before .args) in
     let file = a .file .now in
@@ -633,7 +633,7 @@ raw-nested-requires : (t : ℕ) → raw-lts.Need-nested-requires (
 raw-nested-requires t c κs =
     let k = (c .before .before .before .before .before .pre) .1 .2 in
     let small = small-by-index ((c .before .before .before .before .before .args) .file .now) (λ i h. omega (arith, (c .before .before .before .before .shared-slice-known) .given i)) in
-    (omega (arith, (c .before .before .before .before .before .pre) .0), (begin-below (k .type) small ((c .before .before .before .before .before .pre) .1 .0) (k .opened .is), (c .before .before .before .before .before .pre) .1 .1, record { plan = _; is = begins _ _ _ _ (k .opened .stands) }))
+    (omega (arith, (c .before .before .before .before .before .pre) .0), (begin-below (k .type) small ((c .before .before .before .before .before .pre) .1 .0) (k .opened .is), (c .before .before .before .before .before .pre) .1 .1, record { plan = _; is = k .opened .goes }))
 
 raw-enum-known-number : (t : ℕ) → raw-lts.Need-enum-known-number (
   nested-below t,
@@ -696,7 +696,7 @@ raw-returns : (t : ℕ) → raw-lts.Need-returns (
 raw-returns t c =
     λ readers t l i o.
     let a = (c .before .before .before .before .before .before .before .before .before .before .before .args) in
-    raw-lost (a .grid) (a .file .now) (a .h) (a .at) t readers (a .shared) (a .depth) o (counts-refused _ (rw ((c .before .number) .given .1) at ((c .before .before .before .before .before .nested) .ensures readers _ l (begins _ _ _ _ (o .stands)))))
+    raw-lost (a .grid) (a .file .now) (a .h) (a .at) t readers (a .shared) (a .depth) o (counts-refused _ (rw ((c .before .number) .given .1) at ((c .before .before .before .before .before .nested) .ensures readers _ l (o .goes))))
 
 raw-same-length-2 : (t : ℕ) → raw-lts.Need-same-length-2 (
   nested-below t,
@@ -721,7 +721,7 @@ raw-returns-2 t c =
     let a = (c .before .before .before .before .before .before .before .before .before .before .before .before .before .before .before .before .args) in
     let small = small-by-index (a .file .now) (λ j h. omega (arith, (c .before .before .before .before .before .before .before .before .before .before .before .before .before .before .before .shared-slice-known) .given j)) in
     let e = (c .before .before .close) .ensures in
-    let x = counts-walked _ (rw ((c .before .before .before .before .before .before .count) .given .1) at ((c .before .before .before .before .before .before .before .before .before .before .nested) .ensures readers _ l (begins _ _ _ _ (o .stands)))) in
+    let x = counts-walked _ (rw ((c .before .before .before .before .before .before .count) .given .1) at ((c .before .before .before .before .before .before .before .before .before .before .nested) .ensures readers _ l (o .goes))) in
     rw (e .0, e .1) (raw-ends (a .grid) (a .file .now) (a .h) (a .at) t readers (a .shared) (a .depth) _ _ _ small ((c .before .before .before .before .before .before .before .before .before .before .before .before .before .before .before .before .pre) .1 .0) (i .lawful) o refl (x .1) ((c .before .before .before .before .row-kind) .ensures ∙ row-kind i) (x .0))
 
 pub +nested+raw-spec : {M : Type 1} → statement M
