@@ -24,11 +24,18 @@ uint64_t xnb_load(const uint8_t *file, size_t file_length);
    lawful. 32 refuses a list before all else, and its place is the number, from 0 and modulo 2 to the 32, of the first entry
    that is cut short, has another size, or whose name is no head of a reader's name, is a target name, or is listed earlier. */
 
+/* README.md has the refusals of a load by number. Those of a reader's name are placed at the wrong byte, or at the name's end
+   if it ends too soon: 33 an empty head, 34 a bad byte in a head, 35 a digit that is not 1 or 2, 36 argument brackets out of
+   form or followed by a wrong byte, 37 a bad byte in a tail, 38 a part nested past level 8, where it starts; then 11 at the
+   leftmost head that is not known or has wrong arguments. */
+
 /* Loads an XNB file into the words: seven make a row, and every word not in a used row is zero. A row is kind, first byte,
    number of bytes, number of children, the parent's row number plus 1 or 0, type id or resource id, and the number of rows
-   that the value has with all below it, itself included. Writes the number of readers, the shared count and the padding:
-   how many bytes the seven-bit numbers of the file have beyond their shortest forms, which is the file's length less that of
-   the rewritten file. All three are 0 on a refusal. The answer is packed. */
+   that the value has with all below it, itself included. Kinds are those of document 01, and 37 IndexBuffer, 38
+   VertexDeclaration, 39 VertexBuffer, 40 Model, 41 data bytes, 42 bone reference; the children of 37 to 40 are all of their
+   fields in file order. Writes the number of readers, the shared count and the padding: how many bytes the seven-bit
+   numbers of the file have beyond their shortest forms, which is the file's length less that of the rewritten file. All
+   three are 0 on a refusal. The answer is packed. */
 uint64_t xnb_load_rows(const uint8_t *file, size_t file_length, const uint8_t *enums, size_t enums_length,
                        uint32_t *words, size_t words_length, uint32_t *readers, uint32_t *shared, uint32_t *padding);
 

@@ -53,7 +53,7 @@ after-child g words i ts n h r f b =
     let e : beyond c 1 ≡ c + 1 = beyond-is c 1 (omega (arith, z)) in
     rw (e, r, beyond-is (c + 1) (count (childrenAt i ts)) (omega (arith, z))) (omega (arith, z))
 
-module _ (g : Grid) (file words : List ℕ) (readers : List Target) (refers : Target → ℕ → Type 0) where
+module _ (g : Grid) (file words : List ℕ) (readers : List Target) (refers : ℕ → ℕ → Type 0) where
   flat-child : {x : Slot} {k n : ℕ} {cs : Trees} → Flat readers refers x → Placed g file words readers refers x k cs n → size cs ≡ count cs
   flat-child {x} {k} {n} {cs} f p = f k (p .id) (p .own) cs (p .bytes) (p .value)
 

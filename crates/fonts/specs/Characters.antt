@@ -21,7 +21,7 @@ use Rattle.fonts.specs.FontWords.{beyond, beyond-is, codeAt, nextAbove, 
 use Rattle.fonts.specs.Stands.{Stands, stands-left, stands-right, stands-row}
 use Rattle.fonts.specs.Children.{There, there-left, there-right, rowsAt, value-length, Placed, char-childless, list-plan, only-list}
 
-module _ (g : Grid) (file words : List ℕ) (readers : List Target) (refers : Target → ℕ → Type 0) where
+module _ (g : Grid) (file words : List ℕ) (readers : List Target) (refers : ℕ → ℕ → Type 0) where
   -- the character at a row's first byte is the tree's
   char-code : (k i : ℕ) (own : List ℕ) (cs : Trees) (b : List ℕ) (v : Value readers refers (λ plan b. Lays readers refers plan cs b) (raw char) k i own cs b) (at number parent n : ℕ)
       → There file at b → Stands g words n (rowsAt readers refers (raw char) k i own cs b v at number parent) → codeAt g file words n ≡ point own

@@ -48,7 +48,7 @@ pub list-plan : (t u : Target) (own : List ℕ) (plan : Plan) (b : List ℕ) →
 unfolding Head Counted
 list-plan t u own plan b e w = let h : Head (list t) own plan b = rw e at w in (h .0, h .4)
 
-module _ (readers : List Target) (refers : Target → ℕ → Type 0) where
+module _ (readers : List Target) (refers : ℕ → ℕ → Type 0) where
   pub lays-count : (slots : List Slot) (ts : Trees) (bs : List ℕ) → Lays readers refers (each slots) ts bs → count ts ≡ length slots
   unfolding Lays each count
   lays-count [] none bs w = refl
@@ -147,7 +147,7 @@ there-left file at bs b₁ b₂ e t = (b₂ ++ t .0, t .1 ∙ ap (λ (l : List �
 pub there-right : (file : List ℕ) (at : ℕ) (bs b₁ b₂ : List ℕ) → bs ≡ b₁ ++ b₂ → There file at bs → There file (at + length b₁) b₂
 there-right file at bs b₁ b₂ e t = (t .0, seam file at b₁ b₂ (t .0) (t .1 ∙ ap (λ (l : List ℕ). l ++ t .0) e))
 
-module _ (g : Grid) (file words : List ℕ) (readers : List Target) (refers : Target → ℕ → Type 0) where
+module _ (g : Grid) (file words : List ℕ) (readers : List Target) (refers : ℕ → ℕ → Type 0) where
   -- a value in a slot, whose rows stand in the words from row n on
   pub record Placed (x : Slot) (kind : ℕ) (cs : Trees) (n : ℕ) : Type 0 where
     pub id : ℕ

@@ -30,6 +30,7 @@ use Rattle.theorems.specs.Fits.{Fitting, rowsIn, Unlawful}
 -- ---- Unique reading
 
 -- "Take any two trees, of any depth, under one reader list, one shared count, one declared type and one way of standing. If bytes that one may have equal or begin bytes that the other may have, the two trees are the same and so are the bytes."
+-- 02, Req 05: "image levels, data bytes and bone references have no declared type, so demand 3 takes them only inside their owner": the slot of such a leaf has its size and its rule, which its owner alone gives.
 pub unique-tree : (readers : List Target) (shared : ℕ) (x : Slot) (t₁ t₂ : Trees) (b₁ b₂ rest : List ℕ)
     → Lays readers (Within shared) (each (x ∷ [])) t₁ b₁ → Lays readers (Within shared) (each (x ∷ [])) t₂ b₂ → b₁ ++ rest ≡ b₂ → (t₁ ≡ t₂) × (b₁ ≡ b₂)
 unique-tree readers shared x t₁ t₂ b₁ b₂ rest w₁ w₂ e = T.unique-tree readers shared x t₁ t₂ b₁ b₂ rest w₁ w₂ e
