@@ -12,7 +12,7 @@ use crate::writer::{write, Value};
 /// The sizes that an enum may have.
 pub const SIZES: [u8; 4] = [1, 2, 4, 8];
 
-/// 01's target names, which no enum may have.
+/// 01's target names and those of Req 05, which no enum may have.
 pub const TARGET_NAMES: &[&str] = &[
     "System.Byte",
     "System.SByte",
@@ -46,6 +46,10 @@ pub const TARGET_NAMES: &[&str] = &[
     "Microsoft.Xna.Framework.Graphics.Texture2D",
     "Microsoft.Xna.Framework.Graphics.SpriteFont",
     "Coach.Console.Page",
+    "Microsoft.Xna.Framework.Graphics.IndexBuffer",
+    "Microsoft.Xna.Framework.Graphics.VertexDeclaration",
+    "Microsoft.Xna.Framework.Graphics.VertexBuffer",
+    "Microsoft.Xna.Framework.Graphics.Model",
 ];
 
 /// The bytes of an entry: a name length byte, the name, a size byte.

@@ -63,6 +63,7 @@ const PADDED: &[(&str, &str)] = &[
     ("ok-every-number-in-3-bytes", "ok-every-number-in-1-byte"),
     ("ok-every-number-in-4-bytes", "ok-every-number-in-1-byte"),
     ("ok-every-number-in-5-bytes", "ok-every-number-in-1-byte"),
+    ("ok-gauge-with-numbers-in-3-bytes", "ok-gauge"),
     ("ok-padded-reader-count-of-0", "ok-kind-00-null"),
     ("ok-padded-reader-count-of-1", "ok-kind-13-string"),
     ("ok-padded-name-length", "ok-kind-13-string"),

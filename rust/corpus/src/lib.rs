@@ -8,6 +8,7 @@ pub mod enums;
 pub mod folder;
 pub mod lawful;
 pub mod literal;
+pub mod meshes;
 pub mod names;
 pub mod packs;
 pub mod readers;
@@ -22,5 +23,6 @@ pub fn samples() -> Vec<Sample> {
     let mut samples = literal::samples();
     samples.extend(lawful::samples());
     samples.extend(damaged::samples());
+    samples.extend(meshes::samples());
     samples
 }

@@ -18,6 +18,7 @@ const TEXTS: &[&str] = &[
     include_str!("../literal/arguments.txt"),
     include_str!("../literal/values.txt"),
     include_str!("../literal/textures.txt"),
+    include_str!("../literal/meshes.txt"),
 ];
 
 pub fn samples() -> Vec<Sample> {

@@ -32,6 +32,10 @@ pub const TEXTURE: &str = "Microsoft.Xna.Framework.Content.TextureReader";
 pub const TEXTURE2D: &str = "Microsoft.Xna.Framework.Content.Texture2DReader";
 pub const SPRITE_FONT: &str = "Microsoft.Xna.Framework.Content.SpriteFontReader";
 pub const PAGE: &str = "Coach.Console.PageReader";
+pub const INDEX_BUFFER: &str = "Microsoft.Xna.Framework.Content.IndexBufferReader";
+pub const VERTEX_DECLARATION: &str = "Microsoft.Xna.Framework.Content.VertexDeclarationReader";
+pub const VERTEX_BUFFER: &str = "Microsoft.Xna.Framework.Content.VertexBufferReader";
+pub const MODEL: &str = "Microsoft.Xna.Framework.Content.ModelReader";
 
 /// What follows a name in real files: an assembly, its version and its key.
 pub const XNA_TAIL: &str = ", Microsoft.Xna.Framework.Graphics, Version=4.0.0.0, Culture=neutral, PublicKeyToken=842cf8be1de50553";

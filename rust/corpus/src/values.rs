@@ -322,3 +322,14 @@ pub fn faulty(value: Value) -> Value {
     value.parts.insert(0, Part::Fault);
     value
 }
+
+/// The same value with its child of this number, from 0 on, changed.
+pub fn with_child(value: Value, number: usize, change: impl FnOnce(Value) -> Value) -> Value {
+    let mut value = value;
+    let is_child = |part: &&mut Part| matches!(part, Part::Child(_));
+    let mut children = value.parts.iter_mut().filter(is_child);
+    if let Some(Part::Child(child)) = children.nth(number) {
+        *child = change(child.clone());
+    }
+    value
+}

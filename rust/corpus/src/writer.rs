@@ -21,6 +21,16 @@ pub enum Role {
     Side,
     LevelCount,
     LevelSize,
+    /// The size of index data, and what it must be a multiple of.
+    IndexSize(u32),
+    Stride,
+    ElementFormat,
+    ElementUsage,
+    /// The vertex count of a buffer with this stride.
+    VertexCount(u32),
+    /// A bone reference in a model of so many bones.
+    BoneReference(u32),
+    DataBytes,
     /// A raw value of fixed size, by its kind.
     Fixed(u32),
 }

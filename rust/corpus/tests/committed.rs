@@ -52,7 +52,7 @@ fn every_kind_stands_in_a_kept_file() {
         }
     }
     let lawful = |kind: &u32| *kind != 14 && *kind != 31;
-    assert_eq!(kinds, (0..=36).filter(lawful).collect());
+    assert_eq!(kinds, (0..=42).filter(lawful).collect());
 }
 
 #[test]

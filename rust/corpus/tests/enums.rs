@@ -131,7 +131,7 @@ fn each_bad_size() {
     }
 }
 
-/// 01's target names: what stands before the names, and the names.
+/// 01's target names and Req 05's: what stands before the names, and the names.
 const TARGET_NAMES: [(&str, &[&str]); 5] = [
     (
         "System.",
@@ -157,7 +157,15 @@ const TARGET_NAMES: [(&str, &[&str]); 5] = [
     ),
     (
         "Microsoft.Xna.Framework.Graphics.",
-        &["Texture", "Texture2D", "SpriteFont"],
+        &[
+            "Texture",
+            "Texture2D",
+            "SpriteFont",
+            "IndexBuffer",
+            "VertexDeclaration",
+            "VertexBuffer",
+            "Model",
+        ],
     ),
     ("Coach.Console.", &["Page"]),
 ];
@@ -263,6 +271,7 @@ const REASONS: &[(&str, &[&str])] = &[
         "names no kind has",
         &[
             "ok-enums-named-plane",
+            "ok-enums-named-effect",
             "ok-enums-named-enum",
             "ok-enums-named-array",
             "ok-enums-named-reader",

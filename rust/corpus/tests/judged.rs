@@ -23,7 +23,10 @@ fn every_name_is_judged() {
 
 #[test]
 fn every_number_and_place_is_the_tables() {
-    assert_eq!(String::from_utf8_lossy(&kept("stdout")), printed());
+    assert!(
+        kept("stdout") == printed().as_bytes(),
+        "stdout is not the table's: run the program corpus with `names`"
+    );
 }
 
 #[test]

@@ -1,4 +1,4 @@
-//! Every entry of the tables of 000 and 01 and every limit of 01 has a sample in the folder.
+//! Every entry of the tables of 000 and 01 and every limit of 01 has a sample in the folder; `meshes.rs` has Req 05's.
 //!
 //! The tables here are typed from the documents; the files are found by what stands in them.
 //! The limit of 16,777,216 bytes has no file; `second/tests/examples.rs` and `fuzz::limits` make those.
@@ -110,7 +110,7 @@ fn each_platform_and_flag() {
 }
 
 /// Each reader of 000 and 01 that is invoked: its name, its kind and its size where that is fixed.
-const READERS: [(&str, u32, u32); 32] = [
+const READERS: [(&str, u32, u32); 36] = [
     ("Microsoft.Xna.Framework.Content.ByteReader", 1, 1),
     ("Microsoft.Xna.Framework.Content.SByteReader", 2, 1),
     ("Microsoft.Xna.Framework.Content.Int16Reader", 3, 2),
@@ -143,6 +143,10 @@ const READERS: [(&str, u32, u32); 32] = [
     ("Microsoft.Xna.Framework.Content.Texture2DReader", 32, ANY),
     ("Microsoft.Xna.Framework.Content.SpriteFontReader", 33, ANY),
     ("Coach.Console.PageReader", 34, ANY),
+    ("Microsoft.Xna.Framework.Content.IndexBufferReader", 37, ANY),
+    ("Microsoft.Xna.Framework.Content.VertexDeclarationReader", 38, ANY),
+    ("Microsoft.Xna.Framework.Content.VertexBufferReader", 39, ANY),
+    ("Microsoft.Xna.Framework.Content.ModelReader", 40, ANY),
 ];
 
 /// The size of a kind that has none of its own.
@@ -189,7 +193,7 @@ fn each_reader_that_is_never_invoked() {
 }
 
 /// Each target name that can be an argument: the argument, the kind and the size of its elements.
-const ARGUMENTS: [(&str, u32, u32); 32] = [
+const ARGUMENTS: [(&str, u32, u32); 36] = [
     ("System.Byte", 1, 1),
     ("System.SByte", 2, 1),
     ("System.Int16", 3, 2),
@@ -226,6 +230,14 @@ const ARGUMENTS: [(&str, u32, u32); 32] = [
     ("Microsoft.Xna.Framework.Graphics.Texture2D", 32, ANY),
     ("Microsoft.Xna.Framework.Graphics.SpriteFont", 33, ANY),
     ("Coach.Console.Page", 34, ANY),
+    ("Microsoft.Xna.Framework.Graphics.IndexBuffer", 37, ANY),
+    (
+        "Microsoft.Xna.Framework.Graphics.VertexDeclaration",
+        38,
+        ANY,
+    ),
+    ("Microsoft.Xna.Framework.Graphics.VertexBuffer", 39, ANY),
+    ("Microsoft.Xna.Framework.Graphics.Model", 40, ANY),
 ];
 
 /// Whether a row is an element of the first row's list, raw if it is a value and else an object.

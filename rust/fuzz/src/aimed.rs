@@ -1,23 +1,24 @@
 //! Damage at one field of a lawful file, with the refusal that it must meet.
 
-use crate::enums::Listed;
-use crate::maker::{make, Made, Planted};
+use crate::maker::{make, Made, Planted, Wish};
+use crate::meshes;
 use crate::random::Random;
 use crate::shape::{OBJECT, TEXTURE};
 use crate::{Case, Known, GENEROUS_WORDS};
 use corpus::writer::{set_length, seven_bytes, write, Field, Role, Seven, Written, WORDS_PER_ROW};
 
-/// A damaged file whose refusal is known, for a lent list.
-pub fn aimed_case(random: &mut Random, enums: &[Listed]) -> Case {
+/// A damaged file whose refusal is known.
+pub fn aimed_case<'l>(random: &mut Random, wish: impl Into<Wish<'l>>) -> Case {
+    let wish = wish.into();
     match random.below(20) {
-        0 => planted_case(random, enums, Planted::WrongResource, 17),
-        1 => planted_case(random, enums, Planted::BadFont, 22),
-        2 => planted_case(random, enums, Planted::TooDeep, 18),
-        3 => too_few_rows(random, enums),
-        4 => left_over(random, enums),
-        5 => bad_header(random, enums),
-        6..=7 => cut(random, enums),
-        _ => bad_field(random, enums),
+        0 => planted_case(random, wish, Planted::WrongResource, 17),
+        1 => planted_case(random, wish, Planted::BadFont, 22),
+        2 => planted_case(random, wish, Planted::TooDeep, 18),
+        3 => too_few_rows(random, wish),
+        4 => left_over(random, wish),
+        5 => bad_header(random, wish),
+        6..=7 => cut(random, wish),
+        _ => bad_field(random, wish),
     }
 }
 
@@ -30,14 +31,14 @@ fn case(bytes: Vec<u8>, number: u32, place: usize) -> Case {
     }
 }
 
-fn lawful(random: &mut Random, enums: &[Listed]) -> (Made, Written) {
-    made_and_written(random, enums, Planted::Nothing)
+fn lawful(random: &mut Random, wish: Wish) -> (Made, Written) {
+    made_and_written(random, wish, Planted::Nothing)
 }
 
 /// A file whose rows fit into the words lent.
-fn made_and_written(random: &mut Random, enums: &[Listed], planted: Planted) -> (Made, Written) {
+fn made_and_written(random: &mut Random, wish: Wish, planted: Planted) -> (Made, Written) {
     loop {
-        let made = make(random, planted, enums);
+        let made = make(random, planted, wish);
         let written = write(&made.file);
         if WORDS_PER_ROW * written.rows.len() <= GENEROUS_WORDS {
             return (made, written);
@@ -46,8 +47,8 @@ fn made_and_written(random: &mut Random, enums: &[Listed], planted: Planted) -> 
 }
 
 /// A file with a fault built in; without one, if the fault found no place.
-fn planted_case(random: &mut Random, enums: &[Listed], planted: Planted, number: u32) -> Case {
-    let (_, written) = made_and_written(random, enums, planted);
+fn planted_case(random: &mut Random, wish: Wish, planted: Planted, number: u32) -> Case {
+    let (_, written) = made_and_written(random, wish, planted);
     match written.fault {
         Some(place) => case(written.bytes, number, place),
         None => crate::lawful_case(random, written),
@@ -55,8 +56,8 @@ fn planted_case(random: &mut Random, enums: &[Listed], planted: Planted, number:
 }
 
 /// 19: the words lent have no room for the last rows.
-fn too_few_rows(random: &mut Random, enums: &[Listed]) -> Case {
-    let (_, written) = lawful(random, enums);
+fn too_few_rows(random: &mut Random, wish: Wish) -> Case {
+    let (_, written) = lawful(random, wish);
     let room = random.below(written.rows.len());
     let place = written.rows[room][1] as usize;
     let mut case = case(written.bytes, 19, place);
@@ -65,8 +66,8 @@ fn too_few_rows(random: &mut Random, enums: &[Listed]) -> Case {
 }
 
 /// 20: bytes after the last object.
-fn left_over(random: &mut Random, enums: &[Listed]) -> Case {
-    let (_, written) = lawful(random, enums);
+fn left_over(random: &mut Random, wish: Wish) -> Case {
+    let (_, written) = lawful(random, wish);
     let place = written.bytes.len();
     let mut bytes = written.bytes;
     let count = 1 + random.below(5);
@@ -76,8 +77,8 @@ fn left_over(random: &mut Random, enums: &[Listed]) -> Case {
 }
 
 /// 2 to 7, and 1 for a file without a whole header.
-fn bad_header(random: &mut Random, enums: &[Listed]) -> Case {
-    let (_, written) = lawful(random, enums);
+fn bad_header(random: &mut Random, wish: Wish) -> Case {
+    let (_, written) = lawful(random, wish);
     let mut bytes = written.bytes;
     match random.below(7) {
         0 => {
@@ -114,8 +115,8 @@ fn bad_header(random: &mut Random, enums: &[Listed]) -> Case {
 }
 
 /// 1: the file ends inside a field, or before it.
-fn cut(random: &mut Random, enums: &[Listed]) -> Case {
-    let (_, written) = lawful(random, enums);
+fn cut(random: &mut Random, wish: Wish) -> Case {
+    let (_, written) = lawful(random, wish);
     let end = 10 + random.below(written.bytes.len() - 10);
     let holds_end = |field: &&Field| field.start <= end && end < field.data_end;
     let field = written.fields.iter().find(holds_end);
@@ -127,16 +128,16 @@ fn cut(random: &mut Random, enums: &[Listed]) -> Case {
 }
 
 /// What stands in a field's place, and what it must be refused with.
-struct Damage {
-    bytes: Vec<u8>,
+pub struct Damage {
+    pub bytes: Vec<u8>,
     /// Whether the bytes that the field counts are replaced too.
-    with_data: bool,
-    number: u32,
+    pub with_data: bool,
+    pub number: u32,
     /// How far behind the field's start the refusal is placed.
-    offset: usize,
+    pub offset: usize,
 }
 
-fn damage(bytes: Vec<u8>, number: u32) -> Option<Damage> {
+pub fn damage(bytes: Vec<u8>, number: u32) -> Option<Damage> {
     Some(Damage {
         bytes,
         with_data: false,
@@ -146,8 +147,8 @@ fn damage(bytes: Vec<u8>, number: u32) -> Option<Damage> {
 }
 
 /// Tries fields until one can be damaged with a known outcome.
-fn bad_field(random: &mut Random, enums: &[Listed]) -> Case {
-    let (made, written) = lawful(random, enums);
+fn bad_field(random: &mut Random, wish: Wish) -> Case {
+    let (made, written) = lawful(random, wish);
     for _ in 0..200 {
         let field = random.pick(&written.fields);
         if let Some(damage) = field_damage(random, &made, &written, field) {
@@ -208,6 +209,12 @@ fn field_damage(
             number_damage(random, &[size + 1, size - 1, size + 256, u32::MAX])
         }
         Role::Fixed(kind) => bad_fixed(random, kind),
+        Role::IndexSize(multiple) => meshes::bad_index_size(random, written, field, multiple),
+        Role::ElementFormat => number_damage(random, &[12, 13, 255, 1 << 31, u32::MAX]),
+        Role::ElementUsage => number_damage(random, &[13, 14, 255, 1 << 31, u32::MAX]),
+        Role::VertexCount(stride) => meshes::too_many_vertices(random, written, field, stride),
+        Role::BoneReference(bones) => meshes::bone_past_the_last(random, bones),
+        Role::Stride | Role::DataBytes => None,
     }
 }
 
@@ -243,18 +250,17 @@ fn bad_name(random: &mut Random) -> Option<Damage> {
         let length = random.pick(&[0, 1025, 2000, u32::MAX]);
         return damage(seven_in_any_form(random, length), 9);
     }
-    let names = corpus::names::all();
+    let number = random.pick(&[11, 33, 34, 35, 36, 37, 38]);
+    let mut names = corpus::names::all();
+    names.retain(|judged| judged.number == number);
     let judged = &names[random.below(names.len())];
-    if judged.number == 0 {
-        return None;
-    }
     let mut bytes = seven_in_any_form(random, judged.name.len() as u32);
     let offset = bytes.len() + judged.place;
     bytes.extend_from_slice(judged.name.as_bytes());
     Some(Damage {
         bytes,
         with_data: true,
-        number: judged.number,
+        number,
         offset,
     })
 }

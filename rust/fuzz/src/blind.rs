@@ -77,9 +77,15 @@ fn with_damaged_field(random: &mut Random, written: &Written) -> Vec<u8> {
             1 => seven(random, 300),
             _ => seven(random, 3),
         },
-        Role::ElementCount | Role::LevelCount | Role::Side | Role::SurfaceFormat => {
-            changed_number(random, own)
-        }
+        Role::ElementCount
+        | Role::LevelCount
+        | Role::Side
+        | Role::SurfaceFormat
+        | Role::IndexSize(_)
+        | Role::Stride
+        | Role::ElementFormat
+        | Role::ElementUsage
+        | Role::VertexCount(_) => changed_number(random, own),
         _ => same_role_bytes(random, written, field),
     };
     replaced(&written.bytes, field, &new)

@@ -4,6 +4,7 @@
 //! `names::case(seed)` gives a file with one reader name, good or bad.
 //! `limits::cases()` gives files at every bound of 01 and just past it.
 //! `enums::case(seed)` gives one with a list of enum types that is lent with it, and `enums::limits()` those at bounds.
+//! `meshes::case(seed)` gives one with many meshes, and `meshes::limits()` those at bounds.
 //! `padding::case(seed)` gives one whose seven-bit numbers are padded by chosen amounts.
 //! `tables::case(seed)` gives a table that no loader left, and `tables::in_columns` puts a table into columns.
 
@@ -12,6 +13,7 @@ mod blind;
 pub mod enums;
 pub mod limits;
 mod maker;
+pub mod meshes;
 pub mod names;
 pub mod packs;
 pub mod padding;

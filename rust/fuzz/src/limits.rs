@@ -27,6 +27,7 @@ pub fn cases() -> Vec<Limit> {
     limits.extend(orders());
     limits.extend(longest_files());
     limits.extend(crate::padding::limits());
+    limits.extend(crate::meshes::limits());
     limits
 }
 

@@ -1,10 +1,13 @@
 //! Random files that are lawful but for one fault that may be asked for.
 
+mod meshes;
+
 use crate::enums::{with_enums, Listed};
 use crate::random::Random;
 use crate::shape::{
-    Shape, ARRAY, CHAR, DICTIONARY, ENUM, LIST, NULLABLE, OBJECT, PAGE, RAW_KINDS, RECTANGLE,
-    SPRITE_FONT, STRING, TEXTURE, TEXTURE2D, VECTOR3,
+    Shape, ARRAY, CHAR, DICTIONARY, ENUM, INDEX_BUFFER, LIST, MODEL, NULLABLE, OBJECT, PAGE,
+    RAW_KINDS, RECTANGLE, SPRITE_FONT, STRING, TEXTURE, TEXTURE2D, VECTOR3, VERTEX_BUFFER,
+    VERTEX_DECLARATION,
 };
 use corpus::values::{
     array, bound_object, char_bytes, date_time, decimal, dictionary, faulty, file, fixed, font,
@@ -30,6 +33,30 @@ pub enum Planted {
     TooDeep,
 }
 
+/// What a random file is for.
+#[derive(Clone, Copy)]
+pub struct Wish<'l> {
+    /// The lent list.
+    pub enums: &'l [Listed],
+    /// Whether it holds many meshes.
+    pub meshes: bool,
+}
+
+impl Wish<'_> {
+    pub const MESHES: Wish<'static> = Wish {
+        enums: &[],
+        meshes: true,
+    };
+}
+
+impl<'l, T: AsRef<[Listed]> + ?Sized> From<&'l T> for Wish<'l> {
+    fn from(enums: &'l T) -> Wish<'l> {
+        let enums = enums.as_ref();
+        let meshes = false;
+        Wish { enums, meshes }
+    }
+}
+
 /// A random file and the targets of its readers.
 pub struct Made {
     pub file: File,
@@ -43,13 +70,16 @@ enum Plan {
     Picture,
     Page,
     Text,
+    Vertices,
+    Indices,
+    /// No shared object is one.
+    Effect,
     Other,
 }
 
 struct Maker<'r> {
     random: &'r mut Random,
-    /// The lent list.
-    enums: &'r [Listed],
+    wish: Wish<'r>,
     planted: Planted,
     /// Whether the planted fault stands in the file already.
     is_planted: bool,
@@ -58,12 +88,13 @@ struct Maker<'r> {
     rows_left: i32,
 }
 
-/// A random file for a lent list; the planted fault is marked in it, if it found a place.
-pub fn make(random: &mut Random, planted: Planted, enums: &[Listed]) -> Made {
+/// A random file; the planted fault is marked in it, if it found a place.
+pub fn make<'l>(random: &mut Random, planted: Planted, wish: impl Into<Wish<'l>>) -> Made {
+    let wish = wish.into();
     let rows_left = random.pick(&[3, 20, 20, 60, 60, 200]);
     let mut maker = Maker {
         random,
-        enums,
+        wish,
         planted,
         is_planted: false,
         readers: Vec::new(),
@@ -152,19 +183,22 @@ impl Maker<'_> {
         for _ in 0..count {
             let plans = [
                 Plan::Null,
+                Plan::Vertices,
+                Plan::Indices,
                 Plan::Picture,
                 Plan::Page,
                 Plan::Text,
                 Plan::Other,
             ];
-            let plan = self.random.pick(&plans);
+            let choices = if self.wish.meshes { 3 } else { plans.len() };
+            let plan = self.random.pick(&plans[..choices]);
             self.plans.push(plan);
         }
         if self.planted == Planted::WrongResource {
             self.plans.push(Plan::Page);
             self.plans.push(Plan::Text);
         }
-        for target in [TEXTURE2D, PAGE, STRING] {
+        for target in [TEXTURE2D, PAGE, STRING, VERTEX_BUFFER, INDEX_BUFFER] {
             if !self.plans.is_empty() {
                 self.type_id(&Shape::plain(target));
             }
@@ -179,6 +213,9 @@ impl Maker<'_> {
                 Plan::Picture => self.certain_object(&Shape::plain(TEXTURE2D)),
                 Plan::Page => self.certain_object(&Shape::plain(PAGE)),
                 Plan::Text => self.certain_object(&Shape::plain(STRING)),
+                Plan::Vertices => self.certain_object(&Shape::plain(VERTEX_BUFFER)),
+                Plan::Indices => self.certain_object(&Shape::plain(INDEX_BUFFER)),
+                Plan::Effect => unreachable!("no plan has an effect"),
                 Plan::Other => self.object(&Shape::plain(OBJECT), 1),
             });
         }
@@ -194,7 +231,9 @@ impl Maker<'_> {
     fn primary(&mut self) -> Value {
         match self.planted {
             Planted::BadFont => self.buried_font(),
+            Planted::TooDeep if self.wish.meshes => self.too_deep_mesh(),
             Planted::TooDeep => self.too_deep(),
+            _ if self.wish.meshes && self.random.chance(60) => self.model_object(),
             _ if self.random.chance(8) => {
                 self.list_containers();
                 let depth = self.random.between(2, DEEPEST);
@@ -281,6 +320,9 @@ impl Maker<'_> {
 
     /// A target that has a reader already, or a new one.
     fn any_target(&mut self) -> Shape {
+        if self.wish.meshes && self.random.chance(50) {
+            return Shape::plain(self.random.pick(&meshes::MESHES));
+        }
         if !self.readers.is_empty() && self.random.chance(50) {
             let position = self.random.below(self.readers.len());
             let target = self.readers[position].0.clone();
@@ -294,7 +336,7 @@ impl Maker<'_> {
     /// Any target, often with listed enums in it.
     fn any_shape(&mut self) -> Shape {
         let shape = Shape::any(self.random);
-        with_enums(self.random, shape, self.enums)
+        with_enums(self.random, shape, self.wish.enums)
     }
 
     /// Whether a value with all that must be below it fits into depth and rows.
@@ -303,6 +345,8 @@ impl Maker<'_> {
             TEXTURE2D => depth < DEEPEST && self.rows_left > 2,
             PAGE => depth < DEEPEST && self.rows_left > 5,
             SPRITE_FONT => depth + 2 <= DEEPEST && self.rows_left > 30,
+            INDEX_BUFFER | VERTEX_DECLARATION | MODEL => depth < DEEPEST && self.rows_left > 6,
+            VERTEX_BUFFER => depth + 2 <= DEEPEST && self.rows_left > 6,
             _ => true,
         }
     }
@@ -336,6 +380,10 @@ impl Maker<'_> {
             TEXTURE2D => self.texture(),
             SPRITE_FONT => self.font(),
             PAGE => self.page(depth),
+            INDEX_BUFFER => self.index_buffer(),
+            VERTEX_DECLARATION => self.vertex_declaration(),
+            VERTEX_BUFFER => self.vertex_buffer(),
+            MODEL => self.model(depth),
             kind => {
                 let sized = RAW_KINDS.iter().find(|(raw, _)| *raw == kind);
                 let (_, size) = sized.expect("every other kind is raw");
@@ -564,7 +612,7 @@ impl Maker<'_> {
         let wrong = self.planted == Planted::WrongResource && self.random.chance(60);
         let is_choice = |plan: Plan| {
             if wrong {
-                plan == Plan::Text || plan == Plan::Page && wanted == Plan::Picture
+                plan == Plan::Text || plan == Plan::Page && wanted != Plan::Page
             } else {
                 plan == wanted || plan == Plan::Null
             }

@@ -17,6 +17,10 @@ pub const TEXTURE: u32 = 31;
 pub const TEXTURE2D: u32 = 32;
 pub const SPRITE_FONT: u32 = 33;
 pub const PAGE: u32 = 34;
+pub const INDEX_BUFFER: u32 = 37;
+pub const VERTEX_DECLARATION: u32 = 38;
+pub const VERTEX_BUFFER: u32 = 39;
+pub const MODEL: u32 = 40;
 
 /// A target type; enums that are not listed are told apart by nothing.
 #[derive(Clone, Debug, PartialEq, Eq)]
@@ -54,7 +58,16 @@ pub const RAW_KINDS: [(u32, usize); 23] = [
     (30, 16),
 ];
 
-const TEXT_AND_GRAPHICS: [u32; 4] = [STRING, TEXTURE2D, SPRITE_FONT, PAGE];
+const TEXT_AND_GRAPHICS: [u32; 8] = [
+    STRING,
+    TEXTURE2D,
+    SPRITE_FONT,
+    PAGE,
+    INDEX_BUFFER,
+    VERTEX_DECLARATION,
+    VERTEX_BUFFER,
+    MODEL,
+];
 const GENERIC: [u32; 4] = [NULLABLE, ARRAY, LIST, DICTIONARY];
 const DEEPEST_ARGUMENT: u32 = 6;
 
@@ -224,6 +237,10 @@ fn target_head(kind: u32) -> &'static str {
         32 => "Microsoft.Xna.Framework.Graphics.Texture2D",
         33 => "Microsoft.Xna.Framework.Graphics.SpriteFont",
         34 => "Coach.Console.Page",
+        37 => "Microsoft.Xna.Framework.Graphics.IndexBuffer",
+        38 => "Microsoft.Xna.Framework.Graphics.VertexDeclaration",
+        39 => "Microsoft.Xna.Framework.Graphics.VertexBuffer",
+        40 => "Microsoft.Xna.Framework.Graphics.Model",
         _ => unreachable!("kind {kind} has no target name"),
     }
 }

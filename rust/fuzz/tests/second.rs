@@ -65,7 +65,7 @@ fn every_kind_occurs() {
         }
     }
     println!("{kinds:?}");
-    for kind in (0..=36).filter(|kind| *kind != 14 && *kind != 31) {
+    for kind in (0..=42).filter(|kind| *kind != 14 && *kind != 31) {
         let count = kinds.get(&kind).copied().unwrap_or(0);
         assert!(count >= 20, "kind {kind} occurs {count} times");
     }

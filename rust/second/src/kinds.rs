@@ -1,9 +1,10 @@
-//! The kinds of 01: their numbers, names, sizes and arguments.
+//! The kinds of 01 and of Req 05: their numbers, names, sizes and arguments.
 
 pub const NULL: u32 = 0;
 pub const SBYTE: u32 = 2;
 pub const INT16: u32 = 3;
 pub const INT32: u32 = 5;
+pub const UINT32: u32 = 6;
 pub const INT64: u32 = 7;
 pub const SINGLE: u32 = 9;
 pub const BOOLEAN: u32 = 11;
@@ -19,6 +20,7 @@ pub const TIME_SPAN: u32 = 20;
 pub const DATE_TIME: u32 = 21;
 pub const DECIMAL: u32 = 22;
 pub const VECTOR3: u32 = 24;
+pub const MATRIX: u32 = 26;
 pub const RECTANGLE: u32 = 30;
 pub const TEXTURE: u32 = 31;
 pub const TEXTURE2D: u32 = 32;
@@ -26,6 +28,12 @@ pub const SPRITE_FONT: u32 = 33;
 pub const PAGE: u32 = 34;
 pub const IMAGE_LEVEL: u32 = 35;
 pub const SHARED_REFERENCE: u32 = 36;
+pub const INDEX_BUFFER: u32 = 37;
+pub const VERTEX_DECLARATION: u32 = 38;
+pub const VERTEX_BUFFER: u32 = 39;
+pub const MODEL: u32 = 40;
+pub const DATA_BYTES: u32 = 41;
+pub const BONE_REFERENCE: u32 = 42;
 
 /// One kind that has a reader.
 struct Kind {
@@ -52,13 +60,13 @@ const HOUSE: &str = "Coach.Console.";
 /// Array and enum types have no head of their own.
 const NO_HEAD: &str = "";
 
-const KINDS: [Kind; 34] = [
+const KINDS: [Kind; 38] = [
     kind(1, "Byte", SYSTEM),
     kind(SBYTE, "SByte", SYSTEM),
     kind(INT16, "Int16", SYSTEM),
     kind(4, "UInt16", SYSTEM),
     kind(INT32, "Int32", SYSTEM),
-    kind(6, "UInt32", SYSTEM),
+    kind(UINT32, "UInt32", SYSTEM),
     kind(INT64, "Int64", SYSTEM),
     kind(8, "UInt64", SYSTEM),
     kind(SINGLE, "Single", SYSTEM),
@@ -78,7 +86,7 @@ const KINDS: [Kind; 34] = [
     kind(23, "Vector2", XNA),
     kind(VECTOR3, "Vector3", XNA),
     kind(25, "Vector4", XNA),
-    kind(26, "Matrix", XNA),
+    kind(MATRIX, "Matrix", XNA),
     kind(27, "Quaternion", XNA),
     kind(28, "Color", XNA),
     kind(29, "Point", XNA),
@@ -87,6 +95,10 @@ const KINDS: [Kind; 34] = [
     kind(TEXTURE2D, "Texture2D", GRAPHICS),
     kind(SPRITE_FONT, "SpriteFont", GRAPHICS),
     kind(PAGE, "Page", HOUSE),
+    kind(INDEX_BUFFER, "IndexBuffer", GRAPHICS),
+    kind(VERTEX_DECLARATION, "VertexDeclaration", GRAPHICS),
+    kind(VERTEX_BUFFER, "VertexBuffer", GRAPHICS),
+    kind(MODEL, "Model", GRAPHICS),
 ];
 
 impl Kind {

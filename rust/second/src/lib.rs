@@ -11,6 +11,7 @@ mod kinds;
 mod load;
 mod lookup;
 pub mod marks;
+mod mesh;
 mod name;
 pub mod pack;
 mod printed;

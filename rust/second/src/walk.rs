@@ -3,9 +3,9 @@
 use crate::cursor::Cursor;
 use crate::image::{level_size, longest_chain, LAST_FORMAT, LONGEST_SIDE};
 use crate::kinds::{
-    is_value_type, ARRAY, BOOLEAN, CHAR, DATE_TIME, DECIMAL, DICTIONARY, IMAGE_LEVEL, INT32, LIST,
-    NULL, NULLABLE, PAGE, RECTANGLE, SHARED_REFERENCE, SINGLE, SPRITE_FONT, STRING, TEXTURE2D,
-    VECTOR3,
+    is_value_type, ARRAY, BOOLEAN, CHAR, DATE_TIME, DECIMAL, DICTIONARY, IMAGE_LEVEL, INDEX_BUFFER,
+    INT32, LIST, MODEL, NULL, NULLABLE, PAGE, RECTANGLE, SHARED_REFERENCE, SINGLE, SPRITE_FONT,
+    STRING, TEXTURE2D, VECTOR3, VERTEX_BUFFER, VERTEX_DECLARATION,
 };
 use crate::refusal::{
     demand, refuse, Refusal, BAD_VALUE, FONT_RULE, NOT_DECLARED, NO_READER, NO_RESOURCE,
@@ -34,7 +34,7 @@ impl Spot {
     };
 
     /// The spot of the children of the value that stands here and has this row.
-    fn below(self, row: usize) -> Spot {
+    pub fn below(self, row: usize) -> Spot {
         Spot {
             parent: Some(row),
             depth: self.depth + 1,
@@ -46,7 +46,8 @@ impl Spot {
 struct Reference {
     place: usize,
     position: usize,
-    wanted_kind: u32,
+    /// The kind that its resource must have unless it is null; none for an effect, which has no kind.
+    wanted_kind: Option<u32>,
 }
 
 /// The walk through the values of one file.
@@ -61,10 +62,10 @@ pub struct Walk<'f> {
 }
 
 /// How many children the value just read has.
-type Children = Result<u32, Refusal>;
+pub type Children = Result<u32, Refusal>;
 
 /// The row number of the value just read.
-type RowRead = Result<usize, Refusal>;
+pub type RowRead = Result<usize, Refusal>;
 
 impl<'f> Walk<'f> {
     pub fn new(
@@ -111,7 +112,7 @@ impl<'f> Walk<'f> {
     }
 
     /// A raw value of a value type.
-    fn raw(&mut self, value_type: &Type, spot: Spot) -> RowRead {
+    pub fn raw(&mut self, value_type: &Type, spot: Spot) -> RowRead {
         let row = self.open_row(spot)?;
         let children = self.body(value_type, spot.below(row))?;
         self.close_row(row, value_type.kind, children, 0)
@@ -127,7 +128,7 @@ impl<'f> Walk<'f> {
     }
 
     /// Takes a row for the value that starts here.
-    fn open_row(&mut self, spot: Spot) -> RowRead {
+    pub fn open_row(&mut self, spot: Spot) -> RowRead {
         demand(spot.depth <= DEEPEST, TOO_DEEP, self.cursor.at)?;
         demand(self.rows.len() < self.room, NO_ROW_LEFT, self.cursor.at)?;
         let row = self.rows.len();
@@ -144,7 +145,7 @@ impl<'f> Walk<'f> {
     }
 
     /// Completes the row of the value that ends here.
-    fn close_row(&mut self, row: usize, kind: u32, children: u32, detail: u32) -> RowRead {
+    pub fn close_row(&mut self, row: usize, kind: u32, children: u32, detail: u32) -> RowRead {
         let end = self.cursor.at as u32;
         // The rows behind it are those below it.
         let rows = (self.rows.len() - row) as u32;
@@ -168,6 +169,10 @@ impl<'f> Walk<'f> {
             TEXTURE2D => self.texture(spot),
             SPRITE_FONT => self.font(spot),
             PAGE => self.page(spot),
+            INDEX_BUFFER => self.index_buffer(spot),
+            VERTEX_DECLARATION => self.vertex_declaration(spot),
+            VERTEX_BUFFER => self.vertex_buffer(spot),
+            MODEL => self.model(spot),
             _ => self.fixed(target),
         }
     }
@@ -303,6 +308,11 @@ impl<'f> Walk<'f> {
         characters.windows(2).all(|pair| pair[0] < pair[1])
     }
 
+    /// The bytes of the value that has this row.
+    pub fn bytes_of_row(&self, row: usize) -> &'f [u8] {
+        self.bytes_of(&self.rows[row])
+    }
+
     fn bytes_of(&self, row: &Row) -> &'f [u8] {
         let first = row.first as usize;
         &self.cursor.file[first..first + row.length as usize]
@@ -312,13 +322,13 @@ impl<'f> Walk<'f> {
     fn page(&mut self, spot: Spot) -> Children {
         self.object(&Type::plain(STRING), spot)?;
         self.raw(&Type::plain(RECTANGLE), spot)?;
-        self.reference(TEXTURE2D, spot)?;
-        self.reference(PAGE, spot)?;
+        self.reference(Some(TEXTURE2D), spot)?;
+        self.reference(Some(PAGE), spot)?;
         Ok(4)
     }
 
     /// A shared reference: its id is judged here, its resource's type last of all.
-    fn reference(&mut self, wanted_kind: u32, spot: Spot) -> RowRead {
+    pub fn reference(&mut self, wanted_kind: Option<u32>, spot: Spot) -> RowRead {
         let row = self.open_row(spot)?;
         let place = self.cursor.at;
         let id = self.cursor.take_seven()?;
@@ -338,7 +348,7 @@ impl<'f> Walk<'f> {
     pub fn check_references(&self, resources: &[usize]) -> Result<(), Refusal> {
         for reference in &self.references {
             let resource = &self.rows[resources[reference.position]];
-            let fits = resource.kind == NULL || resource.kind == reference.wanted_kind;
+            let fits = resource.kind == NULL || Some(resource.kind) == reference.wanted_kind;
             demand(fits, RESOURCE_TYPE, reference.place)?;
         }
         Ok(())

@@ -3,6 +3,8 @@
 use std::path::{Path, PathBuf};
 use std::process::Command;
 
+#[path = "wrong/meshes.rs"]
+mod meshes;
 #[path = "wrong/names.rs"]
 mod names;
 
@@ -211,7 +213,7 @@ fn the_right_rules_give_all_rows() {
 
 #[test]
 fn each_wrong_rule_is_shown_by_a_kept_file() {
-    let rules = WRONG.iter().chain(&names::WRONG);
+    let rules = WRONG.iter().chain(&names::WRONG).chain(&meshes::WRONG);
     for (number, wrong) in rules.enumerate() {
         let names = differing(&format!("wrong-{number}"), Some(wrong));
         assert!(!names.is_empty(), "no file shows {}", wrong.what);

@@ -60,7 +60,7 @@ const NAMES: &[(&str, u32, &str)] = &[
     ("level-9-of-no-byte", 38, "A`1[[A`1[[A`1[[A`1[[A`1[[A`1[[A`1[[B`2[[»]"),
     ("level-9-starts-with-a-hyphen", 38, "A`1[[A`1[[A`1[[A`1[[A`1[[A`1[[A`1[[B`1[[»-"),
     // 11 at the leftmost head that it complains of.
-    ("unknown-reader", 11, "»Microsoft.Xna.Framework.Content.ModelReader"),
+    ("unknown-reader", 11, "»Microsoft.Xna.Framework.Content.PlaneReader"),
     ("unknown-reader-of-unknown-argument", 11, "»Unknown`1[[Unknown]]"),
     ("list-without-argument", 11, "»Microsoft.Xna.Framework.Content.ListReader"),
     ("list-of-two-unknown-arguments", 11, "»Microsoft.Xna.Framework.Content.ListReader`2[[Unknown],[Unknown]]"),
