@@ -2,7 +2,7 @@
 
 use std::fmt::{self, Display, Formatter};
 
-/// The kind of a row, by its number in document 01.
+/// The kind of a row, by its number in documents 01 and 02.
 #[derive(Clone, Copy, Debug, PartialEq, Eq, PartialOrd, Ord, Hash)]
 pub enum Kind {
     Null = 0,
@@ -40,11 +40,17 @@ pub enum Kind {
     Page = 34,
     ImageLevel = 35,
     SharedReference = 36,
+    IndexBuffer = 37,
+    VertexDeclaration = 38,
+    VertexBuffer = 39,
+    Model = 40,
+    DataBytes = 41,
+    BoneReference = 42,
 }
 
 use Kind::*;
 
-const KINDS: [Kind; 35] = [
+const KINDS: [Kind; 41] = [
     Null,
     Byte,
     SByte,
@@ -80,6 +86,12 @@ const KINDS: [Kind; 35] = [
     Page,
     ImageLevel,
     SharedReference,
+    IndexBuffer,
+    VertexDeclaration,
+    VertexBuffer,
+    Model,
+    DataBytes,
+    BoneReference,
 ];
 
 impl Kind {
@@ -88,7 +100,10 @@ impl Kind {
     }
 
     pub fn of_number(number: u32) -> Option<Kind> {
-        Kind::all().find(|kind| kind.number() == number)
+        // 14 and 31 have no rows.
+        let gaps = u32::from(number > 14) + u32::from(number > 31);
+        let kind = KINDS.get((number - gaps) as usize).copied();
+        kind.filter(|kind| kind.number() == number)
     }
 
     pub(crate) fn all() -> impl Iterator<Item = Kind> {
@@ -108,11 +123,12 @@ mod tests {
 
     #[test]
     fn numbers_and_kinds_match() {
-        for number in 0..=37 {
-            let known = number <= 36 && number != 14 && number != 31;
+        for number in 0..=43 {
+            let known = number <= 42 && number != 14 && number != 31;
             let kind = Kind::of_number(number);
             assert_eq!(kind.map(Kind::number), known.then_some(number));
         }
+        assert_eq!(Kind::of_number(u32::MAX), None);
         assert_eq!(Int32.to_string(), "Int32");
     }
 }

@@ -15,6 +15,7 @@ mod explain;
 mod kind;
 mod loader;
 pub mod marks;
+pub mod meshes;
 pub mod pack;
 pub mod raw;
 mod refusal;

@@ -104,6 +104,11 @@ impl<'f, S: Shaped, W: AsRef<[u32]>> Grid<'f, S, W> {
         self.file
     }
 
+    /// Every word, of rows in use or not.
+    pub(crate) fn all_words(&self) -> &[u32] {
+        self.words.as_ref()
+    }
+
     /// The number of rows, readers and shared objects, and the padding.
     pub fn loaded(&self) -> Loaded {
         self.loaded

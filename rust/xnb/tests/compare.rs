@@ -168,6 +168,33 @@ fn names_give_the_second_loaders_answers() {
     }
 }
 
+/// Files with many meshes.
+#[test]
+fn meshes_give_the_second_loaders_answers() {
+    for shape in SHAPES {
+        let mut sides = Sides::new(shape, 10);
+        for seed in 0..files() / 3 {
+            let case = fuzz::meshes::case(seed);
+            compare(&mut sides, &format!("seed {seed}"), &case.bytes, case.words);
+        }
+        println!("{} files, {shape:?}\n{}", files() / 3, sides.counts);
+        if files() >= 100_000 {
+            sides.counts.check_meshes(shape);
+        }
+    }
+}
+
+#[test]
+fn limits_of_meshes_give_the_second_loaders_answers() {
+    for shape in SHAPES {
+        let mut sides = Sides::new(shape, 11);
+        for limit in fuzz::meshes::limits() {
+            compare(&mut sides, &limit.name, &limit.case.bytes, limit.case.words);
+        }
+        println!("{shape:?}\n{}", sides.counts);
+    }
+}
+
 #[test]
 fn limits_give_the_second_loaders_answers() {
     let limits = fuzz::limits::cases();

@@ -6,6 +6,7 @@
 
 mod cursor;
 mod header;
+mod meshes;
 mod names;
 mod readers;
 mod shown;

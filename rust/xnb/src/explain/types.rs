@@ -169,7 +169,7 @@ fn reader_head(head: &[u8]) -> Option<Head<'_>> {
         "Object" => Some(Object),
         "Texture" => Some(Texture),
         _ => Kind::all()
-            .find(|kind| matches!(kind.number(), 1..=33) && kind.to_string() == name)
+            .find(|kind| matches!(kind.number(), 1..=33 | 37..=40) && kind.to_string() == name)
             .map(Of),
     }
 }
@@ -197,7 +197,7 @@ fn target_name(head: Head) -> Option<String> {
             1..=13 | 16 | 20..=22 => "System.",
             18 | 19 => "System.Collections.Generic.",
             23..=30 => "Microsoft.Xna.Framework.",
-            32 | 33 => "Microsoft.Xna.Framework.Graphics.",
+            32 | 33 | 37..=40 => "Microsoft.Xna.Framework.Graphics.",
             34 => HOUSE,
             _ => return None,
         },
@@ -255,6 +255,16 @@ mod tests {
         assert_eq!(told(door).as_deref(), Some("enum Coach.Door"));
         let page = "Coach.Console.PageReader";
         assert_eq!(told(page).as_deref(), Some("Coach.Console.Page"));
+        let buffer = "Microsoft.Xna.Framework.Content.VertexBufferReader";
+        let type_name = "Microsoft.Xna.Framework.Graphics.VertexBuffer";
+        assert_eq!(told(buffer).as_deref(), Some(type_name));
+        assert!(is_target_name(b"Microsoft.Xna.Framework.Graphics.Model"));
+        for other in ["DataBytes", "BoneReference", "ImageLevel", "Effect"] {
+            let reader = format!("Microsoft.Xna.Framework.Content.{other}Reader");
+            assert_eq!(told(&reader), None);
+            let target = format!("Microsoft.Xna.Framework.Graphics.{other}");
+            assert!(!is_target_name(target.as_bytes()));
+        }
         let texture = "Microsoft.Xna.Framework.Content.TextureReader";
         let type_name = "Microsoft.Xna.Framework.Graphics.Texture";
         assert_eq!(told(texture).as_deref(), Some(type_name));

@@ -30,11 +30,12 @@ pub fn follow<'f>(mut cursor: Cursor<'f>, enums: &[u8], room: usize) -> Step<'f,
 struct Reference {
     place: usize,
     id: u32,
-    wanted: Kind,
+    /// What the resource must be, unless it is null; none for an effect, which must be null.
+    wanted: Option<Kind>,
 }
 
-struct Walk<'a, 'f> {
-    cursor: Cursor<'f>,
+pub struct Walk<'a, 'f> {
+    pub cursor: Cursor<'f>,
     readers: &'a [Reader<'f>],
     shared: u32,
     room: usize,
@@ -44,7 +45,7 @@ struct Walk<'a, 'f> {
 
 /// An object that was passed.
 #[derive(Clone, Copy)]
-struct Passed<'a, 'f> {
+pub struct Passed<'a, 'f> {
     /// Where it begins.
     start: usize,
     /// Its type, if it is not null.
@@ -82,18 +83,19 @@ impl<'a, 'f> Walk<'a, 'f> {
                 continue;
             };
             self.cursor.meet(ResourceType, *place, || {
-                let wanted = Type::plain(*wanted);
-                (wanted != *target).then(|| {
-                    let start = resource.start;
-                    format!("declared {wanted}, found {target} as resource {id} at byte {start}")
-                })
+                let found = format!("found {target} as resource {id} at byte {}", resource.start);
+                match wanted.map(Type::plain) {
+                    None => Some(format!("declared an effect, which must be null, {found}")),
+                    Some(wanted) if wanted == *target => None,
+                    Some(wanted) => Some(format!("declared {wanted}, {found}")),
+                }
             })?;
         }
         Ok(())
     }
 
     /// Takes a row for the value that starts here.
-    fn open(&mut self, depth: u32) -> Step<'f, ()> {
+    pub fn open(&mut self, depth: u32) -> Step<'f, ()> {
         let (at, room) = (self.cursor.at, self.room);
         if depth > DEEPEST {
             self.cursor.meet(TooDeep, at, || {
@@ -114,7 +116,7 @@ impl<'a, 'f> Walk<'a, 'f> {
     }
 
     /// An object: a type id, then the raw value by that reader.
-    fn object(&mut self, declared: &Type, depth: u32) -> Step<'f, Passed<'a, 'f>> {
+    pub fn object(&mut self, declared: &Type, depth: u32) -> Step<'f, Passed<'a, 'f>> {
         self.open(depth)?;
         let start = self.cursor.at;
         let id = self.cursor.take_seven("the type id")? as usize;
@@ -145,7 +147,7 @@ impl<'a, 'f> Walk<'a, 'f> {
         Ok(Passed { start, target, raw })
     }
 
-    fn raw(&mut self, value: &Type, depth: u32) -> Step<'f, ()> {
+    pub fn raw(&mut self, value: &Type, depth: u32) -> Step<'f, ()> {
         self.open(depth)?;
         self.body(value, depth + 1)
     }
@@ -176,6 +178,10 @@ impl<'a, 'f> Walk<'a, 'f> {
             (Kind::Texture2D, _) => self.texture(depth),
             (Kind::SpriteFont, _) => self.font(depth),
             (Kind::Page, _) => self.page(depth),
+            (Kind::IndexBuffer, _) => self.index_buffer(depth),
+            (Kind::VertexDeclaration, _) => self.declaration(depth).map(|_| ()),
+            (Kind::VertexBuffer, _) => self.vertex_buffer(depth),
+            (Kind::Model, _) => self.model(depth),
             _ => values::take_fixed(&mut self.cursor, kind),
         }
     }
@@ -250,11 +256,11 @@ impl<'a, 'f> Walk<'a, 'f> {
     fn page(&mut self, depth: u32) -> Step<'f, ()> {
         self.object(&Type::plain(Kind::String), depth)?;
         self.raw(&Type::plain(Kind::Rectangle), depth)?;
-        self.reference(Kind::Texture2D, depth)?;
-        self.reference(Kind::Page, depth)
+        self.reference(Some(Kind::Texture2D), depth)?;
+        self.reference(Some(Kind::Page), depth)
     }
 
-    fn reference(&mut self, wanted: Kind, depth: u32) -> Step<'f, ()> {
+    pub fn reference(&mut self, wanted: Option<Kind>, depth: u32) -> Step<'f, ()> {
         self.open(depth)?;
         let (place, shared) = (self.cursor.at, self.shared);
         let id = self.cursor.take_seven("the resource id")?;

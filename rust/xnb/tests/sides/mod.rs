@@ -81,6 +81,15 @@ impl Counts {
         }
     }
 
+    /// The answers that a mesh may give have occurred often.
+    pub fn check_meshes(&self, shape: Shape) {
+        let numbers = [0, 1, 8, 13, 14, 15, 16, 17, 18, 19, 20];
+        self.check_often(Load, &numbers);
+        if shape == Shape::Rows {
+            self.check_often(Rewrite, &numbers);
+        }
+    }
+
     /// The answers that a list of enum types may change have occurred often.
     pub fn check_with_enums(&self, shape: Shape) {
         self.check_often(Load, &[0, 1, 11, 14, 19, 20, 32]);
@@ -302,7 +311,7 @@ pub fn other_words(random: &mut Random, file: &[u8], table: &[u32]) -> Vec<u32> 
     let room = (words.len() / WORDS_PER_ROW) as u32;
     for row in words.chunks_exact_mut(WORDS_PER_ROW) {
         if random.chance(60) {
-            row[0] = random.pick(&[13, 13, 13, 2, 3, 5, 7, 20, 20, 12, 36, 37, 269]);
+            row[0] = random.pick(&[13, 13, 13, 2, 3, 5, 7, 20, 20, 12, 36, 41, 42, 43, 269]);
         }
         let end = file.len() as u32;
         if random.chance(40) {
