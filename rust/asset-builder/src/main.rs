@@ -5,6 +5,7 @@
 
 mod commands;
 mod enums;
+mod fields;
 mod input;
 mod json;
 mod names;

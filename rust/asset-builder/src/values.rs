@@ -41,8 +41,13 @@ pub enum Value {
         height: u64,
         format: u64,
     },
-    Level {
+    /// An image level, or data without a form of its own.
+    Data {
         bytes: usize,
+    },
+    /// The bone that a reference names, counted from 1, or none.
+    Bone {
+        bone: Option<u64>,
     },
     /// The shared object that a reference names, or none.
     Resource {
@@ -77,9 +82,16 @@ pub fn value(table: &Table, number: u32, row: &Row) -> Value {
 
 fn looked_up(table: &Table, number: u32, row: &Row) -> Result<Value, Refused> {
     use Kind::*;
-    let bytes = raw_bytes(table.part(number)?, row.detail);
+    let part = match row.length {
+        // A row of empty data names no part of the file.
+        0 => &[][..],
+        _ => table.part(number)?,
+    };
+    let bytes = raw_bytes(part, row.detail);
     Ok(match row.kind {
-        Null | SpriteFont | Page => Value::Nothing,
+        Null | SpriteFont | Page | IndexBuffer | VertexDeclaration | VertexBuffer | Model => {
+            Value::Nothing
+        }
         String => Value::Text(table.text(number)?.to_string()),
         SByte | Int16 | Int32 | Int64 => Value::Signed(table.signed(number)?),
         TimeSpan => {
@@ -130,8 +142,12 @@ fn looked_up(table: &Table, number: u32, row: &Row) -> Result<Value, Refused> {
                 format: field(0),
             }
         }
-        ImageLevel => Value::Level {
+        ImageLevel => Value::Data {
             bytes: bytes.len() - 4,
+        },
+        DataBytes => Value::Data { bytes: bytes.len() },
+        BoneReference => Value::Bone {
+            bone: Some(unsigned(bytes) as u64).filter(|bone| *bone > 0),
         },
         SharedReference => Value::Resource {
             shared: match row.detail {
@@ -174,7 +190,9 @@ impl Display for Value {
                 height,
                 format,
             } => write!(out, "{width} by {height}, format {format}"),
-            Level { bytes } => write!(out, "of {bytes} bytes"),
+            Data { bytes } => write!(out, "of {bytes} bytes"),
+            Bone { bone: Some(bone) } => write!(out, "to bone {bone}"),
+            Bone { bone: None } => write!(out, "to nothing"),
             Resource { shared: Some(id) } => write!(out, "to shared {id}"),
             Resource { shared: None } => write!(out, "to nothing"),
         }

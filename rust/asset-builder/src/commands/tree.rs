@@ -2,13 +2,14 @@
 
 use super::{at_most_all_rows, for_each, load, tell_refusal, MOST_ROWS};
 use crate::enums::Enums;
+use crate::fields::{fields, Field};
 use crate::input::Inputs;
 use crate::json;
 use crate::refusal::Told;
 use crate::run::{End, Run, Status};
 use crate::values::{value, Value};
 use serde::Serialize;
-use xnb::{Detail, Kind, Loader, Table};
+use xnb::{Detail, Loader, Table};
 
 /// Print the values of each file as a tree
 ///
@@ -60,6 +61,9 @@ struct Node {
     resource_id: Option<u32>,
     #[serde(skip_serializing_if = "Value::is_nothing")]
     value: Value,
+    /// What the value stands for, if document 000 names it.
+    #[serde(skip_serializing_if = "Option::is_none")]
+    meaning: Option<String>,
     #[serde(skip_serializing_if = "Vec::is_empty")]
     children: Vec<Node>,
 }
@@ -112,19 +116,19 @@ fn objects(table: &Table) -> Vec<Node> {
             0 => "primary".to_string(),
             _ => format!("shared {position}"),
         };
-        node(table, number, Some(name))
+        node(table, number, Field::named(name))
     };
     table.objects().enumerate().map(named).collect()
 }
 
 /// A value and all below it.
-fn node(table: &Table, number: u32, name: Option<String>) -> Node {
+fn node(table: &Table, number: u32, field: Field) -> Node {
     let row = table.row(number).expect("the row of an object or a child");
-    let children = table.children(number).enumerate();
-    let children = children.map(|(index, child)| node(table, child, field(row.kind, index)));
+    let children = table.children(number).zip(fields(table, number, row.kind));
+    let children = children.map(|(child, field)| node(table, child, field));
     Node {
         row: number,
-        name,
+        name: field.name,
         kind: row.kind.to_string(),
         first: row.first,
         length: row.length,
@@ -138,6 +142,7 @@ fn node(table: &Table, number: u32, name: Option<String>) -> Node {
             _ => None,
         },
         value: value(table, number, &row),
+        meaning: field.meaning,
         children: children.collect(),
     }
 }
@@ -153,32 +158,12 @@ impl Node {
         if !value.is_empty() {
             *lines += &format!(" {value}");
         }
+        if let Some(meaning) = &self.meaning {
+            *lines += &format!(" ({meaning})");
+        }
         *lines += "\n";
         for child in &self.children {
             child.add_lines(depth + 1, lines);
         }
     }
-}
-
-const FONT_FIELDS: [&str; 8] = [
-    "texture",
-    "glyphs",
-    "cropping",
-    "characters",
-    "line spacing",
-    "spacing",
-    "kerning",
-    "default character",
-];
-const PAGE_FIELDS: [&str; 4] = ["title", "area", "picture", "next"];
-
-/// What a child is to its parent.
-fn field(parent: Kind, index: usize) -> Option<String> {
-    let name = match parent {
-        Kind::SpriteFont => FONT_FIELDS[index],
-        Kind::Page => PAGE_FIELDS[index],
-        Kind::Dictionary => ["key", "value"][index % 2],
-        _ => return None,
-    };
-    Some(name.to_string())
 }
