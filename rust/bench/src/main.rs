@@ -7,6 +7,7 @@ mod branches;
 mod inputs;
 mod marks;
 mod measure;
+mod meshes;
 mod names;
 mod packs;
 mod salvage;
@@ -18,12 +19,13 @@ use second::NO_ENUMS;
 use std::hint::black_box;
 use xnb::{Loader, Shape};
 
-const PARTS: [(&str, fn()); 13] = [
+const PARTS: [(&str, fn()); 14] = [
     ("builder", builder),
     ("load", load),
     ("load-columns", load_columns),
     ("enums", enums),
     ("names", names::measure),
+    ("meshes", meshes::measure),
     ("utf8", utf8),
     ("rewrite", rewrite),
     ("next", branches::measure),
