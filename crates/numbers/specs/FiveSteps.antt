@@ -163,3 +163,7 @@ module _ (s : List ℕ) (start : ℕ) (bytes : (i : ℕ) → i < length s → ge
       let from₀ = group-is 4 0 (omega arith) (omega arith) after₀ (λ v n p. refl) (λ n p. refl) from₁ 0 1 (omega arith) refl in
       let z : start + 0 ≡ start = omega arith in
       from₀ ∙ ap (padded start) (alone (from 5 0)) ∙ rw z
+
+  -- the other steps leave what the first one ended or refused
+  pub after-first : (o : Step) → o ≡ step 0 s start (HandsOn 0 1) → after₀ o ≡ padded start (sevenAt s start)
+  after-first o e = ap after₀ e ∙ five-steps

@@ -66,8 +66,8 @@ pub fn fifth(s: &[u8], start: usize, so_far: Step) -> Padded
     }
 }
 
-// The seven-bit number at a place, with its padding.
-pub fn seven_padded(s: &[u8], start: usize) -> Padded
+// The five steps one after the other: the seven-bit number at a place, with its padding.
+fn all_steps(s: &[u8], start: usize) -> Padded
     ensures { λ r. ⌜ toldPadded r ≡ padded start (sevenAt (now (s .entry)) start) ⌝ }
 {
     let one = first(s, start);
@@ -77,11 +77,22 @@ pub fn seven_padded(s: &[u8], start: usize) -> Padded
     fifth(s, start, four)
 }
 
+// The seven-bit number at a place, with its padding. Most numbers have one byte, and those are read without the other four steps.
+pub fn seven_padded(s: &[u8], start: usize) -> Padded
+    ensures { λ r. ⌜ toldPadded r ≡ padded start (sevenAt (now (s .entry)) start) ⌝ }
+{
+    match first(s, start) {
+        Step::Ends(value, next, padding) => Padded::Read(value, next, padding),
+        Step::HandsOn(_, _) => all_steps(s, start),
+        Step::Refuses(number, place) => Padded::Refused(number, place),
+    }
+}
+
 // The seven-bit number at a place.
 pub fn seven_at(s: &[u8], start: usize) -> Number
     ensures { λ r. ⌜ told r ≡ sevenAt (now (s .entry)) start ⌝ }
 {
-    match seven_padded(s, start) {
+    match all_steps(s, start) {
         Padded::Read(value, next, _) => Number::Read(value, next),
         Padded::Refused(number, place) => Number::Refused(number, place),
     }
