@@ -25,7 +25,7 @@ use Rattle.heads.specs.declared.nest.Below.the-variants.{Nested}
 use Rattle.heads.specs.Slots.{SlotIs}
 use Rattle.heads.specs.Nests.{NestIs}
 use Rattle.types.specs.Code.{Stands}
-use Rattle.objects.specs.Start.{Has, positionOfSlot}
+use Rattle.objects.specs.Start.{Has, positionAt}
 use Rattle.load.specs.declared.Loading.{Loading}
 use Rattle.load.specs.declared.walk.Stepped.{Stepped}
 use Rattle.load.specs.declared.walk.Children.{Children}
@@ -52,7 +52,7 @@ PlacedSteps g file codes shared place h at depth entry exit r =
 -- the value in a slot is walked, or its children are left, for every reader list that has so many readers and the type that the value's type id names at a place
 abbrev pub ValueSteps : Grid → (file codes entry exit : List ℕ) → Stepped → (count target shared : ℕ) → Slot → (at used depth parent : ℕ) → Type 0
 ValueSteps g file codes entry exit r count target shared slot at used depth parent =
-    (rd : Readers) (readers : List Target) (x : L.Slot) → Has rd count (positionOfSlot file slot at) target → Listed file codes rd readers → SlotIs file codes slot x → Steps g file codes readers shared depth x at used parent entry exit r
+    (rd : Readers) (readers : List Target) (x : L.Slot) → Has rd count (positionAt file at) target → Listed file codes rd readers → SlotIs file codes slot x → Steps g file codes readers shared depth x at used parent entry exit r
 
 -- a raw value of the type at a place, whose head was read up to `next`, is walked with its children
 abbrev pub RawWalks : Grid → (file codes : List ℕ) → Readers → (shared place : ℕ) → Head → (at next : ℕ) → Nest → (depth : ℕ) → (entry exit : List ℕ) → Walk → Type 0

@@ -12,7 +12,7 @@ use Rattle.heads.specs.declared.slot.Slot.{Slot}
 use Rattle.heads.specs.declared.nest.Nest.{Nest}
 use Rattle.heads.specs.Slots.{SlotIs}
 use Rattle.heads.specs.Nests.{Prelude, NestIs}
-use Rattle.objects.specs.Start.{Has, Ided, positionOfSlot}
+use Rattle.objects.specs.Start.{Has, Ided, positionAt}
 use Rattle.ids.specs.declared.Grid.{Grid}
 
 -- the codes hold the types of some readers and those that fonts, pages and meshes declare
@@ -25,7 +25,7 @@ pub record Known (file codes : List ℕ) (rd : Readers) : Type 0 where
 pub record KnownTarget (file codes : List ℕ) (slot : Slot) (at count target : ℕ) : Type 0 where
   pub rd : Readers
   pub readers : List Target
-  pub has : Has rd count (positionOfSlot file slot at) target
+  pub has : Has rd count (positionAt file at) target
   pub listed : Listed file codes rd readers
 
 pub record KnownSlot (file codes : List ℕ) (slot : Slot) : Type 0 where

@@ -3,10 +3,12 @@ use mathlib.Core.Path.{_≡_, refl, sym, ap, subst, _∙_}
 use mathlib.Core.Bool.{Bool, true, false}
 use mathlib.Core.List.{List, [], _∷_}
 use mathlib.Core.Logic.{_⊎_, inl, inr}
-use Prim.Native.Nat.{ℕ, zero, suc, _-_, _%_, _≤_, _<_}
+use Prim.Native.Nat.{ℕ, zero, suc, _+_, _*_, _-_, _%_, _≤_, _<_, _^_}
 use native.Mathlib.Omega.{arith}
-use lib.ListN.{length, getD}
-use borrow.Author.Tests.{lt-ltb, le-ltb}
+use lib.Dec.{ltb, leb}
+use lib.ListN.{length, getD, drop, drop-of-length-le}
+use lib.Seq.{drop-cons}
+use borrow.Author.Tests.{lt-ltb, le-ltb, ltb-false, leb-true, leb-false}
 use Rattle.laws.specs.Small.{differ}
 use Rattle.layout.specs.Target.{Target, fixed, char, string, object as anything, texture, texture2D, spriteFont, page, mesh, enum, nullable, array, list, dictionary}
 use Rattle.layout.specs.Tree.{none, tree}
@@ -16,7 +18,7 @@ use Rattle.layout.specs.Rows.{row}
 use Rattle.layout.specs.Named.{plain, fixedKind}
 use Rattle.layout.specs.Number.{between}
 use Rattle.reading.specs.Answer.{Answer, refused, read, bind, check}
-use Rattle.reading.specs.Seven.{sevenAt, seven-next}
+use Rattle.reading.specs.Seven.{group, groups, sevenAt, seven-next}
 use Rattle.reading.specs.Reads.{Small}
 use Rattle.numbers.specs.Padded.{past, padOf}
 use Rattle.places.specs.Padding.{idEnd, idPad}
@@ -43,18 +45,11 @@ use Rattle.reading.specs.Drafts.{drafted}
 
 -- 01: "A type id counts readers": the position that it names in a list of at most 64
 abbrev pub positionIn : (id : ℕ) → ℕ
-positionIn zero = 0
-positionIn (suc i) = i % 64
+positionIn id = (id + 63) % 64
 
-abbrev pub positionBy : Answer ℕ → ℕ
-positionBy (refused n p) = 0
-positionBy (read id next) = positionIn id
-
--- the position that the type id of an object in a slot names
-abbrev pub positionOfSlot : (file : List ℕ) → Slot → (at : ℕ) → ℕ
-positionOfSlot file (SimpleSlot p) at = 0
-positionOfSlot file (RawSlot a) at = 0
-positionOfSlot file (Object a) at = positionBy (sevenAt file at)
+-- the same by the first byte of a type id alone, whose low six bits are those of the type id
+abbrev pub positionAt : (file : List ℕ) (at : ℕ) → ℕ
+positionAt file at = positionIn (getD file at 0)
 
 -- what is known of a reader list: how many readers it has, and the place of the type at a position
 pub record Has (rd : Readers) (count i target : ℕ) : Type 0 where
@@ -62,17 +57,40 @@ pub record Has (rd : Readers) (count i target : ℕ) : Type 0 where
   pub at : getD (rd .targets) i 0 ≡ target
 
 -- each position is one of a list of 64
-in-list : (id : ℕ) → positionIn id < 64
-in-list zero = omega arith
-in-list (suc i) = omega arith
+pub position-in-list : (file : List ℕ) (at : ℕ) → positionAt file at < 64
+position-in-list file at = omega arith
 
-pub position-in-list : (file : List ℕ) (slot : Slot) (at : ℕ) → positionOfSlot file slot at < 64
-position-in-list file (SimpleSlot p) at = omega arith
-position-in-list file (RawSlot a) at = omega arith
-position-in-list file (Object a) at = go (sevenAt file at) where
-  go : (x : Answer ℕ) → positionBy x < 64
-  go (refused n p) = omega arith
-  go (read id next) = in-list id
+-- the first group of seven bits has a number's low seven bits
+first-group : (b at : ℕ) (rest : Answer ℕ) {n e : ℕ} (t : Bool) → ltb b 128 ≡ t → group t b at rest ≡ read n e → positionIn n ≡ positionIn b
+unfolding group bind
+first-group b at rest {n} true q w = let z : b ≡ n = cc in rw z
+first-group b at (refused m p) false q w = differ cc
+first-group b at (read m f) {n} false q w =
+    let z : b - 128 + 128 * m ≡ n = cc in
+    omega (arith, z, ltb-false b 128 q)
+
+-- a type id that is read names the position that its first byte names
+pub first-byte : (file : List ℕ) (at : ℕ) {id next : ℕ} → sevenAt file at ≡ read id next → positionIn id ≡ positionAt file at
+unfolding sevenAt bind check groups
+first-byte file at {id} {next} w = there (leb (length file) at) refl where
+  read-first : (x : Answer ℕ) → bind x (λ n e. check (ltb n (2 ^ 32)) 8 at (read n e)) ≡ read id next → x ≡ read id next
+  read-first (refused m p) v = differ cc
+  read-first (read m f) v = checked (ltb m (2 ^ 32)) v where
+    checked : (t : Bool) → check t 8 at (read m f) ≡ read id next → read m f ≡ read id next
+    checked true u = u
+    checked false u = differ cc
+
+  there : (t : Bool) → leb (length file) at ≡ t → positionIn id ≡ positionAt file at
+  there true q =
+      let z : groups 5 at at [] ≡ read id next = rw (drop-of-length-le file (leb-true (length file) at q)) at (read-first (groups 5 at at (drop at file)) w) in
+      differ cc
+  there false q =
+      let z = rw (drop-cons file at 0 (leb-false (length file) at q)) at (read-first (groups 5 at at (drop at file)) w) in
+      first-group (getD file at 0) at (groups 4 at (suc at) (drop (suc at) file)) (ltb (getD file at 0) 128) refl z
+
+-- the reader at the position that the first byte of a type id names is the one that the type id names
+pub has-named : {rd : Readers} {count target : ℕ} (file : List ℕ) (at : ℕ) {id next : ℕ} → sevenAt file at ≡ read id next → Has rd count (positionAt file at) target → Has rd count (positionIn id) target
+has-named {rd} {count} {target} file at e h = subst (λ (i : ℕ). Has rd count i target) (sym (first-byte file at e)) h
 
 -- what a type id comes to, for an object declared as d
 pub record ReadBy (file codes : List ℕ) (readers : List Target) (d : Target) (id place : ℕ) : Type 0 where
@@ -133,7 +151,7 @@ module _ {file codes : List ℕ} {rd : Readers} {count i target : ℕ} (has : Ha
   -- where the list has the reader
   here : i < count → getD (rd .targets) i 0 ≡ target
   here h =
-      let p : i % 64 ≡ i = omega (arith, l .counts, l .few, has .counts) in
+      let p : (suc i + 63) % 64 ≡ i = omega (arith, l .counts, l .few, has .counts) in
       rw p at (has .at)
 
   pub never-called : {k : ℕ} → i < count → k ≡ kindAt codes target → (k ≡ 14) ⊎ (k ≡ 31) → Identifies file codes readers d (suc i) (Refused 13)

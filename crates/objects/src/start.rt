@@ -1,5 +1,4 @@
 // What a value begins with: the limits of depth and rows, and an object's type id.
-use answers::Number;
 use heads::slot::Slot;
 use ids::Position;
 use ids::TypeId;
@@ -7,10 +6,11 @@ use leaves::plain::Plain;
 use numbers::seven::Padded;
 ghost use mathlib.Core.Path.{_≡_};
 ghost use Prim.Native.Nat.{suc};
+ghost use lib.ListN.{getD};
 ghost use Rattle.ids.specs.Position.{positionOf};
 ghost use Rattle.reading.specs.Seven.{sevenAt};
 ghost use Rattle.objects.specs.Total.{readerAs, identifyAs, objectAs, startAs};
-ghost use Rattle.objects.specs.Start.{positionIn, positionOfSlot};
+ghost use Rattle.objects.specs.Start.{positionAt};
 ghost use Rattle.objects.specs.Contracts.{IdentifiesAs, ObjectStartsAs, StartsAs};
 
 // Null; the type of the reader that a type id names; or a refusal's number.
@@ -29,31 +29,21 @@ pub enum Started {
     Raw(usize, usize, TypeId, u32),
 }
 
-// The position in a list of 64 readers that a type id names; 0 for null.
-fn position_in(id: TypeId) -> usize
-    ensures { λ r. ⌜ r ≡ positionIn (id .0) ⌝ }
+// The byte at a place, 0 where there is none.
+fn byte_at(file: &[u8], at: usize) -> u8
+    ensures { λ r. ⌜ r ≡ getD (now (file .entry)) at 0 ⌝ }
 {
-    match id.position() {
-        Position::Null => 0,
-        Position::At(i) => (i % 64) as usize,
+    if at < file.len() {
+        return file[at];
     }
+    0
 }
 
-// The position in the reader list that the type id of an object in a slot names; 0 if there is none.
-pub fn reader_position(file: &[u8], slot: Slot, at: usize) -> usize
-    ensures { λ r. ⌜ r ≡ positionOfSlot (now (file .entry)) slot at ⌝ }
+// The position in a list of 64 readers that a type id at a place names, by its first byte alone: the list needs no more of it than its low six bits.
+pub fn reader_position(file: &[u8], at: usize) -> usize
+    ensures { λ r. ⌜ r ≡ positionAt (now (file .entry)) at ⌝ }
 {
-    match slot {
-        Slot::Simple(_) => 0,
-        Slot::Raw(_) => 0,
-        Slot::Object(_) => match numbers::seven::seven_at(file, at) {
-            Number::Refused(_, _) => 0,
-            Number::Read(value, _) => {
-                let id = value as u32;
-                position_in(TypeId(id))
-            }
-        },
-    }
+    (byte_at(file, at) as usize + 63) % 64
 }
 
 // Reader i of a list with so many readers, if the type of that reader is at `target`, for an object declared as the type at `declared`: 13 before 14.

@@ -4,7 +4,7 @@ use Rattle.reading.specs.Answer.{read}
 use Rattle.reading.specs.Reads.{Small, small-by-index}
 use Rattle.reading.specs.Seven.{sevenAt, seven-next}
 use Rattle.numbers.specs.Padded.{padOf, toldPadded, number-read, number-refused}
-use Rattle.objects.specs.Start.{no-number, null-starts, read-starts, unread}
+use Rattle.objects.specs.Start.{no-number, has-named, null-starts, read-starts, unread}
 use borrow.Author.Needs.{needs}
 use Rattle.objects.proofs.start.object_start.Statement.{statement}
 use Rattle.objects.proofs.start.object_start.Tie as tie
@@ -51,7 +51,7 @@ returns-2 : tie.Need-returns-2
 returns-2 c =
     let a = c .before .before .before .before .before .before .before .before .before .args in
     let n = number (c .before .before .before) in (
-      λ rd readers d h l p. null-starts (a .file .now) (a .codes .now) readers d _ (small (c .before .before .before)) (n .0) (n .1) (rw (c .enum-told .given .1) at (c .before .before .identify .ensures .0 rd readers d (rw (n .0) at h) l p)),
+      λ rd readers d h l p. null-starts (a .file .now) (a .codes .now) readers d _ (small (c .before .before .before)) (n .0) (n .1) (rw (c .enum-told .given .1) at (c .before .before .identify .ensures .0 rd readers d (has-named (a .file .now) (a .at) (n .0) h) l p)),
       rw (n .1, n .0, sym (c .before .before .identify .ensures .1) ∙ c .enum-told .given .1),
     )
 
@@ -59,7 +59,7 @@ returns-3 : tie.Need-returns-3
 returns-3 c =
     let a = c .before .before .before .before .before .before .before .before .before .before .args in
     let n = number (c .before .before .before .before) in (
-      λ rd readers d h l p. read-starts (a .file .now) (a .codes .now) readers d _ (small (c .before .before .before .before)) (n .0) (n .1) (rw (c .before .place .given .1) at (c .before .before .before .identify .ensures .0 rd readers d (rw (n .0) at h) l p)),
+      λ rd readers d h l p. read-starts (a .file .now) (a .codes .now) readers d _ (small (c .before .before .before .before)) (n .0) (n .1) (rw (c .before .place .given .1) at (c .before .before .before .identify .ensures .0 rd readers d (has-named (a .file .now) (a .at) (n .0) h) l p)),
       rw (n .1, n .0, sym (c .before .before .before .identify .ensures .1) ∙ c .before .place .given .1),
     )
 
@@ -67,7 +67,7 @@ returns-4 : tie.Need-returns-4
 returns-4 c =
     let a = c .before .before .before .before .before .before .before .before .before .before .args in
     let n = number (c .before .before .before .before) in (
-      λ rd readers d h l p. unread (a .file .now) (a .codes .now) readers d _ (small (c .before .before .before .before)) (n .0) (n .1) (rw (c .before .number2 .given .1) at (c .before .before .before .identify .ensures .0 rd readers d (rw (n .0) at h) l p)),
+      λ rd readers d h l p. unread (a .file .now) (a .codes .now) readers d _ (small (c .before .before .before .before)) (n .0) (n .1) (rw (c .before .number2 .given .1) at (c .before .before .before .identify .ensures .0 rd readers d (has-named (a .file .now) (a .at) (n .0) h) l p)),
       rw (n .0, sym (c .before .before .before .identify .ensures .1) ∙ c .before .number2 .given .1),
     )
 

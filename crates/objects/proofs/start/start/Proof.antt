@@ -60,7 +60,7 @@ returns-7 c = (
   λ rd readers x h l s p.
       let a = c .before .before .before .before .before .before .before .before .args in
       let w = rw (c .before .before .before .before .slot3 .given .1) at s in
-      object-starts (a .file .now) (a .codes .now) readers (a .room) x (a .at) (a .used) (c .before .before .if3 .left) (c .before .if4 .left) (c .object-start .result) (subst (λ y. ObjectStarts (a .file .now) (a .codes .now) readers y (a .at) (c .object-start .result)) (sym (w .is)) (c .object-start .ensures .0 rd readers (w .type) (rw (c .before .before .before .before .slot3 .given .1) at h) l (w .stands))),
+      object-starts (a .file .now) (a .codes .now) readers (a .room) x (a .at) (a .used) (c .before .before .if3 .left) (c .before .if4 .left) (c .object-start .result) (subst (λ y. ObjectStarts (a .file .now) (a .codes .now) readers y (a .at) (c .object-start .result)) (sym (w .is)) (c .object-start .ensures .0 rd readers (w .type) h l (w .stands))),
   rw (c .before .before .before .before .slot3 .given .1, ne-eqb _ 0 (c .before .before .if3 .left), lt-leb _ _ (c .before .if4 .left)) (c .object-start .ensures .1),
 )
 
