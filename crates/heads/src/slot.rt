@@ -45,11 +45,14 @@ fn plain_of(kind: u32) -> Plain
     Plain::Fixed(kind, size)
 }
 
-// An element or a field of the type at a place: raw if it is a value type, else an object.
+// An element or a field of the type at a place: raw if it is a value type, else an object. Object itself is tested first, as most lists of objects declare it.
 pub fn slot_of(codes: &[u32], a: usize) -> Slot
     ensures { λ r. ⌜ r ≡ slotBy (kindAt (now (codes .entry)) a) a ⌝ }
 {
     let kind = types::kind_at(codes, a);
+    if kind == 14 {
+        return Slot::Object(a);
+    }
     if kind == 12 {
         return Slot::Simple(Plain::Char);
     }

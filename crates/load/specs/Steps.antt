@@ -113,13 +113,13 @@ rawOf file readers shared room depth t h at = rawAt file readers shared room (un
 abbrev pub RawSteps : Grid → (file codes : List ℕ) → List Target → (shared depth : ℕ) → Target → (place : ℕ) → Head → (at : ℕ) → (entry exit : List ℕ) → Stepped → Type 0
 RawSteps g file codes readers shared depth t place h at entry exit (Done r) = Walked g file entry exit (h .row .0) (seen (rawOf file readers shared (g .room) depth t h at)) (Walk-done r)
 RawSteps g file codes readers shared depth t place h at entry exit (Refused n p) = Walked g file entry exit (h .row .0) (seen (rawOf file readers shared (g .room) depth t h at)) (Walk-refused n p)
-RawSteps g file codes readers shared depth t place h at entry exit (Nested id padding from there next nest) = RawLeft file codes t place h at entry exit (id .0) padding from there next nest
+RawSteps g file codes readers shared depth t place h at entry exit (Nested there from nest padding id next) = RawLeft file codes t place h at entry exit (id .0) padding from there next nest
 
 -- the value in a slot is walked, or it is a raw value whose children are left
 abbrev pub Steps : Grid → (file codes : List ℕ) → List Target → (shared depth : ℕ) → L.Slot → (at used parent : ℕ) → (entry exit : List ℕ) → Stepped → Type 0
 Steps g file codes readers shared depth x at used parent entry exit (Done r) = Walked g file entry exit used (seen (walk file readers shared (g .room) depth x at used parent)) (Walk-done r)
 Steps g file codes readers shared depth x at used parent entry exit (Refused n p) = Walked g file entry exit used (seen (walk file readers shared (g .room) depth x at used parent)) (Walk-refused n p)
-Steps g file codes readers shared depth x at used parent entry exit (Nested id padding from place next nest) = Left file codes readers (g .room) depth x at used entry exit (id .0) padding from place next nest
+Steps g file codes readers shared depth x at used parent entry exit (Nested place from nest padding id next) = Left file codes readers (g .room) depth x at used entry exit (id .0) padding from place next nest
 
 pub raw-told : (g : Grid) (file codes : List ℕ) (readers : List Target) (shared depth : ℕ) (t : Target) (place : ℕ) (h : Head) (at : ℕ) {entry exit : List ℕ} (w : Walk)
     → Walked g file entry exit (h .row .0) (seen (rawOf file readers shared (g .room) depth t h at)) w → RawSteps g file codes readers shared depth t place h at entry exit (stepOf w)
@@ -138,7 +138,7 @@ pub raw-steps : (g : Grid) (file codes : List ℕ) (readers : List Target) (shar
     → Steps g file codes readers shared depth x at used parent entry exit r
 raw-steps g file codes readers shared depth below x at used parent place from id padding entry exit (Done r) q b s = rw (b .is shared below parent q) s
 raw-steps g file codes readers shared depth below x at used parent place from id padding entry exit (Refused n p) q b s = rw (b .is shared below parent q) s
-raw-steps g file codes readers shared depth below x at used parent place from id padding entry exit (Nested i p f l next nest) q b s =
+raw-steps g file codes readers shared depth below x at used parent place from id padding entry exit (Nested l f nest p i next) q b s =
     rw (s .id-is, s .padding-is, s .from-is, s .place-is) (record { same = s .same; begins = b; opened = s .opened })
 
 -- the children that were left are walked

@@ -19,7 +19,7 @@ ghost use Rattle.load.specs.Steps.{KnownRaw, NoRule, stepOf, topped, pla
 ghost use Rattle.load.specs.Contracts.{FlatSteps, PlacedSteps, ValueSteps, RawWalks, NestWalks};
 
 // A value that needs no reader list, walked; or a raw value whose children need it:
-// its type id and the padding of that, its first byte, the place of its type, where its head ends, and its children.
+// the place of its type, its first byte, its children, the padding of its type id, the type id, and where its head ends.
 pub enum Stepped {
     Done(Reached),
     Refused {
@@ -27,12 +27,12 @@ pub enum Stepped {
         place: usize,
     },
     Nested {
-        id: TypeId,
-        padding: u32,
-        from: usize,
         place: usize,
-        next: usize,
+        from: usize,
         nest: Nest,
+        padding: u32,
+        id: TypeId,
+        next: usize,
     },
 }
 
@@ -297,7 +297,7 @@ pub(crate) fn nested(
     while (stage.next as u64) < stage.count {
         let slot = heads::nest::slot_at(nest, stage);
         let first = next;
-        let position = objects::start::reader_position(file, slot, next);
+        let position = objects::start::reader_position(file, next);
         let target = rd.targets[position];
         match value(
             file,

@@ -32,11 +32,11 @@ pub struct RowWords {
     pub branch: u32,
 }
 
-// What a walk reaches: the rows used so far, how many bytes the seven-bit numbers of the new rows have beyond their shortest forms, and the next byte.
+// What a walk reaches: how many bytes the seven-bit numbers of the new rows have beyond their shortest forms, the next byte, and the rows used so far.
 pub struct Reached {
-    pub used: u32,
     pub padding: u32,
     pub next: usize,
+    pub used: u32,
 }
 
 // A value, or values one after the other: what the walk reaches, or a refusal's number and place.
