@@ -127,12 +127,12 @@ fn close_flat(
             close_plain(words, grid, kind, h, n, walked)
         }
         Below::Nested(nest) => Stepped::Nested {
-            id: TypeId(h.detail),
-            padding: h.padding,
-            from: at,
             place,
-            next,
+            from: at,
             nest,
+            padding: h.padding,
+            id: TypeId(h.detail),
+            next,
         },
     }
 }
@@ -322,12 +322,12 @@ pub(crate) fn nested(
                 return Children::Refused { number, place };
             }
             Stepped::Nested {
-                id,
-                padding,
-                from,
                 place,
-                next: below,
+                from,
                 nest: inner,
+                padding,
+                id,
+                next: below,
             } => {
                 let h = Head {
                     row: RowNumber(row),

@@ -174,7 +174,7 @@ nested-mul-target : (t : ℕ) → nested-lts.Need-mul-target (
   after-reads.Learnt,
 ) (nested-at t) nested.Post nested-Inv-loop nested-μ-loop
 nested-mul-target t c =
-    let h = subst (λ p. p < 64) (sym ((c .reader-position) .ensures)) (position-in-list ((c .before .before .before .before .before .before .before .before .before .before .args) .file .now) ((c .before .slot-at) .result) ((c .before .before .before .before .before .loop) .next)) in
+    let h = subst (λ p. p < 64) (sym ((c .reader-position) .ensures)) (position-in-list ((c .before .before .before .before .before .before .before .before .before .before .args) .file .now) ((c .before .before .before .before .before .loop) .next)) in
     search needs
 
 nested-element-copy-out-target : (t : ℕ) → nested-lts.Need-element-copy-out-target (
@@ -194,7 +194,7 @@ nested-element-copy-out-target : (t : ℕ) → nested-lts.Need-element-copy-out-
   after-reads.Learnt,
 ) (nested-at t) nested.Post nested-Inv-loop nested-μ-loop
 nested-element-copy-out-target t c =
-    let h = subst (λ p. p < 64) (sym ((c .reader-position) .ensures)) (position-in-list ((c .before .before .before .before .before .before .before .before .before .before .args) .file .now) ((c .before .slot-at) .result) ((c .before .before .before .before .before .loop) .next)) in
+    let h = subst (λ p. p < 64) (sym ((c .reader-position) .ensures)) (position-in-list ((c .before .before .before .before .before .before .before .before .before .before .args) .file .now) ((c .before .before .before .before .before .loop) .next)) in
     search needs
 
 nested-value-requires : (t : ℕ) → nested-lts.Need-value-requires (
@@ -317,7 +317,7 @@ nested-returns t c =
     let s = rw ((c .before .number) .given .1) at ((c .before .before .before .before .before .value) .ensures ((c .before .before .before .before .before .before .before .before .before .before .before .before .before .before .before .before .before .before .args) .t3) readers (v .x) (record { counts = refl; at = ap (λ p. getD ((c .before .before .before .before .before .before .before .before .before .before .before .before .before .before .before .before .before .before .args) .t3 .targets) p 0) (sym ((c .before .before .before .before .before .before .before .before .reader-position) .ensures)) }) l (rw ((c .before .before .before .before .before .before .before .before .before .slot-at) .ensures) (v .is))) in
     next-lost _ _ _ _ _ _ _ _ _ _ _ v (lost s refl)
 
-nested-enum-known-id : (t : ℕ) → nested-lts.Need-enum-known-id (
+nested-enum-known-place : (t : ℕ) → nested-lts.Need-enum-known-place (
   begin-reads.Asked,
   begin-reads.Learnt,
   slot-at-reads.Asked,
@@ -333,7 +333,7 @@ nested-enum-known-id : (t : ℕ) → nested-lts.Need-enum-known-id (
   after-reads.Asked,
   after-reads.Learnt,
 ) (nested-at t) nested.Post nested-Inv-loop nested-μ-loop
-nested-enum-known-id t c = search needs
+nested-enum-known-place t c = search needs
 
 nested-sub-raw : (t : ℕ) → nested-lts.Need-sub-raw (
   begin-reads.Asked,
@@ -355,7 +355,7 @@ nested-sub-raw t c =
     let k = (c .before .before .before .before .before .before .before .before .before .before .before .before .before .before .before .before .before .before .before .pre) .1 .1 in
     let inv = (c .before .before .before .before .before .before .before .before .before .before .before .before .before .before .loop) .inv (k .readers) ((c .before .before .before .before .before .before .before .before .before .before .before .before .before .before .before .before .before .before .before .pre) .1 .2 .plan) (k .listed) ((c .before .before .before .before .before .before .before .before .before .before .before .before .before .before .before .before .before .before .before .pre) .1 .2 .is) in
     let v = value-next _ _ _ _ _ _ _ _ _ _ _ (k .prelude) inv ((c .before .before .before .before .before .before .before .before .before .before .before .if1) .taken) in
-    let s = rw ((c .before .before .id) .given .1) at ((c .before .before .before .before .before .before .value) .ensures ((c .before .before .before .before .before .before .before .before .before .before .before .before .before .before .before .before .before .before .before .args) .t3) (k .readers) (v .x) (record { counts = refl; at = ap (λ p. getD ((c .before .before .before .before .before .before .before .before .before .before .before .before .before .before .before .before .before .before .before .args) .t3 .targets) p 0) (sym ((c .before .before .before .before .before .before .before .before .before .reader-position) .ensures)) }) (k .listed) (rw ((c .before .before .before .before .before .before .before .before .before .before .slot-at) .ensures) (v .is))) in
+    let s = rw ((c .before .before .place) .given .1) at ((c .before .before .before .before .before .before .value) .ensures ((c .before .before .before .before .before .before .before .before .before .before .before .before .before .before .before .before .before .before .before .args) .t3) (k .readers) (v .x) (record { counts = refl; at = ap (λ p. getD ((c .before .before .before .before .before .before .before .before .before .before .before .before .before .before .before .before .before .before .before .args) .t3 .targets) p 0) (sym ((c .before .before .before .before .before .before .before .before .before .reader-position) .ensures)) }) (k .listed) (rw ((c .before .before .before .before .before .before .before .before .before .before .slot-at) .ensures) (v .is))) in
     omega (arith, s .begins .deep)
 
 nested-raw-requires : (t : ℕ) → nested-lts.Need-raw-requires (
@@ -378,7 +378,7 @@ nested-raw-requires t c κs =
     let k = (c .before .before .before .before .before .before .before .before .before .before .before .before .before .before .before .before .before .before .before .pre) .1 .1 in
     let inv = (c .before .before .before .before .before .before .before .before .before .before .before .before .before .before .loop) .inv (k .readers) ((c .before .before .before .before .before .before .before .before .before .before .before .before .before .before .before .before .before .before .before .pre) .1 .2 .plan) (k .listed) ((c .before .before .before .before .before .before .before .before .before .before .before .before .before .before .before .before .before .before .before .pre) .1 .2 .is) in
     let v = value-next _ _ _ _ _ _ _ _ _ _ _ (k .prelude) inv ((c .before .before .before .before .before .before .before .before .before .before .before .if1) .taken) in
-    let s = rw ((c .before .before .id) .given .1) at ((c .before .before .before .before .before .before .value) .ensures ((c .before .before .before .before .before .before .before .before .before .before .before .before .before .before .before .before .before .before .before .args) .t3) (k .readers) (v .x) (record { counts = refl; at = ap (λ p. getD ((c .before .before .before .before .before .before .before .before .before .before .before .before .before .before .before .before .before .before .before .args) .t3 .targets) p 0) (sym ((c .before .before .before .before .before .before .before .before .before .reader-position) .ensures)) }) (k .listed) (rw ((c .before .before .before .before .before .before .before .before .before .before .slot-at) .ensures) (v .is))) in
+    let s = rw ((c .before .before .place) .given .1) at ((c .before .before .before .before .before .before .value) .ensures ((c .before .before .before .before .before .before .before .before .before .before .before .before .before .before .before .before .before .before .before .args) .t3) (k .readers) (v .x) (record { counts = refl; at = ap (λ p. getD ((c .before .before .before .before .before .before .before .before .before .before .before .before .before .before .before .before .before .before .before .args) .t3 .targets) p 0) (sym ((c .before .before .before .before .before .before .before .before .before .reader-position) .ensures)) }) (k .listed) (rw ((c .before .before .before .before .before .before .before .before .before .before .slot-at) .ensures) (v .is))) in
     let b = standing-begin _ _ _ _ _ _ _ _ _ _ _ ((c .before .before .before .before .before .before .before .before .before .before .before .before .before .before .before .before .before .before .before .pre) .1 .0) inv in
     (omega (arith, (c .before .before .before .before .before .before .before .before .before .before .before .before .before .before .before .before .before .before .before .pre) .0, s .begins .deep), (record { long = omega (arith, b .long, ap length (s .same)); few = b .few; free = s .begins .free; begun = s .begins .ahead; place = s .begins .inside; short = b .short; ided = s .begins .ided }, k, record { type = s .begins .type; is = s .begins .stands; opened = s .opened }))
 
@@ -478,7 +478,7 @@ nested-returns-2 t c =
     let a = (c .before .before .before .before .before .before .before .before .before .before .before .before .before .before .before .before .before .before .before .before .before .before .before .before .before .args) in
     let inv = (c .before .before .before .before .before .before .before .before .before .before .before .before .before .before .before .before .before .before .before .before .loop) .inv readers plan l w in
     let v = value-next _ _ _ _ _ _ _ _ _ _ _ ((c .before .before .before .before .before .before .before .before .before .before .before .before .before .before .before .before .before .before .before .before .before .before .before .before .before .pre) .1 .1 .prelude) inv ((c .before .before .before .before .before .before .before .before .before .before .before .before .before .before .before .before .before .if1) .taken) in
-    let s = rw ((c .before .before .before .before .before .before .before .before .id) .given .1) at ((c .before .before .before .before .before .before .before .before .before .before .before .before .value) .ensures (a .t3) readers (v .x) (record { counts = refl; at = ap (λ p. getD (a .t3 .targets) p 0) (sym ((c .before .before .before .before .before .before .before .before .before .before .before .before .before .before .before .reader-position) .ensures)) }) l (rw ((c .before .before .before .before .before .before .before .before .before .before .before .before .before .before .before .before .slot-at) .ensures) (v .is))) in
+    let s = rw ((c .before .before .before .before .before .before .before .before .place) .given .1) at ((c .before .before .before .before .before .before .before .before .before .before .before .before .value) .ensures (a .t3) readers (v .x) (record { counts = refl; at = ap (λ p. getD (a .t3 .targets) p 0) (sym ((c .before .before .before .before .before .before .before .before .before .before .before .before .before .before .before .reader-position) .ensures)) }) l (rw ((c .before .before .before .before .before .before .before .before .before .before .before .before .before .before .before .before .slot-at) .ensures) (v .is))) in
     next-lost _ _ _ _ _ _ _ _ _ _ _ v (lost (left-walked (a .grid) (a .shared) (a .depth - 1) (a .used) (omega (arith, s .begins .deep)) s ((c .before .before .before .before .before .raw) .ensures readers (s .begins .type) l (s .begins .stands) (s .opened))) ((c .before .number2) .given .1))
 
 nested-after-requires : (t : ℕ) → nested-lts.Need-after-requires (
@@ -758,7 +758,7 @@ pub +nested+raw-spec : {M : Type 1} → statement M
     (nested-enum-known-number t)
     (nested-same-length t)
     (nested-returns t)
-    (nested-enum-known-id t)
+    (nested-enum-known-place t)
     (nested-sub-raw t)
     (nested-raw-requires t)
     (nested-enum-known-reached-2 t)
