@@ -1,5 +1,5 @@
 -- A seven-bit number with its padding (02, Req 06: "The 7-bit reader is to say, besides value and bytes read, how many bytes were more than the shortest form has"). Assumes nothing.
-use mathlib.Core.Path.{_≡_, sym, ap, _∙_}
+use mathlib.Core.Path.{_≡_, ap}
 use Prim.Native.Nat.{ℕ, _-_}
 use lib.ListN.{length}
 use Rattle.laws.specs.Small.{differ}

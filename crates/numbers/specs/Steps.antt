@@ -1,5 +1,5 @@
 -- The five steps of reading a seven-bit number (000, "7BitEncodedInt", and 01's rule of five bytes); 02, Req 03: each says "exactly when it ends the number, hands on or refuses with 1 or 8, and with which value"; Req 06: "how many bytes were more than the shortest form has". Assumes nothing.
-use mathlib.Core.Bool.{Bool, true, false, cond}
+use mathlib.Core.Bool.{cond}
 use mathlib.Core.List.{List}
 use Prim.Native.Nat.{ℕ, _+_, _*_, _-_, _%_, _^_}
 use lib.Bits.{bitOr}

@@ -92,9 +92,13 @@ pub fn seven_padded(s: &[u8], start: usize) -> Padded
 pub fn seven_at(s: &[u8], start: usize) -> Number
     ensures { λ r. ⌜ told r ≡ sevenAt (now (s .entry)) start ⌝ }
 {
-    match all_steps(s, start) {
-        Padded::Read(value, next, _) => Number::Read(value, next),
-        Padded::Refused(number, place) => Number::Refused(number, place),
+    match first(s, start) {
+        Step::Ends(value, next, _) => Number::Read(value, next),
+        Step::HandsOn(_, _) => match all_steps(s, start) {
+            Padded::Read(value, next, _) => Number::Read(value, next),
+            Padded::Refused(number, place) => Number::Refused(number, place),
+        },
+        Step::Refuses(number, place) => Number::Refused(number, place),
     }
 }
 

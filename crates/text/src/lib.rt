@@ -81,11 +81,12 @@ pub fn is_utf8(s: &[u8]) -> bool
     true
 }
 
-// Whether `s` is UTF-8, for short texts: ASCII in blocks of 16 bytes, then one character after the other.
+// Whether `s` is UTF-8, for short texts: ASCII in blocks of 16 bytes and then of 4, then one character after the other.
 pub fn is_short_utf8(s: &[u8]) -> bool
     ensures { λ r. ⌜ r ≡ utf8s (now (s .entry)) ⌝ }
 {
-    let mut i = ascii_blocks(s, 0, 16);
+    let a = ascii_blocks(s, 0, 16);
+    let mut i = ascii_blocks(s, a, 4);
     while i < s.len() {
         if s[i] < 0x80 {
             i += 1;

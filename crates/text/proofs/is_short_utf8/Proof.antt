@@ -5,21 +5,27 @@ use Prim.Native.Nat.{_-_}
 use native.Mathlib.Omega.{arith}
 use lib.ListN.{length}
 use Rattle.text.specs.Passed.{Passed}
-use Rattle.text.proofs.Laws.{pass-ascii, pass-char, ran-out, passed-all}
+use Rattle.text.proofs.Laws.{pass-ascii, pass-char, ran-out, passed-on, passed-all}
 use Rattle.text.proofs.is_short_utf8.Statement.{statement}
 use Rattle.text.proofs.is_short_utf8.Tie as tie
 
 abbrev Inv-loop : tie.InvT-loop
-Inv-loop s i₀ i = Passed s 0 i
+Inv-loop s a i₀ i = Passed s 0 i
 
 abbrev μ-loop : tie.MeasureT-loop
-μ-loop s i₀ i = length s - i
+μ-loop s a i₀ i = length s - i
 
 ascii-blocks-requires : tie.Need-ascii-blocks-requires Inv-loop μ-loop
 ascii-blocks-requires c κs = search needs
 
+ascii-blocks-requires-2 : tie.Need-ascii-blocks-requires-2 Inv-loop μ-loop
+ascii-blocks-requires-2 c κs = search needs
+
 loop-holds : tie.Need-loop-holds Inv-loop μ-loop
-loop-holds c = c .ascii-blocks .ensures
+loop-holds c =
+    let a = c .before .ascii-blocks in
+    let b = c .ascii-blocks2 in
+    passed-on (c .before .before .before .args .s .now) (a .result) (a .ensures) (b .result) (b .ensures)
 
 shared-slice-read-if1 : tie.Need-shared-slice-read-if1 Inv-loop μ-loop
 shared-slice-read-if1 c = search needs
@@ -32,7 +38,7 @@ loop-less c = search needs
 
 loop-again : tie.Need-loop-again Inv-loop μ-loop
 loop-again c =
-    let a = c .before .before .before .before .before .before .args in
+    let a = c .before .before .before .before .before .before .before .args in
     let l = c .before .before .before .loop in
     pass-ascii (a .s .now) (l .i) (l .inv) (omega arith) (c .if1 .taken)
 
@@ -41,14 +47,14 @@ multi-requires c κs = search needs
 
 returns : tie.Need-returns Inv-loop μ-loop
 returns c =
-    let a = c .before .before .before .before .before .before .before .before .args in
+    let a = c .before .before .before .before .before .before .before .before .before .args in
     let l = c .before .before .before .before .before .loop in
     let r = ran-out (a .s .now) (l .i) (l .inv) (c .before .multi .result) (omega arith) (c .before .multi .ensures) (c .if2 .taken) in
     sym (r .stops (omega arith)) ∙ l .inv .same
 
 add-i-2 : tie.Need-add-i-2 Inv-loop μ-loop
 add-i-2 c =
-    let a = c .before .before .before .before .before .before .before .before .args in
+    let a = c .before .before .before .before .before .before .before .before .before .args in
     let l = c .before .before .before .before .before .loop in
     omega (arith, pass-char (a .s .now) (l .i) (l .inv) (c .before .multi .result) (c .before .multi .ensures) (c .if2 .left) .inside)
 
@@ -57,13 +63,13 @@ loop-less-2 c = search needs
 
 loop-again-2 : tie.Need-loop-again-2 Inv-loop μ-loop
 loop-again-2 c =
-    let a = c .before .before .before .before .before .before .before .before .args in
+    let a = c .before .before .before .before .before .before .before .before .before .args in
     let l = c .before .before .before .before .before .loop in
     pass-char (a .s .now) (l .i) (l .inv) (c .before .multi .result) (c .before .multi .ensures) (c .if2 .left)
 
 returns-2 : tie.Need-returns-2 Inv-loop μ-loop
 returns-2 c =
-    let a = c .before .before .before .before .args in
+    let a = c .before .before .before .before .before .args in
     let l = c .before .loop in
     sym (passed-all (a .s .now) (l .i) (l .inv) (c .loop-test .left))
 
@@ -74,6 +80,7 @@ is-short-utf8-spec =
     Inv-loop
     μ-loop
     ascii-blocks-requires
+    ascii-blocks-requires-2
     loop-holds
     shared-slice-read-if1
     add-i
