@@ -1,7 +1,7 @@
 -- The place that the one number tells is the refusal's own, but for 32's, which has no bound. Assumes nothing.
 use mathlib.Core.Path.{_≡_, refl, sym, _∙_}
 use mathlib.Core.List.{List}
-use Prim.Native.Nat.{ℕ, _+_, _*_, _%_, _<_}
+use Prim.Native.Nat.{ℕ, _+_, _*_, _<_}
 use native.Mathlib.Omega.{arith}
 use Rattle.layout.specs.Named.{named}
 use Rattle.reading.specs.Reads.{Small}

@@ -1,6 +1,6 @@
 -- A table in columns (02, Req 08). Assumes nothing.
 use mathlib.Core.Bool.{Bool, true, false}
-use mathlib.Core.List.{List, [], _∷_, _++_, map}
+use mathlib.Core.List.{List, _++_, map}
 use Prim.Native.Nat.{ℕ, _*_, _-_}
 use lib.ListN.{length, replicate}
 use Rattle.layout.specs.Rows.{Row, flat, width}

@@ -1,7 +1,7 @@
 -- The judge's loop: the entries that were passed, and what is left to say of the bytes behind them. Assumes nothing.
 use mathlib.Core.Path.{_≡_, refl, sym, ap, _∙_}
 use mathlib.Core.Bool.{true, false}
-use mathlib.Core.List.{List, [], _∷_, _++_, append-assoc}
+use mathlib.Core.List.{List, [], _∷_, _++_}
 use Prim.Native.Nat.{ℕ, zero, suc, _+_, _-_, _≤_, _<_}
 use native.Mathlib.Omega.{arith}
 use lib.ListN.{length, take, drop, getD, length-drop, length-append, drop-of-length-le}
@@ -9,7 +9,6 @@ use lib.Seq.{length-take-le, take-add, take-at}
 use borrow.Author.Tests.{lt-ltb, le-ltb, eq-eqb, ne-eqb}
 use Rattle.layout.specs.EnumList.{EnumEntry, entry, writeEnums, sizeIn}
 use Rattle.names.specs.Entries.{entriesOf, entries-written}
-use Rattle.enums.specs.declared.Judged.{Judged}
 use Rattle.enums.specs.declared.Judged.the-variants.{Lawful, Refused}
 use Rattle.enums.specs.Judge.{Judgement, refused, lawful, isEnumType, check, enumsFrom, enumsAt}
 use Rattle.enums.specs.Laws.{write-append}

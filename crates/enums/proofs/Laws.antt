@@ -2,14 +2,13 @@
 use mathlib.Core.Path.{_≡_, refl, sym, ap, _∙_}
 use mathlib.Core.Bool.{Bool, true, false, _&&_, cond}
 use mathlib.Core.List.{List, [], _∷_}
-use Prim.Native.Nat.{ℕ, suc, _+_, _-_, _≤_, _<_}
+use Prim.Native.Nat.{ℕ, suc, _+_, _-_, _<_}
 use native.Mathlib.Omega.{arith}
 use lib.Dec.{eqb}
-use lib.ListN.{length, take, drop, getD, length-drop, drop-of-length-le}
+use lib.ListN.{length, take, drop, getD}
 use lib.Seq.{drop-cons, drop-drop, getD-drop}
 use Rattle.layout.specs.Name.{headByte, all}
-use Rattle.layout.specs.Kind.{alike, lookup, targets}
-use Rattle.layout.specs.EnumList.{EnumEntry, entry, sizeIn}
+use Rattle.layout.specs.Kind.{lookup, targets}
 use Rattle.names.specs.Parse.{span}
 use Rattle.enums.specs.Judge.{isSize, isHead, isEnumType}
 

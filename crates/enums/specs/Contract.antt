@@ -1,6 +1,4 @@
 -- What judging a list answers. Assumes nothing.
-use mathlib.Core.List.{List}
-use Prim.Native.Nat.{ℕ}
 use Rattle.enums.specs.declared.Judged.{Judged}
 use Rattle.enums.specs.declared.Judged.the-variants.{Lawful, Refused}
 use Rattle.enums.specs.Judge.{Judgement, refused, lawful}

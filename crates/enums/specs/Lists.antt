@@ -1,16 +1,16 @@
 -- What the judge of a list says is what the layout says of lists of enum types. Assumes nothing.
 use mathlib.Core.Path.{_≡_, refl, sym, ap, _∙_}
-use mathlib.Core.Bool.{Bool, true, false, _&&_, cond}
+use mathlib.Core.Bool.{Bool, true, false, cond}
 use mathlib.Core.List.{List, [], _∷_, _++_, append-assoc, append-nil}
-use mathlib.Core.Logic.{_⊎_, inl, inr}
+use mathlib.Core.Logic.{inl, inr}
 use Prim.Native.Nat.{ℕ, zero, suc, _+_, _≤_, _<_}
 use native.Mathlib.Omega.{arith}
 use lib.Dec.{eqb, ltb}
 use lib.ListN.{length, take, drop, getD, length-drop, length-append}
 use lib.Seq.{getD-drop, length-take-le, split-at}
-use borrow.Author.Tests.{lt-ltb, ltb-true, eq-eqb, eqb-true, ne-eqb}
+use borrow.Author.Tests.{lt-ltb, ltb-true, eqb-true}
 use Rattle.laws.specs.Small.{differ, both, either}
-use Rattle.layout.specs.Name.{Head, headByte, all}
+use Rattle.layout.specs.Name.{Head}
 use Rattle.layout.specs.Kind.{alike, lookup, targets}
 use Rattle.layout.specs.EnumList.{EnumEntry, entry, writeEnums, EnumSize, EnumType, Unlisted, Enums, sizeIn}
 use Rattle.names.specs.Codes.{alike-then, alike-self}

@@ -14,7 +14,7 @@ use Rattle.layout.specs.Target.{Target, fixed, char, string, texture2D, enum}
 use Rattle.layout.specs.EnumList.{EnumSize}
 use Rattle.layout.specs.Image.{levels, digits}
 use Rattle.layout.specs.Fixed.{sizes}
-use Rattle.layout.specs.Slot.{stop, each, leaves}
+use Rattle.layout.specs.Slot.{stop, leaves}
 use Rattle.reading.specs.Answer.{Answer, refused, read, bind, check, within}
 use Rattle.reading.specs.Little.{littleAt}
 use Rattle.reading.specs.Utf8.{charAt}

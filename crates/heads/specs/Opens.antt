@@ -10,7 +10,7 @@ use Rattle.layout.specs.EnumList.{EnumSize}
 use Rattle.layout.specs.Image.{levels, digits}
 use Rattle.layout.specs.Fixed.{sizes}
 use Rattle.layout.specs.Slot.{stop, each, leaves}
-use Rattle.reading.specs.Answer.{Answer, refused, read, bind, check, within}
+use Rattle.reading.specs.Answer.{Answer, refused, read, bind, check}
 use Rattle.reading.specs.Little.{littleAt}
 use Rattle.reading.specs.Heads.{Opening}
 use Rattle.heads.specs.declared.nest.Below.{Below}

@@ -1,5 +1,5 @@
 -- The padding of a text's count, as an opened head tells it. Assumes nothing.
-use mathlib.Core.Path.{_≡_, refl, sym, ap, _∙_}
+use mathlib.Core.Path.{_≡_, refl, sym, _∙_}
 use mathlib.Core.Bool.{Bool, true, false, cond}
 use mathlib.Core.List.{List}
 use Prim.Native.Nat.{ℕ, _+_, max}
@@ -23,7 +23,7 @@ use Rattle.types.specs.Place.{kindAt, placeAfter}
 use Rattle.leaves.specs.Text.{ownSize}
 use Rattle.heads.specs.declared.slot.Slot.{Slot}
 use Rattle.heads.specs.declared.slot.Slot.the-variants.{Simple, Raw, Object}
-use Rattle.heads.specs.declared.nest.Nest.the-variants.{Font, Page, Mesh}
+use Rattle.heads.specs.declared.nest.Nest.the-variants.{Mesh}
 use Rattle.heads.specs.declared.nest.Below.{Below}
 use Rattle.heads.specs.declared.nest.Below.the-variants.{Nothing, Nested}
 use Rattle.heads.specs.declared.nest.Below.the-variants.{Simple as SimpleRun}

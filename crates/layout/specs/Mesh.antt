@@ -3,7 +3,7 @@ use mathlib.Core.Bool.{cond}
 use Prim.Native.Nat.{ℕ, zero, suc, _*_}
 use lib.Dec.{eqb, ltb}
 use Rattle.layout.specs.Target.{fixed, string, object as anything, Mesh, indexBuffer, vertexDeclaration, vertexBuffer, model, mesh, meshKind}
-use Rattle.layout.specs.Slot.{Rule, atMost, multipleOf, boneField, codeField, uintField, blob, numeric, Slot, raw, object, reference, leaf, Plan, stop, put}
+use Rattle.layout.specs.Slot.{atMost, multipleOf, boneField, codeField, uintField, blob, numeric, Slot, raw, object, reference, leaf, Plan, stop, put}
 
 -- 000: "Repeat <n> { .. }": a block so many times, and then the rest
 unfoldable pub times : ℕ → (Plan → Plan) → Plan → Plan

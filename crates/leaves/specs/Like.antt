@@ -3,14 +3,13 @@ use mathlib.Core.Path.{_≡_, refl}
 use mathlib.Core.List.{List, [], _∷_, _++_}
 use Prim.Native.Nat.{ℕ, zero, suc}
 use lib.ListN.{length, replicate}
-use Rattle.layout.specs.Target.{Target, enum, kindOf, spriteFont}
-use Rattle.layout.specs.Tree.{toldOf}
+use Rattle.layout.specs.Target.{Target, enum, kindOf}
 use Rattle.layout.specs.Slot.{Slot, raw, each, pairs}
-use Rattle.reading.specs.Answer.{Answer, refused, read, bind}
+use Rattle.reading.specs.Answer.{refused, read, bind}
 use Rattle.reading.specs.Rules.{same as sameTarget, decided}
 use Rattle.reading.specs.Font.{fontOk, fontIf}
 use Rattle.reading.specs.Heads.{headAt}
-use Rattle.reading.specs.Walk.{Taken, Outcome, done, before, sequence, rawAt, valueAt, walk}
+use Rattle.reading.specs.Walk.{Outcome, done, before, sequence, rawAt, valueAt, walk}
 
 pub data Like : Slot → Slot → Type 0 where
   same : {x : Slot} → Like x x

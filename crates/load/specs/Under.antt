@@ -1,16 +1,15 @@
 -- What loading answers under a lent list of enum types (02, Req 02). Assumes nothing.
-use mathlib.Core.Path.{_≡_, refl, sym, ap, _∙_}
+use mathlib.Core.Path.{_≡_, refl, ap, _∙_}
 use mathlib.Core.List.{List}
 use Prim.Native.Nat.{ℕ}
 use Rattle.laws.specs.Small.{differ}
-use Rattle.layout.specs.EnumList.{EnumEntry, writeEnums}
+use Rattle.layout.specs.EnumList.{EnumEntry}
 use Rattle.reading.specs.Answer.{Answer, refused}
 use Rattle.layout.specs.Rows.{Row}
 use Rattle.reading.specs.File.{Loaded, fileAt, Load, refusal, accepted, toLoad, roomOf, loadOf}
 use Rattle.names.specs.Entries.{enumsOf, enums-written}
 use Rattle.enums.specs.Judge.{Judgement, lawful, enumsAt}
 use Rattle.enums.specs.Judge.{refused as list-refused}
-use Rattle.enums.specs.declared.Judged.{Judged}
 use Rattle.enums.specs.declared.Judged.the-variants.{Lawful, Refused}
 use Rattle.enums.specs.Contract.{answerOf}
 use Rattle.enums.specs.Lists.{Bytes, enums-sound}

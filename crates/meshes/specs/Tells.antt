@@ -8,10 +8,10 @@ use lib.Dec.{eqb}
 use lib.ListN.{length, getD, take, drop, length-append}
 use lib.Seq.{take-append-seam}
 use Rattle.layout.specs.Number.{valueOf}
-use Rattle.layout.specs.Target.{Target, fixed, mesh, vertexDeclaration, kindOf, meshKind}
+use Rattle.layout.specs.Target.{Target, fixed, kindOf, meshKind}
 use Rattle.layout.specs.Tree.{Trees, none, tree, told, toldOf, firstValue}
-use Rattle.layout.specs.Fixed.{sizes, Fixed}
-use Rattle.layout.specs.Slot.{uintField, fieldKind, numeric, Slot, raw, leaf, Plan, put}
+use Rattle.layout.specs.Fixed.{sizes}
+use Rattle.layout.specs.Slot.{fieldKind, Slot, Plan}
 use Rattle.layout.specs.Mesh.{then, uint, declarationPlan, planOf}
 use Rattle.layout.specs.Head.{Head}
 use Rattle.layout.specs.Layout.{Raw, Value, Lays, Leafed}

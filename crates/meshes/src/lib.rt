@@ -3,7 +3,6 @@ use answers::Number;
 use leaves::plain::Plain;
 ghost use mathlib.Core.Path.{_≡_};
 ghost use Rattle.answers.specs.Told.{told};
-ghost use Rattle.reading.specs.Little.{littleAt};
 ghost use Rattle.meshes.specs.Stages.{stageOf, firstField, fieldOf, onwardOf, behindOf, numberOf, toldAt};
 ghost use Rattle.meshes.specs.Stages.{toElements, toNames, toParents, toChildren, toMeshes, toParts};
 

@@ -15,8 +15,7 @@ use Rattle.layout.specs.Layout.{Lays}
 use Rattle.layout.specs.Resource.{Within}
 use Rattle.layout.specs.Rows.{Row, row, width}
 use Rattle.layout.specs.Named.{plain, fixedKind}
-use Rattle.layout.specs.Number.{between}
-use Rattle.reading.specs.Answer.{Answer, refused, read, bind, check}
+use Rattle.reading.specs.Answer.{Answer, read, bind, check}
 use Rattle.reading.specs.Reads.{Small}
 use Rattle.reading.specs.Font.{fontOk}
 use Rattle.reading.specs.Heads.{Opening, headAt}

@@ -16,7 +16,6 @@ use Rattle.layout.specs.Slot as L
 use Rattle.layout.specs.Slot.{Plan, raw, object}
 use Rattle.layout.specs.Rows.{row}
 use Rattle.layout.specs.Named.{plain, fixedKind}
-use Rattle.layout.specs.Number.{between}
 use Rattle.reading.specs.Answer.{Answer, refused, read, bind, check}
 use Rattle.reading.specs.Seven.{group, groups, sevenAt, seven-next}
 use Rattle.reading.specs.Reads.{Small}
@@ -34,8 +33,6 @@ use Rattle.readers.specs.Listed.{Listed}
 use Rattle.leaves.specs.Plain.{plainSlot, Lawful}
 use Rattle.leaves.specs.Like.{Like}
 use Rattle.heads.specs.declared.slot.Slot.{Slot}
-use Rattle.heads.specs.declared.slot.Slot.the-variants.{Object}
-use Rattle.heads.specs.declared.slot.Slot.the-variants.{Simple as SimpleSlot, Raw as RawSlot}
 use Rattle.objects.specs.declared.start.Identified.{Identified}
 use Rattle.objects.specs.declared.start.Identified.the-variants.{Null, Reader, Refused}
 use Rattle.objects.specs.declared.start.Started.{Started}

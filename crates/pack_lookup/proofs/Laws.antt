@@ -9,7 +9,7 @@ use lib.ListN.{length, take, drop, getD, length-drop}
 use lib.Seq.{drop-cons, length-take-le}
 use borrow.Author.Tests.{ltb-true, ltb-false, leb-true, le-leb, lt-leb, eqb-true, eqb-false, eq-eqb, ne-eqb}
 use Rattle.laws.specs.Small.{differ}
-use Rattle.pack_layout.specs.Table.{Entry, entry, wholes}
+use Rattle.pack_layout.specs.Table.{entry, wholes}
 use Rattle.reading.specs.Same.{same}
 use Rattle.pack_reading.specs.Lookup.{lower, lowered, matches, found, findIn, findOf}
 use Rattle.pack_lookup.specs.Compared.{SameAt, Compared}

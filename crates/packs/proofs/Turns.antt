@@ -5,7 +5,7 @@ use Prim.Native.Nat.{ℕ, suc, _+_, _*_, _<_, _≤_}
 use native.Mathlib.Omega.{arith}
 use lib.ListN.{length, take, set, length-append, length-set}
 use lib.Seq.{take-suc-set}
-use Rattle.reading.specs.Answer.{refused, read}
+use Rattle.reading.specs.Answer.{refused}
 use Rattle.pack_layout.specs.Pack.{Stored, recordBytes, recordsBytes}
 use Rattle.pack_layout.specs.Table.{Entry, entry, flat, entryOf, entries}
 use Rattle.packs.specs.declared.Reading.the-variants.{Refused, Read}

@@ -1,5 +1,5 @@
 -- How many bytes the seven-bit numbers at some places have beyond their shortest forms (02, Req 06: "The loader's answer gains the file's total"), and its laws. Assumes nothing.
-use mathlib.Core.Path.{_≡_, refl, sym, ap, _∙_}
+use mathlib.Core.Path.{_≡_, refl, ap, _∙_}
 use mathlib.Core.Bool.{Bool, true, false, cond}
 use mathlib.Core.List.{List, [], _∷_, _++_, append-assoc}
 use Prim.Native.Nat.{ℕ, zero, suc, _+_, _*_, _-_, _≤_, _<_}
@@ -13,7 +13,7 @@ use Rattle.layout.specs.Rows.{Row}
 use Rattle.reading.specs.Answer.{Answer, refused, read}
 use Rattle.reading.specs.Reads.{Small, next-of}
 use Rattle.reading.specs.Seven.{sevenAt, seven-reads, some-bytes}
-use Rattle.numbers.specs.Shortest.{shortest, shortest-is}
+use Rattle.numbers.specs.Shortest.{shortest-is}
 use Rattle.numbers.specs.Padded.{numberOf, past, padOf}
 use Rattle.places.specs.Places.{numbered, idPlaces, rawPlace, countPlaces, rowsPlaces, behindEntry, entriesPlaces, entriesEnd, listsPlaces, filePlaces}
 

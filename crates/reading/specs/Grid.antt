@@ -1,14 +1,14 @@
 -- A lent table as a grid: where word j of row i stands, by rows or by columns (01, "The row table"), and rows in the words. Assumes nothing.
 use mathlib.Core.Path.{_≡_, refl, sym, ap, _∙_}
 use mathlib.Core.Bool.{Bool, true, false}
-use mathlib.Core.List.{List, [], _∷_, _++_, append-assoc}
+use mathlib.Core.List.{List, [], _∷_, _++_}
 use Prim.Native.Nat.{ℕ, zero, suc, _+_, _*_, _<_, _≤_}
 use native.Mathlib.Omega.{arith}
 use native.Mathlib.Nat.{mul-suc, mul-le-mul-left, mul-comm}
-use lib.Dec.{ltb, eqb}
-use lib.ListN.{length, getD, set, drop, length-set, length-append}
+use lib.Dec.{ltb}
+use lib.ListN.{length, getD, set, length-set}
 use lib.Seq.{set-comm, set-set, getD-set-same, getD-set-other}
-use borrow.Author.Tests.{ltb-true, ltb-false, eqb-true, eqb-false}
+use borrow.Author.Tests.{ltb-true, ltb-false}
 use Rattle.layout.specs.Rows.{width}
 
 pub data Shape : Type 0 where

@@ -6,7 +6,7 @@ use mathlib.Core.Logic.{inl, inr}
 use Prim.Native.Nat.{ℕ, zero, suc, _+_, _*_}
 use native.Mathlib.Omega.{arith}
 use lib.ListN.{length}
-use Rattle.layout.specs.Target.{Target, kindOf}
+use Rattle.layout.specs.Target.{Target}
 use Rattle.layout.specs.Tree.{Trees, none, tree, count, size, told}
 use Rattle.layout.specs.Slot.{Slot, raw, object, reference, leaf, Plan, stop, put, each}
 use Rattle.layout.specs.Layout.{Raw, Value, Lays}

@@ -16,7 +16,7 @@ use Rattle.layout.specs.Head.{Head}
 use Rattle.layout.specs.Layout.{Raw, Value, Lays}
 use Rattle.layout.specs.Resource.{Within}
 use Rattle.layout.specs.Rows.{row, rawRows, notedRows, valueRows}
-use Rattle.reading.specs.Answer.{read, Ok, not-read, is-read, ok-bind, ok-check}
+use Rattle.reading.specs.Answer.{Ok, not-read, is-read, ok-bind, ok-check}
 use Rattle.reading.specs.Reads.{Small, Spans}
 use Rattle.reading.specs.Seven.{seven-reads}
 use Rattle.reading.specs.Rules.{Found, missing, found, reader, reader-sound, serves, serves-sound}

@@ -9,7 +9,7 @@ use Rattle.layout.specs.EnumList.{EnumEntry}
 use Rattle.layout.specs.Named.{named}
 use Rattle.reading.specs.Answer.{Answer, refused, read}
 use Rattle.reading.specs.Reads.{Small}
-use Rattle.reading.specs.File.{Load, refusal, accepted, Loaded as FileLoaded, fileAt, toLoad, roomOf, loadOf, tableOf}
+use Rattle.reading.specs.File.{Load, refusal, accepted, Loaded as FileLoaded, toLoad, roomOf, tableOf}
 use Rattle.reading.specs.Theorems.{rowsIn, accepted-is}
 use Rattle.load.specs.declared.Loading.the-variants.{Refused, Loaded}
 use Rattle.enums.specs.Judge.{lawful, enumsAt}

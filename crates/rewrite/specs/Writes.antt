@@ -5,7 +5,7 @@ use Prim.Native.Nat.{ℕ, _+_, _-_, _≤_}
 use lib.ListN.{length, drop}
 use Rattle.reading.specs.Seven.{sevenAt}
 use Rattle.shortest.specs.File.{shortFile}
-use Rattle.numbers.specs.Padded.{numberOf, past, padOf}
+use Rattle.numbers.specs.Padded.{numberOf, past}
 use Rattle.places.specs.Places.{entriesPlaces, entriesEnd, listsPlaces}
 use Rattle.rewrite.specs.declared.Cursor.{Cursor}
 use Rattle.rewrite.specs.declared.Behind.{Behind}

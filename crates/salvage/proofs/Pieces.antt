@@ -9,7 +9,7 @@ use lib.ListN.{length, drop, getD}
 use lib.Seq.{drop-cons}
 use borrow.Author.Tests.{eq-eqb, ne-eqb}
 use Rattle.laws.specs.Small.{differ}
-use Rattle.reading.specs.Answer.{Answer, refused, read, Ok}
+use Rattle.reading.specs.Answer.{Answer, read, Ok}
 use Rattle.reading.specs.Reads.{Small, Spans}
 use Rattle.pack_layout.specs.Pack.{Stored, Lawful, marked, recordBytes}
 use Rattle.pack_reading.specs.Pack.{recordAt}
@@ -17,7 +17,7 @@ use Rattle.pack_reading.specs.Laws.{record-reads}
 use Rattle.pack_records.specs.declared.Record.the-variants as record′
 use Rattle.pack_records.specs.Records.{recorded}
 use Rattle.packs.specs.Walk.{got}
-use Rattle.pack_salvage.specs.Scan.{Piece, kept, skipped, allSkipped, Stands, NoneStands, Scanned, at-end, no-more, keeps, goes-on, keptOf}
+use Rattle.pack_salvage.specs.Scan.{Piece, skipped, allSkipped, Stands, NoneStands, Scanned, at-end, no-more, keeps, goes-on, keptOf}
 use Rattle.pack_salvage.specs.Scanning.{scan, scan-goes-on}
 use Rattle.pack_salvage.specs.Stretches.{Stretch, joined, stretches, Apart}
 use Rattle.salvage.specs.Salvaging.{NoLead, StandsFrom, NextRecord, gap}

@@ -1,7 +1,7 @@
 -- Values one after the other as a plan says, as a loop reads them: what is known after some of them. Assumes nothing.
 use mathlib.Core.Path.{_≡_, refl, sym, ap, _∙_}
-use mathlib.Core.List.{List, [], _∷_, _++_, append-assoc, append-nil, map-append}
-use Prim.Native.Nat.{ℕ, zero, suc, _+_, _<_, _≤_}
+use mathlib.Core.List.{List, [], _++_, append-assoc, append-nil, map-append}
+use Prim.Native.Nat.{ℕ, _+_, _≤_}
 use native.Mathlib.Omega.{arith}
 use lib.ListN.{length, length-append}
 use Rattle.laws.specs.Small.{differ}
@@ -18,7 +18,7 @@ use Rattle.table.specs.declared.Reached.{Reached}
 use Rattle.table.specs.declared.Walk.{Walk}
 use Rattle.table.specs.declared.Walk.the-variants.{Refused}
 use Rattle.table.specs.Written.{written, written-none, written-append, length-written}
-use Rattle.table.specs.Contract.{Seen, seen, reaching, padded, Walked}
+use Rattle.table.specs.Contract.{seen, reaching, padded, Walked}
 
 -- what a caller knows of values that were read
 pub record Got (g : Grid) (file entry exit : List ℕ) (used : ℕ) (o : Outcome) (next u p : ℕ) : Type 0 where

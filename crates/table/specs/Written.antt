@@ -1,12 +1,12 @@
 -- Rows in the lent words (01, "The row table"). Assumes nothing.
-use mathlib.Core.Path.{_≡_, refl, sym, ap, _∙_}
+use mathlib.Core.Path.{_≡_, refl, ap}
 use mathlib.Core.Bool.{cond}
 use mathlib.Core.List.{List, [], _∷_, _++_}
-use Prim.Native.Nat.{ℕ, suc, _+_, _*_, _<_, _≤_}
+use Prim.Native.Nat.{ℕ, suc, _+_, _≤_}
 use native.Mathlib.Omega.{arith}
 use lib.Dec.{ltb}
 use lib.ListN.{length, set}
-use Rattle.layout.specs.Rows.{Row, row, width, words}
+use Rattle.layout.specs.Rows.{Row, row, words}
 use Rattle.reading.specs.Grid as grid
 use Rattle.reading.specs.Grid.{shapeOf, puts, writtenRows, Wide}
 use Rattle.reading.specs.Drafts.{Wants, nothing, resource, Draft}

@@ -9,7 +9,6 @@ use Rattle.reading.specs.Reads.{Small, small-drop, small-left}
 use Rattle.reading.specs.File as reading
 use Rattle.load.specs.Under.{loadUnder}
 use native.Mathlib.Omega.{arith}
-use Rattle.load.specs.declared.Loading.{Loading}
 use Rattle.load.specs.Loads as load
 use Rattle.pack_layout.specs.Table.{flat, wholes, entries}
 use Rattle.pack_reading.specs.Pack.{Pack, refusal, accepted, packOf, tableFor}

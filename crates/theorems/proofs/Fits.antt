@@ -4,7 +4,6 @@ use mathlib.Core.List.{List, _++_}
 use Prim.Native.Nat.{ℕ, _+_, _*_, _-_, _≤_}
 use native.Mathlib.Omega.{arith}
 use lib.ListN.{length, replicate, length-replicate}
-use Rattle.laws.specs.Small.{differ}
 use Rattle.layout.specs.EnumList.{EnumEntry, writeEnums, Enums}
 use Rattle.layout.specs.Tree.{count}
 use Rattle.layout.specs.Rows.{flat, width}

@@ -1,20 +1,20 @@
 -- The codes of a name's heads are complained of where the heads are. Assumes nothing.
 use mathlib.Core.Path.{_≡_, refl, sym, ap, _∙_}
-use mathlib.Core.Bool.{Bool, true, false, not, _&&_, _||_, and-true, cond}
+use mathlib.Core.Bool.{Bool, true, false, _&&_, _||_, cond}
 use mathlib.Core.List.{List, [], _∷_, _++_, append-assoc, append-nil}
 use mathlib.Core.Logic.{_⊎_, inl, inr}
-use Prim.Native.Nat.{ℕ, suc, _+_, _*_, _/_, _%_, _<_, _≤_}
+use Prim.Native.Nat.{ℕ, suc, _+_, _*_, _/_, _%_, _<_}
 use native.Mathlib.Omega.{arith}
 use lib.Dec.{eqb, ltb, leb}
 use lib.ListN.{length}
 use borrow.Author.Tests.{eqb-true, eqb-false, eq-eqb, ne-eqb, lt-ltb, le-ltb, ltb-true, lt-leb, le-leb}
 use Rattle.laws.specs.Small.{both}
-use Rattle.layout.specs.Target.{Target, enum, nullable, list, dictionary, kindOf, meshKind, isValue}
+use Rattle.layout.specs.Target.{enum, kindOf, meshKind, isValue}
 use Rattle.layout.specs.Name.{Name, simple, one, two}
 use Rattle.layout.specs.Number.{between}
 use Rattle.layout.specs.Kind.{Entry, entry, alike, lookup, target, targets, reader, readers}
 use Rattle.layout.specs.EnumList.{EnumEntry, EnumSize, sizeIn}
-use Rattle.layout.specs.Named.{Typed, unknown, known, fixedKind, meshed, plain, nullableOf, wrapped, paired, listedEnum, typeOf, sizeOrFour, enumOf, arrayOf, readerOf}
+use Rattle.layout.specs.Named.{unknown, known, fixedKind, meshed, plain, listedEnum, typeOf, sizeOrFour, enumOf}
 use Rattle.names.specs.Codes.{kind-is-small, codes-append}
 use Rattle.names.specs.Heading.{long, headings}
 use Rattle.names.specs.Kind.{node, word, enumKind, kindIn, codes}

@@ -9,7 +9,7 @@ use lib.ListN.{length, take, drop, getD, set, replicate, length-replicate}
 use lib.Seq.{sets, sets-eq, length-sets, length-take-le, drop-append-seam, take-append-seam, getD-drop, set-set, set-comm}
 use borrow.Author.Tests.{leb-true, le-leb, lt-leb}
 use Rattle.laws.specs.Small.{differ, both}
-use Rattle.layout.specs.Name.{Name, simple, one, two, text, write}
+use Rattle.layout.specs.Name.{Name, simple, one, two, write}
 use Rattle.layout.specs.EnumList.{EnumEntry, EnumSize, sizeIn}
 use Rattle.layout.specs.Named.{Typed, unknown, known, readerOf}
 use Rattle.names.specs.declared.Named.{Named}

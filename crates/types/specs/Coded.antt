@@ -7,7 +7,7 @@ use Prim.Native.Char.{code}
 use Prim.Native.Nat.{ℕ, zero, suc, _+_, _*_, _%_, _<_}
 use native.Mathlib.Omega.{arith}
 use lib.Dec.{eqb}
-use lib.ListN.{length, take, drop}
+use lib.ListN.{length, drop}
 use lib.Seq.{take-append-seam, drop-drop, drop-append-add}
 use borrow.Author.Tests.{eqb-true, eqb-false, eq-eqb, ne-eqb}
 use Rattle.laws.specs.Small.{differ}
@@ -23,7 +23,7 @@ use Rattle.names.specs.Parse.{span}
 use Rattle.names.specs.Complete.{bracket, span-all, tail-opens, further}
 use Rattle.names.specs.Heading.{long, headings}
 use Rattle.names.specs.Codes.{codes-append, lookup-is-small}
-use Rattle.names.specs.Kind.{codes, listed, node, word, enumKind, kindIn}
+use Rattle.names.specs.Kind.{codes, listed, word, enumKind, kindIn}
 use Rattle.types.specs.Code.{headAt, Alone, Before, Coded, Lawful}
 use Rattle.types.specs.Contract.{enumWord, settled, settledSize}
 use Rattle.types.specs.Word.{word-node, enum-kind}

@@ -8,7 +8,7 @@ use Rattle.layout.specs.Target.{kindOf, isValue}
 use Rattle.layout.specs.Name.{Name, simple, one, two}
 use Rattle.layout.specs.Kind.{lookup, targets, readers}
 use Rattle.layout.specs.EnumList.{EnumEntry}
-use Rattle.layout.specs.Named.{Typed, unknown, known, plain, typeOf, enumOf, readerOf}
+use Rattle.layout.specs.Named.{Typed, unknown, known, plain, typeOf, enumOf}
 use Rattle.names.specs.Heading.{long}
 
 -- a name has a target

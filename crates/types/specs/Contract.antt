@@ -11,7 +11,7 @@ use Rattle.layout.specs.Named.{Typed, unknown, known, readerOf}
 use Rattle.names.specs.Parse.{Read, broken, name, nameOf}
 use Rattle.names.specs.Contract.{Answer, coded, refused, no-room, placed, ending}
 use Rattle.names.specs.Kind.{node, codes}
-use Rattle.names.specs.Heading.{Heading, headings}
+use Rattle.names.specs.Heading.{headings}
 use Rattle.types.specs.declared.Resolved.{Resolved}
 use Rattle.types.specs.declared.Resolved.the-variants.{Target as Resolved-target, Broken, Unknown, NoRoom}
 use Rattle.types.specs.Code.{codeSize}

@@ -1,14 +1,13 @@
 -- Codes begin with those of one type only, and two runs of codes that agree are of one type. Assumes nothing.
 use mathlib.Core.Path.{_≡_, refl, sym, ap, _∙_}
-use mathlib.Core.Bool.{Bool, true, false, _&&_, cond}
+use mathlib.Core.Bool.{Bool, true, false, cond}
 use mathlib.Core.List.{List, [], _∷_, _++_, append-assoc}
-use Prim.Native.Nat.{ℕ, _+_, _*_, _/_, _%_, _<_, _≤_}
+use Prim.Native.Nat.{ℕ, _+_, _/_, _%_, _<_, _≤_}
 use native.Mathlib.Omega.{arith}
-use lib.Dec.{eqb, ltb, leb}
+use lib.Dec.{eqb, ltb}
 use borrow.Author.Tests.{lt-ltb, le-ltb, ltb-true, ltb-false, lt-leb, le-leb, eqb-true, eq-eqb}
 use Rattle.laws.specs.Small.{both}
 use Rattle.layout.specs.Target.{Target, fixed, char, string, object, texture, texture2D, spriteFont, page, mesh, meshKind, enum, nullable, array, list, dictionary}
-use Rattle.layout.specs.Kind.{alike}
 use Rattle.layout.specs.Named.{Typed, unknown, known, fixedKind, plain}
 use Rattle.names.specs.Codes.{alike-then, alike-self}
 use Rattle.names.specs.Kind.{node, word, enumKind}

@@ -4,8 +4,7 @@ use mathlib.Core.List.{List, [], _∷_}
 use Prim.Native.Nat.{ℕ}
 use Prim.Native.String.{String}
 use Rattle.layout.specs.Text.{ascii}
-use Rattle.layout.specs.Target.{Target, fixed, char, string, object, texture, texture2D, spriteFont, page, indexBuffer, vertexDeclaration, vertexBuffer, model, mesh, enum, nullable, array, list, dictionary, kindOf, isValue}
-use Rattle.layout.specs.Number.{between}
+use Rattle.layout.specs.Target.{Target, fixed, char, string, object, texture, texture2D, spriteFont, page, enum, nullable, array, list, dictionary, kindOf, isValue}
 use Rattle.layout.specs.Name.{headByte, tailByte}
 use Rattle.layout.specs.Kind.{lookup, alike, reader, readers, target as target-entry, targets}
 use Rattle.layout.specs.Named.{Typed, unknown, known, fixedKind, meshed, plain, nullableOf, wrapped, paired, listedEnum, typeOf, sizeOrFour, enumOf, arrayOf, readerOf}

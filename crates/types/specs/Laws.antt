@@ -6,7 +6,7 @@ use mathlib.Core.Logic.{_⊎_, inl, inr}
 use Prim.Native.Nat.{ℕ, suc, _+_, _-_, _%_, _≤_, _<_}
 use native.Mathlib.Omega.{arith}
 use lib.Dec.{eqb, ltb, leb}
-use lib.ListN.{length, take, drop, getD, set, length-append}
+use lib.ListN.{length, take, drop, getD, set}
 use lib.Seq.{drop-drop, drop-append-seam, getD-drop, drop-set-add, length-take-le, sets, sets-eq}
 use borrow.Author.Tests.{eqb-true, ltb-true, le-leb, lt-leb}
 use Rattle.laws.specs.Small.{differ, both}
@@ -20,7 +20,7 @@ use Rattle.layout.specs.Named.{Typed, unknown, known, fixedKind, meshed, plain,
 use Rattle.names.specs.Kind.{enumKind}
 use Rattle.types.specs.Finite.{allBelow, below-is}
 use Rattle.types.specs.Code.{Before, Coded, codeKind, codeSize, Lawful, Stands}
-use Rattle.types.specs.Place.{kindAt, valueKind, extent, placeAfter, agree, equalAt, fitsAt}
+use Rattle.types.specs.Place.{kindAt, valueKind, extent, placeAfter, equalAt, fitsAt}
 use Rattle.types.specs.Word.{fixed-small, mesh-small, mesh-plain, enum-kind}
 use Rattle.types.specs.Contract.{settled}
 use Rattle.types.specs.Coded.{Ok, none, some, ok-either, any-type, ok-plain, ok-wrapped, ok-paired, ok-array, Leaves}

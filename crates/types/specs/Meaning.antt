@@ -8,9 +8,9 @@ use lib.Dec.{leb, eqb}
 use lib.ListN.{length, drop}
 use lib.Seq.{sets}
 use borrow.Author.Tests.{leb-true, leb-false, le-leb}
-use Rattle.laws.specs.Small.{differ, both}
+use Rattle.laws.specs.Small.{differ}
 use Rattle.layout.specs.Target.{Target}
-use Rattle.layout.specs.Name.{Name, text, write, Formed}
+use Rattle.layout.specs.Name.{Name, text, Formed}
 use Rattle.layout.specs.EnumList.{EnumEntry, EnumSize, sizeIn}
 use Rattle.layout.specs.Named.{Typed, unknown, known, readerOf}
 use Rattle.names.specs.Parse.{Read, broken, name, nameOf}
@@ -19,7 +19,7 @@ use Rattle.names.specs.Laws.{read-is-text, broken-is-no-text}
 use Rattle.names.specs.Fault.{Fault}
 use Rattle.names.specs.Faults.{faults}
 use Rattle.names.specs.Codes.{read-is-few, codes-length}
-use Rattle.names.specs.Contract.{Answer, coded, refused, no-room, placed, ending}
+use Rattle.names.specs.Contract.{coded, refused, no-room, placed, ending}
 use Rattle.names.specs.Heading.{headings}
 use Rattle.names.specs.Kind.{codes}
 use Rattle.types.specs.declared.Resolved.{Resolved}

@@ -10,7 +10,7 @@ use borrow.Author.Tests.{leb-true, eqb-true, eq-eqb}
 use Rattle.laws.specs.Small.{differ, both}
 use Rattle.laws.specs.Ok.{ok-pick}
 use Rattle.layout.specs.Text.{ascii}
-use Rattle.layout.specs.Target.{Target, Mesh, indexBuffer, vertexDeclaration, vertexBuffer, model, mesh, meshKind}
+use Rattle.layout.specs.Target.{Target, Mesh, indexBuffer, vertexDeclaration, vertexBuffer, model, meshKind}
 use Rattle.layout.specs.Name.{Name, simple, one, two, text, Formed}
 use Rattle.layout.specs.Kind.{Entry, entry, alike, lookup, reader, readers, target, targets}
 use Rattle.layout.specs.EnumList.{EnumEntry, sizeIn}

@@ -1,4 +1,3 @@
-use mathlib.Core.Path.{sym}
 use borrow.Author.Tests.{ne-eqb}
 use Rattle.enums.specs.Judge.{isSize}
 use Rattle.enums.proofs.is_size.Statement.{statement}

@@ -1,6 +1,5 @@
 -- `header::said_length` meets its contract. Assumes nothing.
-use mathlib.Core.Path.{_≡_, sym, ap, _∙_}
-use Prim.Native.Nat.{ℕ}
+use mathlib.Core.Path.{sym, ap, _∙_}
 use Rattle.laws.specs.Small.{differ}
 use Rattle.answers.specs.Told.{told}
 use Rattle.header.proofs.Laws.{length-read}

@@ -1,4 +1,4 @@
-use mathlib.Core.Path.{refl, ap}
+use mathlib.Core.Path.{ap}
 use native.Mathlib.Omega.{arith}
 use Rattle.ids.specs.declared.Grid.{Grid}
 use Rattle.reading.specs.File.{roomOf}

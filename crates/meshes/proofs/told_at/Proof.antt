@@ -1,7 +1,5 @@
 use mathlib.Core.Path.{_∙_, ap}
-use Prim.Native.Nat.{ℕ}
 use borrow.Author.Tests.{eq-eqb, ne-eqb}
-use Rattle.reading.specs.Answer.{Answer}
 use Rattle.meshes.specs.Stages.{numberOf, toldAt}
 use borrow.Author.Needs.{needs}
 use Rattle.meshes.proofs.told_at.Statement.{statement}

@@ -1,4 +1,4 @@
-use mathlib.Core.Path.{refl, ap, _∙_}
+use mathlib.Core.Path.{refl, ap}
 use native.Mathlib.Omega.{arith}
 use Rattle.types.specs.declared.Resolved.{Resolved}
 use Rattle.types.specs.Contract.{told}

@@ -1,4 +1,3 @@
-use mathlib.Core.Path.{sym, _∙_}
 use native.Mathlib.Omega.{arith}
 use Rattle.rewrite.specs.Table.{tablePlaces}
 use Rattle.rewrite.specs.Contract.{copy, copy-length, start, finish}

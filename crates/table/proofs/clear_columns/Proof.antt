@@ -1,11 +1,9 @@
 -- `clear_columns` meets its contract: before each turn the first `j` columns are cleared. Assumes nothing.
-use mathlib.Core.Path.{_≡_, refl, sym, ap, _∙_}
-use mathlib.Core.List.{List}
-use Prim.Native.Nat.{ℕ, suc, _+_, _-_, _≤_}
+use mathlib.Core.Path.{_≡_, refl, _∙_}
+use Prim.Native.Nat.{_-_, _≤_}
 use native.Mathlib.Omega.{arith}
 use native.Mathlib.Numerals.{add-one}
 use lib.ListN.{length}
-use Rattle.fill.specs.Fill.{cleared}
 use Rattle.table.specs.Cleared.{columnsWiped, columnsCleared}
 use borrow.Author.Needs.{needs}
 use Rattle.table.proofs.clear_columns.Statement.{statement}

@@ -1,9 +1,6 @@
 -- `types::same_head` meets its contract: the parts that it compares are the heads at both places. Assumes nothing.
-use mathlib.Core.Path.{ap, _∙_}
-use mathlib.Core.List.{List}
-use Prim.Native.Nat.{ℕ}
+use mathlib.Core.Path.{_∙_}
 use native.Mathlib.Omega.{arith}
-use Rattle.layout.specs.Kind.{alike}
 use Rattle.types.proofs.Loops.{head-ends, head-part}
 use borrow.Author.Needs.{needs}
 use Rattle.types.proofs.same_head.Statement.{statement}

@@ -1,4 +1,3 @@
-use borrow.Author.Needs.{needs}
 use borrow.Author.Tests.{le-leb, lt-leb}
 use Rattle.types.proofs.within.Statement.{statement}
 use Rattle.types.proofs.within.Tie as tie

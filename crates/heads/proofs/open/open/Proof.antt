@@ -1,7 +1,6 @@
 use borrow.Author.Tests.{le-leb, lt-leb, ne-eqb}
 use Rattle.heads.specs.Total.{openAs, kindAs}
 use mathlib.Core.Bool.{false}
-use Prim.Native.Nat.{ℕ}
 use mathlib.Core.Path.{_≡_, refl, sym, subst, _∙_}
 use native.Mathlib.Omega.{arith}
 use Rattle.layout.specs.Fixed.{sizes}

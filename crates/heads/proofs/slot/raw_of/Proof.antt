@@ -1,4 +1,3 @@
-use mathlib.Core.Path.{refl}
 use borrow.Author.Tests.{eq-eqb, ne-eqb}
 use Rattle.heads.specs.Slots.{rawOf}
 use borrow.Author.Needs.{needs}

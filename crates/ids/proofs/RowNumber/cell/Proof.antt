@@ -1,4 +1,3 @@
-use native.Mathlib.Omega.{arith}
 use borrow.Author.Needs.{needs}
 use Rattle.reading.specs.Grid.{cell}
 use Rattle.ids.proofs.RowNumber.cell.Statement.{statement}
