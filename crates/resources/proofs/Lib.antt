@@ -2,3 +2,4 @@ pub mod Padded
 pub mod OneRow
 pub mod Passed
 pub mod Turns
+pub mod Unmarked

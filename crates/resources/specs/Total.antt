@@ -45,6 +45,11 @@ module _ (g : Grid) where
   rowsSettled shared zero i w = (Fine, w)
   rowsSettled shared (suc left) i w = onward (rowSettled shared w i .0) (rowSettled shared w i .1) (λ v. rowsSettled shared left (i + 1) v)
 
+  -- whether one of so many rows from row i on is a reference
+  unfoldable pub anyReference : List ℕ → (left i : ℕ) → Bool
+  anyReference w zero i = false
+  anyReference w (suc left) i = cond (eqb (getD w (cellOf g i 0) 0) 36) true (anyReference w left (i + 1))
+
   -- the first `used` rows, where the roots among them are the primary and then the shared objects
   abbrev pub settleOf : List ℕ → (used : ℕ) → Settled × List ℕ
   settleOf w used = rowsSettled (drop 1 (rootsOf w used)) used 0 w

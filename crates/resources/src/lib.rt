@@ -11,7 +11,7 @@ ghost use Rattle.reading.specs.Drafts.{resource};
 ghost use Rattle.reading.specs.Resource.{suit, suits};
 ghost use Rattle.resources.specs.Settled.{SettlesDrafts};
 ghost use Rattle.resources.specs.Roots.{padded, NotesRow};
-ghost use Rattle.resources.specs.Total.{rootsOf, rowSettled, rowsSettled, settleOf};
+ghost use Rattle.resources.specs.Total.{anyReference, rootsOf, rowSettled, rowsSettled, settleOf};
 
 // Every reference names a resource that suits it, or the first byte of the first that does not.
 pub enum Settled {
@@ -124,12 +124,29 @@ fn judge_rows(words: &mut [u32], grid: Grid, used: u32, kinds: &[u32]) -> Settle
     Settled::Fine
 }
 
+// Whether a reference is among the first `used` rows.
+fn any_reference(words: &[u32], grid: Grid, used: u32) -> bool
+    ensures { λ r. ⌜ r ≡ anyReference grid (now (words .entry)) used 0 ⌝ }
+{
+    let mut i = 0;
+    while i < used {
+        if word_of(words, grid, RowNumber(i), 0) == 36 {
+            return true;
+        }
+        i += 1;
+    }
+    false
+}
+
 // Judges the references of the first `used` rows, and clears their marks: drafts that stand in the words become the rows of 01.
 pub fn settle(words: &mut [u32], grid: Grid, used: u32) -> Settled
     ensures { λ r. ⌜ SettlesDrafts grid (now (words .entry)) (now (words .exit)) used r ⌝ }
     ensures { λ r. ⌜ r ≡ settleOf grid (now (words .entry)) used .0 ⌝ }
     ensures { λ _. ⌜ now (words .exit) ≡ settleOf grid (now (words .entry)) used .1 ⌝ }
 {
+    if !any_reference(words, grid, used) {
+        return Settled::Fine;
+    }
     let kinds = root_kinds(words, grid, used);
     judge_rows(words, grid, used, &kinds)
 }
