@@ -3,3 +3,4 @@ pub mod OneRow
 pub mod Passed
 pub mod Turns
 pub mod Unmarked
+pub mod Nulls

@@ -23,7 +23,8 @@ module _ (g : Grid) (w : List ℕ) where
         rw (m, ← k, eq-eqb kind 36 e)
 
     -- it is not: the rows behind it say
-    pub any-turn : {kind : ℕ} → i < used → kind ≡ getD w (cellOf g i 0) 0 → (kind ≡ 36 → ⊥) → anyReference g w (used - i) i ≡ anyReference g w (used - (i + 1)) (i + 1)
+    pub any-turn : {kind : ℕ} → i < used → kind ≡ getD w (cellOf g i 0) 0 → (kind ≡ 36 → ⊥)
+        → anyReference g w (used - i) i ≡ anyReference g w (used - (i + 1)) (i + 1)
     unfolding anyReference
     any-turn {kind} h k e =
         let m : used - i ≡ suc (used - (i + 1)) = omega arith in
@@ -40,7 +41,8 @@ module _ (g : Grid) (w : List ℕ) where
   unfolding anyReference rowSettled rowsSettled
   none-settled shared zero i e = refl
   none-settled shared (suc left) i e = go (eqb (getD w (cellOf g i 0) 0) 36) e (none-settled shared left (i + 1)) where
-    go : (b : Bool) → cond b true (anyReference g w left (i + 1)) ≡ false → (anyReference g w left (i + 1) ≡ false → rowsSettled g shared left (i + 1) w ≡ (Fine, w))
+    go : (b : Bool) → cond b true (anyReference g w left (i + 1)) ≡ false
+        → (anyReference g w left (i + 1) ≡ false → rowsSettled g shared left (i + 1) w ≡ (Fine, w))
         → let o = cond b (fitted g (suited g shared w i) w i) (Fine, w) in onward (o .0) (o .1) (λ v. rowsSettled g shared left (i + 1) v) ≡ (Fine, w)
     go true q more = differ cc
     go false q more = more q
