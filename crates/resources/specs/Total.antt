@@ -1,7 +1,7 @@
 -- What the last pass answers and leaves, for every input, by the words alone; rows that the words do not have read as 0. Assumes nothing.
 use mathlib.Core.Bool.{Bool, true, false, cond}
 use mathlib.Core.List.{List, []}
-use Prim.Native.Nat.{ℕ, zero, suc, _+_}
+use Prim.Native.Nat.{ℕ, zero, suc, _+_, _-_}
 use lib.Dec.{eqb}
 use lib.ListN.{getD, take, drop, set}
 use Rattle.reading.specs.Drafts.{resource}
@@ -45,6 +45,25 @@ module _ (g : Grid) where
   rowsSettled shared zero i w = (Fine, w)
   rowsSettled shared (suc left) i w = onward (rowSettled shared w i .0) (rowSettled shared w i .1) (λ v. rowsSettled shared left (i + 1) v)
 
+  -- whether one of so many rows from row i on is a reference
+  unfoldable pub anyReference : List ℕ → (left i : ℕ) → Bool
+  anyReference w zero i = false
+  anyReference w (suc left) i = cond (eqb (getD w (cellOf g i 0) 0) 36) true (anyReference w left (i + 1))
+
   -- the first `used` rows, where the roots among them are the primary and then the shared objects
   abbrev pub settleOf : List ℕ → (used : ℕ) → Settled × List ℕ
   settleOf w used = rowsSettled (drop 1 (rootsOf w used)) used 0 w
+
+  -- the rows from one on, where the roots among the first `used` rows are the primary and then the shared objects
+  abbrev pub settleFrom : List ℕ → (used from : ℕ) → Settled × List ℕ
+  settleFrom w used from = rowsSettled (drop 1 (rootsOf w used)) (used - from) from w
+
+  -- whether row i names a resource, and the words, by whether the row is a reference and whether its id is 0
+  abbrev pub nulled : (reference null : Bool) → List ℕ → (i : ℕ) → Bool × List ℕ
+  nulled true true w i = (false, set w (cellOf g i 3) 0)
+  nulled true false w i = (true, w)
+  nulled false null w i = (false, w)
+
+  -- row i: the fourth word of a null reference becomes 0
+  unfoldable pub nullCleared : List ℕ → (i : ℕ) → Bool × List ℕ
+  nullCleared w i = nulled (eqb (getD w (cellOf g i 0) 0) 36) (eqb (getD w (cellOf g i 5) 0) 0) w i

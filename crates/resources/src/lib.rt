@@ -6,12 +6,13 @@ use ids::ResourceId;
 use ids::RowNumber;
 use words::word_of;
 ghost use mathlib.Core.Path.{_≡_};
+ghost use Prim.Native.Nat.{_-_, _≤_};
 ghost use lib.ListN.{getD, drop, set};
 ghost use Rattle.reading.specs.Drafts.{resource};
 ghost use Rattle.reading.specs.Resource.{suit, suits};
 ghost use Rattle.resources.specs.Settled.{SettlesDrafts};
 ghost use Rattle.resources.specs.Roots.{padded, NotesRow};
-ghost use Rattle.resources.specs.Total.{rootsOf, rowSettled, rowsSettled, settleOf};
+ghost use Rattle.resources.specs.Total.{anyReference, nullCleared, rootsOf, rowSettled, rowsSettled, settleFrom, settleOf};
 
 // Every reference names a resource that suits it, or the first byte of the first that does not.
 pub enum Settled {
@@ -32,10 +33,10 @@ fn put_word(words: &mut [u32], at: usize, value: u32)
 fn note(kinds: &mut [u32; 257], n: usize, words: &[u32], grid: Grid, row: RowNumber) -> usize
     ensures { λ r. ⌜ NotesRow grid (now (words .entry)) (row .0) (now (kinds .entry)) (now (kinds .exit)) n r ⌝ }
 {
-    if word_of(words, grid, row, 4) != 0 {
+    if 257 <= n {
         return n;
     }
-    if 257 <= n {
+    if word_of(words, grid, row, 4) != 0 {
         return n;
     }
     kinds[n] = word_of(words, grid, row, 0);
@@ -106,12 +107,12 @@ fn judge_row(words: &mut [u32], grid: Grid, row: RowNumber, kinds: &[u32]) -> Se
     Settled::Wrong(word_of(words, grid, row, 1))
 }
 
-// Judges the rows in order.
-fn judge_rows(words: &mut [u32], grid: Grid, used: u32, kinds: &[u32]) -> Settled
-    ensures { λ r. ⌜ r ≡ rowsSettled grid (drop 1 (now (kinds .entry))) used 0 (now (words .entry)) .0 ⌝ }
-    ensures { λ _. ⌜ now (words .exit) ≡ rowsSettled grid (drop 1 (now (kinds .entry))) used 0 (now (words .entry)) .1 ⌝ }
+// Judges the rows in order, from one on.
+fn judge_rows(words: &mut [u32], grid: Grid, from: u32, used: u32, kinds: &[u32]) -> Settled
+    ensures { λ r. ⌜ r ≡ rowsSettled grid (drop 1 (now (kinds .entry))) (used - from) from (now (words .entry)) .0 ⌝ }
+    ensures { λ _. ⌜ now (words .exit) ≡ rowsSettled grid (drop 1 (now (kinds .entry))) (used - from) from (now (words .entry)) .1 ⌝ }
 {
-    let mut i = 0;
+    let mut i = from;
     while i < used {
         match judge_row(words, grid, RowNumber(i), kinds) {
             Settled::Fine => {}
@@ -124,12 +125,73 @@ fn judge_rows(words: &mut [u32], grid: Grid, used: u32, kinds: &[u32]) -> Settle
     Settled::Fine
 }
 
+// Looks up the kinds of the resources, and judges the rows from one on.
+fn judge_from(words: &mut [u32], grid: Grid, from: u32, used: u32) -> Settled
+    ensures { λ r. ⌜ r ≡ settleFrom grid (now (words .entry)) used from .0 ⌝ }
+    ensures { λ _. ⌜ now (words .exit) ≡ settleFrom grid (now (words .entry)) used from .1 ⌝ }
+{
+    let kinds = root_kinds(words, grid, used);
+    judge_rows(words, grid, from, used, &kinds)
+}
+
+// Clears the mark of a row that is a null reference; whether the row is a reference that names a resource.
+fn clear_null(words: &mut [u32], grid: Grid, row: RowNumber) -> bool
+    ensures { λ r. ⌜ r ≡ nullCleared grid (now (words .entry)) (row .0) .0 ⌝ }
+    ensures { λ _. ⌜ now (words .exit) ≡ nullCleared grid (now (words .entry)) (row .0) .1 ⌝ }
+{
+    if word_of(words, grid, row, 0) != 36 {
+        return false;
+    }
+    if word_of(words, grid, row, 5) != 0 {
+        return true;
+    }
+    let mark = row.cell(grid, 3);
+    put_word(words, mark, 0);
+    false
+}
+
+// Judges rows that there is room for: null suits every reference, so kinds are looked up only at the first that names a resource.
+fn judge_all(words: &mut [u32], grid: Grid, used: u32) -> Settled
+    requires { ⌜ used ≤ grid .room ⌝ }
+    ensures { λ r. ⌜ r ≡ settleOf grid (now (words .entry)) used .0 ⌝ }
+    ensures { λ _. ⌜ now (words .exit) ≡ settleOf grid (now (words .entry)) used .1 ⌝ }
+{
+    let mut i = 0;
+    while i < used {
+        if clear_null(words, grid, RowNumber(i)) {
+            return judge_from(words, grid, i, used);
+        }
+        i += 1;
+    }
+    Settled::Fine
+}
+
+// Whether a reference is among the first `used` rows.
+fn any_reference(words: &[u32], grid: Grid, used: u32) -> bool
+    ensures { λ r. ⌜ r ≡ anyReference grid (now (words .entry)) used 0 ⌝ }
+{
+    let mut i = 0;
+    while i < used {
+        if word_of(words, grid, RowNumber(i), 0) == 36 {
+            return true;
+        }
+        i += 1;
+    }
+    false
+}
+
 // Judges the references of the first `used` rows, and clears their marks: drafts that stand in the words become the rows of 01.
+// Rows that there is no room for may share words, so the kinds are looked up before a mark among them is cleared.
 pub fn settle(words: &mut [u32], grid: Grid, used: u32) -> Settled
     ensures { λ r. ⌜ SettlesDrafts grid (now (words .entry)) (now (words .exit)) used r ⌝ }
     ensures { λ r. ⌜ r ≡ settleOf grid (now (words .entry)) used .0 ⌝ }
     ensures { λ _. ⌜ now (words .exit) ≡ settleOf grid (now (words .entry)) used .1 ⌝ }
 {
-    let kinds = root_kinds(words, grid, used);
-    judge_rows(words, grid, used, &kinds)
+    if !any_reference(words, grid, used) {
+        return Settled::Fine;
+    }
+    if grid.room < used {
+        return judge_from(words, grid, 0, used);
+    }
+    judge_all(words, grid, used)
 }

@@ -1,7 +1,6 @@
 -- `resources::judge_rows` meets its contract: before each turn the rows from `i` on give the answer and the words. Assumes nothing.
 use mathlib.Core.Path.{_≡_, refl, sym, _∙_}
 use Prim.Native.Nat.{_-_}
-use native.Mathlib.Omega.{arith}
 use lib.ListN.{length, drop}
 use Rattle.resources.specs.Total.{rowsSettled}
 use Rattle.resources.proofs.Turns.{rows-turn, rows-end}
@@ -10,17 +9,14 @@ use Rattle.resources.proofs.judge_rows.Statement.{statement}
 use Rattle.resources.proofs.judge_rows.Tie as tie
 
 abbrev Inv-loop : tie.InvT-loop
-Inv-loop words₀ grid used kinds i₀ words i =
-    (length words ≡ length words₀) × (rowsSettled grid (drop 1 kinds) (used - i) i words ≡ rowsSettled grid (drop 1 kinds) used 0 words₀)
+Inv-loop words₀ grid «from» used kinds i₀ words i =
+    (length words ≡ length words₀) × (rowsSettled grid (drop 1 kinds) (used - i) i words ≡ rowsSettled grid (drop 1 kinds) (used - «from») «from» words₀)
 
 abbrev μ-loop : tie.MeasureT-loop
-μ-loop words₀ grid used kinds i₀ words i = used - i
+μ-loop words₀ grid «from» used kinds i₀ words i = used - i
 
 loop-holds : tie.Need-loop-holds Inv-loop μ-loop
-loop-holds c =
-    let used = c .before .before .args .used in
-    let z : used - 0 ≡ used = omega arith in
-    (refl, rw z)
+loop-holds c = (refl, refl)
 
 judge-row-requires : tie.Need-judge-row-requires Inv-loop μ-loop
 judge-row-requires c κs = search needs

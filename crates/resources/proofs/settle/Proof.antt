@@ -1,34 +1,60 @@
 -- `resources::settle` meets its contract; what it says of drafts follows from its equations. Assumes nothing.
-use Rattle.resources.proofs.Padded.{padded-rows}
+use mathlib.Core.Path.{_≡_, refl, sym, _∙_}
+use Prim.Native.Nat.{_-_}
+use native.Mathlib.Omega.{arith}
+use borrow.Author.Tests.{not-true}
 use Rattle.resources.proofs.Passed.{drafted-settles}
+use Rattle.resources.proofs.Unmarked.{none-left}
 use borrow.Author.Needs.{needs}
 use Rattle.resources.proofs.settle.Statement.{statement}
 use Rattle.resources.proofs.settle.Tie as tie
 
-root-kinds-requires : tie.Need-root-kinds-requires
-root-kinds-requires c κs = search needs
-
-slice-aggregate-judge-rows : tie.Need-slice-aggregate-judge-rows
-slice-aggregate-judge-rows c = search needs
-
-judge-rows-requires : tie.Need-judge-rows-requires
-judge-rows-requires c κs = search needs
+any-reference-requires : tie.Need-any-reference-requires
+any-reference-requires c κs = search needs
 
 same-length : tie.Need-same-length
 same-length c = search needs
 
 returns : tie.Need-returns
 returns c =
-    let kinds = c .before .before .before .before .before .root-kinds .ensures in
-    let j = rw (kinds, padded-rows) at (c .before .before .judge-rows .ensures) in
+    let none = sym (c .before .any-reference .ensures) ∙ not-true _ (c .if1 .taken) in
+    let fine = none-left _ _ _ none in
+    (λ rows rest d. rw fine at (drafted-settles d), rw fine (refl, refl))
+
+judge-from-requires : tie.Need-judge-from-requires
+judge-from-requires c κs = search needs
+
+same-length-2 : tie.Need-same-length-2
+same-length-2 c = search needs
+
+returns-2 : tie.Need-returns-2
+returns-2 c =
+    let used = c .before .before .before .before .before .before .before .before .before .before .args .used in
+    let z : used - 0 ≡ used = omega arith in
+    let j = rw z at (c .before .before .judge-from .ensures) in
+    (λ rows rest d. rw (j .0, j .1) (drafted-settles d), j)
+
+judge-all-requires : tie.Need-judge-all-requires
+judge-all-requires c κs = search needs
+
+same-length-3 : tie.Need-same-length-3
+same-length-3 c = search needs
+
+returns-3 : tie.Need-returns-3
+returns-3 c =
+    let j = c .before .before .judge-all .ensures in
     (λ rows rest d. rw (j .0, j .1) (drafted-settles d), j)
 
 pub settle-spec : {M : Type 1} → statement M
 settle-spec =
     tie.close
     (tie.spec
-    root-kinds-requires
-    slice-aggregate-judge-rows
-    judge-rows-requires
+    any-reference-requires
     same-length
-    returns)
+    returns
+    judge-from-requires
+    same-length-2
+    returns-2
+    judge-all-requires
+    same-length-3
+    returns-3)
