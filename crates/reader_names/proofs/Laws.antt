@@ -2,6 +2,7 @@
 use mathlib.Core.Path.{_≡_, refl, sym, ap, subst, _∙_}
 use mathlib.Core.Bool.{true, false, not}
 use mathlib.Core.List.{List, [], _∷_}
+use mathlib.Core.Logic.{_⊎_, inl, inr}
 use Prim.Native.Nat.{ℕ, zero, suc, _+_, _-_, _*_, _≤_, _<_}
 use native.Mathlib.Omega.{arith}
 use lib.ListN.{length, take, drop, getD, set, length-drop, drop-of-length-le}
@@ -15,12 +16,7 @@ use Rattle.names.proofs.Laws.{cons-at, rest}
 use Rattle.io.specs.Counts.{Counts}
 use Rattle.types.specs.declared.Resolved.{Resolved}
 use Rattle.types.specs.Contract.{told, resolution, Resolves}
-use Rattle.types.specs.Meaning.{Refusal, broken-name, no-target, refused-is}
-use Rattle.types.specs.Complaints.{leftmost-within}
-use Rattle.names.specs.Faults.{fault-number}
-use Rattle.names.specs.Complete.{length-write}
-use Rattle.names.specs.Heading.{long}
-use Rattle.layout.specs.EnumList.{EnumEntry}
+use Rattle.types.specs.Meaning.{refused-is, refusal-bounds}
 use Rattle.reader_names.specs.Lines.{number, refusal, inLine, lineSize, refusals, all, Judges}
 
 -- an empty name
@@ -42,16 +38,15 @@ judged-is s enums c c′ r h m b l w k e =
     let q : number (told r) ≡ number (resolution [] true 187 0 0 (nameOf 0 s)) = ap number (w .answers) ∙ rw (b, x, l) in
     sym e ∙ q ∙ sym p
 
--- a refusal's number is one of 11 and 33 to 38, and its place in the name or at its end
-refusal-bounds : {es : List EnumEntry} {s : List ℕ} {at number place : ℕ} → Refusal es s at number place → (number ≤ 38) × (place ≤ at + length s)
-refusal-bounds (broken-name i e f _) = (fault-number f .1, omega (arith, e, f .inside))
-refusal-bounds {es} {s} {at} (no-target n f e t k l) =
-    let z : length s ≡ long n = ap length e ∙ length-write n [] ∙ omega arith in
-    (omega (arith, k), omega (arith, l, leftmost-within es n at))
-
 -- a refusal's number and place fit in one number
 pub bounded : (s enums c c′ : List ℕ) (r : Resolved) (number place : ℕ) → length s ≤ 1024 → Resolves (enumsOf enums) s 0 c c′ 0 r → told r ≡ refused number place → (number ≤ 38) × (place ≤ 1024)
-bounded s enums c c′ r number place h w e = let b = refusal-bounds (refused-is (enumsOf enums) s 0 c c′ 0 number place w e) in (b .0, omega (arith, b .1))
+bounded s enums c c′ r number place h w e =
+    let b = refusal-bounds (refused-is (enumsOf enums) s 0 c c′ 0 number place w e) in
+    (small (b .0), omega (arith, b .1))
+  where
+    small : (number ≡ 11) ⊎ ((33 ≤ number) × (number ≤ 38)) → number ≤ 38
+    small (inl q) = omega arith
+    small (inr q) = q .1
 
 pub ends-line : (b : ℕ) → b ≡ 10 → inLine b ≡ false
 ends-line b e = ap not (eq-eqb b 10 e)

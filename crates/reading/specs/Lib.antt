@@ -24,3 +24,4 @@ pub mod References
 pub mod Accepts
 pub mod Refusals
 pub mod Theorems
+pub mod Numbers

@@ -1,21 +1,22 @@
--- What a refusal tells, for every file and every number of words: a number from 1 to 38, and a place inside the file and within the limit on its length.
+-- What a refusal tells, for every file and every number of words: one of a load's numbers, and a place inside the file and within the limit on its length.
 -- So a place fits 32 bits, as in the one number that an asset builder is told (01, "Looking up"). Assumes nothing.
 use mathlib.Core.Path.{_≡_, refl, sym, ap}
-use mathlib.Core.Bool.{Bool, true, false}
+use mathlib.Core.Bool.{Bool, true, false, cond}
 use mathlib.Core.List.{List, [], _∷_, _++_}
 use mathlib.Core.Logic.{_⊎_, inl, inr}
 use Prim.Native.Nat.{ℕ, zero, suc, _+_, _≤_}
 use native.Mathlib.Omega.{arith}
-use lib.Dec.{ltb, leb}
+use lib.Dec.{eqb, ltb, leb}
 use lib.ListN.{length, drop, length-drop}
 use lib.Seq.{length-take-le}
-use borrow.Author.Tests.{leb-true}
+use borrow.Author.Tests.{leb-true, eqb-true}
 use Rattle.laws.specs.Small.{differ}
 use Rattle.layout.specs.Target.{Target, fixed, char, string, object, texture, texture2D, spriteFont, page, mesh, enum, nullable, array, list, dictionary}
 use Rattle.layout.specs.Slot.{Leaf, level, blob, numeric, Slot, raw, reference, leaf, object as an-object, Plan, stop, put}
 use Rattle.layout.specs.File.{objectsPlan}
 use Rattle.layout.specs.Rows.{row}
 use Rattle.layout.specs.Tree.{toldOf}
+use Rattle.reading.specs.Numbers.{LoadNumber}
 use Rattle.reading.specs.Answer.{Answer, refused, read, bind, check, several}
 use Rattle.reading.specs.Reads.{some, field}
 use Rattle.reading.specs.Seven.{group, groups, sevenAt}
@@ -47,10 +48,23 @@ unfolding check
 tells-check true n p x r f = f refl
 tells-check false n p x r f = of-refused r
 
--- a refusal of a number from 1 to 38, at a place up to `most`
+-- the numbers of refusals as a test
+abbrev isNumber : (number : ℕ) → Bool
+isNumber n = cond (leb n 9) (leb 1 n) (cond (leb n 20) (leb 11 n) (cond (eqb n 22) true (cond (leb n 38) (leb 33 n) false)))
+
+is-number : (n : ℕ) → isNumber n ≡ true → LoadNumber n
+is-number n q = go (leb n 9) (leb n 20) (eqb n 22) (leb n 38) refl refl refl refl q where
+  go : (a b c d : Bool) → leb n 9 ≡ a → leb n 20 ≡ b → eqb n 22 ≡ c → leb n 38 ≡ d
+      → cond a (leb 1 n) (cond b (leb 11 n) (cond c true (cond d (leb 33 n) false))) ≡ true → LoadNumber n
+  go true b c d w x y z q = inl (leb-true 1 n q, leb-true n 9 w)
+  go false true c d w x y z q = inr (inl (leb-true 11 n q, leb-true n 20 x))
+  go false false true d w x y z q = inr (inr (inl (eqb-true n 22 y)))
+  go false false false true w x y z q = inr (inr (inr (leb-true 33 n q, leb-true n 38 z)))
+  go false false false false w x y z q = differ cc
+
+-- a refusal of such a number, at a place up to `most`
 pub record Fault (most number place : ℕ) : Type 0 where
-  pub some-number : 1 ≤ number
-  pub last-number : number ≤ 38
+  pub number-is : LoadNumber number
   pub placed : place ≤ most
 
 -- the first byte of each row is at most at `most`
@@ -68,8 +82,8 @@ module _ (file : List ℕ) (most : ℕ) (fits : length file ≤ most) where
   Inside x = Tells (Fault most) (λ a e. e ≤ length file) x
 
   -- a refusal at a place inside the file
-  fault : (n : ℕ) {p : ℕ} → leb 1 n ≡ true → leb n 38 ≡ true → p ≤ length file → Fault most n p
-  fault n a b h = record { some-number = leb-true 1 n a; last-number = leb-true n 38 b; placed = omega arith }
+  fault : (n : ℕ) {p : ℕ} → isNumber n ≡ true → p ≤ length file → Fault most n p
+  fault n q h = record { number-is = is-number n q; placed = omega arith }
 
   -- ---- numbers and bytes
 
@@ -83,19 +97,19 @@ module _ (file : List ℕ) (most : ℕ) (fits : length file ≤ most) where
 
   groups-inside : (k start at : ℕ) (l : List ℕ) → start ≤ length file → at + length l ≤ length file → Inside (groups k start at l)
   unfolding groups
-  groups-inside zero start at l s h = of-refused (fault 8 refl refl s)
-  groups-inside (suc k) start at [] s h = of-refused (fault 1 refl refl s)
+  groups-inside zero start at l s h = of-refused (fault 8 refl s)
+  groups-inside (suc k) start at [] s h = of-refused (fault 1 refl s)
   groups-inside (suc k) start at (b ∷ l) s h = group-inside (ltb b 128) b at (groups k start (suc at) l) (omega arith) (groups-inside k start (suc at) l s (omega arith))
 
   seven-inside : (at : ℕ) → at ≤ length file → Inside (sevenAt file at)
   unfolding sevenAt
   seven-inside at h =
-      tells-bind (groups-inside 5 at at (drop at file) h (bytes-behind at h)) (λ n e k. tells-check _ 8 at _ (fault 8 refl refl h) (λ t. of-read k))
+      tells-bind (groups-inside 5 at at (drop at file) h (bytes-behind at h)) (λ n e k. tells-check _ 8 at _ (fault 8 refl h) (λ t. of-read k))
 
   some-inside : (n place at : ℕ) → place ≤ length file → at ≤ length file → Inside (some file n place at)
   unfolding some
   some-inside n place at p h =
-      tells-check (leb n (length (drop at file))) 1 place _ (fault 1 refl refl p)
+      tells-check (leb n (length (drop at file))) 1 place _ (fault 1 refl p)
       (λ t. let l = leb-true n (length (drop at file)) t in let b = bytes-behind at h in of-read (omega arith))
 
   little-inside : (k place at : ℕ) → place ≤ length file → at ≤ length file → Inside (littleAt file k place at)
@@ -104,17 +118,17 @@ module _ (file : List ℕ) (most : ℕ) (fits : length file ≤ most) where
 
   char-inside : (at : ℕ) (l : List ℕ) → at ≤ length file → at + length l ≤ length file → Inside (charOf at l)
   unfolding charOf
-  char-inside at [] h b = of-refused (fault 1 refl refl h)
+  char-inside at [] h b = of-refused (fault 1 refl h)
   char-inside at (c ∷ l) h b =
-      tells-check _ 15 at _ (fault 15 refl refl h) (λ s. tells-check (leb (size c) (suc (length l))) 1 at _ (fault 1 refl refl h) (λ t.
+      tells-check _ 15 at _ (fault 15 refl h) (λ s. tells-check (leb (size c) (suc (length l))) 1 at _ (fault 1 refl h) (λ t.
       let k = leb-true (size c) (suc (length l)) t in
-      tells-check _ 15 at _ (fault 15 refl refl h) (λ u. of-read (omega arith))))
+      tells-check _ 15 at _ (fault 15 refl h) (λ u. of-read (omega arith))))
 
   -- ---- heads and leaves
 
   field-inside : {A B : Type 0} (r : ℕ → Answer A) (rule : A → Bool) (f : A → B) (place at : ℕ) → place ≤ length file → Inside (r at) → Inside (field file r rule f place at)
   unfolding field
-  field-inside r rule f place at p g = tells-bind g (λ a e k. tells-check _ 15 place _ (fault 15 refl refl p) (λ t. of-read k))
+  field-inside r rule f place at p g = tells-bind g (λ a e k. tells-check _ 15 place _ (fault 15 refl p) (λ t. of-read k))
 
   whole-inside : {x : Answer (List ℕ)} → Inside x → Inside (whole file x)
   unfolding whole
@@ -122,7 +136,7 @@ module _ (file : List ℕ) (most : ℕ) (fits : length file ≤ most) where
 
   fixed-inside : (k at : ℕ) → at ≤ length file → Inside (fixedHeadAt file k at)
   unfolding fixedHeadAt fixedAt
-  fixed-inside k at h = tells-check _ 15 at _ (fault 15 refl refl h) (λ t. whole-inside (field-inside _ _ _ at at h (some-inside _ at at h h)))
+  fixed-inside k at h = tells-check _ 15 at _ (fault 15 refl h) (λ t. whole-inside (field-inside _ _ _ at at h (some-inside _ at at h h)))
 
   own-inside : (at : ℕ) → at ≤ length file → Inside (ownAt file (charAt file) at)
   unfolding ownAt charAt
@@ -139,15 +153,15 @@ module _ (file : List ℕ) (most : ℕ) (fits : length file ≤ most) where
   image-inside : (at : ℕ) → at ≤ length file → Inside (imageAt file at)
   unfolding imageAt
   image-inside at h =
-      tells-bind (little-inside 4 at at h h) (λ f e h₁. tells-check _ 15 at _ (fault 15 refl refl h) (λ t.
-      tells-bind (little-inside 4 e e h₁ h₁) (λ w e₂ h₂. tells-check _ 15 e _ (fault 15 refl refl h₁) (λ t.
-      tells-bind (little-inside 4 e₂ e₂ h₂ h₂) (λ h e₃ h₃. tells-check _ 15 e₂ _ (fault 15 refl refl h₂) (λ t.
-      tells-bind (little-inside 4 e₃ e₃ h₃ h₃) (λ n e₄ h₄. tells-check _ 15 e₃ _ (fault 15 refl refl h₃) (λ t.
+      tells-bind (little-inside 4 at at h h) (λ f e h₁. tells-check _ 15 at _ (fault 15 refl h) (λ t.
+      tells-bind (little-inside 4 e e h₁ h₁) (λ w e₂ h₂. tells-check _ 15 e _ (fault 15 refl h₁) (λ t.
+      tells-bind (little-inside 4 e₂ e₂ h₂ h₂) (λ h e₃ h₃. tells-check _ 15 e₂ _ (fault 15 refl h₂) (λ t.
+      tells-bind (little-inside 4 e₃ e₃ h₃ h₃) (λ n e₄ h₄. tells-check _ 15 e₃ _ (fault 15 refl h₃) (λ t.
       of-read h₄))))))))
 
   leaf-inside : (x : Leaf) (at : ℕ) → at ≤ length file → Inside (leafAt file x at)
   unfolding leafAt
-  leaf-inside (level z) at h = tells-bind (little-inside 4 at at h h) (λ n e k. tells-check _ 15 at _ (fault 15 refl refl h) (λ t. some-inside n at e h k))
+  leaf-inside (level z) at h = tells-bind (little-inside 4 at at h h) (λ n e k. tells-check _ 15 at _ (fault 15 refl h) (λ t. some-inside n at e h k))
   leaf-inside (blob z) at h = some-inside z at at h h
   leaf-inside (numeric f z rule) at h = field-inside _ _ _ at at h (some-inside z at at h h)
 
@@ -156,13 +170,13 @@ module _ (file : List ℕ) (most : ℕ) (fits : length file ≤ most) where
   head-inside (fixed k) at h = fixed-inside k at h
   head-inside char at h = whole-inside (own-inside at h)
   head-inside string at h = text-inside at h
-  head-inside object at h = of-refused (fault 13 refl refl h)
+  head-inside object at h = of-refused (fault 13 refl h)
   head-inside (enum name z) at h = whole-inside (some-inside z at at h h)
   head-inside (nullable t) at h = field-inside _ _ _ at at h (some-inside 1 at at h h)
   head-inside (array t) at h = count-inside _ at h
   head-inside (list t) at h = count-inside _ at h
   head-inside (dictionary k v) at h = count-inside _ at h
-  head-inside texture at h = of-refused (fault 13 refl refl h)
+  head-inside texture at h = of-refused (fault 13 refl h)
   head-inside texture2D at h = image-inside at h
   head-inside spriteFont at h = of-read h
   head-inside page at h = of-read h
@@ -190,13 +204,13 @@ module _ (file : List ℕ) (most : ℕ) (fits : length file ≤ most) where
       unfolding rawAt
       raw-inside t first at used parent id g h =
           tells-bind (head-inside t at h) (λ o next k. tells-bind (f (o .1) next (suc used) k) (λ a e p.
-          tells-check _ 22 at _ (fault 22 refl refl h) (λ t. of-read (p .0, one-more g (p .1)))))
+          tells-check _ 22 at _ (fault 22 refl h) (λ t. of-read (p .0, one-more g (p .1)))))
 
       reader-inside : (x : Found) (t : Target) (id at next used parent : ℕ) → at ≤ length file → next ≤ length file
           → Walks (byReader file readers shared room x below t id at next used parent)
       unfolding byReader
-      reader-inside missing t id at next used parent h k = of-refused (fault 13 refl refl h)
-      reader-inside (found u) t id at next used parent h k = tells-check _ 14 at _ (fault 14 refl refl h) (λ b. raw-inside u at next used parent id h k)
+      reader-inside missing t id at next used parent h k = of-refused (fault 13 refl h)
+      reader-inside (found u) t id at next used parent h k = tells-check _ 14 at _ (fault 14 refl h) (λ b. raw-inside u at next used parent id h k)
 
       object-inside : (t : Target) (id at next used parent : ℕ) → at ≤ length file → next ≤ length file → Walks (objectAt file readers shared room below t id at next used parent)
       unfolding objectAt
@@ -208,14 +222,14 @@ module _ (file : List ℕ) (most : ℕ) (fits : length file ≤ most) where
       value-inside (raw t) at used parent h = raw-inside t at at used parent 0 h h
       value-inside (an-object t) at used parent h = tells-bind (seven-inside at h) (λ id next k. object-inside t id at next used parent h k)
       value-inside (reference t) at used parent h =
-          tells-bind (seven-inside at h) (λ id next k. tells-check _ 16 at _ (fault 16 refl refl h) (λ b. of-read (k, one-more h no-rows)))
+          tells-bind (seven-inside at h) (λ id next k. tells-check _ 16 at _ (fault 16 refl h) (λ b. of-read (k, one-more h no-rows)))
       value-inside (leaf x) at used parent h = tells-bind (leaf-inside x at h) (λ own next k. of-read (k, one-more h no-rows))
 
     walk-inside : (d : ℕ) (x : Slot) (at used parent : ℕ) → at ≤ length file → Walks (walk file readers shared room d x at used parent)
     unfolding walk
-    walk-inside zero x at used parent h = of-refused (fault 18 refl refl h)
+    walk-inside zero x at used parent h = of-refused (fault 18 refl h)
     walk-inside (suc d) x at used parent h =
-        tells-check _ 19 at _ (fault 19 refl refl h) (λ b. value-inside _
+        tells-check _ 19 at _ (fault 19 refl h) (λ b. value-inside _
         (λ plan a u k. sequence-inside (λ y b v. walk file readers shared room d y b v (suc used)) (λ y b v g. walk-inside d y b v (suc used) g) plan a u k) x at used parent h)
 
   -- 17 is at a row's first byte
@@ -223,12 +237,12 @@ module _ (file : List ℕ) (most : ℕ) (fits : length file ≤ most) where
       → Firsts (length file) rows → Tells (Fault most) Q x → Tells (Fault most) Q (judged shared rows x)
   unfolding judged
   judged-inside shared x no-rows g = g
-  judged-inside shared x (one-more {d = d} h f) g = tells-check _ 17 (d .row .first) _ (fault 17 refl refl h) (λ t. judged-inside shared x f g)
+  judged-inside shared x (one-more {d = d} h f) g = tells-check _ 17 (d .row .first) _ (fault 17 refl h) (λ t. judged-inside shared x f g)
 
   finished-inside : (platform flags : ℕ) (names : List (List ℕ)) (readers shared : ℕ) (a : Taken) (e : ℕ) → Rows a e → Inside (finished file platform flags names readers shared a e)
   unfolding finished
   finished-inside platform flags names readers shared a e h =
-      tells-check _ 20 e _ (fault 20 refl refl (h .0)) (λ t. judged-inside _ _ (h .1) (of-read (h .0)))
+      tells-check _ 20 e _ (fault 20 refl (h .0)) (λ t. judged-inside _ _ (h .1) (of-read (h .0)))
 
 -- ---- the header and the lists
 
@@ -242,18 +256,18 @@ header-inside : (file : List ℕ) (most : ℕ) → (length file ≤ 16777216 →
     → Tells (Fault most) (λ h e. (e ≤ length file) × (length file ≤ most)) (headerAt file)
 unfolding headerAt
 header-inside file most fits =
-    tells-check (leb (length file) 16777216) 9 0 _ (record { some-number = omega arith; last-number = omega arith; placed = omega arith }) (λ t.
+    tells-check (leb (length file) 16777216) 9 0 _ (record { number-is = is-number 9 refl; placed = omega arith }) (λ t.
     let m = fits (leb-true (length file) 16777216 t) in
-    tells-check (leb 10 (length file)) 1 0 _ (fault file most m 1 refl refl (omega arith)) (λ u.
+    tells-check (leb 10 (length file)) 1 0 _ (fault file most m 1 refl (omega arith)) (λ u.
     let l = leb-true 10 (length file) u in
-    tells-check _ 2 0 _ (fault file most m 2 refl refl (omega arith)) (λ c.
-    tells-check _ 2 0 _ (fault file most m 2 refl refl (omega arith)) (λ c.
-    tells-check _ 2 0 _ (fault file most m 2 refl refl (omega arith)) (λ c.
-    tells-check _ 3 3 _ (fault file most m 3 refl refl (omega arith)) (λ c.
-    tells-check _ 4 4 _ (fault file most m 4 refl refl (omega arith)) (λ c.
-    tells-check _ 5 5 _ (fault file most m 5 refl refl (omega arith)) (λ c.
-    tells-check _ 6 5 _ (fault file most m 6 refl refl (omega arith)) (λ c.
-    tells-check _ 7 6 _ (fault file most m 7 refl refl (omega arith)) (λ c.
+    tells-check _ 2 0 _ (fault file most m 2 refl (omega arith)) (λ c.
+    tells-check _ 2 0 _ (fault file most m 2 refl (omega arith)) (λ c.
+    tells-check _ 2 0 _ (fault file most m 2 refl (omega arith)) (λ c.
+    tells-check _ 3 3 _ (fault file most m 3 refl (omega arith)) (λ c.
+    tells-check _ 4 4 _ (fault file most m 4 refl (omega arith)) (λ c.
+    tells-check _ 5 5 _ (fault file most m 5 refl (omega arith)) (λ c.
+    tells-check _ 6 5 _ (fault file most m 6 refl (omega arith)) (λ c.
+    tells-check _ 7 6 _ (fault file most m 7 refl (omega arith)) (λ c.
     of-read (l, m)))))))))))
 
 module _ (nameOf : ℕ → List ℕ → Named) (numbers : WithinName nameOf) (file : List ℕ) where
@@ -265,24 +279,24 @@ module _ (nameOf : ℕ → List ℕ → Named) (numbers : WithinName nameOf) (fi
       q = numbers first name number place e
 
       by-number : (number ≡ 11) ⊎ ((33 ≤ number) × (number ≤ 38)) → Fault most number place
-      by-number (inl i) = record { some-number = omega arith; last-number = omega arith; placed = omega (arith, q .1) }
-      by-number (inr i) = record { some-number = omega (arith, i .0); last-number = i .1; placed = omega (arith, q .1) }
+      by-number (inl i) = record { number-is = inr (inl (omega arith, omega arith)); placed = omega (arith, q .1) }
+      by-number (inr i) = record { number-is = inr (inr (inr i)); placed = omega (arith, q .1) }
     judge-inside first name (known t) at e z h = of-read h
 
     -- a part of the file, and where it ends
     part-inside : (n at first : ℕ) → at ≤ length file → first ≤ length file → Tells (Fault most) (λ bs e. (e ≤ length file) × (e ≡ first + length bs)) (some file n at first)
     unfolding some
     part-inside n at first h k =
-        tells-check (leb n (length (drop first file))) 1 at _ (fault file most fits 1 refl refl h) (λ t.
+        tells-check (leb n (length (drop first file))) 1 at _ (fault file most fits 1 refl h) (λ t.
         let b = leb-true n (length (drop first file)) t in
         of-read (omega (arith, length-drop first file), ap (λ (m : ℕ). first + m) (sym (length-take-le n (drop first file) b))))
 
     entry-inside : (at : ℕ) → at ≤ length file → Inside file most fits (readerAt nameOf file at)
     unfolding readerAt
     entry-inside at h =
-        tells-bind (seven-inside file most fits at h) (λ n first k. tells-check _ 9 at _ (fault file most fits 9 refl refl h) (λ t.
+        tells-bind (seven-inside file most fits at h) (λ n first k. tells-check _ 9 at _ (fault file most fits 9 refl h) (λ t.
         tells-bind (part-inside n at first h k) (λ name end g. tells-bind (judge-inside first name (nameOf first name) end refl (g .1) (g .0)) (λ t version v.
-        tells-bind (little-inside file most fits 4 version version v v) (λ number next e. tells-check _ 12 version _ (fault file most fits 12 refl refl v) (λ t. of-read e))))))
+        tells-bind (little-inside file most fits 4 version version v v) (λ number next e. tells-check _ 12 version _ (fault file most fits 12 refl v) (λ t. of-read e))))))
 
     readers-inside : (n at : ℕ) → at ≤ length file → Inside file most fits (readersAt nameOf file n at)
     unfolding readersAt several
@@ -292,9 +306,9 @@ module _ (nameOf : ℕ → List ℕ → Named) (numbers : WithinName nameOf) (fi
     lists-inside : (at : ℕ) → at ≤ length file → Inside file most fits (listsAt nameOf file at)
     unfolding listsAt
     lists-inside at h =
-        tells-bind (seven-inside file most fits at h) (λ n e k. tells-check _ 9 at _ (fault file most fits 9 refl refl h) (λ t.
+        tells-bind (seven-inside file most fits at h) (λ n e k. tells-check _ 9 at _ (fault file most fits 9 refl h) (λ t.
         tells-bind (readers-inside n e k) (λ l shared g. tells-bind (seven-inside file most fits shared g) (λ s next f.
-        tells-check _ 9 shared _ (fault file most fits 9 refl refl g) (λ t. of-read f)))))
+        tells-check _ 9 shared _ (fault file most fits 9 refl g) (λ t. of-read f)))))
 
   file-inside : (most room : ℕ) → (length file ≤ 16777216 → length file ≤ most) → Tells (Fault most) (λ a e. e ≤ length file) (fileAt nameOf file room)
   unfolding fileAt objectsAt
@@ -317,9 +331,9 @@ module _ (nameOf : ℕ → List ℕ → Named) (numbers : WithinName nameOf) (fi
           rw (← a, ← b) f
       go (read a e) (of-read h) q = differ cc
 
-    -- a refusal has a number from 1 to 38, as in 01's table and 02, Req 04
-    pub refusal-number : (1 ≤ number) × (number ≤ 38)
-    refusal-number = let f = faulty 16777216 (λ h. h) in (f .some-number, f .last-number)
+    -- a refusal has one of these numbers
+    pub refusal-number : LoadNumber number
+    refusal-number = faulty 16777216 (λ h. h) .number-is
 
     -- a refusal's place is inside the file or at its end, and so it fits the 32 bits that the builder's number has for it
     pub refusal-place : (place ≤ length file) × (place ≤ 16777216)

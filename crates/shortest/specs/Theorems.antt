@@ -15,6 +15,7 @@ use Rattle.reading.specs.Reads.{Small}
 use Rattle.reading.specs.File as load
 use Rattle.reading.specs.File.{Named, Judges, Loaded, accepted, fileAt, toLoad, roomOf, loadOf}
 use Rattle.reading.specs.Drafts.{bare}
+use Rattle.reading.specs.Numbers.{last-number}
 use Rattle.reading.specs.Refusals.{WithinName, refusal-number, refusal-place}
 use Rattle.reading.specs.Accepts.{file-complete}
 use Rattle.reading.specs.Theorems.{Fitting, rowsIn, rows-are, accepted-is}
@@ -81,7 +82,7 @@ module _ (named : List ℕ → Target → Type 0) (nameOf : ℕ → List ℕ →
         let b = refusal-place nameOf numbers file words m q l in
         let e₁ : m ≡ n = cc in
         let e₂ : q ≡ p = cc in
-        (omega (arith, a .1), omega (arith, b .1))
+        (omega (arith, last-number a), omega (arith, b .1))
     go (read a next) f e =
         let l : loadOf nameOf file words ≡ accepted (bare (a .rows)) (a .readers) (a .shared) = ap toLoad f in
         let g = accepted-is named nameOf judges file words small (bare (a .rows)) (a .readers) (a .shared) l .0 in

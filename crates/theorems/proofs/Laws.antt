@@ -2,6 +2,7 @@
 use mathlib.Core.Path.{_≡_, refl, ap, _∙_}
 use mathlib.Core.Bool.{Bool, true, false}
 use mathlib.Core.List.{List, _++_}
+use mathlib.Core.Logic.{_⊎_, inl, inr}
 use Prim.Native.Nat.{ℕ, _+_, _*_, _-_, _<_, _≤_}
 use native.Mathlib.Omega.{arith}
 use lib.Dec.{leb}
@@ -21,6 +22,7 @@ use Rattle.enums.specs.Lists.{Bytes, Says, enums-sound}
 use Rattle.load.specs.Under.{fileUnder, loadUnder, load-lawful, load-refused-list}
 use Rattle.rewrite.specs.Whole.{rewriteUnder}
 use Rattle.places.specs.Padding.{filePadding}
+use Rattle.reading.specs.Numbers.{LoadNumber}
 use Rattle.reading.specs.Answer.{Answer, refused, read}
 use Rattle.reading.specs.Reads.{Small}
 use Rattle.reading.specs.File as reading
@@ -49,7 +51,7 @@ use Rattle.readers.specs.Judged.{judgedName, judges, within-name}
 
 -- the range of a refusal under a lawful list
 abbrev Placed : (file : List ℕ) (number place : ℕ) → Type 0
-Placed file number place = (1 ≤ number) × (number ≤ 38) × (place ≤ length file)
+Placed file number place = LoadNumber number × (place ≤ length file)
 
 -- how a load ends: with 32 for the list, with one refusal, placed in the file, or with a file tree that fits
 pub data Ends (enums file : List ℕ) (words : ℕ) : Type 0 where
@@ -67,7 +69,7 @@ ends-under enums file words small es w b = go (loadOf (judgedName es) file words
   go (refusal n p) e =
       let i = refusal-number (judgedName es) (within-name es) file words n p e in
       let j = refusal-place (judgedName es) (within-name es) file words n p e in
-      refuses es w b n p (is ∙ e) (i .0, i .1, j .0)
+      refuses es w b n p (is ∙ e) (i, j .0)
   go (accepted rows readers shared) e =
       let f = T.accepted-is (named es) (judgedName es) (judges es) file words small rows readers shared e .0 in
       fits (record { es = es; lawful = w; listed = b; tree = f .tree; lays = f .lays; room = f .room })
@@ -221,21 +223,24 @@ module _ (enums file : List ℕ) (words : ℕ) (out : List ℕ) {left end : List
   rewrite-list (refuses es l b m q e i) none = absurd (none es l b)
   rewrite-list (bad-list i b n e) none = (i, handed 32 i e .0, b)
 
-  same-refusal : {m q number place : ℕ} → r ≡ rewriting.Refused m q → r ≡ rewriting.Refused number place → Placed file m q → Placed file number place
+  abbrev Rewrite-placed : (number place : ℕ) → Type 0
+  Rewrite-placed number place = (LoadNumber number ⊎ (number ≡ 21)) × (place ≤ length file)
+
+  same-refusal : {m q number place : ℕ} → r ≡ rewriting.Refused m q → r ≡ rewriting.Refused number place → Rewrite-placed m q → Rewrite-placed number place
   same-refusal {m} {q} {number} {place} e g i =
       let e₁ : number ≡ m = cc in
       let e₂ : place ≡ q = cc in
       rw (e₁, e₂) i
 
-  rewrite-placed : Ends enums file words → (es : List EnumEntry) → Enums es → enums ≡ writeEnums es → (number place : ℕ) → r ≡ rewriting.Refused number place → Placed file number place
-  rewrite-placed (refuses fs v c m q g i) es w b number place e = same-refusal (handed m q g .0) e i
+  rewrite-placed : Ends enums file words → (es : List EnumEntry) → Enums es → enums ≡ writeEnums es → (number place : ℕ) → r ≡ rewriting.Refused number place → Rewrite-placed number place
+  rewrite-placed (refuses fs v c m q g i) es w b number place e = same-refusal (handed m q g .0) e (inl (i .0), i .1)
   rewrite-placed (bad-list i bad none g) es w b number place e = absurd (none es w b)
   rewrite-placed (fits f) es w b number place e = go (leb (length (shortFile (f .tree))) (length out)) refl where
-    go : (t : Bool) → leb (length (shortFile (f .tree))) (length out) ≡ t → Placed file number place
+    go : (t : Bool) → leb (length (shortFile (f .tree))) (length out) ≡ t → Rewrite-placed number place
     go true t =
         let l = rewritten f (leb-true _ _ t) .0 in
         differ cc
-    go false t = same-refusal (too-long f (leb-false _ _ t) .0) e (omega arith, omega arith, least f file (f .lays) .no-longer)
+    go false t = same-refusal (too-long f (leb-false _ _ t) .0) e (inr refl, least f file (f .lays) .no-longer)
 
   begins : Ends enums file words → (n : ℕ) → r ≡ rewriting.Rewritten n → (f : Fitting enums file words) × (n ≤ length end) × R.Written f (take n end)
   begins (refuses es l b m q g i) n e =

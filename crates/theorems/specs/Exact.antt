@@ -16,6 +16,7 @@ use Rattle.layout.specs.EnumList.{EnumEntry, writeEnums, Enums}
 use Rattle.layout.specs.Named.{named}
 use Rattle.names.specs.Entries.{entriesOf, entries-written}
 use Rattle.enums.specs.First.{FirstBad}
+use Rattle.reading.specs.Numbers.{LoadNumber}
 use Rattle.reading.specs.File.{roomOf}
 use Rattle.reading.specs.Grid.{shapeOf}
 use Rattle.columns.specs.Columns.{columnsOf}
@@ -74,5 +75,5 @@ pub record Exact (columns : Bool) (enums file : List ℕ) (words : ℕ) (left : 
   pub list : Unlawful enums → (place : ℕ) × (r ≡ Refused 32 place) × FirstBad enums 32 place
   -- 02, Req 09: "It must hold of every table we leave, in rows or columns": the rule of the seventh word
   pub skips : (used readers shared padding : ℕ) → r ≡ Loaded used readers shared padding → TableSkips (shapeOf columns) (roomOf words) left used
-  -- under a lawful list a refusal's number is one of 01's for a load, and its place is in the file
-  pub inside : (es : List EnumEntry) → Enums es → enums ≡ writeEnums es → (number place : ℕ) → r ≡ Refused number place → (1 ≤ number) × (number ≤ 38) × (place ≤ length file)
+  -- under a lawful list a refusal's number is one of 01's and 02's for a load, and its place is in the file
+  pub inside : (es : List EnumEntry) → Enums es → enums ≡ writeEnums es → (number place : ℕ) → r ≡ Refused number place → LoadNumber number × (place ≤ length file)

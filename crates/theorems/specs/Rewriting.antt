@@ -2,6 +2,7 @@
 use mathlib.Core.Path.{_≡_}
 use mathlib.Core.Bool.{false}
 use mathlib.Core.List.{List, _++_}
+use mathlib.Core.Logic.{_⊎_}
 use Prim.Native.Nat.{ℕ, _+_, _<_, _≤_}
 use lib.ListN.{length, take, drop, replicate}
 use Rattle.layout.specs.Tree.{count}
@@ -9,6 +10,7 @@ use Rattle.layout.specs.File.{sharedOf, FileLays}
 use Rattle.layout.specs.EnumList.{EnumEntry, writeEnums, Enums}
 use Rattle.layout.specs.Named.{named}
 use Rattle.enums.specs.First.{FirstBad}
+use Rattle.reading.specs.Numbers.{LoadNumber}
 use Rattle.reading.specs.File.{roomOf}
 use Rattle.reading.specs.Grid.{byRows}
 use Rattle.branches.specs.Table.{TableSkips}
@@ -46,8 +48,8 @@ pub record Exact (enums file : List ℕ) (words : ℕ) (left out end : List ℕ)
       → (number : ℕ) × (place : ℕ) × (r ≡ Refused number place) × (end ≡ out) × (left ≡ replicate words 0)
   -- 02, Req 02: 32 "before all else"
   pub list : Unlawful enums → (place : ℕ) × (r ≡ Refused 32 place) × FirstBad enums 32 place
-  -- under a lawful list a refusal's number is one of 01's for a load or 21, and its place is in the file or the bytes needed, which are no more than the file's
-  pub inside : (es : List EnumEntry) → Enums es → enums ≡ writeEnums es → (number place : ℕ) → r ≡ Refused number place → (1 ≤ number) × (number ≤ 38) × (place ≤ length file)
+  -- under a lawful list a refusal's number is one of those for a load or 21, and its place is in the file or the bytes needed, which are no more than the file's
+  pub inside : (es : List EnumEntry) → Enums es → enums ≡ writeEnums es → (number place : ℕ) → r ≡ Refused number place → (LoadNumber number ⊎ (number ≡ 21)) × (place ≤ length file)
   -- 02, Req 09: "It must hold of every table we leave": the rule of the seventh word
   pub skips : (n : ℕ) → r ≡ Rewritten n → (f : Fitting enums file words) → TableSkips byRows (roomOf words) left (length (rowsIn f))
   -- what is rewritten is a file tree's bytes, and the output then begins with bytes of which the above holds

@@ -2,6 +2,7 @@
 use mathlib.Core.Path.{_≡_, refl, sym, ap, _∙_}
 use mathlib.Core.Bool.{Bool, true, false, _&&_, cond}
 use mathlib.Core.List.{List, [], _∷_, _++_}
+use mathlib.Core.Logic.{_⊎_, inl, inr}
 use Prim.Native.Nat.{ℕ, _+_, _*_, _%_, _≤_, _<_}
 use native.Mathlib.Omega.{arith}
 use lib.Dec.{leb, eqb}
@@ -14,19 +15,20 @@ use Rattle.layout.specs.Name.{Name, text, Formed}
 use Rattle.layout.specs.EnumList.{EnumEntry, EnumSize, sizeIn}
 use Rattle.layout.specs.Named.{Typed, unknown, known, readerOf}
 use Rattle.names.specs.Parse.{Read, broken, name, nameOf}
-use Rattle.names.specs.Complete.{write-append}
+use Rattle.names.specs.Complete.{write-append, length-write}
 use Rattle.names.specs.Laws.{read-is-text, broken-is-no-text}
 use Rattle.names.specs.Fault.{Fault}
-use Rattle.names.specs.Faults.{faults}
+use Rattle.names.specs.Faults.{faults, fault-number}
 use Rattle.names.specs.Codes.{read-is-few, codes-length}
 use Rattle.names.specs.Contract.{coded, refused, no-room, placed, ending}
-use Rattle.names.specs.Heading.{headings}
+use Rattle.names.specs.Heading.{headings, long}
 use Rattle.names.specs.Kind.{codes}
 use Rattle.types.specs.declared.Resolved.{Resolved}
 use Rattle.types.specs.Code.{codeSize, Stands}
 use Rattle.types.specs.Coded.{reader-coded}
 use Rattle.types.specs.Laws.{written-stands}
 use Rattle.types.specs.Complaint.{readerFaults, leftmost}
+use Rattle.types.specs.Complaints.{leftmost-within}
 use Rattle.types.specs.Contract.{told, judged, resolution, enumWord, settled, left, content, Resolves}
 
 pub settled-length : (ws : List ℕ) → length (settled ws) ≡ length ws
@@ -94,6 +96,13 @@ pub data Refusal (es : List EnumEntry) (s : List ℕ) (at number place : ℕ) : 
   broken-name : (i : ℕ) → place ≡ at + i → Fault s number i → ((n : Name) → Formed 8 n → s ≡ text n → ⊥) → Refusal es s at number place
   -- 11: the name is lawful and has no target, and this is the leftmost head that is complained of
   no-target : (n : Name) → Formed 8 n → s ≡ text n → readerOf es n ≡ unknown → number ≡ 11 → place ≡ leftmost (readerFaults es at n) → Refusal es s at number place
+
+-- a refusal's number is 11 or one of 33 to 38, and its place is in the name or at its end
+pub refusal-bounds : {es : List EnumEntry} {s : List ℕ} {at number place : ℕ} → Refusal es s at number place → ((number ≡ 11) ⊎ ((33 ≤ number) × (number ≤ 38))) × (place ≤ at + length s)
+refusal-bounds (broken-name i e f _) = (inr (fault-number f), omega (arith, e, f .inside))
+refusal-bounds {es} {s} {at} (no-target n f e t k l) =
+    let z : length s ≡ long n = ap length e ∙ length-write n [] ∙ omega arith in
+    (inl k, omega (arith, l, leftmost-within es n at))
 
 module _ (es : List EnumEntry) (s : List ℕ) (at : ℕ) (c c′ : List ℕ) (used : ℕ) where
   unknown-as : (number place : ℕ) (n : Name) (j : ℕ) → nameOf at s ≡ name n j → (b : Bool) (k : Typed) → readerOf es n ≡ k → refused number place ≡ cond b (judged used (readerFaults es at n) k) no-room
