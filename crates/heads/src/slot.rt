@@ -59,10 +59,10 @@ pub fn slot_of(codes: &[u32], a: usize) -> Slot
     if kind == 16 {
         return Slot::Raw(a);
     }
-    if bytes_of(kind) == 0 {
-        return Slot::Object(a);
+    if bytes_of(kind) != 0 {
+        return Slot::Simple(plain_of(kind));
     }
-    Slot::Simple(plain_of(kind))
+    Slot::Object(a)
 }
 
 // A raw value of the type at a place.

@@ -23,17 +23,17 @@ returns-3 c = rw (← c .before .before .before .kind-at .ensures, ne-eqb _ 12 (
 bytes-of-requires : tie.Need-bytes-of-requires
 bytes-of-requires c κs = search needs
 
-returns-4 : tie.Need-returns-4
-unfolding slotBy
-returns-4 c = rw (← c .before .before .before .before .before .kind-at .ensures, ne-eqb _ 12 (c .before .before .before .if2 .left), ne-eqb _ 16 (c .before .before .if3 .left), ← c .before .bytes-of .ensures, eq-eqb _ 0 (c .if4 .taken))
-
 plain-of-requires : tie.Need-plain-of-requires
 plain-of-requires c κs = search needs
 
+returns-4 : tie.Need-returns-4
+unfolding slotBy
+returns-4 c =
+    rw (← c .before .before .before .before .before .before .kind-at .ensures, ne-eqb _ 12 (c .before .before .before .before .if2 .left), ne-eqb _ 16 (c .before .before .before .if3 .left), ← c .before .before .bytes-of .ensures, ne-eqb _ 0 (c .before .if4 .taken), c .plain-of .ensures)
+
 returns-5 : tie.Need-returns-5
 unfolding slotBy
-returns-5 c =
-    rw (← c .before .before .before .before .before .before .kind-at .ensures, ne-eqb _ 12 (c .before .before .before .before .if2 .left), ne-eqb _ 16 (c .before .before .before .if3 .left), ← c .before .before .bytes-of .ensures, ne-eqb _ 0 (c .before .if4 .left), c .plain-of .ensures)
+returns-5 c = rw (← c .before .before .before .before .before .kind-at .ensures, ne-eqb _ 12 (c .before .before .before .if2 .left), ne-eqb _ 16 (c .before .before .if3 .left), ← c .before .bytes-of .ensures, eq-eqb _ 0 (c .if4 .left))
 
 pub slot-of-spec : {M : Type 1} → statement M
 slot-of-spec =
@@ -44,6 +44,6 @@ slot-of-spec =
     returns-2
     returns-3
     bytes-of-requires
-    returns-4
     plain-of-requires
+    returns-4
     returns-5)
