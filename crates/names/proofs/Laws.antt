@@ -1,20 +1,21 @@
 -- Loops over bytes: how far a class goes, and whether a text stands there. Assumes nothing.
 use mathlib.Core.Path.{_≡_, refl, sym, ap, _∙_}
-use mathlib.Core.Bool.{Bool, true, false, _||_, cond}
-use mathlib.Core.List.{List, [], _∷_}
+use mathlib.Core.Bool.{Bool, true, false, not, _&&_, _||_, cond, and-assoc}
+use mathlib.Core.List.{List, [], _∷_, _++_}
 use Prim.Native.Nat.{ℕ, suc, _+_, _-_, _≤_, _<_}
 use native.Mathlib.Omega.{arith}
 use lib.Dec.{eqb}
-use lib.ListN.{length, take, drop, getD, length-drop, length-append, drop-of-length-le}
-use lib.Seq.{drop-cons, take-all}
+use lib.ListN.{length, take, drop, getD, length-drop, length-append, take-append-drop, drop-of-length-le}
+use lib.Seq.{drop-cons, drop-drop, getD-drop, take-all, take-suc, length-take-le}
 use borrow.Author.Tests.{eq-eqb, ne-eqb}
 use Rattle.laws.specs.Small.{neither}
 use Rattle.layout.specs.Text.{ascii}
 use Prim.Native.Char.{code}
-use Rattle.layout.specs.Name.{none, some, tailByte}
+use Rattle.layout.specs.Name.{none, some, tailByte, all}
 use Rattle.names.specs.Parse.{span, starts, common, tailSize, tailOf, wrongBy, behind}
 use Rattle.names.specs.Common.{starts-common, common-fits, starts-longer}
 use Rattle.names.specs.Sound.{starts-is, span-le}
+use Rattle.names.specs.Complete.{span-past}
 
 -- the list from i on, where there is an i-th
 pub cons-at : (s : List ℕ) (i : ℕ) → i < length s → drop i s ≡ getD s i 0 ∷ drop (i + 1) s
@@ -47,6 +48,38 @@ module _ (p : ℕ → Bool) (s : List ℕ) (i : ℕ) where
   span-step h b e =
       let z : span p (drop i s) ≡ suc (span p (drop (i + 1) s)) = ap (span p) (cons-at s i h) ∙ span-yes p (getD s i 0) (drop (i + 1) s) b in
       omega arith
+
+  -- a block of n bytes
+  pub span-block : (n : ℕ) → i + n ≤ length s → all p (take n (drop i s)) ≡ true → span p s ≡ i + span p (drop i s) →
+      span p s ≡ i + n + span p (drop (i + n) s)
+  span-block n h b e =
+      let d : take n (drop i s) ++ drop (i + n) s ≡ drop i s = rw (sym (drop-drop n i s)) (take-append-drop n (drop i s)) in
+      let z = ap (span p) (sym d) ∙ span-past p (take n (drop i s)) (drop (i + n) s) b in
+      omega (arith, z, length-take-le n (drop i s) (omega (arith, length-drop i s)))
+
+-- one byte more of the list from `at` on
+pub take-next : (s : List ℕ) (at i : ℕ) → at + i < length s → take (i + 1) (drop at s) ≡ take i (drop at s) ++ (getD s (at + i) 0 ∷ [])
+take-next s at i h =
+    let q : i + 1 ≡ suc i = omega arith in
+    let z = take-suc (drop at s) i 0 (omega (arith, length-drop at s)) in
+    ap (λ (k : ℕ). take k (drop at s)) q ∙ z ∙ ap (λ (b : ℕ). take i (drop at s) ++ (b ∷ [])) (getD-drop at s i 0)
+
+all-join : (p : ℕ → Bool) (s t : List ℕ) → all p (s ++ t) ≡ (all p s && all p t)
+unfolding all
+all-join p [] t = refl
+all-join p (b ∷ s) t = rw (all-join p s t) (sym (and-assoc (p b) (all p s) (all p t)))
+
+-- whether one of some bytes is not of the class, with one byte more
+pub other-step : (p : ℕ → Bool) (s : List ℕ) (at i : ℕ) (other : Bool) → at + i < length s →
+    other ≡ not (all p (take i (drop at s))) →
+    (other || not (p (getD s (at + i) 0))) ≡ not (all p (take (i + 1) (drop at s)))
+unfolding all
+other-step p s at i other h e =
+    rw (e, take-next s at i h, all-join p (take i (drop at s)) (getD s (at + i) 0 ∷ [])) (go (all p (take i (drop at s))) (p (getD s (at + i) 0))) where
+      go : (x y : Bool) → (not x || not y) ≡ not (x && (y && true))
+      go true true = refl
+      go true false = refl
+      go false y = refl
 
 common-no : (a b : ℕ) (t s : List ℕ) → (a ≡ b → ⊥) → common (a ∷ t) (b ∷ s) ≡ 0
 unfolding common
@@ -87,6 +120,11 @@ module _ (t s : List ℕ) (at i : ℕ) (e : common t (drop at s) ≡ i + common 
 -- `&s[a..]` as the borrow checker has it
 pub rest : (s : List ℕ) (a : ℕ) → take (length s - a) (drop a s) ≡ drop a s
 rest s a = take-all (length s - a) (drop a s) (omega (arith, length-drop a s))
+
+-- a run, as far as it is known and then from there on
+pub span-rest : (p : ℕ → Bool) (s : List ℕ) (i : ℕ) {r : ℕ} → r ≡ span p (take (length s - i) (drop i s)) →
+    span p s ≡ i + span p (drop i s) → i + r ≡ span p s
+span-rest p s i e w = omega (arith, e ∙ ap (span p) (rest s i))
 
 -- a text that stands there ends there
 pub starts-fits : (w s : List ℕ) (at : ℕ) → at ≤ length s → starts w (drop at s) ≡ true → at + length w ≤ length s

@@ -49,12 +49,15 @@ write-append (two h a b t) r s =
     ∙ ap (λ (l : List ℕ). h ++ (ascii "`2[[" ++ l)) (write-append a v s
     ∙ ap (λ (l : List ℕ). write a (ascii "],[" ++ l)) (write-append b w s ∙ ap (λ (l : List ℕ). write b (ascii "]]" ++ l)) (append-tail t r s)))
 
-pub span-all : (p : ℕ → Bool) (h rest : List ℕ) → all p h ≡ true → span p rest ≡ 0 → span p (h ++ rest) ≡ length h
+pub span-past : (p : ℕ → Bool) (h rest : List ℕ) → all p h ≡ true → span p (h ++ rest) ≡ length h + span p rest
 unfolding all span
-span-all p [] rest a e = e
-span-all p (b ∷ h) rest a e =
+span-past p [] rest a = omega arith
+span-past p (b ∷ h) rest a =
     let q = both (p b) (all p h) a in
-    rw (q .0, span-all p h rest (q .1) e)
+    rw (q .0, span-past p h rest (q .1)) (let z : suc (length h + span p rest) ≡ suc (length h) + span p rest = omega arith in z)
+
+pub span-all : (p : ℕ → Bool) (h rest : List ℕ) → all p h ≡ true → span p rest ≡ 0 → span p (h ++ rest) ≡ length h
+span-all p h rest a e = omega (arith, span-past p h rest a)
 
 -- a closing bracket goes on with no head and no tail
 stops-head : {rest : List ℕ} → Stops rest → span headByte rest ≡ 0

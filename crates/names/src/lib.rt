@@ -1,10 +1,10 @@
 // Reader names: the parser, and which kinds their heads name. It decides the grammar alone (33 to 38), from left to right, and leaves a word for each head.
 ghost use mathlib.Core.Path.{_≡_};
 ghost use Prim.Native.Nat.{_≤_, _<_, _+_};
-ghost use lib.ListN.{length, drop, set};
+ghost use lib.ListN.{length, take, drop, set};
 ghost use Rattle.layout.specs.Number.{between};
-ghost use Rattle.layout.specs.Name.{headByte, tailByte};
-ghost use Rattle.layout.specs.Kind.{alike, lookup};
+ghost use Rattle.layout.specs.Name.{headByte, tailByte, all};
+ghost use Rattle.layout.specs.Kind.{alike, lookup, readers, targets};
 ghost use Rattle.layout.specs.EnumList.{sizeIn};
 ghost use mathlib.Core.Bool.{_||_};
 ghost use Rattle.names.specs.declared.Parsed.the-variants.{Broken};
@@ -82,6 +82,34 @@ pub fn run(s: &[u8], tail: bool) -> usize
     i
 }
 
+// The 32 bytes from `at` on are all of a class.
+fn all_in_class(s: &[u8], at: usize, tail: bool) -> bool
+    requires { ⌜ at + 32 ≤ length (now s) ⌝ }
+    ensures { λ r. ⌜ r ≡ all (class tail) (take 32 (drop at (now (s .entry)))) ⌝ }
+{
+    let mut other = false;
+    let mut i = 0;
+    while i < 32 {
+        other = other | !in_class(tail, s[at + i]);
+        i += 1;
+    }
+    !other
+}
+
+// The same as `run`, for long runs: 32 bytes at once as long as all are of the class.
+fn long_run(s: &[u8], tail: bool) -> usize
+    ensures { λ r. ⌜ r ≡ span (class tail) (now (s .entry)) ⌝ }
+{
+    let mut i = 0;
+    while 32 <= s.len() - i {
+        if !all_in_class(s, i, tail) {
+            break;
+        }
+        i += 32;
+    }
+    i + run(&s[i..], tail)
+}
+
 // How many bytes of the text stand in s from `at` on, up to the first that does not.
 fn matched(s: &[u8], at: usize, text: &[u8]) -> usize
     requires { ⌜ at ≤ length (now s) ⌝ }
@@ -121,7 +149,7 @@ fn tail_size(s: &[u8]) -> usize
     if !stands(s, 0, b",") {
         return 0;
     }
-    run(&s[1..], true) + 1
+    long_run(&s[1..], true) + 1
 }
 
 // Perhaps a tail at `at`. A byte that cannot follow is a bad one in the tail, or `bare` where there is no tail.
@@ -246,14 +274,35 @@ fn close(name: &[u8], at: usize, a: usize, argument: Parsed) -> Parsed
     }
 }
 
-// Two texts are equal.
+// The eight bytes from `at` on are the same in two texts.
+fn same_eight(a: &[u8], b: &[u8], at: usize) -> bool
+    requires { ⌜ (at + 8 ≤ length (now a)) × (at + 8 ≤ length (now b)) ⌝ }
+    ensures { λ r. ⌜ r ≡ alike (take 8 (drop at (now (a .entry)))) (take 8 (drop at (now (b .entry)))) ⌝ }
+{
+    let mut same = true;
+    let mut i = 0;
+    while i < 8 {
+        same = same & (a[at + i] == b[at + i]);
+        i += 1;
+    }
+    same
+}
+
+// Two texts are equal: the last bytes are compared first, since names begin alike.
 pub fn same_text(a: &[u8], b: &[u8]) -> bool
     ensures { λ r. ⌜ r ≡ alike (now (a .entry)) (now (b .entry)) ⌝ }
 {
-    if a.len() == b.len() {
-        return stands(b, 0, a);
+    if a.len() != b.len() {
+        return false;
     }
-    false
+    let mut left = a.len();
+    while 8 <= left {
+        left -= 8;
+        if !same_eight(a, b, left) {
+            return false;
+        }
+    }
+    stands(&b[..left], 0, &a[..left])
 }
 
 // What a list of entries has for a head: a name length byte, a name and a byte for each; 0 if no whole entry has this name.
@@ -277,21 +326,79 @@ pub fn find(entries: &[u8], head: &[u8]) -> u8
 }
 
 // The tables of layout/Kind as bytes, in the form of a lent list: for each entry the head's length, the head and the kind.
-// The proof of `kind_of` compares them.
-const TARGETS: [u8; 942] =
-    *b"\x0bSystem.Byte\x01\x0cSystem.SByte\x02\x0cSystem.Int16\x03\x0dSystem.UInt16\x04\x0cSystem.Int32\x05\x0dSystem.UInt32\x06\x0cSystem.Int64\x07\x0dSystem.UInt64\x08\x0dSystem.Single\x09\x0dSystem.Double\x0a\x0eSystem.Boolean\x0b\x0bSystem.Char\x0c\x0dSystem.String\x0d\x0dSystem.Object\x0e\x0fSystem.Nullable\x10\x1fSystem.Collections.Generic.List\x12\x25System.Collections.Generic.Dictionary\x13\x0fSystem.TimeSpan\x14\x0fSystem.DateTime\x15\x0eSystem.Decimal\x16\x1fMicrosoft.Xna.Framework.Vector2\x17\x1fMicrosoft.Xna.Framework.Vector3\x18\x1fMicrosoft.Xna.Framework.Vector4\x19\x1eMicrosoft.Xna.Framework.Matrix\x1a\x22Microsoft.Xna.Framework.Quaternion\x1b\x1dMicrosoft.Xna.Framework.Color\x1c\x1dMicrosoft.Xna.Framework.Point\x1d\x21Microsoft.Xna.Framework.Rectangle\x1e\x28Microsoft.Xna.Framework.Graphics.Texture\x1f\x2aMicrosoft.Xna.Framework.Graphics.Texture2D\x20\x2bMicrosoft.Xna.Framework.Graphics.SpriteFont\x21\x12Coach.Console.Page\x22\x2cMicrosoft.Xna.Framework.Graphics.IndexBuffer\x25\x32Microsoft.Xna.Framework.Graphics.VertexDeclaration\x26\x2dMicrosoft.Xna.Framework.Graphics.VertexBuffer\x27\x26Microsoft.Xna.Framework.Graphics.Model\x28";
+// They stand in parts by the heads' lengths, since code makes a table anew at each use. The proofs of `reader_kind` and `target_kind` compare them.
+const TARGETS_TO_12: [u8; 82] =
+    *b"\x0bSystem.Byte\x01\x0cSystem.SByte\x02\x0cSystem.Int16\x03\x0cSystem.Int32\x05\x0cSystem.Int64\x07\x0bSystem.Char\x0c";
 
-const READERS: [u8; 1764] =
-    *b"\x2aMicrosoft.Xna.Framework.Content.ByteReader\x01\x2bMicrosoft.Xna.Framework.Content.SByteReader\x02\x2bMicrosoft.Xna.Framework.Content.Int16Reader\x03\x2cMicrosoft.Xna.Framework.Content.UInt16Reader\x04\x2bMicrosoft.Xna.Framework.Content.Int32Reader\x05\x2cMicrosoft.Xna.Framework.Content.UInt32Reader\x06\x2bMicrosoft.Xna.Framework.Content.Int64Reader\x07\x2cMicrosoft.Xna.Framework.Content.UInt64Reader\x08\x2cMicrosoft.Xna.Framework.Content.SingleReader\x09\x2cMicrosoft.Xna.Framework.Content.DoubleReader\x0a\x2dMicrosoft.Xna.Framework.Content.BooleanReader\x0b\x2aMicrosoft.Xna.Framework.Content.CharReader\x0c\x2cMicrosoft.Xna.Framework.Content.StringReader\x0d\x2cMicrosoft.Xna.Framework.Content.ObjectReader\x0e\x2aMicrosoft.Xna.Framework.Content.EnumReader\x0f\x2eMicrosoft.Xna.Framework.Content.NullableReader\x10\x2bMicrosoft.Xna.Framework.Content.ArrayReader\x11\x2aMicrosoft.Xna.Framework.Content.ListReader\x12\x30Microsoft.Xna.Framework.Content.DictionaryReader\x13\x2eMicrosoft.Xna.Framework.Content.TimeSpanReader\x14\x2eMicrosoft.Xna.Framework.Content.DateTimeReader\x15\x2dMicrosoft.Xna.Framework.Content.DecimalReader\x16\x2dMicrosoft.Xna.Framework.Content.Vector2Reader\x17\x2dMicrosoft.Xna.Framework.Content.Vector3Reader\x18\x2dMicrosoft.Xna.Framework.Content.Vector4Reader\x19\x2cMicrosoft.Xna.Framework.Content.MatrixReader\x1a\x30Microsoft.Xna.Framework.Content.QuaternionReader\x1b\x2bMicrosoft.Xna.Framework.Content.ColorReader\x1c\x2bMicrosoft.Xna.Framework.Content.PointReader\x1d\x2fMicrosoft.Xna.Framework.Content.RectangleReader\x1e\x2dMicrosoft.Xna.Framework.Content.TextureReader\x1f\x2fMicrosoft.Xna.Framework.Content.Texture2DReader\x20\x30Microsoft.Xna.Framework.Content.SpriteFontReader\x21\x18Coach.Console.PageReader\x22\x31Microsoft.Xna.Framework.Content.IndexBufferReader\x25\x37Microsoft.Xna.Framework.Content.VertexDeclarationReader\x26\x32Microsoft.Xna.Framework.Content.VertexBufferReader\x27\x2bMicrosoft.Xna.Framework.Content.ModelReader\x28";
+const TARGETS_OF_13_TO_15: [u8; 188] =
+    *b"\x0dSystem.UInt16\x04\x0dSystem.UInt32\x06\x0dSystem.UInt64\x08\x0dSystem.Single\x09\x0dSystem.Double\x0a\x0eSystem.Boolean\x0b\x0dSystem.String\x0d\x0dSystem.Object\x0e\x0fSystem.Nullable\x10\x0fSystem.TimeSpan\x14\x0fSystem.DateTime\x15\x0eSystem.Decimal\x16";
+
+const TARGETS_OF_16_TO_32: [u8; 246] =
+    *b"\x1fSystem.Collections.Generic.List\x12\x1fMicrosoft.Xna.Framework.Vector2\x17\x1fMicrosoft.Xna.Framework.Vector3\x18\x1fMicrosoft.Xna.Framework.Vector4\x19\x1eMicrosoft.Xna.Framework.Matrix\x1a\x1dMicrosoft.Xna.Framework.Color\x1c\x1dMicrosoft.Xna.Framework.Point\x1d\x12Coach.Console.Page\x22";
+
+const TARGETS_FROM_33: [u8; 426] =
+    *b"\x25System.Collections.Generic.Dictionary\x13\x22Microsoft.Xna.Framework.Quaternion\x1b\x21Microsoft.Xna.Framework.Rectangle\x1e\x28Microsoft.Xna.Framework.Graphics.Texture\x1f\x2aMicrosoft.Xna.Framework.Graphics.Texture2D\x20\x2bMicrosoft.Xna.Framework.Graphics.SpriteFont\x21\x2cMicrosoft.Xna.Framework.Graphics.IndexBuffer\x25\x32Microsoft.Xna.Framework.Graphics.VertexDeclaration\x26\x2dMicrosoft.Xna.Framework.Graphics.VertexBuffer\x27\x26Microsoft.Xna.Framework.Graphics.Model\x28";
+
+const READERS_TO_43: [u8; 562] =
+    *b"\x2aMicrosoft.Xna.Framework.Content.ByteReader\x01\x2bMicrosoft.Xna.Framework.Content.SByteReader\x02\x2bMicrosoft.Xna.Framework.Content.Int16Reader\x03\x2bMicrosoft.Xna.Framework.Content.Int32Reader\x05\x2bMicrosoft.Xna.Framework.Content.Int64Reader\x07\x2aMicrosoft.Xna.Framework.Content.CharReader\x0c\x2aMicrosoft.Xna.Framework.Content.EnumReader\x0f\x2bMicrosoft.Xna.Framework.Content.ArrayReader\x11\x2aMicrosoft.Xna.Framework.Content.ListReader\x12\x2bMicrosoft.Xna.Framework.Content.ColorReader\x1c\x2bMicrosoft.Xna.Framework.Content.PointReader\x1d\x18Coach.Console.PageReader\x22\x2bMicrosoft.Xna.Framework.Content.ModelReader\x28";
+
+const READERS_OF_44: [u8; 368] =
+    *b"\x2cMicrosoft.Xna.Framework.Content.UInt16Reader\x04\x2cMicrosoft.Xna.Framework.Content.UInt32Reader\x06\x2cMicrosoft.Xna.Framework.Content.UInt64Reader\x08\x2cMicrosoft.Xna.Framework.Content.SingleReader\x09\x2cMicrosoft.Xna.Framework.Content.DoubleReader\x0a\x2cMicrosoft.Xna.Framework.Content.StringReader\x0d\x2cMicrosoft.Xna.Framework.Content.ObjectReader\x0e\x2cMicrosoft.Xna.Framework.Content.MatrixReader\x1a";
+
+const READERS_OF_45_AND_46: [u8; 426] =
+    *b"\x2dMicrosoft.Xna.Framework.Content.BooleanReader\x0b\x2eMicrosoft.Xna.Framework.Content.NullableReader\x10\x2eMicrosoft.Xna.Framework.Content.TimeSpanReader\x14\x2eMicrosoft.Xna.Framework.Content.DateTimeReader\x15\x2dMicrosoft.Xna.Framework.Content.DecimalReader\x16\x2dMicrosoft.Xna.Framework.Content.Vector2Reader\x17\x2dMicrosoft.Xna.Framework.Content.Vector3Reader\x18\x2dMicrosoft.Xna.Framework.Content.Vector4Reader\x19\x2dMicrosoft.Xna.Framework.Content.TextureReader\x1f";
+
+const READERS_FROM_47: [u8; 408] =
+    *b"\x30Microsoft.Xna.Framework.Content.DictionaryReader\x13\x30Microsoft.Xna.Framework.Content.QuaternionReader\x1b\x2fMicrosoft.Xna.Framework.Content.RectangleReader\x1e\x2fMicrosoft.Xna.Framework.Content.Texture2DReader\x20\x30Microsoft.Xna.Framework.Content.SpriteFontReader\x21\x31Microsoft.Xna.Framework.Content.IndexBufferReader\x25\x37Microsoft.Xna.Framework.Content.VertexDeclarationReader\x26\x32Microsoft.Xna.Framework.Content.VertexBufferReader\x27";
+
+// The kind that a reader's own head names; 0 if it is not listed.
+fn reader_kind(head: &[u8]) -> u8
+    ensures { λ r. ⌜ r ≡ lookup (now (head .entry)) readers ⌝ }
+{
+    if head.len() <= 43 {
+        let entries = READERS_TO_43;
+        return find(&entries, head);
+    }
+    if head.len() <= 44 {
+        let entries = READERS_OF_44;
+        return find(&entries, head);
+    }
+    if head.len() <= 46 {
+        let entries = READERS_OF_45_AND_46;
+        return find(&entries, head);
+    }
+    let entries = READERS_FROM_47;
+    find(&entries, head)
+}
+
+// The kind that an argument's head names; 0 if it is not listed.
+fn target_kind(head: &[u8]) -> u8
+    ensures { λ r. ⌜ r ≡ lookup (now (head .entry)) targets ⌝ }
+{
+    if head.len() <= 12 {
+        let entries = TARGETS_TO_12;
+        return find(&entries, head);
+    }
+    if head.len() <= 15 {
+        let entries = TARGETS_OF_13_TO_15;
+        return find(&entries, head);
+    }
+    if head.len() <= 32 {
+        let entries = TARGETS_OF_16_TO_32;
+        return find(&entries, head);
+    }
+    let entries = TARGETS_FROM_33;
+    find(&entries, head)
+}
 
 // The kind that a head names, the reader's own or an argument's; 0 if it is not listed.
 pub fn kind_of(head: &[u8], own: bool) -> u8
     ensures { λ r. ⌜ r ≡ lookup (now (head .entry)) (listed own) ⌝ }
 {
     if own {
-        return find(&READERS, head);
+        return reader_kind(head);
     }
-    find(&TARGETS, head)
+    target_kind(head)
 }
 
 // The kind of an enum type's code by its size.
@@ -366,7 +473,7 @@ fn parse(
             place: at,
         };
     }
-    let h = run(name, false);
+    let h = long_run(name, false);
     if h == 0 {
         return Parsed::Broken {
             number: 33,

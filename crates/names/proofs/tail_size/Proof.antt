@@ -22,32 +22,32 @@ returns : tie.Need-returns
 unfolding ascii
 returns c = tail-none _ (sym ((c .before .stands) .ensures) ∙ not-true _ ((c .if1) .taken))
 
-sub-run : tie.Need-sub-run
-sub-run c =
+sub-long-run : tie.Need-sub-long-run
+sub-long-run c =
     let h = starts-fits _ ((c .before .before .before .before .args) .s .now) 0 (omega arith) (sym ((c .before .stands) .ensures) ∙ not-false _ ((c .if1) .left)) in
     omega arith
 
-part-run-start : tie.Need-part-run-start
-part-run-start c =
+part-long-run-start : tie.Need-part-long-run-start
+part-long-run-start c =
     let h = starts-fits _ ((c .before .before .before .before .args) .s .now) 0 (omega arith) (sym ((c .before .stands) .ensures) ∙ not-false _ ((c .if1) .left)) in
     omega arith
 
-part-run-end : tie.Need-part-run-end
-part-run-end c = search needs
+part-long-run-end : tie.Need-part-long-run-end
+part-long-run-end c = search needs
 
-run-requires : tie.Need-run-requires
-run-requires c κs = search needs
+long-run-requires : tie.Need-long-run-requires
+long-run-requires c κs = search needs
 
 add-result : tie.Need-add-result
 add-result c =
     let s = (c .before .before .before .before .before .before .args) .s .now in
-    let e = (c .run) .ensures ∙ ap (span tailByte) (rest s 1) in
+    let e = (c .long-run) .ensures ∙ ap (span tailByte) (rest s 1) in
     let h = starts-fits _ s 0 (omega arith) (sym ((c .before .before .before .stands) .ensures) ∙ not-false _ ((c .before .before .if1) .left)) in
     omega (arith, span-le tailByte (drop 1 s), length-drop 1 s)
 
 returns-2 : tie.Need-returns-2
 unfolding ascii
-returns-2 c = ap (λ (k : ℕ). k + 1) ((c .run) .ensures ∙ ap (span tailByte) (rest ((c .before .before .before .before .before .before .args) .s .now) 1)) ∙ tail-some _ (sym ((c .before .before .before .stands) .ensures) ∙ not-false _ ((c .before .before .if1) .left))
+returns-2 c = ap (λ (k : ℕ). k + 1) ((c .long-run) .ensures ∙ ap (span tailByte) (rest ((c .before .before .before .before .before .before .args) .s .now) 1)) ∙ tail-some _ (sym ((c .before .before .before .stands) .ensures) ∙ not-false _ ((c .before .before .if1) .left))
 
 pub tail-size-spec : {M : Type 1} → statement M
 tail-size-spec =
@@ -56,9 +56,9 @@ tail-size-spec =
     slice-aggregate-stands
     stands-requires
     returns
-    sub-run
-    part-run-start
-    part-run-end
-    run-requires
+    sub-long-run
+    part-long-run-start
+    part-long-run-end
+    long-run-requires
     add-result
     returns-2)
