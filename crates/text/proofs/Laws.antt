@@ -14,7 +14,7 @@ use borrow.Author.Tests.{le-leb, lt-leb, leb-false}
 use Rattle.laws.specs.Small.{both, neither}
 use Rattle.layout.specs.Number.{between}
 use Rattle.reading.specs.Answer.{refused, read, check, within, true-within}
-use Rattle.text.specs.Passed.{Passed, Ran}
+use Rattle.text.specs.Passed.{Ascii, Passed, Ran}
 use Rattle.reading.specs.Utf8.{size, size-one, size-low, size-four, size-high, least, most, follow, follow-fits, follow-first, follow-last, least-known, charSize, sized, char-fits, bits, mark, charOf, charAt, chars, utf8s, utf8s-stops, utf8s-steps}
 
 module _ (s : List ℕ) (i : ℕ) where
@@ -130,12 +130,16 @@ module _ (s : List ℕ) (i : ℕ) where
 
 module _ (s : List ℕ) (i : ℕ) where
   -- one byte more of a block, in which so far b says whether there is another byte than ASCII
-  pub block-step : (j : ℕ) (b : Bool) → i + j < length s → (b ≡ false → utf8s (drop (i + j) s) ≡ utf8s (drop i s))
-      → (b || leb 0x80 (getD s (i + j) 0)) ≡ false → utf8s (drop (i + (j + 1)) s) ≡ utf8s (drop i s)
-  block-step j b h f e =
-      let w = neither b (leb 0x80 (getD s (i + j) 0)) e in
-      let z : i + (j + 1) ≡ i + j + 1 = omega arith in
-      rw z (ascii-step s (i + j) h (leb-false 0x80 (getD s (i + j) 0) (w .1)) ∙ f (w .0))
+  pub block-step : (j : ℕ) (b : Bool) → (b ≡ false → Ascii s i j) → (b || leb 0x80 (getD s (i + j) 0)) ≡ false → Ascii s i (j + 1)
+  block-step j b f e k h = go (decLt k j) where
+    w : (b ≡ false) × (leb 0x80 (getD s (i + j) 0) ≡ false)
+    w = neither b (leb 0x80 (getD s (i + j) 0)) e
+
+    go : Dec (k < j) → getD s (i + k) 0 < 0x80
+    go (yes l) = f (w .0) k l
+    go (no l) =
+        let z : k ≡ j = omega arith in
+        rw z (leb-false 0x80 (getD s (i + j) 0) (w .1))
 
   pub passed-none : i ≤ length s → Passed s i i
   passed-none h = record { forward = omega arith; inside = h; same = refl }
@@ -146,9 +150,6 @@ module _ (s : List ℕ) (i : ℕ) where
 
     pub pass-ascii : i < length s → getD s i 0 < 0x80 → Passed s from (i + 1)
     pass-ascii h l = pass 1 (omega arith) (ascii-step s i h l)
-
-    pub pass-block : (n j : ℕ) (b : Bool) → j ≤ n → n ≤ j → i + n ≤ length s → (b ≡ false → utf8s (drop (i + j) s) ≡ utf8s (drop i s)) → b ≡ false → Passed s from (i + n)
-    pass-block n j b p q h f l = let z : n ≡ j = omega arith in pass n h (rw z (f l))
 
     pub passed-on : (j : ℕ) → Passed s i j → Passed s from j
     passed-on j q = record { forward = omega arith; inside = q .inside; same = q .same ∙ p .same }
@@ -161,6 +162,21 @@ module _ (s : List ℕ) (i : ℕ) where
 
     pub ran-out : (k : ℕ) → i < length s → k ≡ charSize (drop i s) → k ≡ 0 → Ran s from i
     ran-out k h e z = record { passed = p; stops = λ l. utf8s-stops (drop i s) (omega (arith, length-drop i s)) (sym e ∙ z) }
+
+-- past bytes that are ASCII
+pub pass-block : (s : List ℕ) (n i : ℕ) → i + n ≤ length s → Ascii s i n → Passed s i (i + n)
+pass-block s zero i h a = let z : i + 0 ≡ i = omega arith in rw z (passed-none s i (omega arith))
+pass-block s (suc n) i h a =
+    let z : i + suc n ≡ i + 1 + n = omega arith in
+    let first : getD s i 0 < 0x80 = let y : i + 0 ≡ i = omega arith in rw y at (a 0 (omega arith)) in
+    let one = pass-ascii s i (passed-none s i (omega arith)) (omega arith) first in
+    rw z (passed-on s (i + 1) one (i + 1 + n) (pass-block s n (i + 1) (omega arith) (λ k l. let x : i + 1 + k ≡ i + suc k = omega arith in rw x (a (suc k) (omega arith)))))
+
+-- a part of a block, from a later place on
+pub later-ascii : (s : List ℕ) (from n i : ℕ) → from ≤ i → Ascii s from n → Ascii s i (from + n - i)
+later-ascii s from n i h a k l =
+    let z : i + k ≡ from + (i + k - from) = omega arith in
+    rw z (a (i + k - from) (omega arith))
 
 pub passed-all : (s : List ℕ) (i : ℕ) → Passed s 0 i → length s ≤ i → utf8s s ≡ true
 unfolding utf8s chars

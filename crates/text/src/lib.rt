@@ -7,7 +7,7 @@ ghost use Prim.Native.Nat.{ℕ, _+_, _-_, _*_, _^_, _≤_, _<_};
 ghost use lib.ListN.{length, getD, drop};
 ghost use Rattle.reading.specs.Utf8.{least, most, follow, charSize, charAt, utf8s};
 ghost use Rattle.answers.specs.Told.{told};
-ghost use Rattle.text.specs.Passed.{Passed, Ran};
+ghost use Rattle.text.specs.Passed.{Ascii, Passed, Ran};
 ghost use Rattle.text.specs.Window.{Fits, AllFit, Three};
 
 // The character of one to three bytes at `at`.
@@ -81,12 +81,14 @@ pub fn is_utf8(s: &[u8]) -> bool
     true
 }
 
-// Whether `s` is UTF-8, for short texts: ASCII in blocks of 16 bytes and then of 4, then one character after the other.
+// Whether `s` is UTF-8, for short texts: ASCII in blocks of 16 bytes, the last of which may overlap; then one character after the other.
 pub fn is_short_utf8(s: &[u8]) -> bool
     ensures { λ r. ⌜ r ≡ utf8s (now (s .entry)) ⌝ }
 {
-    let a = ascii_blocks(s, 0, 16);
-    let mut i = ascii_blocks(s, a, 4);
+    let mut i = ascii_blocks(s, 0, 16);
+    if ascii_end(s, i) {
+        return true;
+    }
     while i < s.len() {
         if s[i] < 0x80 {
             i += 1;
@@ -99,6 +101,21 @@ pub fn is_short_utf8(s: &[u8]) -> bool
         }
     }
     true
+}
+
+// Whether no more than the last 16 bytes are left from `i` on, and these are ASCII.
+fn ascii_end(s: &[u8], i: usize) -> bool
+    requires { ⌜ i ≤ length (now s) ⌝ }
+    ensures { λ r. ⌜ (r ≡ true → Passed (now (s .entry)) i (length (now (s .entry)))) ⌝ }
+{
+    if s.len() < 16 {
+        return false;
+    }
+    let last = s.len() - 16;
+    if i < last {
+        return false;
+    }
+    ascii_block(s, last, 16)
 }
 
 // Past the blocks of at least 64 bytes: ASCII, then other characters, as long as there are some.
@@ -137,7 +154,7 @@ fn ascii_blocks(s: &[u8], from: usize, n: usize) -> usize
 // Whether the n bytes from i on are ASCII.
 fn ascii_block(s: &[u8], i: usize, n: usize) -> bool
     requires { ⌜ i + n ≤ length (now s) ⌝ }
-    ensures { λ r. ⌜ (r ≡ true → Passed (now (s .entry)) i (i + n)) ⌝ }
+    ensures { λ r. ⌜ (r ≡ true → Ascii (now (s .entry)) i n) ⌝ }
 {
     let mut j = 0;
     let mut other = false;

@@ -1,8 +1,9 @@
 use borrow.Author.Needs.{needs}
 use Prim.Native.Nat.{_+_, _-_}
+use native.Mathlib.Omega.{arith}
 use lib.ListN.{length}
 use Rattle.text.specs.Passed.{Passed}
-use Rattle.text.proofs.Laws.{passed-none, passed-on}
+use Rattle.text.proofs.Laws.{passed-none, passed-on, pass-block}
 use Rattle.text.proofs.ascii_blocks.Statement.{statement}
 use Rattle.text.proofs.ascii_blocks.Tie as tie
 
@@ -31,7 +32,7 @@ loop-again : tie.Need-loop-again Inv-loop μ-loop
 loop-again c =
     let a = c .before .before .before .before .before .args in
     let l = c .before .before .before .loop in
-    passed-on (a .s .now) (l .i) (l .inv) (l .i + a .n) (c .before .ascii-block .ensures (c .if1 .taken))
+    passed-on (a .s .now) (l .i) (l .inv) (l .i + a .n) (pass-block (a .s .now) (a .n) (l .i) (omega arith) (c .before .ascii-block .ensures (c .if1 .taken)))
 
 returns : tie.Need-returns Inv-loop μ-loop
 returns c = c .before .before .before .loop .inv

@@ -10,25 +10,28 @@ use Rattle.text.proofs.is_short_utf8.Statement.{statement}
 use Rattle.text.proofs.is_short_utf8.Tie as tie
 
 abbrev Inv-loop : tie.InvT-loop
-Inv-loop s a i₀ i = Passed s 0 i
+Inv-loop s i₀ i = Passed s 0 i
 
 abbrev μ-loop : tie.MeasureT-loop
-μ-loop s a i₀ i = length s - i
+μ-loop s i₀ i = length s - i
 
 ascii-blocks-requires : tie.Need-ascii-blocks-requires Inv-loop μ-loop
 ascii-blocks-requires c κs = search needs
 
-ascii-blocks-requires-2 : tie.Need-ascii-blocks-requires-2 Inv-loop μ-loop
-ascii-blocks-requires-2 c κs = search needs
+ascii-end-requires : tie.Need-ascii-end-requires Inv-loop μ-loop
+ascii-end-requires c κs = c .ascii-blocks .ensures .inside
+
+returns : tie.Need-returns Inv-loop μ-loop
+returns c =
+    let s = c .before .before .before .before .args .s .now in
+    let a = c .before .before .ascii-blocks in
+    sym (passed-all s (length s) (passed-on s (a .result) (a .ensures) (length s) (c .before .ascii-end .ensures (c .if1 .taken))) (omega arith))
 
 loop-holds : tie.Need-loop-holds Inv-loop μ-loop
-loop-holds c =
-    let a = c .before .ascii-blocks in
-    let b = c .ascii-blocks2 in
-    passed-on (c .before .before .before .args .s .now) (a .result) (a .ensures) (b .result) (b .ensures)
+loop-holds c = c .before .before .ascii-blocks .ensures
 
-shared-slice-read-if1 : tie.Need-shared-slice-read-if1 Inv-loop μ-loop
-shared-slice-read-if1 c = search needs
+shared-slice-read-if2 : tie.Need-shared-slice-read-if2 Inv-loop μ-loop
+shared-slice-read-if2 c = search needs
 
 add-i : tie.Need-add-i Inv-loop μ-loop
 add-i c = search needs
@@ -38,38 +41,38 @@ loop-less c = search needs
 
 loop-again : tie.Need-loop-again Inv-loop μ-loop
 loop-again c =
-    let a = c .before .before .before .before .before .before .before .args in
+    let a = c .before .before .before .before .before .before .before .before .args in
     let l = c .before .before .before .loop in
-    pass-ascii (a .s .now) (l .i) (l .inv) (omega arith) (c .if1 .taken)
+    pass-ascii (a .s .now) (l .i) (l .inv) (omega arith) (c .if2 .taken)
 
 multi-requires : tie.Need-multi-requires Inv-loop μ-loop
 multi-requires c κs = search needs
 
-returns : tie.Need-returns Inv-loop μ-loop
-returns c =
-    let a = c .before .before .before .before .before .before .before .before .before .args in
+returns-2 : tie.Need-returns-2 Inv-loop μ-loop
+returns-2 c =
+    let a = c .before .before .before .before .before .before .before .before .before .before .args in
     let l = c .before .before .before .before .before .loop in
-    let r = ran-out (a .s .now) (l .i) (l .inv) (c .before .multi .result) (omega arith) (c .before .multi .ensures) (c .if2 .taken) in
+    let r = ran-out (a .s .now) (l .i) (l .inv) (c .before .multi .result) (omega arith) (c .before .multi .ensures) (c .if3 .taken) in
     sym (r .stops (omega arith)) ∙ l .inv .same
 
 add-i-2 : tie.Need-add-i-2 Inv-loop μ-loop
 add-i-2 c =
-    let a = c .before .before .before .before .before .before .before .before .before .args in
+    let a = c .before .before .before .before .before .before .before .before .before .before .args in
     let l = c .before .before .before .before .before .loop in
-    omega (arith, pass-char (a .s .now) (l .i) (l .inv) (c .before .multi .result) (c .before .multi .ensures) (c .if2 .left) .inside)
+    omega (arith, pass-char (a .s .now) (l .i) (l .inv) (c .before .multi .result) (c .before .multi .ensures) (c .if3 .left) .inside)
 
 loop-less-2 : tie.Need-loop-less-2 Inv-loop μ-loop
 loop-less-2 c = search needs
 
 loop-again-2 : tie.Need-loop-again-2 Inv-loop μ-loop
 loop-again-2 c =
-    let a = c .before .before .before .before .before .before .before .before .before .args in
+    let a = c .before .before .before .before .before .before .before .before .before .before .args in
     let l = c .before .before .before .before .before .loop in
-    pass-char (a .s .now) (l .i) (l .inv) (c .before .multi .result) (c .before .multi .ensures) (c .if2 .left)
+    pass-char (a .s .now) (l .i) (l .inv) (c .before .multi .result) (c .before .multi .ensures) (c .if3 .left)
 
-returns-2 : tie.Need-returns-2 Inv-loop μ-loop
-returns-2 c =
-    let a = c .before .before .before .before .before .args in
+returns-3 : tie.Need-returns-3 Inv-loop μ-loop
+returns-3 c =
+    let a = c .before .before .before .before .before .before .args in
     let l = c .before .loop in
     sym (passed-all (a .s .now) (l .i) (l .inv) (c .loop-test .left))
 
@@ -80,15 +83,16 @@ is-short-utf8-spec =
     Inv-loop
     μ-loop
     ascii-blocks-requires
-    ascii-blocks-requires-2
+    ascii-end-requires
+    returns
     loop-holds
-    shared-slice-read-if1
+    shared-slice-read-if2
     add-i
     loop-less
     loop-again
     multi-requires
-    returns
+    returns-2
     add-i-2
     loop-less-2
     loop-again-2
-    returns-2)
+    returns-3)
