@@ -101,7 +101,8 @@ pub extern "C" fn xnb_load_rows(
 ) -> u64
     ensures { λ r. ⌜ (r, now (readers .exit), now (shared .exit), now (padding .exit))
         ≡ loadTold (now (file .entry)) (loadUnder (now (enums .entry)) (now (file .entry)) (length (now (words .entry)))) ⌝ }
-    ensures { λ _. ⌜ now (words .exit) ≡ tableOf (loadUnder (now (enums .entry)) (now (file .entry)) (length (now (words .entry)))) (length (now (words .entry))) ⌝ }
+    ensures { λ _. ⌜ now (words .exit)
+        ≡ tableOf (loadUnder (now (enums .entry)) (now (file .entry)) (length (now (words .entry)))) (length (now (words .entry))) ⌝ }
 {
     load_told(file, enums, words, false, readers, shared, padding)
 }

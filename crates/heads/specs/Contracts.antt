@@ -1,11 +1,26 @@
 -- What the contracts of opening a value state. Assumes nothing.
 use mathlib.Core.List.{List}
 use Prim.Native.Nat.{ℕ}
+use lib.ListN.{replicate}
+use Rattle.layout.specs.Slot as L
+use Rattle.layout.specs.Slot.{pairs}
 use Rattle.layout.specs.Target.{Target, dictionary}
 use Rattle.reading.specs.Heads.{headAt}
 use Rattle.types.specs.Code.{Stands}
+use Rattle.heads.specs.declared.slot.Slot.{Slot}
+use Rattle.heads.specs.declared.nest.Below.{Below}
 use Rattle.heads.specs.declared.open.Opened.{Opened}
+use Rattle.heads.specs.Slots.{SlotIs}
+use Rattle.heads.specs.Nests.{BelowIs}
 use Rattle.heads.specs.Opens.{Opens}
+
+-- n values that stand alike stand below
+abbrev pub EachBelow : Slot → (n : ℕ) → Below → Type 0
+EachBelow slot n r = (file codes : List ℕ) (x : L.Slot) → SlotIs file codes slot x → BelowIs file codes r (replicate n x)
+
+-- n keys and values in turn stand below
+abbrev pub PairsBelow : (key value : Slot) (n : ℕ) → Below → Type 0
+PairsBelow key value n r = (file codes : List ℕ) (x y : L.Slot) → SlotIs file codes key x → SlotIs file codes value y → BelowIs file codes r (pairs n x y)
 
 -- the head of a type is opened, if the type stands at a place in the codes
 abbrev pub OpensAt : (file codes : List ℕ) (place at : ℕ) → Opened → Type 0

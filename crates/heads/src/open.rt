@@ -8,11 +8,8 @@ use numbers::seven::Padded;
 ghost use mathlib.Core.Path.{_≡_};
 ghost use mathlib.Core.List.{List};
 ghost use Prim.Native.Nat.{ℕ, _≤_, max};
-ghost use lib.ListN.{replicate};
 ghost use Rattle.answers.specs.Told.{told};
 ghost use Rattle.numbers.specs.Padded.{beside, toldPadded};
-ghost use Rattle.layout.specs.Slot as L;
-ghost use Rattle.layout.specs.Slot.{pairs};
 ghost use Rattle.layout.specs.Target.{Target, nullable, list, texture2D};
 ghost use Rattle.types.specs.Code.{codeKind};
 ghost use Rattle.layout.specs.Image.{digits};
@@ -20,10 +17,8 @@ ghost use Rattle.reading.specs.Answer.{Answer};
 ghost use Rattle.reading.specs.Little.{littleAt};
 ghost use Rattle.reading.specs.Heads.{Opening, headAt};
 ghost use Rattle.table.specs.Leaf.{mute};
-ghost use Rattle.heads.specs.Slots.{SlotIs};
-ghost use Rattle.heads.specs.Nests.{BelowIs};
 ghost use Rattle.heads.specs.Opens.{Opens, Stopping, Leafy, rangedAt, heightAt, levelsAt, widthAt};
-ghost use Rattle.heads.specs.Contracts.{OpensAt, OpensOf, OpensDictionary};
+ghost use Rattle.heads.specs.Contracts.{EachBelow, PairsBelow, OpensAt, OpensOf, OpensDictionary};
 ghost use Rattle.heads.specs.Total.{aloneAs, leafAs, eachAs, pairsAs, flagAs, listAs, dictionaryAs, levelsAs, heightAs, widthAs, imageAs, openAs};
 
 pub enum Opened {
@@ -66,7 +61,7 @@ fn leaf_at(file: &[u8], kind: u32, at: usize) -> Padded
 
 // n values that stand alike.
 fn each_of(slot: Slot, n: u32) -> Below
-    ensures { λ r. ⌜ ((file codes : List ℕ) (x : L.Slot) → SlotIs file codes slot x → BelowIs file codes r (replicate n x)) ⌝ }
+    ensures { λ r. ⌜ EachBelow slot n r ⌝ }
     ensures { λ r. ⌜ r ≡ eachAs slot n ⌝ }
 {
     match slot {
@@ -78,7 +73,7 @@ fn each_of(slot: Slot, n: u32) -> Below
 
 // n keys and values in turn.
 fn pairs_of(key: Slot, value: Slot, n: u32) -> Below
-    ensures { λ r. ⌜ ((file codes : List ℕ) (x y : L.Slot) → SlotIs file codes key x → SlotIs file codes value y → BelowIs file codes r (pairs n x y)) ⌝ }
+    ensures { λ r. ⌜ PairsBelow key value n r ⌝ }
     ensures { λ r. ⌜ r ≡ pairsAs key value n ⌝ }
 {
     match key {

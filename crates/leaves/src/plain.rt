@@ -115,7 +115,8 @@ pub fn read_plain(
     depth: u32,
     parent: u32,
 ) -> Walk
-    ensures { λ r. ⌜ r ≡ leafAnswer used (plainPad (now (file .entry)) slot 0 at) (plainValue (now (file .entry)) (grid .room) shared slot at used depth) ⌝ }
+    ensures { λ r. ⌜ r
+        ≡ leafAnswer used (plainPad (now (file .entry)) slot 0 at) (plainValue (now (file .entry)) (grid .room) shared slot at used depth) ⌝ }
     ensures { λ _. ⌜ now (words .exit) ≡ valueLeft grid (now (file .entry)) (now (words .entry)) shared slot at used depth parent ⌝ }
 {
     if depth == 0 {

@@ -10,6 +10,7 @@ use Rattle.readers.specs.Listed.{Listed}
 use Rattle.table.specs.declared.Head.{Head}
 use Rattle.heads.specs.declared.slot.Slot.{Slot}
 use Rattle.heads.specs.declared.nest.Nest.{Nest}
+use Rattle.leaves.specs.Plain.{Begin}
 use Rattle.heads.specs.Slots.{SlotIs}
 use Rattle.heads.specs.Nests.{Prelude, NestIs}
 use Rattle.objects.specs.Start.{Has, Ided, positionAt}
@@ -35,6 +36,10 @@ pub record KnownSlot (file codes : List ℕ) (slot : Slot) : Type 0 where
 pub record KnownNest (file codes : List ℕ) (nest : Nest) : Type 0 where
   pub plan : L.Plan
   pub is : NestIs file codes nest plan
+
+-- a value in a slot may begin, where a reader list with so many readers has the type that its type id names
+abbrev pub KnownValue : (file codes words : List ℕ) → Grid → Slot → (at used count target : ℕ) → Type 0
+KnownValue file codes words g slot at used count target = Begin file words g at used × KnownTarget file codes slot at count target × KnownSlot file codes slot
 
 -- a raw value has its row and stands behind its id, and all numbers fit
 pub record Ready (file words : List ℕ) (g : Grid) (h : Head) (at : ℕ) : Type 0 where

@@ -14,7 +14,7 @@ use table::Reached;
 use table::Walk;
 ghost use mathlib.Core.Path.{_≡_};
 ghost use Rattle.leaves.specs.Plain.{Begin};
-ghost use Rattle.load.specs.Known.{Known, KnownSlot, KnownNest, KnownTarget, Ready};
+ghost use Rattle.load.specs.Known.{Known, KnownNest, KnownValue, Ready};
 ghost use Rattle.load.specs.Steps.{KnownRaw, NoRule, stepOf, topped, plainWords};
 ghost use Rattle.load.specs.Contracts.{FlatSteps, PlacedSteps, ValueSteps, RawWalks, NestWalks};
 
@@ -192,7 +192,7 @@ fn value(
     depth: u32,
     parent: u32,
 ) -> Stepped
-    requires { ⌜ Begin (now file) (now words) grid at used × KnownTarget (now file) (now codes) slot at count target × KnownSlot (now file) (now codes) slot ⌝ }
+    requires { ⌜ KnownValue (now file) (now codes) (now words) grid slot at used count target ⌝ }
     ensures { λ r. ⌜ ValueSteps grid (now (file .entry)) (now (codes .entry)) (now (words .entry)) (now (words .exit)) r
         count target shared slot at used depth parent ⌝ }
 {

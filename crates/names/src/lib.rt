@@ -327,29 +327,95 @@ pub fn find(entries: &[u8], head: &[u8]) -> u8
 
 // The tables of layout/Kind as bytes, in the form of a lent list: for each entry the head's length, the head and the kind.
 // They stand in parts by the heads' lengths, since code makes a table anew at each use. The proofs of `reader_kind` and `target_kind` compare them.
-const TARGETS_TO_12: [u8; 82] =
-    *b"\x0bSystem.Byte\x01\x0cSystem.SByte\x02\x0cSystem.Int16\x03\x0cSystem.Int32\x05\x0cSystem.Int64\x07\x0bSystem.Char\x0c";
+const TARGETS_TO_12: [u8; 82] = *b"\
+        \x0bSystem.Byte\x01\
+        \x0cSystem.SByte\x02\
+        \x0cSystem.Int16\x03\
+        \x0cSystem.Int32\x05\
+        \x0cSystem.Int64\x07\
+        \x0bSystem.Char\x0c";
 
-const TARGETS_OF_13_TO_15: [u8; 188] =
-    *b"\x0dSystem.UInt16\x04\x0dSystem.UInt32\x06\x0dSystem.UInt64\x08\x0dSystem.Single\x09\x0dSystem.Double\x0a\x0eSystem.Boolean\x0b\x0dSystem.String\x0d\x0dSystem.Object\x0e\x0fSystem.Nullable\x10\x0fSystem.TimeSpan\x14\x0fSystem.DateTime\x15\x0eSystem.Decimal\x16";
+const TARGETS_OF_13_TO_15: [u8; 188] = *b"\
+        \x0dSystem.UInt16\x04\
+        \x0dSystem.UInt32\x06\
+        \x0dSystem.UInt64\x08\
+        \x0dSystem.Single\x09\
+        \x0dSystem.Double\x0a\
+        \x0eSystem.Boolean\x0b\
+        \x0dSystem.String\x0d\
+        \x0dSystem.Object\x0e\
+        \x0fSystem.Nullable\x10\
+        \x0fSystem.TimeSpan\x14\
+        \x0fSystem.DateTime\x15\
+        \x0eSystem.Decimal\x16";
 
-const TARGETS_OF_16_TO_32: [u8; 246] =
-    *b"\x1fSystem.Collections.Generic.List\x12\x1fMicrosoft.Xna.Framework.Vector2\x17\x1fMicrosoft.Xna.Framework.Vector3\x18\x1fMicrosoft.Xna.Framework.Vector4\x19\x1eMicrosoft.Xna.Framework.Matrix\x1a\x1dMicrosoft.Xna.Framework.Color\x1c\x1dMicrosoft.Xna.Framework.Point\x1d\x12Coach.Console.Page\x22";
+const TARGETS_OF_16_TO_32: [u8; 246] = *b"\
+        \x1fSystem.Collections.Generic.List\x12\
+        \x1fMicrosoft.Xna.Framework.Vector2\x17\
+        \x1fMicrosoft.Xna.Framework.Vector3\x18\
+        \x1fMicrosoft.Xna.Framework.Vector4\x19\
+        \x1eMicrosoft.Xna.Framework.Matrix\x1a\
+        \x1dMicrosoft.Xna.Framework.Color\x1c\
+        \x1dMicrosoft.Xna.Framework.Point\x1d\
+        \x12Coach.Console.Page\x22";
 
-const TARGETS_FROM_33: [u8; 426] =
-    *b"\x25System.Collections.Generic.Dictionary\x13\x22Microsoft.Xna.Framework.Quaternion\x1b\x21Microsoft.Xna.Framework.Rectangle\x1e\x28Microsoft.Xna.Framework.Graphics.Texture\x1f\x2aMicrosoft.Xna.Framework.Graphics.Texture2D\x20\x2bMicrosoft.Xna.Framework.Graphics.SpriteFont\x21\x2cMicrosoft.Xna.Framework.Graphics.IndexBuffer\x25\x32Microsoft.Xna.Framework.Graphics.VertexDeclaration\x26\x2dMicrosoft.Xna.Framework.Graphics.VertexBuffer\x27\x26Microsoft.Xna.Framework.Graphics.Model\x28";
+const TARGETS_FROM_33: [u8; 426] = *b"\
+        \x25System.Collections.Generic.Dictionary\x13\
+        \x22Microsoft.Xna.Framework.Quaternion\x1b\
+        \x21Microsoft.Xna.Framework.Rectangle\x1e\
+        \x28Microsoft.Xna.Framework.Graphics.Texture\x1f\
+        \x2aMicrosoft.Xna.Framework.Graphics.Texture2D\x20\
+        \x2bMicrosoft.Xna.Framework.Graphics.SpriteFont\x21\
+        \x2cMicrosoft.Xna.Framework.Graphics.IndexBuffer\x25\
+        \x32Microsoft.Xna.Framework.Graphics.VertexDeclaration\x26\
+        \x2dMicrosoft.Xna.Framework.Graphics.VertexBuffer\x27\
+        \x26Microsoft.Xna.Framework.Graphics.Model\x28";
 
-const READERS_TO_43: [u8; 562] =
-    *b"\x2aMicrosoft.Xna.Framework.Content.ByteReader\x01\x2bMicrosoft.Xna.Framework.Content.SByteReader\x02\x2bMicrosoft.Xna.Framework.Content.Int16Reader\x03\x2bMicrosoft.Xna.Framework.Content.Int32Reader\x05\x2bMicrosoft.Xna.Framework.Content.Int64Reader\x07\x2aMicrosoft.Xna.Framework.Content.CharReader\x0c\x2aMicrosoft.Xna.Framework.Content.EnumReader\x0f\x2bMicrosoft.Xna.Framework.Content.ArrayReader\x11\x2aMicrosoft.Xna.Framework.Content.ListReader\x12\x2bMicrosoft.Xna.Framework.Content.ColorReader\x1c\x2bMicrosoft.Xna.Framework.Content.PointReader\x1d\x18Coach.Console.PageReader\x22\x2bMicrosoft.Xna.Framework.Content.ModelReader\x28";
+const READERS_TO_43: [u8; 562] = *b"\
+        \x2aMicrosoft.Xna.Framework.Content.ByteReader\x01\
+        \x2bMicrosoft.Xna.Framework.Content.SByteReader\x02\
+        \x2bMicrosoft.Xna.Framework.Content.Int16Reader\x03\
+        \x2bMicrosoft.Xna.Framework.Content.Int32Reader\x05\
+        \x2bMicrosoft.Xna.Framework.Content.Int64Reader\x07\
+        \x2aMicrosoft.Xna.Framework.Content.CharReader\x0c\
+        \x2aMicrosoft.Xna.Framework.Content.EnumReader\x0f\
+        \x2bMicrosoft.Xna.Framework.Content.ArrayReader\x11\
+        \x2aMicrosoft.Xna.Framework.Content.ListReader\x12\
+        \x2bMicrosoft.Xna.Framework.Content.ColorReader\x1c\
+        \x2bMicrosoft.Xna.Framework.Content.PointReader\x1d\
+        \x18Coach.Console.PageReader\x22\
+        \x2bMicrosoft.Xna.Framework.Content.ModelReader\x28";
 
-const READERS_OF_44: [u8; 368] =
-    *b"\x2cMicrosoft.Xna.Framework.Content.UInt16Reader\x04\x2cMicrosoft.Xna.Framework.Content.UInt32Reader\x06\x2cMicrosoft.Xna.Framework.Content.UInt64Reader\x08\x2cMicrosoft.Xna.Framework.Content.SingleReader\x09\x2cMicrosoft.Xna.Framework.Content.DoubleReader\x0a\x2cMicrosoft.Xna.Framework.Content.StringReader\x0d\x2cMicrosoft.Xna.Framework.Content.ObjectReader\x0e\x2cMicrosoft.Xna.Framework.Content.MatrixReader\x1a";
+const READERS_OF_44: [u8; 368] = *b"\
+        \x2cMicrosoft.Xna.Framework.Content.UInt16Reader\x04\
+        \x2cMicrosoft.Xna.Framework.Content.UInt32Reader\x06\
+        \x2cMicrosoft.Xna.Framework.Content.UInt64Reader\x08\
+        \x2cMicrosoft.Xna.Framework.Content.SingleReader\x09\
+        \x2cMicrosoft.Xna.Framework.Content.DoubleReader\x0a\
+        \x2cMicrosoft.Xna.Framework.Content.StringReader\x0d\
+        \x2cMicrosoft.Xna.Framework.Content.ObjectReader\x0e\
+        \x2cMicrosoft.Xna.Framework.Content.MatrixReader\x1a";
 
-const READERS_OF_45_AND_46: [u8; 426] =
-    *b"\x2dMicrosoft.Xna.Framework.Content.BooleanReader\x0b\x2eMicrosoft.Xna.Framework.Content.NullableReader\x10\x2eMicrosoft.Xna.Framework.Content.TimeSpanReader\x14\x2eMicrosoft.Xna.Framework.Content.DateTimeReader\x15\x2dMicrosoft.Xna.Framework.Content.DecimalReader\x16\x2dMicrosoft.Xna.Framework.Content.Vector2Reader\x17\x2dMicrosoft.Xna.Framework.Content.Vector3Reader\x18\x2dMicrosoft.Xna.Framework.Content.Vector4Reader\x19\x2dMicrosoft.Xna.Framework.Content.TextureReader\x1f";
+const READERS_OF_45_AND_46: [u8; 426] = *b"\
+        \x2dMicrosoft.Xna.Framework.Content.BooleanReader\x0b\
+        \x2eMicrosoft.Xna.Framework.Content.NullableReader\x10\
+        \x2eMicrosoft.Xna.Framework.Content.TimeSpanReader\x14\
+        \x2eMicrosoft.Xna.Framework.Content.DateTimeReader\x15\
+        \x2dMicrosoft.Xna.Framework.Content.DecimalReader\x16\
+        \x2dMicrosoft.Xna.Framework.Content.Vector2Reader\x17\
+        \x2dMicrosoft.Xna.Framework.Content.Vector3Reader\x18\
+        \x2dMicrosoft.Xna.Framework.Content.Vector4Reader\x19\
+        \x2dMicrosoft.Xna.Framework.Content.TextureReader\x1f";
 
-const READERS_FROM_47: [u8; 408] =
-    *b"\x30Microsoft.Xna.Framework.Content.DictionaryReader\x13\x30Microsoft.Xna.Framework.Content.QuaternionReader\x1b\x2fMicrosoft.Xna.Framework.Content.RectangleReader\x1e\x2fMicrosoft.Xna.Framework.Content.Texture2DReader\x20\x30Microsoft.Xna.Framework.Content.SpriteFontReader\x21\x31Microsoft.Xna.Framework.Content.IndexBufferReader\x25\x37Microsoft.Xna.Framework.Content.VertexDeclarationReader\x26\x32Microsoft.Xna.Framework.Content.VertexBufferReader\x27";
+const READERS_FROM_47: [u8; 408] = *b"\
+        \x30Microsoft.Xna.Framework.Content.DictionaryReader\x13\
+        \x30Microsoft.Xna.Framework.Content.QuaternionReader\x1b\
+        \x2fMicrosoft.Xna.Framework.Content.RectangleReader\x1e\
+        \x2fMicrosoft.Xna.Framework.Content.Texture2DReader\x20\
+        \x30Microsoft.Xna.Framework.Content.SpriteFontReader\x21\
+        \x31Microsoft.Xna.Framework.Content.IndexBufferReader\x25\
+        \x37Microsoft.Xna.Framework.Content.VertexDeclarationReader\x26\
+        \x32Microsoft.Xna.Framework.Content.VertexBufferReader\x27";
 
 // The kind that a reader's own head names; 0 if it is not listed.
 fn reader_kind(head: &[u8]) -> u8

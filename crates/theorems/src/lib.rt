@@ -31,7 +31,8 @@ pub fn load_columns_exact(file: &[u8], enums: &[u8], words: &mut [u32]) -> Loadi
 
 // A file that is rewritten, under a list of enum types.
 pub fn rewrite_exact(file: &[u8], enums: &[u8], words: &mut [u32], out: &mut [u8]) -> Rewriting
-    ensures { λ r. ⌜ R.Exact (now (enums .entry)) (now (file .entry)) (length (now (words .entry))) (now (words .exit)) (now (out .entry)) (now (out .exit)) r ⌝ }
+    ensures { λ r. ⌜ R.Exact (now (enums .entry)) (now (file .entry)) (length (now (words .entry))) (now (words .exit))
+        (now (out .entry)) (now (out .exit)) r ⌝ }
 {
     rewrite::rewrite(file, enums, words, out)
 }
@@ -54,7 +55,8 @@ fn rewrite_twice(
     out: &mut [u8],
     second: &mut [u8],
 ) -> Rewriting
-    ensures { λ r. ⌜ R.Twice (now (enums .entry)) (now (file .entry)) (length (now (words .entry))) (length (now (out .entry))) (now (second .entry)) (now (second .exit)) r ⌝ }
+    ensures { λ r. ⌜ R.Twice (now (enums .entry)) (now (file .entry)) (length (now (words .entry))) (length (now (out .entry)))
+        (now (second .entry)) (now (second .exit)) r ⌝ }
 {
     match rewrite_exact(file, enums, words, out) {
         Rewriting::Refused { number, place } => Rewriting::Refused { number, place },
