@@ -113,7 +113,8 @@ uint32_t xnb_columns_next(const uint32_t *words, size_t words_length, uint32_t r
 uint32_t xnb_pack_read(const uint8_t *pack, size_t pack_length, uint64_t *table, size_t table_length, uint64_t *at);
 
 /* The same for a marked pack, which has the two bytes FD FE hex before each file's path length. Its table holds places in
-   the marked pack. 51 says that a file's record does not start with its mark. */
+   the marked pack. Behind 31 and before the path come 1, the mark is cut short, and 51, the record does not start with its
+   mark, both at the mark. */
 uint32_t xnb_marked_read(const uint8_t *pack, size_t pack_length, uint64_t *table, size_t table_length, uint64_t *at);
 
 /* Writes a pack with its marks to the start of `out`, every other byte as it was found, and writes the new pack's length to

@@ -30,8 +30,9 @@ pub enum Below {
     Nested(Nest),
 }
 
-// Field i of a font. The types that fonts and pages declare stand at the start of the codes: Texture2D at 0,
-// list of Rectangle at 1, list of Char at 3, list of Vector3 at 5, String at 7, nullable Char at 8.
+// Field i of a font. The types that fonts, pages and meshes declare stand at the start of the codes: Texture2D at 0,
+// list of Rectangle at 1, list of Char at 3, list of Vector3 at 5, String at 7, nullable Char at 8, Object at 10,
+// VertexDeclaration at 11.
 fn font_child(i: u32) -> Slot
     ensures { λ r. ⌜ r ≡ fontChild i ⌝ }
 {

@@ -110,7 +110,7 @@ fn objects(
     }
 }
 
-// The types that fonts and pages declare, and Object, at the start of the codes.
+// The types that fonts, pages and meshes declare, at the start of the codes.
 fn put_prelude(codes: &mut [u32])
     requires { ⌜ preludeSize ≤ length (now codes) ⌝ }
     ensures { λ _. ⌜ take preludeSize (now (codes .exit)) ≡ prelude ⌝ }

@@ -12,6 +12,7 @@ const FLAG: u32 = 0;
 const DATA_SIZE: u32 = 1;
 
 const INDEX_DATA: u32 = 2;
+
 // Those of a vertex declaration.
 const STRIDE: u32 = 3;
 
@@ -24,12 +25,14 @@ const FORMAT: u32 = 6;
 const USAGE: u32 = 7;
 
 const USAGE_INDEX: u32 = 8;
+
 // Those of a vertex buffer.
 const DECLARATION: u32 = 9;
 
 const VERTEX_COUNT: u32 = 10;
 
 const VERTEX_DATA: u32 = 11;
+
 // Those of a model: of its bones, of its meshes, of their parts, and the last two.
 const BONE_COUNT: u32 = 12;
 
@@ -76,6 +79,7 @@ const EFFECT: u32 = 32;
 const ROOT: u32 = 33;
 
 const MODEL_TAG: u32 = 34;
+
 // Behind the last field.
 pub const END: u32 = 35;
 
