@@ -1,6 +1,6 @@
 //! The list of enum types that a command lends, from a text.
 
-use crate::input::{Input, Inputs};
+use crate::input::{Input, Inputs, ONCE};
 use crate::names::escaped;
 use crate::run::Run;
 use std::path::PathBuf;
@@ -12,7 +12,7 @@ pub struct Enums {
     ///
     /// A line of FILE has the name of an enum type and its size in bytes, 1, 2, 4 or 8, as in `Coach.Door 1`.
     /// Empty lines and what stands behind a # are left out. FILE may be - for standard input.
-    #[arg(long = "enums", value_name = "FILE")]
+    #[arg(long = "enums", value_name = "FILE", value_hint = clap::ValueHint::FilePath)]
     file: Option<PathBuf>,
 }
 
@@ -32,17 +32,17 @@ struct Entry<'t> {
 }
 
 impl Enums {
-    /// The list, which is empty if none is named; what cannot be read, and each wrong line, is told.
+    /// The list, which is empty if none is named; what cannot be read, and each wrong line, is reported.
     pub fn read(&self, inputs: &Inputs, run: &mut Run) -> Option<EnumList> {
         let Some(path) = &self.file else {
             return Some(EnumList::default());
         };
         let input = Input::of(path);
         if input.is_stdin() && inputs.have_stdin() {
-            run.fail(input.shown(), "standard input is read once only");
+            run.fail(input.shown(), ONCE);
             return None;
         }
-        let text = input.read_or_tell(run)?;
+        let text = input.read_or_report(run).ok()?;
         match list(&text) {
             Ok(list) => Some(list),
             Err(wrong) => {
@@ -100,7 +100,7 @@ fn entry(line: usize, text: &[u8]) -> Result<Option<Entry<'_>>, String> {
         _ => {
             let (name, size) = (escaped(name), escaped(size));
             return Err(format!(
-                "{name}: the size is {size}, 1, 2, 4 and 8 are taken"
+                "{name}: the size is {size}; only 1, 2, 4 and 8 are taken"
             ));
         }
     };

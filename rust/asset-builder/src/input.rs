@@ -2,10 +2,15 @@
 
 use crate::names::shown;
 use crate::progress::Progress;
+use crate::room::Room;
 use crate::run::Run;
+use crate::system;
+use memmap2::Mmap;
 use std::ffi::OsStr;
-use std::fs::File;
-use std::io::{self, ErrorKind, Read};
+use std::fs::{File, Metadata};
+use std::io::{self, Read};
+use std::ops::Deref;
+use std::os::unix::fs::MetadataExt;
 use std::path::{Path, PathBuf};
 use walkdir::{DirEntry, WalkDir};
 
@@ -14,20 +19,23 @@ pub const LONGEST_FILE: u64 = 16_777_216;
 const STANDARD_INPUT: &str = "-";
 const OF_FILES: &str = "xnb";
 const OF_PACKS: &str = "pak";
-/// The bytes that are read between two steps of the progress.
-const PIECE: u64 = 1 << 22;
+/// What is reported of a file that changes while it is mapped.
+pub const CHANGED: &str = "it was changed while it was read, so nothing is written";
+/// What is reported of `-` that is named twice.
+pub const ONCE: &str = "standard input is read once only";
+const CUT: &str = "it was cut while it was read, so nothing is written";
 
 #[derive(clap::Args)]
 pub struct Inputs {
     /// Files, folders (the .xnb files below them), or - for standard input
-    #[arg(value_name = "FILE", required = true)]
+    #[arg(value_name = "FILE", required = true, value_hint = clap::ValueHint::AnyPath)]
     files: Vec<PathBuf>,
 }
 
 #[derive(clap::Args)]
 pub struct Packs {
     /// Packs, folders (the .pak files below them), or - for standard input
-    #[arg(value_name = "PACK", required = true)]
+    #[arg(value_name = "PACK", required = true, value_hint = clap::ValueHint::AnyPath)]
     packs: Vec<PathBuf>,
 }
 
@@ -37,6 +45,8 @@ pub struct Input {
     path: PathBuf,
     /// The folder that it was found below.
     folder: Option<PathBuf>,
+    /// Why it is none, if it could not be listed.
+    unlisted: Option<String>,
 }
 
 impl Inputs {
@@ -51,8 +61,8 @@ impl Inputs {
     }
 
     /// Every file; what cannot be listed is told.
-    pub fn list(&self, run: &mut Run) -> Vec<Input> {
-        list(&self.files, OF_FILES, run)
+    pub fn list(&self) -> Vec<Input> {
+        list(&self.files, OF_FILES)
     }
 }
 
@@ -63,8 +73,8 @@ impl Packs {
     }
 
     /// Every pack; what cannot be listed is told.
-    pub fn list(&self, run: &mut Run) -> Vec<Input> {
-        list(&self.packs, OF_PACKS, run)
+    pub fn list(&self) -> Vec<Input> {
+        list(&self.packs, OF_PACKS)
     }
 }
 
@@ -73,47 +83,44 @@ fn is_one_file(paths: &[PathBuf]) -> bool {
 }
 
 /// Every file that is named, and those of a folder in order of their names.
-fn list(paths: &[PathBuf], extension: &str, run: &mut Run) -> Vec<Input> {
+fn list(paths: &[PathBuf], extension: &str) -> Vec<Input> {
     let mut inputs: Vec<Input> = Vec::new();
     for path in paths {
-        if is_stdin(path) {
-            if inputs.iter().any(Input::is_stdin) {
-                run.fail(shown(path), "standard input is read once only");
-                continue;
-            }
-        } else if path.is_dir() {
-            inputs.extend(below(path, extension, run));
-            continue;
+        if is_stdin(path) && inputs.iter().any(Input::is_stdin) {
+            inputs.push(Input::unlisted(path, ONCE));
+        } else if !is_stdin(path) && path.is_dir() {
+            inputs.extend(below(path, extension));
+        } else {
+            inputs.push(Input::of(path));
         }
-        inputs.push(Input::of(path));
     }
     inputs
 }
 
 /// The files with the extension below a folder, links followed.
-fn below(folder: &Path, extension: &str, run: &mut Run) -> Vec<Input> {
+fn below(folder: &Path, extension: &str) -> Vec<Input> {
     let mut found = Vec::new();
-    let mut failed = false;
     for entry in WalkDir::new(folder).follow_links(true).sort_by_file_name() {
         match entry {
             Ok(entry) if has_extension(&entry, extension) => found.push(Input {
                 path: entry.into_path(),
                 folder: Some(folder.to_path_buf()),
+                unlisted: None,
             }),
             Ok(_) => {}
             Err(error) => {
-                let path = error.path().unwrap_or(folder).to_path_buf();
+                let path = error.path().unwrap_or(folder);
                 let why = match error.io_error() {
                     Some(error) => error.to_string(),
                     None => "a link that leads back to a folder above it".to_string(),
                 };
-                run.fail(shown(path), why);
-                failed = true;
+                found.push(Input::unlisted(path, &why));
             }
         }
     }
-    if found.is_empty() && !failed {
-        run.fail(shown(folder), format!("no .{extension} file is in it"));
+    if found.is_empty() {
+        let why = format!("no .{extension} file is in it");
+        found.push(Input::unlisted(folder, &why));
     }
     found
 }
@@ -133,17 +140,21 @@ impl Input {
         Input {
             path: path.to_path_buf(),
             folder: None,
+            unlisted: None,
+        }
+    }
+
+    /// What was named, or found below a folder, and is no file that can be read.
+    fn unlisted(path: &Path, why: &str) -> Input {
+        Input {
+            unlisted: Some(why.to_string()),
+            ..Input::of(path)
         }
     }
 
     /// Its name, to be printed.
     pub fn shown(&self) -> String {
         shown(&self.path)
-    }
-
-    /// Its name as text, for a program.
-    pub fn name(&self) -> String {
-        self.path.to_string_lossy().into_owned()
     }
 
     pub fn is_stdin(&self) -> bool {
@@ -170,6 +181,7 @@ impl Input {
 
     /// Its bytes, up to so many.
     pub fn read_at_most(&self, most: u64) -> io::Result<Vec<u8>> {
+        self.check_listed()?;
         let mut bytes = Vec::new();
         if self.is_stdin() {
             io::stdin().take(most).read_to_end(&mut bytes)?;
@@ -180,36 +192,103 @@ impl Input {
         Ok(bytes)
     }
 
-    /// All its bytes; what cannot be read is told.
-    pub fn read_or_tell(&self, run: &mut Run) -> Option<Vec<u8>> {
-        let read = self.read_whole(run.progress());
+    /// All its bytes; what cannot be read is reported.
+    pub fn read_or_report(&self, run: &mut Run) -> Result<Bytes, String> {
+        let read = self.bytes(run.progress());
         run.progress().clear();
-        read.map_err(|error| run.fail(self.shown(), error)).ok()
+        match read {
+            Ok(bytes) => {
+                let (name, length) = (self.shown(), bytes.len());
+                run.say(&format!("{name}: {length} bytes read\n"));
+                Ok(bytes)
+            }
+            Err(error) => {
+                run.fail(self.shown(), &error);
+                Err(error.to_string())
+            }
+        }
     }
 
-    /// All its bytes, with progress over them where their number is known.
-    fn read_whole(&self, progress: &mut Progress) -> io::Result<Vec<u8>> {
+    /// Whether its bytes are still those of the file; a change is reported.
+    pub fn is_unchanged(&self, run: &mut Run, bytes: &Bytes) -> bool {
+        let unchanged = bytes.are_unchanged();
+        if !unchanged {
+            run.fail(self.shown(), CHANGED);
+        }
+        unchanged
+    }
+
+    fn check_listed(&self) -> io::Result<()> {
+        match &self.unlisted {
+            Some(why) => Err(io::Error::other(why.clone())),
+            None => Ok(()),
+        }
+    }
+
+    /// All its bytes: those of a named file are mapped, others are read.
+    fn bytes(&self, progress: &mut Progress) -> io::Result<Bytes> {
+        self.check_listed()?;
+        progress.expect_bytes(0);
+        let advance = |bytes| progress.advance(bytes);
         if self.is_stdin() {
-            return read_whole(io::stdin().lock(), 0, progress);
+            return Room::read(io::stdin().lock(), advance).map(Bytes::Read);
         }
         let file = File::open(&self.path)?;
-        let length = file.metadata()?.len();
-        read_whole(file, length, progress)
+        let found = file.metadata()?;
+        // A pipe, or a file of the system's, has no length to map.
+        if !found.is_file() || found.len() == 0 {
+            return Room::read(file, advance).map(Bytes::Read);
+        }
+        let bytes = system::map(&file, format!("{}: {CUT}", self.shown()))?;
+        let found = stamp(&found);
+        Ok(Bytes::Mapped { bytes, file, found })
     }
 }
 
-/// Everything that can be read; memory that the system refuses is an error.
-fn read_whole(mut input: impl Read, length: u64, progress: &mut Progress) -> io::Result<Vec<u8>> {
-    let refused = |_| io::Error::from(ErrorKind::OutOfMemory);
-    let mut bytes = Vec::new();
-    let room = usize::try_from(length).unwrap_or(usize::MAX);
-    bytes.try_reserve_exact(room).map_err(refused)?;
-    progress.expect_bytes(length);
-    loop {
-        let read = input.by_ref().take(PIECE).read_to_end(&mut bytes)?;
-        if read == 0 {
-            return Ok(bytes);
+/// The bytes of an input.
+pub enum Bytes {
+    Read(Room),
+    Mapped {
+        bytes: Mmap,
+        file: File,
+        /// What tells whether the file has changed.
+        found: (u64, i64, i64),
+    },
+}
+
+impl Bytes {
+    /// An error if another program has changed the file.
+    pub fn check_unchanged(&self) -> io::Result<()> {
+        match self.are_unchanged() {
+            true => Ok(()),
+            false => Err(io::Error::other(
+                "what is written was changed while it was read",
+            )),
         }
-        progress.advance(read as u64);
     }
+
+    fn are_unchanged(&self) -> bool {
+        match self {
+            Bytes::Read(_) => true,
+            Bytes::Mapped { file, found, .. } => {
+                file.metadata().is_ok_and(|now| stamp(&now) == *found)
+            }
+        }
+    }
+}
+
+impl Deref for Bytes {
+    type Target = [u8];
+
+    fn deref(&self) -> &[u8] {
+        match self {
+            Bytes::Read(bytes) => bytes,
+            Bytes::Mapped { bytes, .. } => bytes,
+        }
+    }
+}
+
+/// A file's length and the time of its last change.
+fn stamp(file: &Metadata) -> (u64, i64, i64) {
+    (file.len(), file.mtime(), file.mtime_nsec())
 }

@@ -3,6 +3,8 @@
 //! Each command is a module of `commands` over the parts that all share: inputs, outputs, printing
 //! and the rendering of refusals.
 
+#![deny(unsafe_code)]
+
 mod commands;
 mod enums;
 mod fields;
@@ -12,18 +14,24 @@ mod names;
 mod output;
 mod progress;
 mod refusal;
+mod room;
 mod run;
+mod system;
 mod terminal;
 mod values;
 
 use clap::Parser;
 use commands::Cli;
-use run::{End, Run, Status};
+use run::{End, Manner, Run, Status};
 use std::process::ExitCode;
 
 fn main() -> ExitCode {
-    let mut run = Run::new();
-    let end = match Cli::try_parse() {
+    let parsed = Cli::try_parse();
+    let mut run = Run::new(parsed.as_ref().map_or(Manner::default(), |cli| cli.manner));
+    if let Err(error) = output::watch() {
+        run.fail("signals", error);
+    }
+    let end = match parsed {
         Ok(cli) => cli.command.run(&mut run),
         Err(error) => tell(&mut run, &error),
     };

@@ -30,6 +30,29 @@ pub fn escaped(bytes: &[u8]) -> String {
     out
 }
 
+/// Text that stands in quotes: as it is, with an escape for the quote, for `\\`, and for what would not be shown in its
+/// place. Marks that join a letter, and signs that join letters, stay.
+pub fn shown_text(text: &str, quote: char) -> String {
+    let mut out = String::new();
+    for character in text.chars() {
+        match character {
+            '\\' => out.push_str("\\\\"),
+            _ if character == quote => out.extend(['\\', character]),
+            _ if moves(character) => push_escaped(&mut out, character),
+            _ => out.push(character),
+        }
+    }
+    out
+}
+
+/// Whether a terminal does something else with the character than to show it in its place: controls, those of a text's
+/// direction, and ends of lines.
+fn moves(character: char) -> bool {
+    matches!(character,
+        '\u{61C}' | '\u{200E}' | '\u{200F}' | '\u{2028}'..='\u{202E}' | '\u{2066}'..='\u{2069}')
+        || character.is_control()
+}
+
 /// Lines of text, with an escape for each other control character.
 pub fn plain_lines(text: &str) -> String {
     let mut out = String::new();
@@ -44,8 +67,14 @@ pub fn plain_lines(text: &str) -> String {
 
 /// One character, or its escape.
 fn push_plain(out: &mut String, character: char) {
+    match is_printable(character) {
+        true => out.push(character),
+        false => push_escaped(out, character),
+    }
+}
+
+fn push_escaped(out: &mut String, character: char) {
     match character {
-        _ if is_printable(character) => out.push(character),
         '\0'..='\x7F' => out.extend(character.escape_default()),
         _ => out.extend(character.escape_unicode()),
     }
@@ -77,5 +106,25 @@ mod tests {
         assert_eq!(shown(OsStr::from_bytes(b"\xFFa\x7F")), r#""\xFFa\u{7f}""#);
         assert_eq!(shown("\u{9B}\u{202E}"), r#""\u{9b}\u{202e}""#);
         assert_eq!(plain_lines("a\r\n\tb\n"), "a\\r\n\\tb\n");
+    }
+
+    #[test]
+    fn texts_are_shown_as_they_are_written() {
+        let texts = [
+            "สถานี ถัดไป",
+            "שָׁלוֹם",
+            "हिन्दी",
+            "cafe\u{301}",
+            "\u{301}",
+            "می\u{200C}خواهم",
+            "👩\u{200D}🚒",
+            "\u{E000}\u{378}'",
+        ];
+        for text in texts {
+            assert_eq!(shown_text(text, '"'), text);
+        }
+        let moving = "a\"\\\n\t\x1B\u{85}\u{9B}\u{2028}\u{202E}\u{2066}\u{61C}";
+        let shown = r#"a\"\\\n\t\u{1b}\u{85}\u{9b}\u{2028}\u{202e}\u{2066}\u{61c}"#;
+        assert_eq!(shown_text(moving, '"'), shown);
     }
 }

@@ -5,8 +5,9 @@ use std::sync::mpsc::{channel, Receiver, RecvTimeoutError};
 use std::thread;
 use std::time::{Duration, Instant};
 
-/// Work that takes less shows no progress.
+/// Work that takes less shows no progress, unless the environment names another time in milliseconds.
 const LONG: Duration = Duration::from_millis(500);
+const OTHER_LONG: &str = "ASSET_BUILDER_PROGRESS_AFTER";
 const OF_FILES: &str = "{bar:40} {pos} of {len}, {eta} left";
 /// How often the time of a step without parts is shown anew.
 const TICK: Duration = Duration::from_millis(100);
@@ -16,6 +17,8 @@ const OF_BYTES: &str = "{bar:40} {bytes} of {total_bytes}, {eta} left";
 /// How far the work is; it is shown on standard error once the work has taken long.
 pub struct Progress {
     shown: bool,
+    /// Work that takes less shows none.
+    long: Duration,
     started: Instant,
     bar: Option<ProgressBar>,
     /// How a bar looks.
@@ -29,6 +32,7 @@ impl Progress {
     pub fn new(shown: bool) -> Progress {
         Progress {
             shown,
+            long: long(),
             started: Instant::now(),
             bar: None,
             template: OF_FILES,
@@ -63,7 +67,7 @@ impl Progress {
     pub fn advance(&mut self, done: u64) {
         self.done += done;
         // One step has no progress.
-        if !self.shown || self.total < 2 || self.started.elapsed() < LONG {
+        if !self.shown || self.total < 2 || self.started.elapsed() < self.long {
             return;
         }
         let (total, template) = (self.total, self.template);
@@ -79,8 +83,9 @@ impl Progress {
         }
         // The thread sees that the step has ended when its end of the channel is gone.
         let (running, ended) = channel();
+        let long = self.long;
         thread::scope(|scope| {
-            scope.spawn(move || show_until(&ended, name));
+            scope.spawn(move || show_until(&ended, name, long));
             let done = step();
             drop(running);
             done
@@ -103,10 +108,17 @@ impl Progress {
     }
 }
 
+/// How long work takes before its progress is shown.
+fn long() -> Duration {
+    let asked = std::env::var(OTHER_LONG).ok();
+    let asked = asked.and_then(|it| it.parse().ok());
+    asked.map_or(LONG, Duration::from_millis)
+}
+
 /// Shows a step from when it has taken long until it has ended.
-fn show_until(ended: &Receiver<()>, name: &'static str) {
+fn show_until(ended: &Receiver<()>, name: &'static str, long: Duration) {
     let goes_on = |time| ended.recv_timeout(time) == Err(RecvTimeoutError::Timeout);
-    if !goes_on(LONG) {
+    if !goes_on(long) {
         return;
     }
     let style = ProgressStyle::with_template(OF_STEP).expect("a template of ours");

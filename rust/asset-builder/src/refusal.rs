@@ -1,11 +1,12 @@
 //! Refusals for people and for programs.
 
+use crate::json::bytes_of_no_text;
 use crate::names::{is_printable, plain_lines};
 use crate::terminal::Paint;
 use serde::Serialize;
-use xnb::pack::PackRefused;
-use xnb::Refusal::{EnumEntry, ListTooShort, NoSuchRow, OtherKind, OutputTooSmall};
-use xnb::{Explanation, Loader, NameLine, Refused, ShownName};
+use xnb::pack::{explain, PackRefused};
+use xnb::Refusal::{EnumEntry, ListTooShort, NoRowLeft, NoSuchRow, OtherKind, OutputTooSmall};
+use xnb::{Explanation, Loader, NameLine, Refused, ShownName, MOST_ROWS};
 
 /// The bytes on a line of a dump.
 const LINE: usize = 16;
@@ -21,7 +22,8 @@ pub struct Told<'f> {
     reader: Option<Reader<'f>>,
     #[serde(skip)]
     name: Option<ShownName<'f>>,
-    bytes: Option<Dump<'f>>,
+    /// The bytes around the place.
+    around: Option<Dump<'f>>,
 }
 
 #[derive(Serialize)]
@@ -30,6 +32,8 @@ struct Reader<'f> {
     first: usize,
     #[serde(serialize_with = "as_text")]
     name: &'f [u8],
+    #[serde(rename = "nameBytes", skip_serializing_if = "Option::is_none")]
+    name_bytes: Option<String>,
     /// Where in the name it is wrong, counted from its first byte.
     #[serde(skip_serializing_if = "Option::is_none")]
     offset: Option<usize>,
@@ -53,7 +57,7 @@ impl<'f> Told<'f> {
             found: None,
             reader: None,
             name: None,
-            bytes: Dump::around(input, place),
+            around: Dump::around(input, place),
         }
     }
 
@@ -66,20 +70,26 @@ impl<'f> Told<'f> {
             told.name = explanation.name();
             told.found = Some(explanation.found);
         }
+        if let (NoRowLeft, Some(found)) = (refusal, &mut told.found) {
+            if room < MOST_ROWS {
+                *found += &format!("; --rows N gives more, up to {MOST_ROWS}");
+            }
+        }
         if matches!(refusal, OutputTooSmall | NoSuchRow | OtherKind | EnumEntry) {
             // The place is no byte of the file.
-            told.bytes = None;
+            told.around = None;
         }
         told
     }
 
     /// The refusal of a pack.
-    pub fn of_pack(pack: &'f [u8], refused: PackRefused) -> Told<'f> {
+    pub fn of_pack(pack: &'f [u8], refused: PackRefused, marked: bool) -> Told<'f> {
         let PackRefused { refusal, place } = refused;
         let mut told = Told::at_byte(pack, refusal.number(), place, refused.rule());
+        told.found = explain(pack, refused, marked);
         if matches!(refusal, OutputTooSmall | ListTooShort) {
             // The place is the number of bytes or of stretches needed.
-            told.bytes = None;
+            told.around = None;
         }
         told
     }
@@ -107,8 +117,8 @@ impl<'f> Told<'f> {
         let marked = self.reader.as_ref().is_some_and(|it| it.offset.is_some());
         let mut out = self.line(paint);
         out += &if marked { name + &found } else { found + &name };
-        if let Some(bytes) = &self.bytes {
-            out += &bytes.lines(self.place as usize, paint);
+        if let Some(around) = &self.around {
+            out += &around.lines(self.place as usize, paint);
         }
         out
     }
@@ -135,6 +145,7 @@ impl<'f> Reader<'f> {
             number: reader.number,
             first: reader.first,
             name: reader.bytes,
+            name_bytes: bytes_of_no_text(reader.bytes),
             offset: explanation.mark.as_ref().map(|mark| mark.start),
         })
     }

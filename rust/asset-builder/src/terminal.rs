@@ -2,19 +2,36 @@
 
 use std::io::{self, BufWriter, IsTerminal, Write};
 
+/// When there are colours.
+#[derive(clap::ValueEnum, Clone, Copy, Debug, Default, PartialEq, Eq)]
+pub enum When {
+    // On a terminal, unless NO_COLOR is set.
+    #[default]
+    Auto,
+    Always,
+    Never,
+}
+
 /// A stream that is written in large pieces, or at once if it is a terminal.
 pub struct Stream<W: Write> {
     out: BufWriter<W>,
     terminal: bool,
+    colours: When,
 }
 
 impl<W: Write + IsTerminal> Stream<W> {
-    pub fn new(out: W) -> Stream<W> {
+    pub fn new(out: W, colours: When) -> Stream<W> {
         let terminal = out.is_terminal();
         Stream {
             out: BufWriter::new(out),
             terminal,
+            colours,
         }
+    }
+
+    /// Whether it is a terminal of any kind.
+    pub fn is_any_terminal(&self) -> bool {
+        self.terminal
     }
 
     /// Whether a person looks at it, on a terminal that can do more than print.
@@ -22,14 +39,26 @@ impl<W: Write + IsTerminal> Stream<W> {
         self.terminal && std::env::var_os("TERM").is_some_and(|term| term != "dumb")
     }
 
-    /// Colours on such a terminal only, and none where `NO_COLOR` asks for none.
+    /// Colours as asked for; else on such a terminal only, and none where `NO_COLOR` asks for none.
     pub fn paint(&self) -> Paint {
         let asked_not = std::env::var_os("NO_COLOR").is_some_and(|value| !value.is_empty());
-        Paint(self.is_terminal() && !asked_not)
+        Paint(match self.colours {
+            When::Auto => self.is_terminal() && !asked_not,
+            When::Always => true,
+            When::Never => false,
+        })
     }
 
     pub fn write(&mut self, bytes: &[u8]) -> io::Result<()> {
-        self.out.write_all(bytes)?;
+        self.write_by(|out| out.write_all(bytes))
+    }
+
+    /// Writes what an action writes.
+    pub fn write_by(
+        &mut self,
+        action: impl FnOnce(&mut dyn Write) -> io::Result<()>,
+    ) -> io::Result<()> {
+        action(&mut self.out)?;
         if self.terminal {
             self.out.flush()?;
         }

@@ -1,5 +1,6 @@
 //! Values as text and as JSON.
 
+use crate::names::shown_text;
 use serde::Serialize;
 use std::fmt::{self, Debug, Display, Formatter};
 use xnb::{Detail, Kind, Refused, Row, Table};
@@ -14,6 +15,9 @@ pub enum Value {
     Boolean(bool),
     Signed(i64),
     Unsigned(u64),
+    /// Numbers of 64 bits, which JSON has as texts: a program may hold fewer bits of a number.
+    Long(#[serde(serialize_with = "as_text")] i64),
+    UnsignedLong(#[serde(serialize_with = "as_text")] u64),
     Integers(Vec<i32>),
     Bytes(Vec<u8>),
     Single(Float<f32>),
@@ -23,9 +27,11 @@ pub enum Value {
     Decimal(String),
     Time {
         seconds: i64,
+        #[serde(serialize_with = "as_text")]
         ticks: u32,
     },
     DateTime {
+        #[serde(serialize_with = "as_text")]
         ticks: u64,
         zone: u64,
     },
@@ -93,7 +99,8 @@ fn looked_up(table: &Table, number: u32, row: &Row) -> Result<Value, Refused> {
             Value::Nothing
         }
         String => Value::Text(table.text(number)?.to_string()),
-        SByte | Int16 | Int32 | Int64 => Value::Signed(table.signed(number)?),
+        SByte | Int16 | Int32 => Value::Signed(table.signed(number)?),
+        Int64 => Value::Long(table.signed(number)?),
         TimeSpan => {
             let time = table.time(number)?;
             Value::Time {
@@ -101,7 +108,9 @@ fn looked_up(table: &Table, number: u32, row: &Row) -> Result<Value, Refused> {
                 ticks: time.ticks,
             }
         }
-        Byte | UInt16 | UInt32 | UInt64 => Value::Unsigned(unsigned(bytes) as u64),
+        Byte | UInt16 | UInt32 => Value::Unsigned(unsigned(bytes) as u64),
+        UInt64 => Value::UnsignedLong(unsigned(bytes) as u64),
+        Enum if bytes.len() == 8 => Value::Long(enumeration(bytes)),
         Enum => Value::Signed(enumeration(bytes)),
         Point | Rectangle => Value::Integers(each(bytes, i32::from_le_bytes)),
         Single => match each(bytes, f32::from_le_bytes)[..] {
@@ -170,11 +179,11 @@ impl Display for Value {
         use Value::*;
         match self {
             Nothing => Ok(()),
-            Text(text) => write!(out, "{text:?}"),
-            Char(character) => write!(out, "{character:?}"),
+            Text(text) => write!(out, "\"{}\"", shown_text(text, '"')),
+            Char(character) => write!(out, "'{}'", shown_text(&character.to_string(), '\'')),
             Boolean(value) => write!(out, "{value}"),
-            Signed(number) => write!(out, "{number}"),
-            Unsigned(number) => write!(out, "{number}"),
+            Signed(number) | Long(number) => write!(out, "{number}"),
+            Unsigned(number) | UnsignedLong(number) => write!(out, "{number}"),
             Integers(numbers) => write!(out, "{}", spaced(numbers)),
             Bytes(numbers) => write!(out, "{}", spaced(numbers)),
             Single(number) => write!(out, "{number}"),
@@ -197,6 +206,10 @@ impl Display for Value {
             Resource { shared: None } => write!(out, "to nothing"),
         }
     }
+}
+
+fn as_text<S: serde::Serializer>(number: &impl Display, out: S) -> Result<S::Ok, S::Error> {
+    out.serialize_str(&number.to_string())
 }
 
 fn spaced(numbers: &[impl Display]) -> String {

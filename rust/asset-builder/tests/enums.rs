@@ -158,10 +158,10 @@ fn lists_are_read_as_people_write_them() {
 fn a_wrong_line_is_told_by_its_number() {
     let expected = "\
 enums.txt, line 3: a name and a size are due, as in Coach.Door 1, found Coach.Screen
-enums.txt, line 5: Coach.Seat: the size is 3, 1, 2, 4 and 8 are taken
+enums.txt, line 5: Coach.Seat: the size is 3; only 1, 2, 4 and 8 are taken
 enums.txt, line 6: a name and a size are due, as in Coach.Door 1, found Coach.Route 8 bytes
-enums.txt, line 7: Coach: the size is Row, 1, 2, 4 and 8 are taken
-enums.txt, line 8: A: the size is 01, 1, 2, 4 and 8 are taken
+enums.txt, line 7: Coach: the size is Row; only 1, 2, 4 and 8 are taken
+enums.txt, line 8: A: the size is 01; only 1, 2, 4 and 8 are taken
 ";
     let list =
         b"# list\nCoach.Door 1\nCoach.Screen\n\nCoach.Seat 3\nCoach.Route 8 bytes\nCoach Row\nA 01";
@@ -170,7 +170,7 @@ enums.txt, line 8: A: the size is 01, 1, 2, 4 and 8 are taken
     let of_names = [
         (
             "A 1\n# B\n\nCoach-Door 1\n".to_string(),
-            "line 4: Coach-Door: the name has the byte 2D, letters, digits, ., _ and + are taken",
+            "line 4: Coach-Door: the name has the byte 2D; only letters, digits, ., _ and + are taken",
         ),
         (
             "A 1\nSystem.Byte 1".to_string(),
@@ -182,8 +182,8 @@ enums.txt, line 8: A: the size is 01, 1, 2, 4 and 8 are taken
         ),
         (
             "System.Collections.Generic.List`1[[A]] 1".to_string(),
-            "line 1: System.Collections.Generic.List`1[[A]]: the name has the byte 60, \
-             letters, digits, ., _ and + are taken",
+            "line 1: System.Collections.Generic.List`1[[A]]: the name has the byte 60; \
+             only letters, digits, ., _ and + are taken",
         ),
         (
             format!("A 1\n{long} 2"),

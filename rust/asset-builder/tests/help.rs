@@ -63,7 +63,7 @@ fn wrong_commands_are_told() {
     let sample = "ok-kind-13-string.xnb";
     let pack = "ok-pack-of-one-file.pak";
     let wrong: [(&[&str], &str); 23] = [
-        (&[], "Usage: asset-builder <COMMAND>"),
+        (&[], "Usage: asset-builder [OPTIONS] <COMMAND>"),
         (&["build", sample], "'build'"),
         (&["check"], "<FILE>"),
         (&["rows"], "<FILE>"),
@@ -77,7 +77,7 @@ fn wrong_commands_are_told() {
             "cannot be used with",
         ),
         (&["completions", "dos"], "'dos'"),
-        (&["pack"], "Usage: asset-builder pack <COMMAND>"),
+        (&["pack"], "Usage: asset-builder pack [OPTIONS] <COMMAND>"),
         (&["pack", "show", pack], "'show'"),
         (&["pack", "list"], "<PACK>"),
         (&["pack", "find", pack], "<PATH>"),

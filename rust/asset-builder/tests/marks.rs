@@ -32,7 +32,7 @@ fn kept_packs_are_converted_and_back_or_refused() {
         let name = format!("{}.{extension}", pack.name);
         let input = folder().join(&name);
         let input = input.to_str().expect("a plain path");
-        let ran = run_in(&top, &[there, input, "-o", "there"], &[]);
+        let ran = run_in(&top, &[there, input, "-f", "-o", "there"], &[]);
         if let Some(refused) = pack
             .answers
             .lines()
@@ -53,7 +53,7 @@ fn kept_packs_are_converted_and_back_or_refused() {
             (told, "", Some(0)),
             "{name}"
         );
-        let ran = run_in(&top, &[back, "there", "-o", "back"], &[]);
+        let ran = run_in(&top, &[back, "there", "-f", "-o", "back"], &[]);
         assert_eq!((ran.err.as_str(), ran.status), ("", Some(0)), "{name}");
         assert!(
             fs::read(top.join("back")).expect("a file") == pack.bytes,
@@ -112,7 +112,7 @@ fn a_refused_pack_leaves_the_output() {
     for (command, name, why) in cases {
         fs::write(top.join("in"), sample(name)).expect("a file");
         for output in ["out", "in", "new"] {
-            let ran = run_in(&top, &[command, "in", "-o", output], &[]);
+            let ran = run_in(&top, &[command, "in", "-f", "-o", output], &[]);
             assert!(ran.err.starts_with(&format!("in: {why}")), "{}", ran.err);
             assert_eq!((ran.out.as_str(), ran.status), ("", Some(1)), "{name}");
         }
@@ -126,12 +126,14 @@ fn a_refused_pack_leaves_the_output() {
 fn a_missing_mark_is_shown_at_its_place() {
     let ran = run(&["unmark", NO_MARKS, "-o", "-"]);
     let lines: Vec<&str> = ran.err.lines().collect();
+    let found = "  file 1 of 2: found 03 6F, the mark is FD FE";
+    assert_eq!(lines[1], found);
     assert!(
-        lines[1].starts_with("  00000000  02 00 00 00 03 "),
+        lines[2].starts_with("  00000000  02 00 00 00 03 "),
         "{}",
         ran.err
     );
-    assert_eq!(lines[2].find("^^"), Some(12 + 3 * 4), "{}", ran.err);
+    assert_eq!(lines[3].find("^^"), Some(12 + 3 * 4), "{}", ran.err);
     assert_eq!((ran.out.as_str(), ran.status), ("", Some(1)));
 }
 

@@ -238,7 +238,7 @@ fn the_mark_is_red_on_a_terminal() {
 fn other_refusals_have_no_mark_in_a_name() {
     let out = run(&["check", "bad-12-version-1.xnb"]).out;
     let lines = "
-  the version of reader 1 is 1, 0 is taken
+  the version of reader 1 is 1; only 0 is taken
   Microsoft.Xna.Framework.Content.StringReader
   00000020";
     assert!(out.contains(lines), "{out}");

@@ -70,9 +70,9 @@ fn files_are_shortened_in_their_place() {
     assert_eq!(mode & 0o777, 0o640);
     assert_eq!(names(&depot), ["bad.xnb", "padded.xnb"]);
 
-    // The output may be the input.
+    // By force the output may be the input.
     fs::write(depot.join("padded.xnb"), sample(PADDED)).expect("a file");
-    let words = ["shorten", "padded.xnb", "-o", "./padded.xnb"];
+    let words = ["shorten", "padded.xnb", "-f", "-o", "./padded.xnb"];
     assert_eq!(run_in(&depot, &words, &[]).status, Some(0));
     assert_eq!(
         fs::read(depot.join("padded.xnb")).expect("a file"),
@@ -196,9 +196,10 @@ fn an_output_that_cannot_be_whole_is_not_placed() {
     assert_eq!(names(&top), ["long.xnb"]);
     assert!(fs::read(top.join("long.xnb")).expect("a file") == long);
 
-    // The same where the command is killed in the middle.
+    // The same where the system would end the command in the middle.
     let ran = shell(&top, &format!("ulimit -f 8; exec {command}"));
-    assert_eq!((ran.status, ran.out.as_str()), (None, ""));
+    assert_eq!((ran.status, ran.out.as_str()), (Some(2), ""));
+    assert_eq!(names(&top), ["long.xnb"]);
     assert!(fs::read(top.join("long.xnb")).expect("a file") == long);
     let ran = shell(&top, command);
     assert_eq!(ran.status, Some(0), "{}", ran.err);

@@ -2,7 +2,10 @@
 
 mod common;
 
-use common::{has_control, names, on_terminal, run, run_in, sample, scratch, shell};
+use common::{
+    has_control, names, on_terminal, run, run_in, sample, scratch, shell, shell_with, AT_ONCE,
+    NEVER,
+};
 use corpus::folder::folder;
 use corpus::packs::folder::kept_packs;
 use corpus::packs::{stored, write_pack, NO_MARK};
@@ -77,7 +80,10 @@ fn a_list_is_told_to_programs() {
         {"path": "fonts\\door", "first": 37, "length": 3},
         {"path": "FONTS\\DOORS", "first": 56, "length": 5},
     ]);
-    assert_eq!(lines[0], serde_json::json!({"pack": MIXED, "files": files}));
+    let listed = serde_json::json!({
+        "schema": 1, "file": MIXED, "bytes": 61, "marked": false, "files": files,
+    });
+    assert_eq!(lines[0], listed);
     let refused = &lines[1]["refused"];
     assert_eq!(
         (&refused["number"], &refused["place"]),
@@ -120,6 +126,7 @@ fn kept_packs_are_listed_or_refused() {
 fn a_refusal_shows_the_bytes() {
     let expected = "\
 bad-20-pack-one-byte-more.pak: refused 20 at 29: bytes are left over behind the last file
+  the last file, number 2, ends at byte 29 of 30
   00000000  02 00 00 00 03 6F 6E 65 04 00 00 00 31 31 31 31  .....one....1111
   00000010  03 74 77 6F 05 00 00 00 32 32 32 32 32 00        .two....22222.
                                                    ^^                     ^
@@ -190,7 +197,11 @@ fn an_absent_path_is_told_and_nothing_is_written() {
     let pack = pack.to_str().expect("a plain path");
     for path in ["fonts/door", "", "fonts", "Fonts\\Door "] {
         let ran = run_in(&top, &["pack", "find", pack, path, "-o", "out"], &[]);
-        let why = format!("{pack}: {path}: no file has this path\n");
+        let near = match path {
+            "fonts/door" | "Fonts\\Door " => "; Fonts\\Door is near",
+            _ => "",
+        };
+        let why = format!("{pack}: {path}: no file has this path{near}\n");
         assert_eq!((ran.err, ran.status), (why, Some(1)), "{path:?}");
         let ran = run_in(&top, &["pack", "find", pack, path], &[]);
         assert_eq!((ran.out.as_str(), ran.status), ("", Some(1)), "{path:?}");
@@ -232,10 +243,14 @@ fn files_are_written_below_a_folder() {
     ];
     assert_eq!(tree(&top), expected(&files));
 
-    // A second time the files are written anew, and others stay.
+    // A second time the files are written anew by force only, and others stay.
     fs::write(top.join("new/out/Door"), "another door, and longer").expect("a file");
     fs::write(top.join("new/out/other"), "other").expect("a file");
-    let ran = run_in(&top, &["pack", "extract", "-", "-o", "new/out"], &pack);
+    let ran = run_in(
+        &top,
+        &["pack", "extract", "-", "-f", "-o", "new/out"],
+        &pack,
+    );
     assert_eq!((ran.err.as_str(), ran.status), ("", Some(0)));
     let mut both = expected(&files);
     both.insert("new/out/other".into(), "other".into());
@@ -465,14 +480,19 @@ fn long_work_on_packs_shows_progress_on_a_terminal() {
     let long = "data".repeat(2_000_000);
     fs::write(top.join("long.pak"), pack_of(&[("long", &long)])).expect("a pack");
     fs::write(top.join("some.pak"), sample(MIXED)).expect("a pack");
-    let slow = "{ sleep 1; cat some.pak; } | asset-builder pack";
-    let shown = on_terminal(&top, &format!("{slow} list - long.pak"), &[]);
+    let extract = "asset-builder pack extract long.pak -f -o out";
+    let shown = on_terminal(&top, extract, &AT_ONCE);
     assert!(shown.contains(" of 7.63 MiB, "), "{shown:?}");
-    assert!(shown.contains("   8000000 long"), "{shown:?}");
-    let shown = on_terminal(&top, &format!("{slow} extract - -o out"), &[]);
-    assert!(shown.contains(" of 3, "), "{shown:?}");
-    let quick = on_terminal(&top, "asset-builder pack list some.pak", &[]);
-    assert!(!quick.contains(" of "), "{quick:?}");
-    let piped = shell(&top, &format!("{slow} list - long.pak"));
+    let find = "asset-builder pack find long.pak long -f -o long";
+    let shown = on_terminal(&top, find, &AT_ONCE);
+    assert!(shown.contains(" of 7.63 MiB, "), "{shown:?}");
+    for (line, environment) in [
+        (format!("{extract} --no-progress"), AT_ONCE),
+        (extract.to_string(), NEVER),
+    ] {
+        let shown = on_terminal(&top, &line, &environment);
+        assert!(!shown.contains("MiB"), "{shown:?}");
+    }
+    let piped = shell_with(&top, extract, &AT_ONCE);
     assert_eq!(piped.err, "");
 }

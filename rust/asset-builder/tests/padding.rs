@@ -58,8 +58,8 @@ fn programs_get_the_padding_and_the_length() {
     let ran = run(&["check", "--json", "ok-text-count-in-2-bytes.xnb"]);
     let accepted = json!({"rows": 1, "readers": 1, "shared": 0, "padding": 1, "bytes": 66});
     let expected = [
-        json!({"file": "ok-text-count-in-2-bytes.xnb", "answer": 1, "accepted": accepted}),
-        json!({"files": 1, "accepted": 1, "refused": 0, "unread": 0, "padding": 1, "padded": 1}),
+        json!({"schema": 1, "file": "ok-text-count-in-2-bytes.xnb", "answer": 1, "accepted": accepted}),
+        json!({"schema": 1, "summary": {"files": 1, "accepted": 1, "refused": 0, "unread": 0, "padding": 1, "padded": 1}}),
     ];
     assert_eq!(lines(&ran.out), expected);
 }
@@ -117,9 +117,9 @@ fn programs_get_the_files_that_pad_the_folders_and_the_summary() {
     assert_eq!(told[0]["accepted"]["padding"], 29);
     assert_eq!(told[0]["accepted"]["bytes"], 751);
     let expected = [
-        json!({"folder": "south", "accepted": 2, "padding": 29, "padded": 1}),
-        json!({"folder": "north", "accepted": 3, "padding": 4, "padded": 2}),
-        json!({"files": 6, "accepted": 6, "refused": 0, "unread": 0, "padding": 33, "padded": 3}),
+        json!({"schema": 1, "folder": "south", "accepted": 2, "padding": 29, "padded": 1}),
+        json!({"schema": 1, "folder": "north", "accepted": 3, "padding": 4, "padded": 2}),
+        json!({"schema": 1, "summary": {"files": 6, "accepted": 6, "refused": 0, "unread": 0, "padding": 33, "padded": 3}}),
     ];
     assert_eq!(told[3..], expected);
 }
@@ -185,7 +185,8 @@ north: padding 4 in 2 of 3 files
     let told = lines(&ran.out);
     assert_eq!(told[0]["refused"]["number"], 7);
     assert_eq!(told[0].get("accepted"), None);
-    assert_eq!((&told[1]["padding"], ran.status), (&json!(0), Some(1)));
+    let padding = &told[1]["summary"]["padding"];
+    assert_eq!((padding, ran.status), (&json!(0), Some(1)));
 }
 
 #[test]

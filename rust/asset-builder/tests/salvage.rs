@@ -2,7 +2,7 @@
 
 mod common;
 
-use common::{names, on_terminal, run, run_in, sample, scratch, shell, Ran};
+use common::{names, on_terminal, run, run_in, sample, scratch, shell, Ran, AT_ONCE, NEVER};
 use corpus::folder::folder;
 use corpus::packs::folder::{kept_damaged_packs, kept_marked_packs};
 use corpus::packs::salvage::SalvageSample;
@@ -44,7 +44,11 @@ fn printed(name: &str, sample: &SalvageSample) -> [String; 3] {
         stretches.push(json!({ "start": start, "length": length }));
     }
     let json = json!({
-        "pack": name, "records": kept.len(), "bytes": sum(&kept), "skipped": stretches,
+        "schema": 1,
+        "file": name,
+        "bytes": sample.bytes.len(),
+        "kept": {"records": kept.len(), "bytes": sum(&kept)},
+        "skipped": stretches,
     });
     [lines, list, json.to_string()]
 }
@@ -76,17 +80,21 @@ fn kept_damaged_packs_are_salvaged() {
         fs::write(top.join(name), &damaged.bytes).expect("a file");
         let [lines, list, json] = printed(name, &damaged);
 
-        let ran = run_in(&top, &["salvage", name, "--list"], &[]);
+        let ran = run_in(&top, &["salvage", name, "-f", "--list"], &[]);
         assert!(taken(&ran) && ran.out == list, "{}: {ran:?}", damaged.name);
-        let ran = run_in(&top, &["salvage", name, "--json", "--list"], &[]);
+        let ran = run_in(&top, &["salvage", name, "-f", "--json", "--list"], &[]);
         assert!(taken(&ran) && same_json(&ran.out, &json), "{ran:?}");
         assert_eq!(names(&top), [name], "a list needs no output");
 
-        let ran = run_in(&top, &["salvage", name, "-o", "out"], &[]);
+        let ran = run_in(&top, &["salvage", name, "-f", "-o", "out"], &[]);
         assert!(taken(&ran) && ran.out == lines, "{}: {ran:?}", damaged.name);
         assert_eq!(fs::read(top.join("out")).expect("a file"), expected);
-        // Salvaging twice is salvaging once; the output may be the input.
-        let ran = run_in(&top, &["salvage", "out", "--list", "-o", "./out"], &[]);
+        // Salvaging twice is salvaging once; by force the output may be the input.
+        let ran = run_in(
+            &top,
+            &["salvage", "out", "--list", "-f", "-o", "./out"],
+            &[],
+        );
         assert!(taken(&ran) && ran.out.is_empty(), "{ran:?}");
         assert_eq!(fs::read(top.join("out")).expect("a file"), expected);
         fs::remove_file(top.join("out")).expect("the output is there");
@@ -103,7 +111,7 @@ fn an_accepted_pack_comes_out_byte_for_byte() {
     let mut packs = 0;
     for pack in accepted {
         fs::write(top.join("in"), &pack.bytes).expect("a file");
-        let ran = run_in(&top, &["salvage", "in", "-o", "out"], &[]);
+        let ran = run_in(&top, &["salvage", "in", "-f", "-o", "out"], &[]);
         assert!(taken(&ran), "{}: {ran:?}", pack.name);
         let nothing = "; skipped 0 stretches, 0 bytes\n";
         assert!(ran.out.ends_with(nothing), "{}", ran.out);
@@ -111,6 +119,55 @@ fn an_accepted_pack_comes_out_byte_for_byte() {
         packs += 1;
     }
     assert!(packs >= 10, "only {packs} packs");
+}
+
+/// A pack without marks, which holds none of the records that salvage looks for, is not taken for a damaged one.
+#[test]
+fn a_pack_without_marks_is_not_overwritten() {
+    let top = scratch("salvage-without-marks");
+    let plain = sample("ok-pack-mixed-case.pak");
+    fs::write(top.join("good.pak"), &plain).expect("a file");
+    let why = "good.pak: it is a pack without marks, which are what salvage goes by; \
+        nothing is written\n";
+    for words in [
+        &["-o", "good.pak", "-f"][..],
+        &["-o", "new"],
+        &["-o", "new", "-f"],
+        &["-o", "-"],
+        &["--list"],
+    ] {
+        let ran = run_in(&top, &[&["salvage", "good.pak"], words].concat(), &[]);
+        let told = (ran.out.as_str(), ran.err.as_str(), ran.status);
+        assert_eq!(told, ("", why, Some(1)), "{words:?}");
+    }
+    assert_eq!(names(&top), ["good.pak"]);
+    assert_eq!(fs::read(top.join("good.pak")).expect("a file"), plain);
+    let ran = run_in(&top, &["salvage", "good.pak", "--list", "--json"], &[]);
+    let told: Json = serde_json::from_str(&ran.out).expect("JSON");
+    let words = told["unwritten"]["why"].as_str().expect("a text");
+    assert!(words.starts_with("it is a pack without marks"), "{words}");
+}
+
+#[test]
+fn a_salvage_that_keeps_nothing_writes_nothing_without_force() {
+    let top = scratch("salvage-nothing");
+    fs::write(top.join("in"), b"\x01\0\0\0no record at all").expect("a file");
+    fs::write(top.join("old"), "old").expect("a file");
+    let ran = run_in(&top, &["salvage", "in", "-o", "out"], &[]);
+    let why = "in: no record is kept, so nothing is written; -f writes a pack without files\n";
+    assert_eq!((ran.err.as_str(), ran.status), (why, Some(1)));
+    let lines =
+        "in: kept 0 records, 0 bytes; skipped 1 stretch, 16 bytes\n  skipped at 4, length 16\n";
+    assert_eq!(ran.out, lines);
+    assert_eq!(names(&top), ["in", "old"]);
+    let ran = run_in(&top, &["salvage", "in", "--list"], &[]);
+    assert_eq!((ran.out.as_str(), ran.status), ("4 16\n", Some(1)));
+    let ran = run_in(&top, &["salvage", "in", "-f", "-o", "old"], &[]);
+    assert_eq!(
+        (ran.out.as_str(), ran.err.as_str(), ran.status),
+        (lines, "", Some(0))
+    );
+    assert_eq!(fs::read(top.join("old")).expect("a file"), [0; 4]);
 }
 
 #[test]
@@ -128,10 +185,11 @@ fn the_report_leaves_standard_output_to_the_pack() {
         ("--list", "4 1\n19 2\n36 1\n"),
         (
             "--json",
-            "{\"pack\":\"-\",\"records\":2,\"bytes\":29,\"skipped\":[\
+            "{\"schema\":1,\"file\":\"-\",\"bytes\":37,\
+            \"kept\":{\"records\":2,\"bytes\":29},\"skipped\":[\
             {\"start\":4,\"length\":1},\
             {\"start\":19,\"length\":2},\
-            {\"start\":36,\"length\":1}]}\n",
+            {\"start\":36,\"length\":1}],\"written\":{\"file\":\"-\",\"bytes\":33}}\n",
         ),
     ];
     let whole = sample("salvage-whole.damaged");
@@ -152,8 +210,8 @@ fn a_refused_pack_leaves_the_output() {
     fs::write(top.join("in"), sample(THREE_BYTES)).expect("a file");
     let rule = "a field runs past the end of the pack";
     for output in [
-        &["-o", "out"][..],
-        &["-o", "in"],
+        &["-f", "-o", "out"][..],
+        &["-f", "-o", "in"],
         &["-o", "new"],
         &["--list"],
     ] {
@@ -168,7 +226,7 @@ fn a_refused_pack_leaves_the_output() {
     let ran = run(&["salvage", "--json", "--list", THREE_BYTES]);
     let told: Json = serde_json::from_str(&ran.out).expect("JSON");
     assert_eq!((ran.err.as_str(), ran.status), ("", Some(1)));
-    assert_eq!(told["pack"], THREE_BYTES);
+    assert_eq!(told["file"], THREE_BYTES);
     assert_eq!(told["refused"]["number"], 1);
     assert_eq!(told["refused"]["place"], 0);
     assert_eq!(told["refused"]["rule"], rule);
@@ -196,9 +254,10 @@ fn what_cannot_be_read_or_written_is_told() {
 fn long_work_shows_progress_on_a_terminal() {
     let top = scratch("salvage-progress");
     fs::write(top.join("in"), sample(BETWEEN)).expect("a file");
-    // Nobody reads the pipe for a second.
-    let slow = "mkfifo pipe; { sleep 1; cat pipe > out; } & asset-builder salvage in -o pipe; wait";
-    let shown = on_terminal(&top, slow, &[]);
+    // Nobody reads the pipe for a while.
+    let slow =
+        "mkfifo pipe; { sleep 0.5; cat pipe > out; } & asset-builder salvage in -o pipe; wait";
+    let shown = on_terminal(&top, slow, &AT_ONCE);
     assert!(shown.contains("writing for "), "{shown:?}");
     assert!(shown.contains("in: kept 2 records, "), "{shown:?}");
     assert_eq!(
@@ -208,7 +267,7 @@ fn long_work_shows_progress_on_a_terminal() {
     let quick = on_terminal(
         &folder(),
         &format!("asset-builder salvage --list {BETWEEN}"),
-        &[],
+        &NEVER,
     );
     assert!(quick.starts_with("4 1\r\n"), "{quick:?}");
     assert!(!quick.contains(" for "), "{quick:?}");

@@ -2,7 +2,9 @@
 
 mod common;
 
-use common::{has_control, on_terminal, run, run_in, sample, scratch, shell};
+use common::{
+    has_control, on_terminal, run, run_in, sample, scratch, shell, shell_with, AT_ONCE, NEVER,
+};
 use corpus::folder::folder;
 use std::ffi::{OsStr, OsString};
 use std::fs;
@@ -31,17 +33,22 @@ fn colours_are_for_terminals_only() {
 
 #[test]
 fn long_work_shows_progress_on_a_terminal() {
-    let slow = "sleep 1 | asset-builder check - ok-kind-13-string.xnb ok-kind-00-null.xnb";
-    let shown = on_terminal(&folder(), slow, &[]);
+    let slow = "asset-builder check bad-06-flags.xnb ok-kind-13-string.xnb ok-kind-00-null.xnb";
+    let shown = on_terminal(&folder(), slow, &AT_ONCE);
     assert!(shown.contains(" of 3, "), "{shown:?}");
     // Lines stand whole beside it.
     assert!(
         shown.contains("\u{1B}[1mok-kind-13-string.xnb\u{1B}[0m: rows 1 "),
         "{shown:?}"
     );
-    let quick = on_terminal(&folder(), "asset-builder check ok-kind-13-string.xnb", &[]);
-    assert!(!quick.contains(" of "), "{quick:?}");
-    let piped = shell(&folder(), slow);
+    for (line, environment) in [
+        (slow.to_string(), NEVER),
+        (format!("{slow} --no-progress"), AT_ONCE),
+    ] {
+        let quick = on_terminal(&folder(), &line, &environment);
+        assert!(!quick.contains(" of 3, "), "{quick:?}");
+    }
+    let piped = shell_with(&folder(), slow, &AT_ONCE);
     assert_eq!(piped.err, "");
 }
 

@@ -206,11 +206,13 @@ impl Display for EnumFault {
     fn fmt(&self, out: &mut Formatter) -> fmt::Result {
         match self {
             EnumFault::CutShort => write!(out, "the list ends in it"),
-            EnumFault::Size(size) => write!(out, "the size is {size}, 1, 2, 4 and 8 are taken"),
+            EnumFault::Size(size) => {
+                write!(out, "the size is {size}; only 1, 2, 4 and 8 are taken")
+            }
             EnumFault::EmptyName => write!(out, "the name is empty"),
             EnumFault::NameByte(byte) => write!(
                 out,
-                "the name has the byte {byte:02X}, letters, digits, ., _ and + are taken"
+                "the name has the byte {byte:02X}; only letters, digits, ., _ and + are taken"
             ),
             EnumFault::NameTooLong(length) => {
                 write!(out, "the name has {length} bytes, the limit 255")
@@ -221,7 +223,7 @@ impl Display for EnumFault {
     }
 }
 
-/// Such as `entry 1 of the enum list, Coach.Screen: the size is 3, 1, 2, 4 and 8 are taken`.
+/// Such as `entry 1 of the enum list, Coach.Screen: the size is 3; only 1, 2, 4 and 8 are taken`.
 impl Display for EnumsRefused {
     fn fmt(&self, out: &mut Formatter) -> fmt::Result {
         write!(out, "entry {} of the enum list", self.entry)?;

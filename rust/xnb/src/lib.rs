@@ -9,14 +9,19 @@
 //! # Ok::<(), xnb::Refused>(())
 //! ```
 
+#![deny(unsafe_code)]
+
 mod calls;
 mod enums;
 mod explain;
 mod kind;
 mod loader;
 pub mod marks;
+mod memory;
 pub mod meshes;
 pub mod pack;
+// The entries are C functions, which only unsafe code can call.
+#[allow(unsafe_code)]
 pub mod raw;
 mod refusal;
 mod row;
@@ -30,6 +35,7 @@ pub use enums::{EnumFault, EnumList, EnumsRefused};
 pub use explain::{explain, Explanation, NameLine, ReaderName, ShownName};
 pub use kind::Kind;
 pub use loader::Loader;
+pub use memory::OutOfMemory;
 pub use pack::Pack;
 pub use refusal::{Refusal, Refused};
 pub use row::{Detail, Row, MOST_ROWS, WORDS_PER_ROW};

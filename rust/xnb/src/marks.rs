@@ -8,30 +8,37 @@
 //!
 //! let marked = xnb::Pack::read_marked(&marked)?;
 //! assert_eq!(marked.find("A"), Some(&b"hi"[..]));
-//! # Ok::<(), xnb::pack::PackRefused>(())
+//! # Ok::<(), xnb::pack::PackError>(())
 //! ```
 
-use crate::pack::{claimed_files, PackRefused};
+use crate::memory::zeros;
+use crate::pack::{claimed_files, PackError, PackRefused};
 use crate::raw;
 
-const MARK_BYTES: usize = 2;
+/// What stands before each record of a marked pack.
+pub const MARK: [u8; 2] = [0xFD, 0xFE];
 
 /// Reads a marked pack into lent words, as `pack::read` does.
 pub fn read(pack: &[u8], table: &mut [u64]) -> Result<usize, PackRefused> {
     PackRefused::number(raw::marks::read(pack, table))
 }
 
+/// How many bytes a pack has at most in either form.
+pub fn longest(pack: &[u8]) -> usize {
+    pack.len() + MARK.len() * claimed_files(pack)
+}
+
 /// The pack with marks.
-pub fn mark(pack: &[u8]) -> Result<Vec<u8>, PackRefused> {
-    let mut out = vec![0; pack.len() + MARK_BYTES * claimed_files(pack)];
+pub fn mark(pack: &[u8]) -> Result<Vec<u8>, PackError> {
+    let mut out = zeros(longest(pack))?;
     let length = mark_into(pack, &mut out)?;
     out.truncate(length);
     Ok(out)
 }
 
 /// The marked pack without its marks.
-pub fn unmark(pack: &[u8]) -> Result<Vec<u8>, PackRefused> {
-    let mut out = vec![0; pack.len()];
+pub fn unmark(pack: &[u8]) -> Result<Vec<u8>, PackError> {
+    let mut out = zeros(pack.len())?;
     let length = unmark_into(pack, &mut out)?;
     out.truncate(length);
     Ok(out)

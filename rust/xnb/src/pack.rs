@@ -15,7 +15,12 @@
 //! # Ok::<(), xnb::pack::PackRefused>(())
 //! ```
 
+mod explain;
+
+pub use explain::explain;
+
 use crate::marks;
+use crate::memory::OutOfMemory;
 use crate::raw;
 use crate::refusal::{Refusal, Refused};
 use crate::table::Table;
@@ -73,6 +78,46 @@ impl Display for PackRefused {
 
 impl std::error::Error for PackRefused {}
 
+/// Why there is no new pack: the old one breaks a rule, or there is no memory for the new one.
+#[derive(Clone, Copy, Debug, PartialEq, Eq)]
+pub enum PackError {
+    Refused(PackRefused),
+    OutOfMemory(OutOfMemory),
+}
+
+impl PackError {
+    /// The rule that the pack breaks, if it breaks one.
+    pub fn refused(self) -> Option<PackRefused> {
+        match self {
+            PackError::Refused(refused) => Some(refused),
+            PackError::OutOfMemory(_) => None,
+        }
+    }
+}
+
+impl From<PackRefused> for PackError {
+    fn from(refused: PackRefused) -> PackError {
+        PackError::Refused(refused)
+    }
+}
+
+impl From<OutOfMemory> for PackError {
+    fn from(error: OutOfMemory) -> PackError {
+        PackError::OutOfMemory(error)
+    }
+}
+
+impl Display for PackError {
+    fn fmt(&self, out: &mut Formatter) -> fmt::Result {
+        match self {
+            PackError::Refused(refused) => refused.fmt(out),
+            PackError::OutOfMemory(error) => error.fmt(out),
+        }
+    }
+}
+
+impl std::error::Error for PackError {}
+
 /// Reads a pack into lent words, four to a file, and answers the number of files.
 ///
 /// Words past its files are zero, and all after a refusal.
@@ -129,14 +174,18 @@ pub struct Pack<'p, W = Vec<u64>> {
 impl<'p> Pack<'p> {
     /// Reads a pack with room for all its files.
     pub fn read(bytes: &'p [u8]) -> Result<Pack<'p>, PackRefused> {
-        Pack::read_into(bytes, vec![0; WORDS_PER_FILE * claimed_files(bytes)])
+        Pack::read_into(bytes, words_for(bytes))
     }
 
     /// Reads a marked pack with room for all its files.
     pub fn read_marked(bytes: &'p [u8]) -> Result<Pack<'p>, PackRefused> {
-        let words = vec![0; WORDS_PER_FILE * claimed_files(bytes)];
-        Pack::read_by(marks::read, bytes, words)
+        Pack::read_by(marks::read, bytes, words_for(bytes))
     }
+}
+
+/// Words for all files of a pack: 128 KB at most, whatever it claims.
+fn words_for(pack: &[u8]) -> Vec<u64> {
+    vec![0; WORDS_PER_FILE * claimed_files(pack)]
 }
 
 /// The number of files that a pack claims to have, or the most there can be.

@@ -1,6 +1,7 @@
 //! What a damaged marked pack still holds.
 
-use crate::pack::{claimed_files, PackRefused, COUNT_BYTES, MOST_FILES};
+use crate::memory::zeros;
+use crate::pack::{claimed_files, PackError, PackRefused, COUNT_BYTES, MOST_FILES};
 use crate::raw;
 
 /// Start and length of a skipped stretch.
@@ -48,6 +49,13 @@ pub struct Written {
     pub stretches: usize,
 }
 
+impl Written {
+    /// The stretches that stand in the list.
+    pub fn skipped(self, list: &[u64]) -> impl Iterator<Item = Stretch> + '_ {
+        stretches(list).take(self.stretches)
+    }
+}
+
 /// Keeps every whole record of a damaged marked pack, up to 4,096, and tells what is skipped.
 ///
 /// A pack of fewer than four bytes is refused, and no other. Kept records, skipped stretches and
@@ -63,17 +71,17 @@ pub struct Written {
 ///
 /// let pack = xnb::Pack::read_marked(&salvaged.pack)?;
 /// assert_eq!(pack.find("b"), Some(&b"hi"[..]));
-/// # Ok::<(), xnb::pack::PackRefused>(())
+/// # Ok::<(), xnb::pack::PackError>(())
 /// ```
-pub fn salvage(pack: &[u8]) -> Result<Salvaged, PackRefused> {
+pub fn salvage(pack: &[u8]) -> Result<Salvaged, PackError> {
     // The new pack is never longer than the damaged one, and no stretch is empty.
-    let mut out = vec![0; pack.len()];
-    let mut list = vec![0; WORDS_PER_STRETCH * MOST_STRETCHES.min(pack.len())];
+    let mut out = zeros(pack.len())?;
+    let mut list = zeros(WORDS_PER_STRETCH * MOST_STRETCHES.min(pack.len()))?;
     let written = salvage_into(pack, &mut out, &mut list)?;
     out.truncate(written.length);
     Ok(Salvaged {
         pack: out,
-        skipped: stretches(&list).take(written.stretches).collect(),
+        skipped: written.skipped(&list).collect(),
     })
 }
 

@@ -108,12 +108,13 @@ fn faults_are_told() {
         let refused = EnumList::new(types.iter().copied());
         refused.expect_err("a refused list").to_string()
     };
-    let expected = "entry 1 of the enum list, Coach.Seat: the size is 3, 1, 2, 4 and 8 are taken";
+    let expected =
+        "entry 1 of the enum list, Coach.Seat: the size is 3; only 1, 2, 4 and 8 are taken";
     assert_eq!(told(&[("Coach.Door", 1), ("Coach.Seat", 3)]), expected);
     let expected = "entry 0 of the enum list: the name is empty";
     assert_eq!(told(&[("", 1)]), expected);
-    let expected = "entry 0 of the enum list, Coach Door: the name has the byte 20, \
-        letters, digits, ., _ and + are taken";
+    let expected = "entry 0 of the enum list, Coach Door: the name has the byte 20; \
+        only letters, digits, ., _ and + are taken";
     assert_eq!(told(&[("Coach Door", 1)]), expected);
     let expected = "entry 0 of the enum list, System.Byte: a type of this name is known already";
     assert_eq!(told(&[("System.Byte", 1)]), expected);

@@ -174,9 +174,9 @@ fn what_is_found_is_told() {
             "bad-03-platform",
             "the platform is 69, w, m and x are 77, 6D and 78",
         ),
-        ("bad-04-version", "the version is 4, 5 is taken"),
+        ("bad-04-version", "the version is 4; only 5 is taken"),
         ("bad-05-compressed", "the flags are 81, bit 80 is set"),
-        ("bad-06-flags", "the flags are 02, 00 and 01 are taken"),
+        ("bad-06-flags", "the flags are 02; only 00 and 01 are taken"),
         (
             "bad-07-length-too-small",
             "the header says 12 bytes, the file has 13",
@@ -204,7 +204,7 @@ fn what_is_found_is_told() {
         ),
         (
             "bad-12-version-1",
-            "the version of reader 1 is 1, 0 is taken \
+            "the version of reader 1 is 1; only 0 is taken \
              [1 Microsoft.Xna.Framework.Content.StringReader]",
         ),
         (
@@ -230,11 +230,11 @@ fn what_is_found_is_told() {
         ),
         (
             "bad-15-boolean-2",
-            "Boolean: the byte is 2, 0 and 1 are taken",
+            "Boolean: the byte is 2; only 0 and 1 are taken",
         ),
         (
             "bad-15-nullable-flag-2",
-            "Nullable: the byte is 2, 0 and 1 are taken",
+            "Nullable: the byte is 2; only 0 and 1 are taken",
         ),
         (
             "bad-15-char-of-four-bytes",
@@ -266,19 +266,19 @@ fn what_is_found_is_told() {
         ),
         (
             "bad-15-format-19",
-            "Texture2D: the format is 19, 0 to 18 are taken",
+            "Texture2D: the format is 19; only 0 to 18 are taken",
         ),
         (
             "bad-15-width-4097",
-            "Texture2D: the width is 4097, 1 to 4096 are taken",
+            "Texture2D: the width is 4097; only 1 to 4096 are taken",
         ),
         (
             "bad-15-height-0",
-            "Texture2D: the height is 0, 1 to 4096 are taken",
+            "Texture2D: the height is 0; only 1 to 4096 are taken",
         ),
         (
             "bad-15-four-levels-of-5-by-3",
-            "Texture2D: the level count is 4, 1 to 3 are taken",
+            "Texture2D: the level count is 4; only 1 to 3 are taken",
         ),
         (
             "bad-15-level-size-before-its-data",

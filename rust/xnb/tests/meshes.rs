@@ -441,23 +441,23 @@ fn what_is_found_is_told() {
     let told = [
         (
             "bad-15-index-flag-2",
-            "Boolean: the byte is 2, 0 and 1 are taken".to_string(),
+            "Boolean: the byte is 2; only 0 and 1 are taken".to_string(),
         ),
         (
             "bad-15-index-data-1-of-16-bit",
-            "IndexBuffer: the data size is 1, a multiple of 2 is taken".to_string(),
+            "IndexBuffer: the data size is 1; only a multiple of 2 is taken".to_string(),
         ),
         (
             "bad-15-index-data-2-of-32-bit",
-            "IndexBuffer: the data size is 2, a multiple of 4 is taken".to_string(),
+            "IndexBuffer: the data size is 2; only a multiple of 4 is taken".to_string(),
         ),
         (
             "bad-15-element-format-12",
-            "VertexDeclaration: the element format is 12, 0 to 11 are taken".to_string(),
+            "VertexDeclaration: the element format is 12; only 0 to 11 are taken".to_string(),
         ),
         (
             "bad-15-element-usage-ffffffff",
-            "VertexDeclaration: the element usage is -1, 0 to 12 are taken".to_string(),
+            "VertexDeclaration: the element usage is -1; only 0 to 12 are taken".to_string(),
         ),
         (
             "bad-15-bone-parent-255-of-254",

@@ -202,6 +202,7 @@ fn corpus_packs_give_their_answers() {
         let words = |stretch: Stretch| [stretch.start, stretch.length];
         let answer = salvage(&sample.bytes)
             .map(|it| (it.pack, it.skipped.into_iter().flat_map(words).collect()))
+            .map_err(|it| it.refused().expect("memory is there"))
             .map_err(|it| (it.refusal.number(), it.place));
         assert_eq!(answer, sample.expected(), "{}", sample.name);
     }

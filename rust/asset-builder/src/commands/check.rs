@@ -4,20 +4,20 @@ use super::ranking::{Padding, Ranking};
 use super::{at_most_all_rows, counted, for_each, load, BUILDER_ROWS};
 use crate::enums::Enums;
 use crate::input::{Input, Inputs};
-use crate::json;
+use crate::json::{Line, Report, Why};
 use crate::refusal::Told;
 use crate::run::{End, Run, Status};
 use serde::Serialize;
 use std::fmt::{self, Display, Formatter};
 use xnb::{Loaded, Loader, Refused};
 
-/// Tell whether the asset builder takes each file, and why not
+/// Say whether the asset builder takes each file, and why not
 ///
 /// The answer is that of document 01's asset builder, which has room for 1024 rows
 /// and lends no enum types.
 /// A file that is taken has one line, with its padding: how many bytes its seven-bit
 /// numbers have more than their shortest forms, which `shorten` leaves out. A refusal
-/// tells the rule, what was found, and the bytes around the place. The last line sums
+/// names the rule, what was found, and the bytes around the place. The last line sums
 /// up, with the padding of all files and how many of them pad.
 #[derive(clap::Args)]
 #[command(verbatim_doc_comment)]
@@ -42,10 +42,9 @@ pub struct Check {
     json: bool,
 }
 
-/// What is told of a file.
+/// What is reported of a file.
 #[derive(Serialize)]
 pub struct Checked<'f> {
-    file: String,
     /// The number that the asset builder gets.
     #[serde(skip_serializing_if = "Option::is_none")]
     answer: Option<u64>,
@@ -58,7 +57,7 @@ pub struct Checked<'f> {
 enum Outcome<'f> {
     Accepted(Accepted),
     Refused(Told<'f>),
-    Unread(String),
+    Unread(Why),
 }
 
 /// What an accepted file holds.
@@ -82,6 +81,12 @@ struct Summary {
     padding: Padding,
 }
 
+/// The last line.
+#[derive(Serialize)]
+struct Summed {
+    summary: Summary,
+}
+
 impl Check {
     pub fn run(&self, run: &mut Run) -> End {
         let Some(enums) = self.enums.read(&self.inputs, run) else {
@@ -91,7 +96,7 @@ impl Check {
         let mut summary = Summary::default();
         let mut ranking = Ranking::default();
         for_each(&self.inputs, run, |run, input, file| {
-            let checked = self.checked(loader, input, file);
+            let checked = self.checked(loader, file);
             summary.count(&checked.outcome);
             match &checked.outcome {
                 Outcome::Accepted(accepted) if self.by_padding => {
@@ -102,37 +107,30 @@ impl Check {
                 _ => {}
             }
             match self.json {
-                true => run.print(&json::line(&checked)),
+                true => run.print(&Report::line(input, checked)),
                 false => print(run, input, &checked.outcome),
             }
         })?;
         ranking.print(run, self.json)?;
-        run.print(&match self.json {
-            true => json::line(&summary),
-            false => format!("{summary}\n"),
-        })
+        match self.json {
+            true => run.print(&Line::of(Summed { summary })),
+            false => run.print_done(&format!("{summary}\n")),
+        }
     }
 
-    fn checked<'f>(
-        &self,
-        loader: Loader,
-        input: &Input,
-        file: Result<&'f [u8], String>,
-    ) -> Checked<'f> {
+    fn checked<'f>(&self, loader: Loader, file: Result<&'f [u8], String>) -> Checked<'f> {
         let file = match file {
             Ok(file) => file,
             Err(why) => {
                 return Checked {
-                    file: input.name(),
                     answer: None,
-                    outcome: Outcome::Unread(why),
+                    outcome: Outcome::Unread(Why { why }),
                 }
             }
         };
         match load(loader, file, self.rows) {
-            Ok(table) => Checked::accepted(input, Accepted::of(file, table.loaded())),
+            Ok(table) => Checked::accepted(Accepted::of(file, table.loaded())),
             Err(refused) => Checked {
-                file: input.name(),
                 answer: Some(packed(refused)),
                 outcome: Outcome::Refused(Told::of_file(loader, file, refused, self.rows as usize)),
             },
@@ -150,16 +148,15 @@ fn print(run: &mut Run, input: &Input, outcome: &Outcome) -> End {
     let paint = run.paint();
     let name = paint.name(&input.shown());
     match outcome {
-        Outcome::Accepted(accepted) => run.print(&format!("{name}: {accepted}\n")),
+        Outcome::Accepted(accepted) => run.print_done(&format!("{name}: {accepted}\n")),
         Outcome::Refused(told) => run.print(&format!("{name}: {}", told.lines(paint))),
         Outcome::Unread(_) => Ok(()),
     }
 }
 
 impl Checked<'_> {
-    pub fn accepted(input: &Input, accepted: Accepted) -> Self {
+    pub fn accepted(accepted: Accepted) -> Self {
         Checked {
-            file: input.name(),
             answer: Some(accepted.rows as u64),
             outcome: Outcome::Accepted(accepted),
         }

@@ -12,11 +12,14 @@ mod shorten;
 mod tree;
 
 use crate::input::{Input, Inputs, LONGEST_FILE};
+use crate::json::{self, Converted, Outcome, Refused, Report};
+use crate::output::Output;
 use crate::refusal::Told;
-use crate::run::{End, Run, Status};
+use crate::run::{End, Manner, Run, Status};
 use clap::builder::TypedValueParser;
 use clap::{Parser, Subcommand};
-use xnb::{Loader, Refused, Table, WORDS_PER_ROW};
+use std::path::Path;
+use xnb::{Loader, Table, WORDS_PER_ROW};
 
 /// The rows that 01's asset builder has room for.
 const BUILDER_ROWS: u32 = 1024;
@@ -33,6 +36,9 @@ const STATUSES: &str = "0 if every file was taken, 1 if one was refused or not f
 pub struct Cli {
     #[command(subcommand)]
     pub command: Command,
+
+    #[command(flatten)]
+    pub manner: Manner,
 }
 
 #[derive(Subcommand)]
@@ -71,18 +77,22 @@ fn at_most_all_rows() -> impl TypedValueParser<Value = u32> {
     clap::value_parser!(u32).range(..=i64::from(MOST_ROWS))
 }
 
-/// Reads each input and does something with its bytes; one that cannot be read is told.
+/// Reads each input and does something with its bytes; one that cannot be read is reported.
 fn for_each(
     inputs: &Inputs,
     run: &mut Run,
     mut action: impl FnMut(&mut Run, &Input, Result<&[u8], String>) -> End,
 ) -> End {
-    let inputs = inputs.list(run);
+    let inputs = inputs.list();
     run.progress().expect(inputs.len());
     for input in inputs {
         // The loader refuses a longer file whatever follows.
         match input.read_at_most(LONGEST_FILE + 1) {
-            Ok(file) => action(run, &input, Ok(&file))?,
+            Ok(file) => {
+                let (name, length) = (input.shown(), file.len());
+                run.say(&format!("{name}: {length} bytes read\n"));
+                action(run, &input, Ok(&file))?;
+            }
             Err(error) => {
                 run.fail(input.shown(), &error);
                 action(run, &input, Err(error.to_string()))?;
@@ -94,9 +104,78 @@ fn for_each(
 }
 
 /// Loads a file with room for so many rows.
-fn load<'f>(loader: Loader, file: &'f [u8], room: u32) -> Result<Table<'f>, Refused> {
+fn load<'f>(loader: Loader, file: &'f [u8], room: u32) -> Result<Table<'f>, xnb::Refused> {
     let rows = file.len().min(room as usize);
     loader.load_into(file, vec![0; WORDS_PER_ROW * rows])
+}
+
+/// Reports a file that cannot be read to a program; to people it was reported when it was met.
+fn unread(run: &mut Run, input: &Input, why: &str, json: bool) -> End {
+    match json {
+        true => run.print(&json::unread(input, why)),
+        false => Ok(()),
+    }
+}
+
+/// A file that is read to write another, and where that goes.
+struct Writing<'a> {
+    input: &'a Input,
+    output: &'a Output,
+    json: bool,
+}
+
+impl Writing<'_> {
+    /// Reports the file that was written, with the length of both.
+    fn written(&self, run: &mut Run, old: usize, new: usize) -> End {
+        let path = match self.output {
+            Output::Standard => Path::new("-"),
+            Output::File(path) => path,
+        };
+        if self.json {
+            return self.print(run, Some(old), Outcome::written(path, new));
+        }
+        let name = self.input.shown();
+        match self.output {
+            Output::Standard => Ok(()),
+            Output::File(_) => run.print_done(&format!("{name}: {old} bytes, now {new}\n")),
+        }
+    }
+
+    /// Reports to a program that nothing was written; to people it was reported when it was met.
+    fn unwritten(&self, run: &mut Run, old: Option<usize>) -> End {
+        let outcome = Outcome::unwritten(run.failure());
+        match self.json {
+            true => self.print(run, old, outcome),
+            false => Ok(()),
+        }
+    }
+
+    /// Reports that the file is refused.
+    fn refused(&self, run: &mut Run, refused: Told) -> End {
+        if !self.json {
+            tell_refusal(run, self.input, &refused);
+            return Ok(());
+        }
+        run.mark(Status::Refused);
+        let line = Report::line(self.input, Refused { refused });
+        print_beside(run, self.output, &line)
+    }
+
+    fn print(&self, run: &mut Run, bytes: Option<usize>, outcome: Outcome) -> End {
+        let line = Report::line(self.input, Converted { bytes, outcome });
+        print_beside(run, self.output, &line)
+    }
+}
+
+/// Prints a report: to standard error where a new file goes to standard output.
+fn print_beside(run: &mut Run, output: &Output, report: &str) -> End {
+    match output {
+        Output::File(_) => run.print(report),
+        Output::Standard => {
+            run.note(report);
+            Ok(())
+        }
+    }
 }
 
 /// So many of a thing.
@@ -104,7 +183,7 @@ fn counted(count: usize, one: &str, many: &str) -> String {
     format!("{count} {}", if count == 1 { one } else { many })
 }
 
-/// Tells a refusal on standard error.
+/// Reports a refusal on standard error.
 fn tell_refusal(run: &mut Run, input: &Input, told: &Told) {
     let paint = run.note_paint();
     run.note(&format!(

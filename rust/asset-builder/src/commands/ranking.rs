@@ -3,7 +3,7 @@
 use super::check::{Accepted, Checked};
 use super::counted;
 use crate::input::Input;
-use crate::json;
+use crate::json::{Folder, Line, Report};
 use crate::names::shown;
 use crate::run::{End, Run};
 use serde::Serialize;
@@ -35,10 +35,11 @@ struct Sum {
     padding: Padding,
 }
 
-/// What is told of a folder.
+/// What is reported of a folder.
 #[derive(Serialize)]
-struct Folder {
-    folder: String,
+struct FolderSum {
+    #[serde(flatten)]
+    folder: Folder,
     #[serde(flatten)]
     sum: Sum,
 }
@@ -67,7 +68,7 @@ impl Ranking {
         self.files.sort_by_key(|(_, it)| Reverse(it.padding));
         for (input, accepted) in &self.files {
             run.print(&match json {
-                true => json::line(&Checked::accepted(input, *accepted)),
+                true => Report::line(input, Checked::accepted(*accepted)),
                 false => file_line(&run.paint().name(&input.shown()), accepted),
             })?;
         }
@@ -75,9 +76,11 @@ impl Ranking {
         folders.retain(|(_, sum)| sum.padding.padded > 0);
         folders.sort_by_key(|(_, sum)| Reverse(sum.padding.padding));
         for (path, sum) in folders {
-            let folder = path.to_string_lossy().into_owned();
             run.print(&match json {
-                true => json::line(&Folder { folder, sum }),
+                true => Line::of(FolderSum {
+                    folder: Folder::of(&path),
+                    sum,
+                }),
                 false => folder_line(&run.paint().name(&shown(&path)), sum),
             })?;
         }

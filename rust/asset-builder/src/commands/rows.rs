@@ -1,9 +1,9 @@
 //! `rows`: the lines that the program `rows` prints.
 
-use super::{at_most_all_rows, for_each, load, MOST_ROWS};
+use super::{at_most_all_rows, for_each, load, unread, MOST_ROWS};
 use crate::enums::Enums;
-use crate::input::Inputs;
-use crate::json;
+use crate::input::{Input, Inputs};
+use crate::json::{self, Report};
 use crate::refusal::Told;
 use crate::run::{End, Run, Status};
 use serde::Serialize;
@@ -40,20 +40,14 @@ pub struct Rows {
     json: bool,
 }
 
-/// What is told of a file.
+/// What is reported of a file.
 #[derive(Serialize)]
-#[serde(untagged)]
-enum Listed<'f> {
-    Accepted {
-        file: String,
-        readers: usize,
-        shared: usize,
-        rows: Vec<&'f [u32]>,
-    },
-    Refused {
-        file: String,
-        refused: Told<'f>,
-    },
+struct Listed<'f> {
+    /// The file's length.
+    bytes: usize,
+    readers: usize,
+    shared: usize,
+    rows: Vec<&'f [u32]>,
 }
 
 impl Rows {
@@ -64,15 +58,16 @@ impl Rows {
         let loader = Loader::new().with_enums(&enums);
         let one = self.inputs.is_one_file();
         for_each(&self.inputs, run, |run, input, file| {
-            let Ok(file) = file else {
-                return Ok(());
+            let file = match file {
+                Ok(file) => file,
+                Err(why) => return unread(run, input, &why, self.json),
             };
             let loaded = load(loader, file, self.rows);
             if loaded.is_err() {
                 run.mark(Status::Refused);
             }
             if self.json {
-                return run.print(&self.json(loader, input.name(), file, &loaded));
+                return run.print(&self.json(loader, input, file, &loaded));
             }
             if !one {
                 run.print(&format!("==> {} <==\n", input.shown()))?;
@@ -90,22 +85,25 @@ impl Rows {
     fn json(
         &self,
         loader: Loader,
-        file: String,
+        input: &Input,
         bytes: &[u8],
         loaded: &Result<Table, Refused>,
     ) -> String {
-        json::line(&match loaded {
-            Ok(table) => Listed::Accepted {
-                file,
-                readers: table.loaded().readers,
-                shared: table.loaded().shared,
-                rows: table.words().chunks_exact(WORDS_PER_ROW).collect(),
-            },
-            Err(refused) => Listed::Refused {
-                file,
-                refused: Told::of_file(loader, bytes, *refused, self.rows as usize),
-            },
-        })
+        match loaded {
+            Ok(table) => {
+                let listed = Listed {
+                    bytes: bytes.len(),
+                    readers: table.loaded().readers,
+                    shared: table.loaded().shared,
+                    rows: table.words().chunks_exact(WORDS_PER_ROW).collect(),
+                };
+                Report::line(input, listed)
+            }
+            Err(refused) => {
+                let refused = Told::of_file(loader, bytes, *refused, self.rows as usize);
+                Report::line(input, json::Refused { refused })
+            }
+        }
     }
 }
 

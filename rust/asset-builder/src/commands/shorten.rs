@@ -1,21 +1,22 @@
 //! `shorten`: files with their seven-bit numbers in their shortest forms.
 
-use super::{for_each, tell_refusal, MOST_ROWS};
+use super::{for_each, unread, Writing, MOST_ROWS};
 use crate::enums::Enums;
 use crate::input::{Input, Inputs};
 use crate::names::shown;
-use crate::output::Output;
+use crate::output::{Existing, Force, Form, Output};
 use crate::refusal::Told;
 use crate::run::{End, Run, Stop};
 use clap::ArgGroup;
 use std::collections::HashSet;
 use std::fs;
-use std::path::PathBuf;
+use std::path::{Path, PathBuf};
 use xnb::Loader;
 
 /// Write each file in its shortest form
 ///
-/// Each output is written beside its place and takes it when it is whole.
+/// Each output takes its place when it is whole. A file that is there is overwritten
+/// only with -f or --in-place, and one that is read-only only with -f.
 /// A refused file leaves its output as it is; the refusal goes to standard error.
 #[derive(clap::Args)]
 #[command(verbatim_doc_comment)]
@@ -25,7 +26,7 @@ pub struct Shorten {
     inputs: Inputs,
 
     /// A file, - for standard output, or a folder that takes each file by its name
-    #[arg(short, long, value_name = "OUT")]
+    #[arg(short, long, value_name = "OUT", value_hint = clap::ValueHint::AnyPath)]
     output: Option<PathBuf>,
 
     /// Write each file in its own place
@@ -33,7 +34,14 @@ pub struct Shorten {
     in_place: bool,
 
     #[command(flatten)]
+    force: Force,
+
+    #[command(flatten)]
     enums: Enums,
+
+    /// Print JSON: an object a file on a line of its own
+    #[arg(long)]
+    json: bool,
 }
 
 impl Shorten {
@@ -49,15 +57,16 @@ impl Shorten {
         let loader = Loader::new().with_enums(&enums);
         let mut taken = HashSet::new();
         for_each(&self.inputs, run, |run, input, file| {
-            let Ok(file) = file else {
-                return Ok(());
+            let file = match file {
+                Ok(file) => file,
+                Err(why) => return unread(run, input, &why, self.json),
             };
             match loader.shorten(file) {
                 Ok(shortest) => self.write(run, input, file, &shortest, &mut taken),
                 Err(refused) => {
-                    let told = Told::of_file(loader, file, refused, MOST_ROWS as usize);
-                    tell_refusal(run, input, &told);
-                    Ok(())
+                    let refused = Told::of_file(loader, file, refused, MOST_ROWS as usize);
+                    let output = self.named_output();
+                    self.writing(input, &output).refused(run, refused)
                 }
             }
         })
@@ -74,27 +83,47 @@ impl Shorten {
     ) -> End {
         let output = match self.output_of(input) {
             Ok(output) => output,
-            Err(why) => {
-                run.fail(input.shown(), why);
-                return Ok(());
-            }
+            Err(why) => return self.unwritten(run, input, file, &why),
         };
         if let Output::File(path) = &output {
             if !taken.insert(path.clone()) {
                 let why = format!("another file was written to {}", shown(path));
-                run.fail(input.shown(), why);
-                return Ok(());
+                return self.unwritten(run, input, file, &why);
             }
         }
+        let writing = self.writing(input, &output);
         let in_place_already = self.in_place && shortest == file;
-        if !in_place_already && !output.write(run, shortest)? {
-            return Ok(());
+        if !in_place_already && !output.write(run, shortest, Form::Raw, self.existing())? {
+            return writing.unwritten(run, Some(file.len()));
         }
-        let Output::File(_) = output else {
-            return Ok(());
-        };
-        let (old, new) = (file.len(), shortest.len());
-        run.print(&format!("{}: {old} bytes, now {new}\n", input.shown()))
+        writing.written(run, file.len(), shortest.len())
+    }
+
+    fn unwritten(&self, run: &mut Run, input: &Input, file: &[u8], why: &str) -> End {
+        run.fail(input.shown(), why);
+        let output = self.named_output();
+        let writing = self.writing(input, &output);
+        writing.unwritten(run, Some(file.len()))
+    }
+
+    fn writing<'a>(&self, input: &'a Input, output: &'a Output) -> Writing<'a> {
+        Writing {
+            input,
+            output,
+            json: self.json,
+        }
+    }
+
+    /// The output that was named, or any file.
+    fn named_output(&self) -> Output {
+        Output::of(self.output.as_deref().unwrap_or(Path::new("")))
+    }
+
+    fn existing(&self) -> Existing {
+        match self.force.existing() {
+            Existing::Keep if self.in_place => Existing::Replace,
+            asked => asked,
+        }
     }
 
     /// Where the shortest form of a file goes, its folder below the output's being made.

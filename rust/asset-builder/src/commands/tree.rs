@@ -1,10 +1,10 @@
 //! `tree`: the values of a file, each below the one that it belongs to.
 
-use super::{at_most_all_rows, for_each, load, tell_refusal, MOST_ROWS};
+use super::{at_most_all_rows, for_each, load, tell_refusal, unread, MOST_ROWS};
 use crate::enums::Enums;
 use crate::fields::{fields, Field};
 use crate::input::Inputs;
-use crate::json;
+use crate::json::{Refused, Report};
 use crate::refusal::Told;
 use crate::run::{End, Run, Status};
 use crate::values::{value, Value};
@@ -35,12 +35,12 @@ pub struct Tree {
     json: bool,
 }
 
-/// What is told of a file.
+/// What is reported of a file.
 #[derive(Serialize)]
-#[serde(untagged)]
-enum Shown<'f> {
-    Accepted { file: String, objects: Vec<Node> },
-    Refused { file: String, refused: Told<'f> },
+struct Shown {
+    /// The file's length.
+    bytes: usize,
+    objects: Vec<Node>,
 }
 
 /// A value with all below it.
@@ -76,8 +76,9 @@ impl Tree {
         let loader = Loader::new().with_enums(&enums);
         let one = self.inputs.is_one_file();
         for_each(&self.inputs, run, |run, input, file| {
-            let Ok(file) = file else {
-                return Ok(());
+            let file = match file {
+                Ok(file) => file,
+                Err(why) => return unread(run, input, &why, self.json),
             };
             let table = match load(loader, file, self.rows) {
                 Ok(table) => table,
@@ -88,14 +89,13 @@ impl Tree {
                         return Ok(());
                     }
                     run.mark(Status::Refused);
-                    let file = input.name();
-                    return run.print(&json::line(&Shown::Refused { file, refused }));
+                    return run.print(&Report::line(input, Refused { refused }));
                 }
             };
             let objects = objects(&table);
             if self.json {
-                let file = input.name();
-                return run.print(&json::line(&Shown::Accepted { file, objects }));
+                let bytes = file.len();
+                return run.print(&Report::line(input, Shown { bytes, objects }));
             }
             let mut lines = String::new();
             if !one {

@@ -9,6 +9,10 @@ use std::process::{Command, Output, Stdio};
 
 pub const COMMAND: &str = env!("CARGO_BIN_EXE_asset-builder");
 
+/// Environments in which progress is shown from the start, and never.
+pub const AT_ONCE: [(&str, &str); 1] = [("ASSET_BUILDER_PROGRESS_AFTER", "0")];
+pub const NEVER: [(&str, &str); 1] = [("ASSET_BUILDER_PROGRESS_AFTER", "100000000")];
+
 /// Standard output, standard error and the exit status.
 #[derive(Debug)]
 pub struct Ran {

@@ -32,14 +32,14 @@ pub fn take_header<'f>(cursor: &mut Cursor<'f>) -> Step<'f, ()> {
         (!known).then(|| format!("the platform is {platform:02X}, w, m and x are 77, 6D and 78"))
     })?;
     cursor.meet(FormatVersion, 4, || {
-        (version != 5).then(|| format!("the version is {version}, 5 is taken"))
+        (version != 5).then(|| format!("the version is {version}; only 5 is taken"))
     })?;
     cursor.meet(Compressed, 5, || {
         let compressed = flags >= 0x80;
         compressed.then(|| format!("the flags are {flags:02X}, bit 80 is set"))
     })?;
     cursor.meet(Flags, 5, || {
-        (flags > 1).then(|| format!("the flags are {flags:02X}, 00 and 01 are taken"))
+        (flags > 1).then(|| format!("the flags are {flags:02X}; only 00 and 01 are taken"))
     })?;
     let length = little_endian(&file[6..10]);
     cursor.meet(FileLength, 6, || {

@@ -23,7 +23,9 @@ impl<'f> Walk<'_, 'f> {
         self.cursor.meet(BadValue, start, || {
             let wrong = size % multiple != 0;
             wrong.then(|| {
-                format!("IndexBuffer: the data size is {size}, a multiple of {multiple} is taken")
+                format!(
+                    "IndexBuffer: the data size is {size}; only a multiple of {multiple} is taken"
+                )
             })
         })?;
         self.data(u64::from(size), "the index data", depth)
@@ -117,7 +119,9 @@ impl<'f> Walk<'_, 'f> {
             let signed = code as i32;
             let listed = code <= last;
             (!listed).then(|| {
-                format!("VertexDeclaration: the element {what} is {signed}, 0 to {last} are taken")
+                format!(
+                    "VertexDeclaration: the element {what} is {signed}; only 0 to {last} are taken"
+                )
             })
         })
     }

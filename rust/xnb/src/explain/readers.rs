@@ -50,7 +50,8 @@ fn take_reader<'f>(cursor: &mut Cursor<'f>, enums: &[u8], number: usize) -> Step
     let place = cursor.at;
     let version = cursor.take_u32(format_args!("the version of reader {number}"))?;
     cursor.meet_reader(ReaderVersion, place, Some(name), || {
-        (version != 0).then(|| format!("the version of reader {number} is {version}, 0 is taken"))
+        (version != 0)
+            .then(|| format!("the version of reader {number} is {version}; only 0 is taken"))
     })?;
     Ok(Reader { name, target })
 }

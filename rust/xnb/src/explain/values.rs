@@ -44,7 +44,7 @@ fn fixed_size(kind: Kind) -> Option<usize> {
 }
 
 fn wrong_flag(kind: &str, flag: u8) -> Option<String> {
-    (flag > 1).then(|| format!("{kind}: the byte is {flag}, 0 and 1 are taken"))
+    (flag > 1).then(|| format!("{kind}: the byte is {flag}; only 0 and 1 are taken"))
 }
 
 fn wrong_date_time(packed: u64) -> Option<String> {
@@ -146,7 +146,7 @@ fn take_within<'f>(cursor: &mut Cursor<'f>, what: &str, least: u32, most: u32) -
     }
     cursor.meet(BadValue, start, || {
         Some(format!(
-            "Texture2D: the {what} is {number}, {least} to {most} are taken"
+            "Texture2D: the {what} is {number}; only {least} to {most} are taken"
         ))
     })?;
     Err(Stop::Lost)

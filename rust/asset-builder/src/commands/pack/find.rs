@@ -1,9 +1,10 @@
 //! `pack find`: the data of one file.
 
-use super::with_pack;
+use super::near::near;
+use super::{note_marked, tell_unopened, PackForm};
 use crate::input::Input;
 use crate::names::shown;
-use crate::output::Output;
+use crate::output::{Force, Form, Output};
 use crate::run::{End, Run, Status};
 use std::ffi::OsString;
 use std::os::unix::ffi::OsStrExt;
@@ -13,11 +14,13 @@ use std::path::PathBuf;
 ///
 /// Letters A to Z match in both cases, all other bytes as they are, and the first
 /// file that matches is taken. If none does, nothing is written and the status is 1.
+/// A file that is there is overwritten only with -f, and a terminal gets raw bytes
+/// only with -f.
 #[derive(clap::Args)]
 #[command(verbatim_doc_comment)]
 pub struct Find {
     /// A pack, or - for standard input
-    #[arg(value_name = "PACK")]
+    #[arg(value_name = "PACK", value_hint = clap::ValueHint::FilePath)]
     pack: PathBuf,
 
     /// The path of a file in it
@@ -25,21 +28,39 @@ pub struct Find {
     path: OsString,
 
     /// A file, or - for standard output
-    #[arg(short, long, value_name = "OUT", default_value = "-")]
+    #[arg(short, long, value_name = "OUT", default_value = "-", value_hint = clap::ValueHint::FilePath)]
     output: PathBuf,
+
+    #[command(flatten)]
+    force: Force,
+
+    #[command(flatten)]
+    form: PackForm,
 }
 
 impl Find {
     pub fn run(&self, run: &mut Run) -> End {
         let input = Input::of(&self.pack);
-        with_pack(run, &input, |run, pack| {
-            let Some(data) = pack.find(self.path.as_bytes()) else {
-                let (pack, path) = (input.shown(), shown(&self.path));
-                run.note(&format!("{pack}: {path}: no file has this path\n"));
-                run.mark(Status::Refused);
-                return Ok(());
-            };
-            Output::of(&self.output).write(run, data).map(|_| ())
-        })
+        let output = Output::of(&self.output);
+        let existing = self.force.existing();
+        let Ok(bytes) = input.read_or_report(run) else {
+            return Ok(());
+        };
+        let opened = match self.form.open(&bytes) {
+            Ok(opened) => opened,
+            Err(why) => return tell_unopened(run, &input, why, false),
+        };
+        note_marked(run, &input, &opened);
+        let Some(data) = opened.pack.find(self.path.as_bytes()) else {
+            let (pack, path) = (input.shown(), shown(&self.path));
+            let near = near(&self.path, &opened.files);
+            let near = near.map_or(String::new(), |it| format!("; {} is near", shown(it)));
+            run.note(&format!("{pack}: {path}: no file has this path{near}\n"));
+            run.mark(Status::Refused);
+            return Ok(());
+        };
+        let check = || bytes.check_unchanged();
+        let write = output.write_checked(run, data, Form::Raw, existing, check);
+        write.map(|_| ())
     }
 }

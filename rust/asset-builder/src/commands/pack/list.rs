@@ -1,97 +1,83 @@
 //! `pack list`: the files of packs.
 
-use super::tell_refusal;
+use super::{tell_unopened, PackForm, Stored};
+use crate::commands::unread;
 use crate::input::Packs;
-use crate::json;
+use crate::json::Report;
 use crate::names::shown;
-use crate::refusal::Told;
-use crate::run::{End, Run, Status};
+use crate::run::{End, Run};
 use serde::Serialize;
-use xnb::pack::WORDS_PER_FILE;
-use xnb::Pack;
 
 /// List the files of each pack
 ///
 /// A line a file, in the order of the pack: the number of bytes of its data,
 /// and its path. A refusal goes to standard error. Of several packs, each
-/// begins with `==> NAME <==`.
+/// begins with `==> NAME <==`; a marked pack begins with the line `marked pack`.
 #[derive(clap::Args)]
 #[command(verbatim_doc_comment)]
 pub struct List {
     #[command(flatten)]
     packs: Packs,
 
+    #[command(flatten)]
+    form: PackForm,
+
     /// Print JSON: an object a pack on a line of its own
     #[arg(long)]
     json: bool,
 }
 
-/// What is told of a pack.
+/// What is reported of a pack.
 #[derive(Serialize)]
-#[serde(untagged)]
-enum Listed<'p> {
-    Accepted {
-        pack: String,
-        files: Vec<Stored<'p>>,
-    },
-    Refused {
-        pack: String,
-        refused: Told<'p>,
-    },
-}
-
-/// A file of a pack: its path, where its data begins, and the number of its bytes.
-#[derive(Serialize)]
-struct Stored<'p> {
-    path: &'p str,
-    first: u64,
-    length: u64,
+struct Listed {
+    /// The pack's length.
+    bytes: usize,
+    marked: bool,
+    files: Vec<Stored>,
 }
 
 impl List {
     pub fn run(&self, run: &mut Run) -> End {
         let one = self.packs.is_one_file();
-        for input in self.packs.list(run) {
-            let Some(bytes) = input.read_or_tell(run) else {
-                continue;
-            };
-            let pack = match Pack::read(&bytes) {
-                Ok(pack) => pack,
-                Err(refused) => {
-                    let refused = Told::of_pack(&bytes, refused);
-                    if !self.json {
-                        tell_refusal(run, &input, &refused);
-                        continue;
-                    }
-                    run.mark(Status::Refused);
-                    let pack = input.name();
-                    run.print(&json::line(&Listed::Refused { pack, refused }))?;
+        for input in self.packs.list() {
+            let bytes = match input.read_or_report(run) {
+                Ok(bytes) => bytes,
+                Err(why) => {
+                    unread(run, &input, &why, self.json)?;
                     continue;
                 }
             };
+            let opened = match self.form.open(&bytes) {
+                Ok(opened) => opened,
+                Err(why) => {
+                    tell_unopened(run, &input, why, self.json)?;
+                    continue;
+                }
+            };
+            if !input.is_unchanged(run, &bytes) {
+                continue;
+            }
+            let (marked, files) = (opened.marked, opened.files);
             if self.json {
-                let (pack, files) = (input.name(), files(&pack));
-                run.print(&json::line(&Listed::Accepted { pack, files }))?;
+                let bytes = bytes.len();
+                let listed = Listed {
+                    bytes,
+                    marked,
+                    files,
+                };
+                run.print(&Report::line(&input, listed))?;
                 continue;
             }
             if !one {
                 run.print(&format!("==> {} <==\n", input.shown()))?;
             }
-            for file in files(&pack) {
+            if marked {
+                run.print("marked pack\n")?;
+            }
+            for file in files {
                 run.print(&format!("{:>10} {}\n", file.length, shown(file.path)))?;
             }
         }
         Ok(())
     }
-}
-
-fn files<'p>(pack: &Pack<'p>) -> Vec<Stored<'p>> {
-    let entries = pack.words().chunks_exact(WORDS_PER_FILE);
-    let files = pack.files().zip(entries);
-    let stored = |(file, entry): (xnb::pack::PackFile<'p>, &[u64])| Stored {
-        path: file.path,
-        first: entry[2],
-        length: entry[3],
-    };
-    files.map(stored).collect()
 }

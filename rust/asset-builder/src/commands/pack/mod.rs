@@ -3,12 +3,17 @@
 mod extract;
 mod find;
 mod list;
+mod near;
 mod place;
 
 use super::tell_refusal;
-use crate::input::Input;
+use crate::input::{Bytes, Input, CHANGED};
+use crate::json::{Refused, Report};
 use crate::refusal::Told;
-use crate::run::{End, Run};
+use crate::run::{End, Run, Status};
+use serde::Serialize;
+use xnb::marks::MARK;
+use xnb::pack::WORDS_PER_FILE;
 
 /// List the files of packs, find one, or write all
 #[derive(clap::Args)]
@@ -34,20 +39,103 @@ impl Pack {
     }
 }
 
-/// Reads one pack and does something with its files; a refusal is told.
-fn with_pack(
-    run: &mut Run,
-    input: &Input,
-    action: impl FnOnce(&mut Run, &xnb::Pack) -> End,
-) -> End {
-    let Some(bytes) = input.read_or_tell(run) else {
-        return Ok(());
+/// The form of the packs that are read.
+#[derive(clap::Args)]
+struct PackForm {
+    /// Read marked packs only; else each form is tried, and a marked pack is reported as one
+    #[arg(long)]
+    marked: bool,
+}
+
+/// A pack that was read.
+struct Opened<'p> {
+    pack: xnb::Pack<'p>,
+    marked: bool,
+    files: Vec<Stored>,
+}
+
+/// A file of a pack: its path, which is a copy since the pack may change, and where its data begins.
+#[derive(Serialize)]
+struct Stored {
+    path: String,
+    first: u64,
+    length: u64,
+}
+
+/// Why there is no pack.
+enum Unopened<'p> {
+    Refused(Box<Told<'p>>),
+    /// Another program has changed it while it was read.
+    Changed,
+}
+
+impl PackForm {
+    /// Reads a pack of either form, or of the one that is asked for.
+    fn open<'p>(&self, bytes: &'p Bytes) -> Result<Opened<'p>, Unopened<'p>> {
+        let refused = |refused, marked| {
+            let told = Told::of_pack(bytes, refused, marked);
+            Unopened::Refused(Box::new(told))
+        };
+        let plain = match self.marked {
+            true => None,
+            false => Some(xnb::Pack::read(bytes)),
+        };
+        let (pack, marked) = match (plain, xnb::Pack::read_marked(bytes)) {
+            (Some(Ok(pack)), _) => (pack, false),
+            (_, Ok(pack)) => (pack, true),
+            // The refusal of the form that the first record has.
+            (Some(Err(plain)), Err(_)) if bytes.get(4..6) != Some(&MARK) => {
+                return Err(refused(plain, false));
+            }
+            (_, Err(marked)) => return Err(refused(marked, true)),
+        };
+        let files = stored(&pack).ok_or(Unopened::Changed)?;
+        Ok(Opened {
+            pack,
+            marked,
+            files,
+        })
+    }
+}
+
+impl<'p> Opened<'p> {
+    /// The data of a file.
+    fn data(&self, file: &Stored) -> &'p [u8] {
+        &self.pack.bytes()[file.first as usize..][..file.length as usize]
+    }
+}
+
+/// The files of a pack.
+fn stored(pack: &xnb::Pack) -> Option<Vec<Stored>> {
+    let entries = pack.words().chunks_exact(WORDS_PER_FILE);
+    let stored = |entry: &[u64]| {
+        let path = &pack.bytes()[entry[0] as usize..][..entry[1] as usize];
+        Some(Stored {
+            path: String::from_utf8(path.to_vec()).ok()?,
+            first: entry[2],
+            length: entry[3],
+        })
     };
-    match xnb::Pack::read(&bytes) {
-        Ok(pack) => action(run, &pack),
-        Err(refused) => {
-            tell_refusal(run, input, &Told::of_pack(&bytes, refused));
-            Ok(())
+    entries.map(stored).collect()
+}
+
+/// Reports why a pack was not read.
+fn tell_unopened(run: &mut Run, input: &Input, why: Unopened, json: bool) -> End {
+    match why {
+        Unopened::Changed => run.fail(input.shown(), CHANGED),
+        Unopened::Refused(refused) if json => {
+            run.mark(Status::Refused);
+            let refused = *refused;
+            return run.print(&Report::line(input, Refused { refused }));
         }
+        Unopened::Refused(refused) => tell_refusal(run, input, &refused),
+    }
+    Ok(())
+}
+
+/// Says on standard error that a pack is a marked one, where its data or nothing goes to standard output.
+fn note_marked(run: &mut Run, input: &Input, opened: &Opened) {
+    if opened.marked {
+        run.remark(&format!("{}: a marked pack\n", input.shown()));
     }
 }
