@@ -1,3 +1,4 @@
 pub mod Columns
 pub mod Cells
 pub mod Stored
+pub mod Words

@@ -134,6 +134,14 @@ pub enums-complete : (es : List EnumEntry) → Enums es → enumsAt (writeEnums 
 unfolding enumsAt
 enums-complete es w = complete-from (length (writeEnums es)) [] es (omega arith) w (apart-none es)
 
+-- so the bytes of a lawful list are judged to be that list
+pub judged-list : (s : List ℕ) (es : List EnumEntry) → Enums es → s ≡ writeEnums es → enumsAt s ≡ lawful es
+judged-list s es w e = ap enumsAt e ∙ enums-complete es w
+
+-- no lawful list is written with these bytes
+abbrev pub Unlawful : List ℕ → Type 0
+Unlawful s = (es : List EnumEntry) → Enums es → s ≡ writeEnums es → ⊥
+
 -- each of some numbers is a byte
 abbrev pub Bytes : List ℕ → Type 0
 Bytes s = (i : ℕ) → i < length s → getD s i 0 < 256

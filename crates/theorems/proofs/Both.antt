@@ -14,10 +14,11 @@ use Rattle.reading.specs.Grid.{cell}
 use Rattle.ids.specs.Position.{cellOf}
 use Rattle.theorems.specs.Fits.{Fitting, rowsIn}
 use Rattle.columns.specs.Columns.{columnsTableOf}
+use Rattle.columns.specs.Words.{row-word, column-word}
 use Rattle.words.specs.Grids.{rowsGrid, columnsGrid}
 use Rattle.words.specs.Same.{SameRows}
 use Rattle.theorems.specs.Exact.{table}
-use Rattle.theorems.proofs.Columns.{column-word, row-word, zero-words}
+use Rattle.theorems.proofs.Columns.{zero-words}
 use Rattle.theorems.proofs.Fits.{rows-room}
 use Rattle.theorems.proofs.Laws.{Ends, fits, refuses, bad-list, ends, table-in, cleared-in}
 

@@ -4,7 +4,7 @@ use mathlib.Core.List.{List, _++_}
 use Prim.Native.Nat.{ℕ, _+_, _*_, _-_, _≤_}
 use native.Mathlib.Omega.{arith}
 use lib.ListN.{length, replicate, length-replicate}
-use Rattle.layout.specs.EnumList.{EnumEntry, writeEnums, Enums}
+use Rattle.layout.specs.EnumList.{EnumEntry}
 use Rattle.layout.specs.Tree.{count}
 use Rattle.layout.specs.Rows.{flat, width}
 use Rattle.layout.specs.File.{FileTree, sharedOf, FileLays}
@@ -19,15 +19,11 @@ use Rattle.shortest.specs.File.{shortFile}
 use Rattle.shortest.specs.Theorems as S
 use Rattle.readers.specs.Judged.{judgedName, judges}
 use Rattle.enums.specs.Judge.{lawful, enumsAt}
-use Rattle.enums.specs.Lists.{enums-complete}
+use Rattle.enums.specs.Lists.{judged-list}
 use Rattle.load.specs.Under.{loadUnder, load-lawful, accepted-list}
 use Rattle.rewrite.specs.Whole.{rewriteUnder}
 use Rattle.rewrite.specs.Loaded.{rewrite-lawful}
 use Rattle.theorems.specs.Fits.{Fitting, rowsIn}
-
--- the bytes of a lawful list are judged to be that list
-pub judged-list : (enums : List ℕ) (es : List EnumEntry) → Enums es → enums ≡ writeEnums es → enumsAt enums ≡ lawful es
-judged-list enums es w e = ap enumsAt e ∙ enums-complete es w
 
 module _ {enums file : List ℕ} {words : ℕ} (f : Fitting enums file words) where
   abbrev plain : T.Fitting (named (f .es)) file words

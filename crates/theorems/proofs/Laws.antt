@@ -18,7 +18,7 @@ use Rattle.layout.specs.Named.{named}
 use Rattle.enums.specs.First.{FirstBad}
 use Rattle.enums.specs.Judge.{Judgement, enumsAt}
 use Rattle.enums.specs.Judge.{refused as list-refused, lawful as list-lawful}
-use Rattle.enums.specs.Lists.{Bytes, Says, enums-sound}
+use Rattle.enums.specs.Lists.{Unlawful, Bytes, Says, judged-list, enums-sound}
 use Rattle.load.specs.Under.{fileUnder, loadUnder, load-lawful, load-refused-list}
 use Rattle.rewrite.specs.Whole.{rewriteUnder}
 use Rattle.places.specs.Padding.{filePadding}
@@ -31,8 +31,8 @@ use Rattle.reading.specs.Grid.{byRows, byColumns, shapeOf}
 use Rattle.columns.specs.Columns.{columnsTableOf, tableIn}
 use Rattle.branches.specs.Table.{TableSkips, rows-stand, file-skips}
 use Rattle.theorems.proofs.Columns.{columns-stand}
-use Rattle.theorems.specs.Fits.{Fitting, rowsIn, Unlawful}
-use Rattle.theorems.proofs.Fits.{judged-list, rows-are, table-is, rows-room, rewrite-is, least, again, stays, padding-is, table-length}
+use Rattle.theorems.specs.Fits.{Fitting, rowsIn}
+use Rattle.theorems.proofs.Fits.{rows-are, table-is, rows-room, rewrite-is, least, again, stays, padding-is, table-length}
 use Rattle.reading.specs.Refusals.{refusal-number, refusal-place}
 use Rattle.reading.specs.Theorems as T
 use Rattle.shortest.specs.File.{shortFile}

@@ -16,6 +16,7 @@ use Rattle.layout.specs.EnumList.{EnumEntry, writeEnums, Enums}
 use Rattle.layout.specs.Named.{named}
 use Rattle.names.specs.Entries.{entriesOf, entries-written}
 use Rattle.enums.specs.First.{FirstBad}
+use Rattle.enums.specs.Lists.{Unlawful}
 use Rattle.reading.specs.Numbers.{LoadNumber}
 use Rattle.reading.specs.File.{roomOf}
 use Rattle.reading.specs.Grid.{shapeOf}
@@ -26,7 +27,7 @@ use Rattle.shortest.specs.File.{shortFile}
 use Rattle.load.specs.declared.Loading.{Loading}
 use Rattle.load.specs.declared.Loading.the-variants.{Refused, Loaded}
 use Rattle.readers.specs.Judged.{judgedName, judges}
-use Rattle.theorems.specs.Fits.{Fitting, rowsIn, Unlawful}
+use Rattle.theorems.specs.Fits.{Fitting, rowsIn}
 
 -- ---- Unique reading
 

@@ -22,7 +22,3 @@ pub record Fitting (enums file : List ℕ) (words : ℕ) : Type 0 where
 -- the rows of "its values as they stand in the file"
 abbrev pub rowsIn : {enums file : List ℕ} {words : ℕ} → Fitting enums file words → List Row
 rowsIn {enums} {file} f = fileRows (named (f .es)) (f .tree) file (f .lays)
-
--- no lawful list is written with these bytes
-abbrev pub Unlawful : (enums : List ℕ) → Type 0
-Unlawful enums = (es : List EnumEntry) → Enums es → enums ≡ writeEnums es → ⊥

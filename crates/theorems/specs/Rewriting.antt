@@ -10,6 +10,7 @@ use Rattle.layout.specs.File.{sharedOf, FileLays}
 use Rattle.layout.specs.EnumList.{EnumEntry, writeEnums, Enums}
 use Rattle.layout.specs.Named.{named}
 use Rattle.enums.specs.First.{FirstBad}
+use Rattle.enums.specs.Lists.{Unlawful}
 use Rattle.reading.specs.Numbers.{LoadNumber}
 use Rattle.reading.specs.File.{roomOf}
 use Rattle.reading.specs.Grid.{byRows}
@@ -21,7 +22,7 @@ use Rattle.shortest.specs.File.{shortFile}
 use Rattle.places.specs.Padding.{filePadding}
 use Rattle.rewrite.specs.declared.Rewriting.{Rewriting}
 use Rattle.rewrite.specs.declared.Rewriting.the-variants.{Refused, Rewritten}
-use Rattle.theorems.specs.Fits.{Fitting, rowsIn, Unlawful}
+use Rattle.theorems.specs.Fits.{Fitting, rowsIn}
 use Rattle.theorems.specs.Exact.{table}
 
 -- The bytes written, `new`, for a file that a file tree fits.

@@ -34,11 +34,16 @@ struct Entry<'t> {
 impl Enums {
     /// The list, which is empty if none is named; what cannot be read, and each wrong line, is reported.
     pub fn read(&self, inputs: &Inputs, run: &mut Run) -> Option<EnumList> {
+        self.read_beside(inputs.have_stdin(), run)
+    }
+
+    /// The same, where standard input is perhaps read for something else.
+    pub fn read_beside(&self, stdin_is_taken: bool, run: &mut Run) -> Option<EnumList> {
         let Some(path) = &self.file else {
             return Some(EnumList::default());
         };
         let input = Input::of(path);
-        if input.is_stdin() && inputs.have_stdin() {
+        if input.is_stdin() && stdin_is_taken {
             run.fail(input.shown(), ONCE);
             return None;
         }

@@ -192,6 +192,12 @@ impl Input {
         Ok(bytes)
     }
 
+    /// The bytes of an XNB file, up to one more than the loader takes; what cannot be read is reported.
+    pub fn read_file_or_report(&self, run: &mut Run) -> Option<Vec<u8>> {
+        let read = self.read_at_most(LONGEST_FILE + 1);
+        read.map_err(|error| run.fail(self.shown(), error)).ok()
+    }
+
     /// All its bytes; what cannot be read is reported.
     pub fn read_or_report(&self, run: &mut Run) -> Result<Bytes, String> {
         let read = self.bytes(run.progress());

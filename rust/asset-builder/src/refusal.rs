@@ -82,6 +82,17 @@ impl<'f> Told<'f> {
         told
     }
 
+    /// The refusal of a lookup in a row, and what was found there.
+    pub fn of_row(refused: Refused, found: String) -> Told<'f> {
+        let Refused { refusal, place } = refused;
+        Told {
+            found: Some(found),
+            // The place is no byte of the file.
+            around: None,
+            ..Told::at_byte(&[], refusal.number(), u64::from(place), refusal.rule())
+        }
+    }
+
     /// The refusal of a pack.
     pub fn of_pack(pack: &'f [u8], refused: PackRefused, marked: bool) -> Told<'f> {
         let PackRefused { refusal, place } = refused;

@@ -5,11 +5,12 @@ mod common;
 use common::{run, shell};
 use corpus::folder::folder;
 
-const COMMANDS: [&str; 10] = [
+const COMMANDS: [&str; 11] = [
     "check",
     "rows",
     "tree",
     "shorten",
+    "retype",
     "pack",
     "mark",
     "unmark",
@@ -62,7 +63,7 @@ fn every_command_has_help_and_a_version() {
 fn wrong_commands_are_told() {
     let sample = "ok-kind-13-string.xnb";
     let pack = "ok-pack-of-one-file.pak";
-    let wrong: [(&[&str], &str); 23] = [
+    let wrong: [(&[&str], &str); 26] = [
         (&[], "Usage: asset-builder [OPTIONS] <COMMAND>"),
         (&["build", sample], "'build'"),
         (&["check"], "<FILE>"),
@@ -86,6 +87,15 @@ fn wrong_commands_are_told() {
             &["pack", "extract", pack, pack, "-o", "out"],
             "'ok-pack-of-one-file.pak'",
         ),
+        (
+            &["retype", "-", "--row", "0", "--text", "a"],
+            "--output <OUT>",
+        ),
+        (
+            &["retype", "-", "--row", "-1", "--text", "a", "-o", "-"],
+            "'-1'",
+        ),
+        (&["retype", "-", "--row", "0", "-o", "-"], "--text <T>"),
         (&["mark", pack], "--output <OUT>"),
         (&["unmark", "-o", "out"], "<IN>"),
         (&["salvage", pack], "--output <OUT>"),

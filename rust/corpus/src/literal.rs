@@ -19,6 +19,7 @@ const TEXTS: &[&str] = &[
     include_str!("../literal/values.txt"),
     include_str!("../literal/textures.txt"),
     include_str!("../literal/meshes.txt"),
+    include_str!("../literal/retyped.txt"),
 ];
 
 pub fn samples() -> Vec<Sample> {

@@ -2,6 +2,7 @@
 //!
 //! `case(seed)` gives one file; equal seeds give equal files.
 //! `names::case(seed)` gives a file with one reader name, good or bad.
+//! `retyped::case(seed)` gives one with the places of its texts, and `retyped::retyped` puts other texts there.
 //! `limits::cases()` gives files at every bound of 01 and just past it.
 //! `enums::case(seed)` gives one with a list of enum types that is lent with it, and `enums::limits()` those at bounds.
 //! `meshes::case(seed)` gives one with many meshes, and `meshes::limits()` those at bounds.
@@ -18,6 +19,7 @@ pub mod names;
 pub mod packs;
 pub mod padding;
 pub mod random;
+pub mod retyped;
 mod shape;
 pub mod tables;
 

@@ -6,6 +6,7 @@ mod convert;
 mod man;
 mod pack;
 mod ranking;
+mod retype;
 mod rows;
 mod salvage;
 mod shorten;
@@ -47,6 +48,7 @@ pub enum Command {
     Rows(rows::Rows),
     Tree(tree::Tree),
     Shorten(shorten::Shorten),
+    Retype(retype::Retype),
     Pack(pack::Pack),
     Mark(convert::Mark),
     Unmark(convert::Unmark),
@@ -62,6 +64,7 @@ impl Command {
             Command::Rows(command) => command.run(run),
             Command::Tree(command) => command.run(run),
             Command::Shorten(command) => command.run(run),
+            Command::Retype(command) => command.run(run),
             Command::Pack(command) => command.run(run),
             Command::Mark(command) => command.run(run),
             Command::Unmark(command) => command.run(run),

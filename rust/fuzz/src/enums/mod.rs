@@ -6,6 +6,7 @@ mod sizes;
 mod types;
 
 pub use limits::{limits, EnumLimit};
+pub(crate) use lists::{bytes_of, damaged, some_enums};
 
 use crate::maker::{make, Made, Planted};
 use crate::random::Random;

@@ -1,0 +1,11 @@
+pub mod Texts
+pub mod Twin
+pub mod Leaves
+pub mod Alike
+pub mod Walks
+pub mod Files
+pub mod Valid
+pub mod Parts
+pub mod Strings
+pub mod Boxed
+pub mod Short
