@@ -142,6 +142,27 @@ uint32_t xnb_pack_salvage(const uint8_t *pack, size_t pack_length, uint8_t *out,
 uint32_t xnb_pack_find(const uint8_t *pack, size_t pack_length, const uint64_t *table, size_t table_length,
                        const uint8_t *path, size_t path_length, uint64_t *first, uint64_t *length);
 
+/* The two entries below are for text lists as XML: <?xml version="1.0" encoding="utf-8"?><XnaContent><Asset Type="string[]">,
+   then <Item>, the text and </Item> for each text, then </Asset></XnaContent>, with nothing between. In a text the characters
+   &, <, > and " stand as &amp; &lt; &gt; &quot; and every other one as its UTF-8 bytes. */
+
+/* Loads an XNB file as xnb_load_rows does, and writes the XML of its texts to the start of `out`; bytes of `out` past it stay,
+   and the words are left as loading leaves them. The answer is packed, with the length of the XML in place of the number of
+   rows. On a refusal `out` is unchanged and the words are zero: first those of a load, 32 before all else; then 61 the file
+   has shared objects or its first object is no Array of String (at that object's first byte); 62 a text is null, or 63 has
+   a character below 20 hex, U+FFFE or U+FFFF, whichever text is the first such (at its row number); last 21 `out` is too
+   short, and its place is the number of bytes needed, which may be more than the file has. */
+uint64_t xnb_export_xml(const uint8_t *file, size_t file_length, const uint8_t *enums, size_t enums_length,
+                        uint32_t *words, size_t words_length, uint8_t *out, size_t out_length);
+
+/* Takes XML of any length that xnb_export_xml can write, size apart, and writes the shortest XNB file with its texts to the
+   start of `out`: platform w, flags 0, two readers, of an Array of System.String and of String. Writes the file's length to
+   `at`; bytes of `out` past it stay. On a refusal, of which the answer is the number, `at` is its place and `out` is
+   unchanged: 64 the XML is not of this form (at the first byte where no such XML agrees, or at its end if it stops short);
+   then 9 there are over 65,535 texts or the file has over 16,777,216 bytes (at 0); last 21 `out` is too short, and its place
+   is the number of bytes needed. */
+uint32_t xnb_import_xml(const uint8_t *xml, size_t xml_length, uint8_t *out, size_t out_length, uint64_t *at);
+
 #ifdef __cplusplus
 }
 #endif

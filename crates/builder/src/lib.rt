@@ -1,6 +1,7 @@
 // The entries for an asset builder in another language: each takes slices and numbers, and answers one number.
 mod by_columns;
 mod pack;
+mod xml;
 
 use ids::RowNumber;
 use ids::WIDTH;

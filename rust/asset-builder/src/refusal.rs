@@ -82,15 +82,27 @@ impl<'f> Told<'f> {
         told
     }
 
+    /// The same with what was found.
+    pub fn with_found(self, found: String) -> Told<'f> {
+        Told {
+            found: Some(found),
+            ..self
+        }
+    }
+
+    /// The same where the place is no byte of the input.
+    pub fn without_bytes(self) -> Told<'f> {
+        Told {
+            around: None,
+            ..self
+        }
+    }
+
     /// The refusal of a lookup in a row, and what was found there.
     pub fn of_row(refused: Refused, found: String) -> Told<'f> {
         let Refused { refusal, place } = refused;
-        Told {
-            found: Some(found),
-            // The place is no byte of the file.
-            around: None,
-            ..Told::at_byte(&[], refusal.number(), u64::from(place), refusal.rule())
-        }
+        let told = Told::at_byte(&[], refusal.number(), u64::from(place), refusal.rule());
+        told.with_found(found).without_bytes()
     }
 
     /// The refusal of a pack.
@@ -198,6 +210,15 @@ impl<'f> Dump<'f> {
             }
         }
         out
+    }
+}
+
+/// A byte as a character, if it is a plain one, and in hexadecimal.
+pub fn shown_byte(byte: u8) -> String {
+    let shown = byte.is_ascii() && is_printable(char::from(byte));
+    match shown {
+        true => format!("'{}' ({byte:02X})", char::from(byte)),
+        false => format!("{byte:02X}"),
     }
 }
 

@@ -5,12 +5,14 @@ mod common;
 use common::{run, shell};
 use corpus::folder::folder;
 
-const COMMANDS: [&str; 11] = [
+const COMMANDS: [&str; 13] = [
     "check",
     "rows",
     "tree",
     "shorten",
     "retype",
+    "export",
+    "import",
     "pack",
     "mark",
     "unmark",
@@ -63,7 +65,7 @@ fn every_command_has_help_and_a_version() {
 fn wrong_commands_are_told() {
     let sample = "ok-kind-13-string.xnb";
     let pack = "ok-pack-of-one-file.pak";
-    let wrong: [(&[&str], &str); 26] = [
+    let wrong: [(&[&str], &str); 30] = [
         (&[], "Usage: asset-builder [OPTIONS] <COMMAND>"),
         (&["build", sample], "'build'"),
         (&["check"], "<FILE>"),
@@ -96,6 +98,13 @@ fn wrong_commands_are_told() {
             "'-1'",
         ),
         (&["retype", "-", "--row", "0", "-o", "-"], "--text <T>"),
+        (&["export", sample], "--output <OUT.xml>"),
+        (
+            &["export", sample, sample, "-o", "-"],
+            "'ok-kind-13-string.xnb'",
+        ),
+        (&["import", "-"], "--output <OUT.xnb>"),
+        (&["import", "-o", "-"], "<IN.xml>"),
         (&["mark", pack], "--output <OUT>"),
         (&["unmark", "-o", "out"], "<IN>"),
         (&["salvage", pack], "--output <OUT>"),

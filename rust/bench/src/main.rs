@@ -12,6 +12,7 @@ mod names;
 mod packs;
 mod salvage;
 mod search;
+mod xml;
 
 use inputs::Input;
 use measure::beside;
@@ -19,7 +20,7 @@ use second::NO_ENUMS;
 use std::hint::black_box;
 use xnb::{Loader, Shape};
 
-const PARTS: [(&str, fn()); 14] = [
+const PARTS: [(&str, fn()); 15] = [
     ("builder", builder),
     ("load", load),
     ("load-columns", load_columns),
@@ -34,6 +35,7 @@ const PARTS: [(&str, fn()); 14] = [
     ("pack-find", packs::find),
     ("marks", marks::convert),
     ("salvage", salvage::salvage),
+    ("xml", xml::measure),
 ];
 
 /// Measures the parts that are named, or all.

@@ -41,6 +41,7 @@ fn all_kept_files() -> Vec<Sample> {
                 enums: std::fs::read(path.with_extension("enums")).unwrap_or_default(),
                 rows: std::fs::read_to_string(path.with_extension("rows")).expect("its rows"),
                 padding: kept_padding(&path.with_extension("padding")),
+                export: std::fs::read(path.with_extension("export")).ok(),
                 kept: true,
             });
         }
@@ -87,6 +88,7 @@ const PADDED: &[(&str, &str)] = &[
     ("ok-padded-text-count-of-0", "ok-text-of-0-bytes"),
     ("ok-padded-reader-count-and-text-count", "ok-kind-13-string"),
     ("ok-text-count-in-2-bytes", "ok-kind-13-string"),
+    ("ok-texts-padded", "ok-texts-entities"),
     ("ok-type-id-0-in-2-bytes", "ok-kind-00-null"),
     ("ok-type-id-0-in-3-bytes", "ok-kind-00-null"),
     ("ok-type-id-0-in-4-bytes", "ok-kind-00-null"),

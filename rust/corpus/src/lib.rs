@@ -15,6 +15,7 @@ pub mod readers;
 pub mod sample;
 pub mod values;
 pub mod writer;
+pub mod xml;
 
 pub use sample::Sample;
 

@@ -6,6 +6,8 @@
 //! is the padding that must be told of it (0 without such a line), lines behind `enums` are the bytes of the list of
 //! enums that is lent (empty without such a line), and the others are the file's bytes: two hexadecimal digits for a byte,
 //! `AA*60` for sixty of them, and characters in quotation marks.
+//! Lines behind `xml` and `xml-bytes` are the XML that the file's export must give, the former as it stands and the
+//! latter in bytes; a line behind `export` is the refusal of the export.
 
 use crate::sample::Sample;
 
@@ -20,6 +22,7 @@ const TEXTS: &[&str] = &[
     include_str!("../literal/textures.txt"),
     include_str!("../literal/meshes.txt"),
     include_str!("../literal/retyped.txt"),
+    include_str!("../literal/exports.txt"),
 ];
 
 pub fn samples() -> Vec<Sample> {
@@ -31,18 +34,29 @@ pub fn samples_of(text: &str) -> Vec<Sample> {
     text.split("\n\n").filter_map(sample).collect()
 }
 
-/// The sample of a block, unless the block is a comment.
-fn sample(block: &str) -> Option<Sample> {
+/// The name and the other lines of a block, unless the block is a comment.
+pub fn block_lines(block: &str) -> Option<(&str, impl Iterator<Item = &str>)> {
     let lines = block.lines().filter(|line| !line.starts_with('#'));
     let mut lines = lines.skip_while(|line| line.is_empty());
-    let name = lines.next()?.to_string();
+    Some((lines.next()?, lines))
+}
+
+/// The sample of a block, unless the block is a comment.
+fn sample(block: &str) -> Option<Sample> {
+    let (name, lines) = block_lines(block)?;
+    let name = name.to_string();
     let mut bytes = Vec::new();
     let mut enums = Vec::new();
     let mut rows = String::new();
     let mut padding = 0;
+    let mut export: Option<Vec<u8>> = None;
     for line in lines {
         if let Some(printed) = line.strip_prefix("= ") {
             rows += &format!("{printed}\n");
+        } else if let Some(xml) = xml_bytes(line) {
+            export.get_or_insert_default().extend(xml);
+        } else if let Some(refusal) = line.strip_prefix("export ") {
+            export = Some(format!("{refusal}\n").into());
         } else if let Some(entries) = line.strip_prefix("enums ") {
             enums.extend(line_bytes(entries));
         } else if let Some(number) = line.strip_prefix("padding ") {
@@ -58,12 +72,21 @@ fn sample(block: &str) -> Option<Sample> {
         enums,
         rows,
         padding,
+        export,
         kept: true,
     })
 }
 
+/// The bytes of a line of XML.
+pub fn xml_bytes(line: &str) -> Option<Vec<u8>> {
+    match line.strip_prefix("xml ") {
+        Some(text) => Some(text.as_bytes().to_vec()),
+        None => line.strip_prefix("xml-bytes ").map(line_bytes),
+    }
+}
+
 /// The bytes of a line: what stands in quotation marks, and numbers between.
-fn line_bytes(line: &str) -> Vec<u8> {
+pub fn line_bytes(line: &str) -> Vec<u8> {
     let mut bytes = Vec::new();
     for (position, part) in line.split('"').enumerate() {
         if position % 2 == 1 {

@@ -38,7 +38,11 @@ fn write_samples(folder: &Path, all: bool) -> std::io::Result<usize> {
             std::fs::write(folder.join(name), bytes)?;
         }
     }
-    Ok(samples.len() + corpus::packs::folder::write_packs(folder)?)
+    let imports = corpus::xml::samples();
+    for (name, bytes) in imports.iter().flat_map(|sample| sample.files()) {
+        std::fs::write(folder.join(name), bytes)?;
+    }
+    Ok(samples.len() + imports.len() + corpus::packs::folder::write_packs(folder)?)
 }
 
 fn write_names(folder: &Path) -> std::io::Result<usize> {

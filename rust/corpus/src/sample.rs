@@ -11,6 +11,8 @@ pub struct Sample {
     pub rows: String,
     /// The padding that must be told of it, 0 for a refused file.
     pub padding: usize,
+    /// What its export as XML must give, where the sample tells it: the XML, or a refusal's line.
+    pub export: Option<Vec<u8>>,
     /// Whether the sample is kept in the repository as files; every sample is used in tests.
     pub kept: bool,
 }
@@ -31,7 +33,8 @@ impl Sample {
 
     /// The files that keep the sample, by name.
     ///
-    /// NAME.enums stands beside the others unless the list is empty, and NAME.padding unless the padding is 0.
+    /// NAME.enums stands beside the others unless the list is empty, NAME.padding unless the padding is 0, and
+    /// NAME.export where the sample tells its export.
     pub fn files(&self) -> Vec<(String, Vec<u8>)> {
         let mut files = vec![
             (format!("{}.xnb", self.name), self.bytes.clone()),
@@ -43,6 +46,9 @@ impl Sample {
         if self.padding > 0 {
             let line = format!("{}\n", self.padding);
             files.push((format!("{}.padding", self.name), line.into()));
+        }
+        if let Some(export) = &self.export {
+            files.push((format!("{}.export", self.name), export.clone()));
         }
         files
     }
@@ -57,6 +63,7 @@ pub fn accepted(name: &str, file: File) -> Sample {
         padding: written.padding,
         bytes: written.bytes,
         enums: Vec::new(),
+        export: None,
         kept: true,
     }
 }
@@ -76,6 +83,7 @@ pub fn refused_bytes(name: &str, number: u32, place: usize, bytes: Vec<u8>) -> S
         padding: 0,
         bytes,
         enums: Vec::new(),
+        export: None,
         kept: true,
     }
 }

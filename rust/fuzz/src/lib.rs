@@ -7,6 +7,7 @@
 //! `enums::case(seed)` gives one with a list of enum types that is lent with it, and `enums::limits()` those at bounds.
 //! `meshes::case(seed)` gives one with many meshes, and `meshes::limits()` those at bounds.
 //! `padding::case(seed)` gives one whose seven-bit numbers are padded by chosen amounts.
+//! `xml::exports` gives files to be exported as XML, and `xml::imports` XML to be imported.
 //! `tables::case(seed)` gives a table that no loader left, and `tables::in_columns` puts a table into columns.
 
 mod aimed;
@@ -22,6 +23,7 @@ pub mod random;
 pub mod retyped;
 mod shape;
 pub mod tables;
+pub mod xml;
 
 use corpus::writer::{write, Row, Written, WORDS_PER_ROW};
 use maker::{make, Planted};

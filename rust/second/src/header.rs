@@ -6,7 +6,7 @@ use crate::refusal::{
 };
 
 pub const HEADER_BYTES: usize = 10;
-const LONGEST_FILE: usize = 16_777_216;
+pub const LONGEST_FILE: usize = 16_777_216;
 
 /// Judges the file's length and its header, in the order of 01's table.
 pub fn check_header(file: &[u8]) -> Result<(), Refusal> {

@@ -25,6 +25,7 @@ mod ticks;
 mod types;
 mod utf8;
 mod walk;
+pub mod xml;
 
 pub use branches::broken_branch;
 pub use image::{level_size, longest_chain};

@@ -33,9 +33,13 @@ pub fn padding_told(answer: Result<Loaded, Refusal>) -> usize {
     answer.map_or(0, |loaded| loaded.padding)
 }
 
-/// A file that was read: its counts, its rows and its seven-bit numbers in order.
+/// A file that was read: its counts, its readers, its rows and its seven-bit numbers in order.
 pub struct Read {
     pub loaded: Loaded,
+    /// The target of each reader.
+    pub targets: Vec<Type>,
+    /// The first byte of each reader's name.
+    pub names: Vec<usize>,
     pub rows: Vec<Row>,
     pub sevens: Vec<(usize, Seven)>,
 }
@@ -82,9 +86,9 @@ pub fn read_file(file: &[u8], enums: &[u8], room: usize) -> Result<Read, Refusal
     let enums = EnumList::read(enums)?;
     check_header(file)?;
     let mut cursor = Cursor::new(file, HEADER_BYTES);
-    let readers = read_readers(&mut cursor, &enums)?;
+    let (targets, names) = read_readers(&mut cursor, &enums)?;
     let shared = read_count(&mut cursor, MOST_SHARED)?;
-    let mut walk = Walk::new(cursor, &readers, shared, room);
+    let mut walk = Walk::new(cursor, &targets, shared, room);
     let anything = Type::plain(OBJECT);
 
     walk.object(&anything, Spot::TOP)?;
@@ -97,14 +101,17 @@ pub fn read_file(file: &[u8], enums: &[u8], room: usize) -> Result<Read, Refusal
 
     let loaded = Loaded {
         rows: walk.rows.len(),
-        readers: readers.len(),
+        readers: targets.len(),
         shared: shared as usize,
         padding: walk.cursor.padding,
     };
+    let (rows, sevens) = (walk.rows, walk.cursor.sevens);
     Ok(Read {
         loaded,
-        rows: walk.rows,
-        sevens: walk.cursor.sevens,
+        targets,
+        names,
+        rows,
+        sevens,
     })
 }
 
@@ -116,17 +123,22 @@ fn read_count(cursor: &mut Cursor, most: u32) -> Result<u32, Refusal> {
     Ok(count)
 }
 
-fn read_readers(cursor: &mut Cursor, enums: &EnumList) -> Result<Vec<Type>, Refusal> {
+/// The targets of the readers and the first bytes of their names.
+type Readers = (Vec<Type>, Vec<usize>);
+
+fn read_readers(cursor: &mut Cursor, enums: &EnumList) -> Result<Readers, Refusal> {
     let count = read_count(cursor, MOST_READERS)?;
-    let mut readers = Vec::new();
+    let (mut targets, mut names) = (Vec::new(), Vec::new());
     for _ in 0..count {
-        readers.push(read_reader(cursor, enums)?);
+        let (target, name) = read_reader(cursor, enums)?;
+        targets.push(target);
+        names.push(name);
     }
-    Ok(readers)
+    Ok((targets, names))
 }
 
 /// One reader: its name is judged in full before its version.
-fn read_reader(cursor: &mut Cursor, enums: &EnumList) -> Result<Type, Refusal> {
+fn read_reader(cursor: &mut Cursor, enums: &EnumList) -> Result<(Type, usize), Refusal> {
     let length_place = cursor.at;
     let length = read_count(cursor, LONGEST_NAME)?;
     demand(length > 0, TOO_LARGE, length_place)?;
@@ -137,5 +149,5 @@ fn read_reader(cursor: &mut Cursor, enums: &EnumList) -> Result<Type, Refusal> {
     let version_place = cursor.at;
     let version = cursor.take_u32()?;
     demand(version == 0, READER_VERSION, version_place)?;
-    Ok(target)
+    Ok((target, name_place))
 }

@@ -31,7 +31,8 @@ pub fn text<'f>(file: &'f [u8], table: Table, row: usize) -> Result<&'f [u8], Re
     }
 }
 
-fn text_in(part: &[u8]) -> Option<&[u8]> {
+/// The text in the part of a String, unless its count is not that of the bytes behind it.
+pub fn text_in(part: &[u8]) -> Option<&[u8]> {
     let type_id = read_seven(part).ok()?;
     let behind_id = &part[type_id.width..];
     let count = read_seven(behind_id).ok()?;

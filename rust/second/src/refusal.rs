@@ -37,6 +37,10 @@ pub const DIGIT: u32 = 35;
 pub const BRACKETS: u32 = 36;
 pub const TAIL_BYTE: u32 = 37;
 pub const NESTED_TOO_DEEP: u32 = 38;
+pub const NO_TEXT_LIST: u32 = 61;
+pub const NULL_TEXT: u32 = 62;
+pub const NO_XML_CHARACTER: u32 = 63;
+pub const OTHER_XML: u32 = 64;
 
 /// A refusal as the answer of any reading.
 pub fn refuse<T>(number: u32, place: usize) -> Result<T, Refusal> {

@@ -1,4 +1,4 @@
-//! The proved XNB loader from Rust: loading, rewriting and looking up, and packs of files, without unsafe code.
+//! The proved XNB loader from Rust: loading, rewriting and looking up, packs of files, and text lists as XML, without unsafe code.
 //!
 //! ```
 //! let file = b"XNBw\x05\x00\x0D\x00\x00\x00\x00\x00\x00";
@@ -29,6 +29,7 @@ pub mod salvage;
 mod search;
 mod shape;
 mod table;
+pub mod xml;
 
 pub use calls::{count_rows, rewrite, shorten, Loaded, Time};
 pub use enums::{EnumFault, EnumList, EnumsRefused};

@@ -57,6 +57,11 @@ impl<'e> Loader<'e> {
         Loader { enums }
     }
 
+    /// The bytes of the list.
+    pub(crate) fn enum_bytes(self) -> &'e [u8] {
+        self.enums
+    }
+
     /// Loads a file by rows, with room for all its rows.
     pub fn load<'f>(self, file: &'f [u8]) -> Result<Table<'f>, Refused> {
         self.load_grid(file)

@@ -7,6 +7,7 @@
 pub mod marks;
 pub mod pack;
 pub mod salvage;
+pub mod xml;
 
 use crate::shape::Shape;
 

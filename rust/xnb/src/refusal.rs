@@ -38,12 +38,16 @@ pub enum Refusal {
     NestedTooDeep = 38,
     MissingMark = 51,
     ListTooShort = 52,
+    NoTextList = 61,
+    NullText = 62,
+    NoXmlCharacter = 63,
+    OtherXml = 64,
 }
 
 use Refusal::*;
 
 /// Each refusal with its rule in words, in order of number.
-const RULES: [(Refusal, &str); 33] = [
+const RULES: [(Refusal, &str); 37] = [
     (PastEnd, "a field runs past the end of the file"),
     (NotXnb, "the file does not begin with XNB"),
     (Platform, "the platform is not w, m or x"),
@@ -74,7 +78,7 @@ const RULES: [(Refusal, &str); 33] = [
     (LeftOver, "bytes are left over behind the last object"),
     (
         OutputTooSmall,
-        "the output is too small for the rewritten file",
+        "the output is too small for what is written",
     ),
     (
         FontRule,
@@ -101,6 +105,16 @@ const RULES: [(Refusal, &str); 33] = [
         ListTooShort,
         "the list is too short for the skipped stretches",
     ),
+    (
+        NoTextList,
+        "the primary object is no Array of String, or there are shared objects",
+    ),
+    (NullText, "a text is null"),
+    (
+        NoXmlCharacter,
+        "a text has a character below 20 hex, U+FFFE or U+FFFF",
+    ),
+    (OtherXml, "the XML is not of the form that an export writes"),
 ];
 
 impl Refusal {
@@ -130,7 +144,7 @@ impl Refusal {
     }
 }
 
-/// A refusal and its place: a byte of the file, the bytes that a rewrite needs, a row number, or the number of an entry
+/// A refusal and its place: a byte of the file, the bytes that an output needs, a row number, or the number of an entry
 /// of the enum list, counted from 0.
 #[derive(Clone, Copy, Debug, PartialEq, Eq)]
 pub struct Refused {
@@ -158,7 +172,7 @@ impl Display for Refused {
         write!(out, "{}, ", self.refusal.rule())?;
         match self.refusal {
             OutputTooSmall => write!(out, "which takes {place} bytes"),
-            NoSuchRow | OtherKind => write!(out, "row {place}"),
+            NoSuchRow | OtherKind | NullText | NoXmlCharacter => write!(out, "row {place}"),
             EnumEntry => write!(out, "entry {place}, counted from 0"),
             _ => write!(out, "at byte {place}"),
         }
@@ -173,12 +187,13 @@ mod tests {
 
     #[test]
     fn numbers_and_refusals_match() {
-        for number in (1..=9).chain(11..=24).chain(31..=38).chain([51, 52]) {
+        let packs_and_xml = [51, 52, 61, 62, 63, 64];
+        for number in (1..=9).chain(11..=24).chain(31..=38).chain(packs_and_xml) {
             let refusal = Refusal::of_number(number).expect("a refusal");
             assert_eq!(refusal.number(), number);
             assert!(!refusal.rule().is_empty());
         }
-        for number in [0, 10, 25, 39, 50, 53] {
+        for number in [0, 10, 25, 39, 50, 53, 60, 65] {
             assert_eq!(Refusal::of_number(number), None);
         }
     }
@@ -188,7 +203,7 @@ mod tests {
         let told = |refusal, place| Refused { refusal, place }.to_string();
         let length = "the header's length is not the file's length, at byte 6";
         assert_eq!(told(FileLength, 6), length);
-        let output = "the output is too small for the rewritten file, which takes 65 bytes";
+        let output = "the output is too small for what is written, which takes 65 bytes";
         assert_eq!(told(OutputTooSmall, 65), output);
         assert_eq!(told(NoSuchRow, 9), "there is no such row, row 9");
         let entry =

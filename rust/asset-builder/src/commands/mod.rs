@@ -3,6 +3,8 @@
 mod check;
 mod completions;
 mod convert;
+mod export;
+mod import;
 mod man;
 mod pack;
 mod ranking;
@@ -49,6 +51,8 @@ pub enum Command {
     Tree(tree::Tree),
     Shorten(shorten::Shorten),
     Retype(retype::Retype),
+    Export(export::Export),
+    Import(import::Import),
     Pack(pack::Pack),
     Mark(convert::Mark),
     Unmark(convert::Unmark),
@@ -65,6 +69,8 @@ impl Command {
             Command::Tree(command) => command.run(run),
             Command::Shorten(command) => command.run(run),
             Command::Retype(command) => command.run(run),
+            Command::Export(command) => command.run(run),
+            Command::Import(command) => command.run(run),
             Command::Pack(command) => command.run(run),
             Command::Mark(command) => command.run(run),
             Command::Unmark(command) => command.run(run),

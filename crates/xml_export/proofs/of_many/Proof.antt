@@ -1,0 +1,17 @@
+use borrow.Author.Needs.{needs}
+use Rattle.xml_export.proofs.Codes.{codes-suffice}
+use Rattle.xml_export.proofs.of_many.Statement.{statement}
+use Rattle.xml_export.proofs.of_many.Tie as tie
+
+slice-aggregate-listed-reader : tie.Need-slice-aggregate-listed-reader
+slice-aggregate-listed-reader c = search needs
+
+listed-reader-requires : tie.Need-listed-reader-requires
+listed-reader-requires c κs = (c .before .before .before .pre, codes-suffice (c .before .before .before .args .file .now))
+
+returns : tie.Need-returns
+returns c = search needs
+
+pub of-many-spec : {M : Type 1} → statement M
+of-many-spec =
+    tie.close (tie.spec slice-aggregate-listed-reader listed-reader-requires returns)

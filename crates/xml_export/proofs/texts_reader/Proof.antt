@@ -1,0 +1,47 @@
+use mathlib.Core.Path.{sym, ap, _∙_}
+use Rattle.answers.specs.Told.{told}
+use Rattle.load.specs.Laws.{suffice, suffice-refused}
+use borrow.Author.Needs.{needs}
+use Rattle.xml_export.proofs.texts_reader.Statement.{statement}
+use Rattle.xml_export.proofs.texts_reader.Tie as tie
+
+reader-count-requires : tie.Need-reader-count-requires
+reader-count-requires c κs = search needs
+
+enum-told : tie.Need-enum-told
+enum-told c = search needs
+
+of-few-requires : tie.Need-of-few-requires
+of-few-requires c κs = let p = c .before .before .before .before .before .pre in (p, suffice-refused _ _ _ p (sym (c .before .before .reader-count .ensures) ∙ ap told (c .enum-told .given .1)))
+
+enum-known-n : tie.Need-enum-known-n
+enum-known-n c = search needs
+
+of-few-requires-2 : tie.Need-of-few-requires-2
+of-few-requires-2 c κs = let p = c .before .before .before .before .before .before .before .pre in (p, suffice _ _ 8 p (sym (c .before .before .before .before .reader-count .ensures) ∙ ap told (c .before .before .n .given .1)) (c .if1 .taken))
+
+returns : tie.Need-returns
+returns c = search needs
+
+of-many-requires : tie.Need-of-many-requires
+of-many-requires c κs = search needs
+
+returns-2 : tie.Need-returns-2
+returns-2 c = search needs
+
+returns-3 : tie.Need-returns-3
+returns-3 c = search needs
+
+pub texts-reader-spec : {M : Type 1} → statement M
+texts-reader-spec =
+    tie.close
+    (tie.spec
+    reader-count-requires
+    enum-told
+    of-few-requires
+    enum-known-n
+    of-few-requires-2
+    returns
+    of-many-requires
+    returns-2
+    returns-3)

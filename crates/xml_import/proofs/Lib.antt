@@ -1,0 +1,11 @@
+pub mod Literals
+pub mod Bytes
+pub mod Rows
+pub mod Characters
+pub mod Texts
+pub mod Whole
+pub mod Writing
+pub mod Strings
+pub mod Imports
+pub mod Marks
+pub mod Runs

@@ -1,0 +1,269 @@
+-- The Strings of an imported file, put one after the other. Assumes nothing.
+use mathlib.Core.Path.{_≡_, refl, sym, ap, subst, _∙_}
+use mathlib.Core.Bool.{Bool, true, false, cond}
+use mathlib.Core.List.{List, [], _∷_, _++_, append-nil, append-assoc}
+use Prim.Native.Nat.{ℕ, _+_, _-_, _^_, _≤_, _<_}
+use native.Mathlib.Omega.{arith}
+use lib.Dec.{leb}
+use lib.ListN.{length, take, drop, length-append, length-drop}
+use lib.Seq.{drop-drop, take-append-seam, drop-append-seam}
+use borrow.Author.Tests.{le-leb}
+use Rattle.laws.specs.Small.{differ}
+use Rattle.layout.specs.Text.{ascii}
+use Rattle.layout.specs.Tree.{none}
+use Rattle.fill.specs.Fill.{copied}
+use Rattle.numbers.specs.Shortest.{shortest, fewest, writtenAt}
+use Rattle.places.specs.Places.{numbered}
+use Rattle.shortest.specs.Short.{idBytes, body, short}
+use Rattle.shortest.specs.File.{shortFile}
+use Rattle.xml_layout.specs.Xml.{itemStart, itemEnd, documentStart, documentEnd}
+use Rattle.xml_layout.specs.Tree.{textTrees, treeOf}
+use Rattle.xml_reading.specs.Match.{Match, fails, takes, Told, failed, taken as taken-of, shifted, literal, literal-matches, followed, mapped, until, Document, other, document, whole}
+use Rattle.xml_reading.specs.Text as T
+use Rattle.xml_reading.specs.Text.{joined}
+use Rattle.xml_reading.specs.Plain.{plain-matches}
+use Rattle.xml_reading.specs.Document as D
+use Rattle.xml_reading.specs.Document.{item-matches, item-some}
+use Rattle.xml_reading.specs.Import.{textsOf}
+use Rattle.xml_reading.specs.Strings.{short-more, built-length}
+use Rattle.xml_reading.specs.Steps.{first-taken}
+use Rattle.xml_escape.specs.Wrote.{Wrote, wrote-copy}
+use Rattle.xml_import.specs.declared.Texted.{Texted}
+use Rattle.xml_import.specs.declared.Texted.the-variants as texted
+use Rattle.xml_import.specs.Places.{FailsAt, TakesAt, Known, TextAt, character, text}
+use Rattle.xml_import.specs.Puts.{taken, textIn, Ready, TextPut, stringBytes, StringPut, Fits, StringsPut}
+use Rattle.xml_import.proofs.Whole.{item, texts, short-last}
+use Rattle.xml_import.proofs.Writing.{text-joined}
+
+-- ---- A String
+
+pub wrote-shortest : {base done out out′ : List ℕ} {to : ℕ} → Wrote base done out to → (n : ℕ) → to + length (shortest n) ≤ length base → out′ ≡ writtenAt out to n
+    → Wrote base (done ++ shortest n) out′ (to + length (shortest n))
+wrote-shortest {base} {done} {out} {out′} {to} w n h e =
+    let m = length (shortest n) in
+    let l : length out ≡ length base = ap length (w .stands) ∙ omega (arith, w .long, length-append done (drop to base), length-drop to base) in
+    let p : leb (to + m) (length out) ≡ true = le-leb (to + m) (length out) (omega arith) in
+    let a : take to out ≡ done = ap (take to) (w .stands) ∙ subst (λ (k : ℕ). take k (done ++ drop to base) ≡ done) (w .long) (take-append-seam done (drop to base)) in
+    let b : drop (to + m) out ≡ drop (to + m) base
+    = ap (drop (to + m)) (w .stands) ∙ sym (drop-drop m to (done ++ drop to base))
+    ∙ ap (drop m) (subst (λ (k : ℕ). drop k (done ++ drop to base) ≡ drop to base) (w .long) (drop-append-seam done (drop to base))) ∙ drop-drop m to base in
+    record { long = length-append done (shortest n) ∙ omega (arith, w .long); stands = e ∙ rw (p, a, b) }
+
+module _ {xml : List ℕ} {at : ℕ} (to : ℕ) {size : ℕ} (o₀ o₁ o₂ o₃ : List ℕ) {e : ℕ} (r : Ready xml at size)
+    (e₁ : o₁ ≡ copied o₀ to (2 ∷ []) 0 1) (e₂ : o₂ ≡ writtenAt o₁ (to + 1) size) (ee : e ≡ length (shortest size)) (tp : TextPut xml at (to + 1 + e) size o₂ o₃) where
+  abbrev t : List ℕ
+  t = textIn xml at
+
+  sz : size ≡ length t
+  sz = r .sized ∙ ap length (sym (text-joined r))
+
+  ends-at : to + 1 + e + size ≡ to + length (stringBytes t)
+  ends-at = omega (arith, ee, sz, ap (λ (k : ℕ). length (shortest k)) sz, length-append (shortest (length t)) t)
+
+  puts-it : (base done : List ℕ) → Wrote base done o₀ to → to + 1 + length (shortest size) + size ≤ length base → Wrote base (done ++ stringBytes t) o₃ (to + 1 + e + size)
+  unfolding TextPut
+  puts-it base done w h =
+      let w₁ : Wrote base (done ++ (2 ∷ [])) o₁ (to + 1) = wrote-copy w (2 ∷ []) 0 1 (omega arith) (omega arith) e₁ in
+      let w₂ : Wrote base ((done ++ (2 ∷ [])) ++ shortest size) o₂ (to + 1 + e) = rw ee (wrote-shortest w₁ size (omega arith) e₂) in
+      let w₃ : Wrote base (((done ++ (2 ∷ [])) ++ shortest size) ++ t) o₃ (to + 1 + e + size) = tp base ((done ++ (2 ∷ [])) ++ shortest size) w₂ (omega arith) in
+      let a : ((done ++ (2 ∷ [])) ++ shortest size) ++ t ≡ done ++ ((2 ∷ []) ++ (shortest (length t) ++ t))
+      = ap (λ (l : List ℕ). l ++ t) (append-assoc done (2 ∷ []) (shortest size)) ∙ append-assoc done ((2 ∷ []) ++ shortest size) t ∙ ap (λ (k : ℕ). done ++ ((2 ∷ []) ++ (shortest k ++ t))) sz in
+      subst (λ (l : List ℕ). Wrote base l o₃ (to + 1 + e + size)) a w₃
+
+  pub string-put : StringPut xml at to size o₀ o₃ (to + 1 + e + size)
+  unfolding StringPut
+  string-put = (ends-at, puts-it)
+
+-- ---- The XML, taken apart
+
+-- the texts from byte 73 on
+pub after-start : (xml : List ℕ) (ts : List (List ℕ)) → textsOf xml ≡ document ts → (73 ≤ length xml) × (until item documentEnd (drop 73 xml) ≡ takes ts [])
+unfolding D.documentOf D.texts whole followed shifted documentStart ascii
+after-start xml ts e = go (literal documentStart xml) (literal-matches documentStart .tells xml) e where
+  all : (m : Match (List (List ℕ))) → whole xml m ≡ document ts → m ≡ takes ts []
+  all (fails n) q = differ cc
+  all (takes us []) q = let z : us ≡ ts = cc in rw z
+  all (takes us (b ∷ l)) q = differ cc
+
+  unshifted : (k : ℕ) (m : Match (List (List ℕ))) → shifted k m ≡ takes ts [] → m ≡ takes ts []
+  unshifted k (fails n) q = differ cc
+  unshifted k (takes us r) q = q
+
+  go : (o : Match (Unit {0})) → Told (λ u bs. bs ≡ documentStart) xml o → whole xml (followed xml o (λ u rest. until item documentEnd rest)) ≡ document ts
+      → (73 ≤ length xml) × (until item documentEnd (drop 73 xml) ≡ takes ts [])
+  go o (failed g) q = differ cc
+  go o (taken-of {rest = rest} form f p) q =
+      let x : xml ≡ documentStart ++ rest = p ∙ ap (λ (l : List ℕ). l ++ rest) f in
+      let d : drop 73 xml ≡ rest = ap (drop 73) x in
+      (omega (arith, ap length x, length-append documentStart rest), ap (until item documentEnd) d ∙ unshifted (length xml - length rest) (until item documentEnd rest) (all _ q))
+
+-- an item's text from the sixth byte on
+item-text : (l : List ℕ) (t more : List ℕ) → item l ≡ takes t more → (6 ≤ length l) × (text (drop 6 l) ≡ takes t more)
+unfolding D.item followed shifted itemStart ascii
+item-text l t more e = go (literal itemStart l) (literal-matches itemStart .tells l) e where
+  unshifted : (k : ℕ) (m : Match (List ℕ)) → shifted k m ≡ takes t more → m ≡ takes t more
+  unshifted k (fails n) q = differ cc
+  unshifted k (takes us r) q = q
+
+  go : (o : Match (Unit {0})) → Told (λ u bs. bs ≡ itemStart) l o → followed l o (λ u rest. text rest) ≡ takes t more → (6 ≤ length l) × (text (drop 6 l) ≡ takes t more)
+  go o (failed g) q = differ cc
+  go o (taken-of {rest = rest} form f p) q =
+      let x : l ≡ itemStart ++ rest = p ∙ ap (λ (k : List ℕ). k ++ rest) f in
+      let d : drop 6 l ≡ rest = ap (drop 6) x in
+      (omega (arith, ap length x, length-append itemStart rest), ap text d ∙ unshifted (length l - length rest) (text rest) q)
+
+-- ---- One after the other
+
+short-snoc : (ts : List (List ℕ)) (t : List ℕ) → short (textTrees (ts ++ t ∷ [])) ≡ short (textTrees ts) ++ stringBytes t
+unfolding short textTrees idBytes numbered body shortest fewest
+short-snoc [] t = append-nil ((2 ∷ []) ++ ((shortest (length t) ++ t) ++ [])) ∙ ap (λ (l : List ℕ). (2 ∷ []) ++ l) (append-nil (shortest (length t) ++ t))
+short-snoc (u ∷ ts) t =
+    let first = idBytes 13 2 ++ (body 13 u 0 ++ short none) in
+    ap (λ (l : List ℕ). first ++ l) (short-snoc ts t) ∙ sym (append-assoc first (short (textTrees ts)) (stringBytes t))
+
+short-le : (a c : List (List ℕ)) → length (short (textTrees a)) ≤ length (short (textTrees (a ++ c)))
+unfolding short textTrees
+short-le [] c = omega arith
+short-le (u ∷ a) c = let x = short-more u a in let y = short-more u (a ++ c) in omega (arith, short-le a c, x, y)
+
+-- some of the texts are put, and the others stand in the XML from i on
+pub record Stringing (xml out₀ : List ℕ) (count : ℕ) (out : List ℕ) (i to k : ℕ) : Type 0 where
+  pub fits : Fits xml count (length out₀)
+  pub put : List (List ℕ)
+  pub left : List (List ℕ)
+  pub split : fits .ts ≡ put ++ left
+  pub forms : until item documentEnd (drop i xml) ≡ takes left []
+  pub inside-xml : i ≤ length xml
+  pub counted : k ≡ length put
+  pub place : to ≡ 133 + length (short (textTrees put))
+  pub same-size : length out ≡ length out₀
+  pub wrote : (base done : List ℕ) → Wrote base done out₀ 133 → 133 + length (short (textTrees (fits .ts))) ≤ length base → Wrote base (done ++ short (textTrees put)) out to
+
+pub start : {xml out₀ : List ℕ} {count : ℕ} → Fits xml count (length out₀) → Stringing xml out₀ count out₀ 73 133 0
+unfolding short textTrees
+start {xml} {out₀} f =
+    let a = after-start xml (f .ts) (f .is) in
+    record {
+      fits = f;
+      put = [];
+      left = f .ts;
+      split = refl;
+      forms = a .1;
+      inside-xml = a .0;
+      counted = refl;
+      place = refl;
+      same-size = refl;
+      wrote = λ base done w h. rw (append-nil done) w;
+    }
+
+module _ {xml out₀ : List ℕ} {count : ℕ} {out : List ℕ} {i to k : ℕ} (s : Stringing xml out₀ count out i to k) where
+  -- an item that is next
+  pub record Next : Type 0 where
+    pub t : List ℕ
+    pub others : List (List ℕ)
+    pub more : List ℕ
+    pub is : s .left ≡ t ∷ others
+    pub at-text : i + 6 ≤ length xml
+    pub text-is : text (drop (i + 6) xml) ≡ takes t more
+    pub then-them : until item documentEnd more ≡ takes others []
+
+  pub next-item : k < count → Next
+  next-item h = go (s .left) refl where
+    go : (left : List (List ℕ)) → s .left ≡ left → Next
+    go [] e = absurd (omega (arith, s .counted, s .fits .many, ap length (s .split), length-append (s .put) (s .left), ap length e))
+    go (t ∷ others) e =
+        let f = first-taken documentEnd (item-matches plain-matches) item-some (drop i xml) t others [] (s .forms ∙ ap (λ (l : List (List ℕ)). takes l []) e) in
+        let g = item-text (drop i xml) t (f .0) (f .1) in
+        record {
+          t = t;
+          others = others;
+          more = f .0;
+          is = e;
+          at-text = omega (arith, g .0, length-drop i xml, s .inside-xml);
+          text-is = ap text (sym (drop-drop 6 i xml)) ∙ g .1;
+          then-them = f .2;
+        }
+
+  pub no-failure : (h : k < count) {x : Texted} {place : ℕ} → TextAt xml (i + 6) x → x ≡ texted.Fails place → ⊥
+  unfolding TextAt
+  no-failure h {x} {place} v q =
+      let f : FailsAt (text (drop (i + 6) xml)) (i + 6) place = rw q at v in
+      let n = next-item h in
+      let z : fails (f .0) ≡ takes (n .t) (n .more) = sym (f .1) ∙ n .text-is in
+      differ cc
+
+  -- what is known of it, and what holds behind it
+  pub record Turned (size next : ℕ) : Type 0 where
+    pub ready : Ready xml (i + 6) size
+    pub small : size < 2 ^ 32
+    pub room : to + 1 + length (shortest size) + size ≤ length out
+    pub turns : {out′ : List ℕ} {to′ : ℕ} → length out′ ≡ length out → StringPut xml (i + 6) to size out out′ to′ → Stringing xml out₀ count out′ next to′ (k + 1)
+
+  text-forms : (l t more : List ℕ) → text l ≡ takes t more → (us : List (List ℕ)) × (until character itemEnd l ≡ takes us more) × (t ≡ joined us)
+  unfolding T.text mapped
+  text-forms l t more e = go (until character itemEnd l) refl e where
+    go : (m : Match (List (List ℕ))) → until character itemEnd l ≡ m → mapped joined m ≡ takes t more → (us : List (List ℕ)) × (until character itemEnd l ≡ takes us more) × (t ≡ joined us)
+    go (fails n) q e = differ cc
+    go (takes us r) q e = let a : joined us ≡ t = cc in let b : r ≡ more = cc in (us, q ∙ ap (takes us) b, sym a)
+
+  -- its text was taken before
+  pub known-next : (h : k < count) → Known xml (i + 6)
+  known-next h =
+      let n = next-item h in
+      let f = text-forms (drop (i + 6) xml) (n .t) (n .more) (n .text-is) in
+      (f .0, n .more, f .1)
+
+  pub turn : (h : k < count) {x : Texted} {size next : ℕ} → TextAt xml (i + 6) x → x ≡ texted.Ends size next → Turned size next
+  unfolding TextAt StringPut taken
+  turn h {x} {size} {next} v q =
+      let u : (t : List ℕ) × (size ≡ length t) × TakesAt (text (drop (i + 6) xml)) t xml (i + 6) next × (size + 7 ≤ next - (i + 6)) = rw q at v in
+      let n = next-item h in
+      let z : takes (n .t) (n .more) ≡ takes (u .0) (drop next xml) = sym (n .text-is) ∙ u .2 .0 in
+      let same-text : n .t ≡ u .0 = cc in
+      let same-rest : n .more ≡ drop next xml = cc in
+      let f = text-forms (drop (i + 6) xml) (n .t) (n .more) (n .text-is) in
+      let sz : size ≡ length (n .t) = u .1 ∙ ap length (sym same-text) in
+      let whole-ts : s .fits .ts ≡ (s .put ++ n .t ∷ []) ++ n .others
+      = s .split ∙ ap (λ (l : List (List ℕ)). s .put ++ l) (n .is) ∙ sym (append-assoc (s .put) (n .t ∷ []) (n .others)) in
+      let more-bytes : length (short (textTrees (s .put))) + (1 + length (shortest (length (n .t))) + length (n .t)) ≤ length (short (textTrees (s .fits .ts)))
+      = within (s .put ++ n .t ∷ []) (n .others) (s .fits .ts) whole-ts (short-last (s .put) (n .t)) in
+      let eq-short : length (shortest size) ≡ length (shortest (length (n .t))) = ap (λ (j : ℕ). length (shortest j)) sz in
+      let b = built-length (s .fits .ts) in
+      let in-text : textIn xml (i + 6) ≡ n .t = ap taken (n .text-is) in
+      let new-bytes : short (textTrees (s .put ++ n .t ∷ [])) ≡ short (textTrees (s .put)) ++ stringBytes (n .t) = short-snoc (s .put) (n .t) in
+      record {
+        ready = record { inside = n .at-text; us = f .0; rest = n .more; takes-them = f .1; sized = sz ∙ ap length (f .2) };
+        small = omega (arith, s .fits .short-file);
+        room = omega (arith, s .fits .room, s .same-size, s .place);
+        turns = λ {out′} {to′} l p. record {
+          fits = s .fits;
+          put = s .put ++ n .t ∷ [];
+          left = n .others;
+          split = whole-ts;
+          forms = ap (until item documentEnd) (sym same-rest) ∙ n .then-them;
+          inside-xml = u .2 .2;
+          counted = omega (arith, s .counted, length-append (s .put) (n .t ∷ []));
+          place = p .0 ∙ omega (arith, s .place, ap length new-bytes, length-append (short (textTrees (s .put))) (stringBytes (n .t)), ap (λ (l : List ℕ). length (stringBytes l)) in-text);
+          same-size = l ∙ s .same-size;
+          wrote = λ base done w g.
+              subst (λ (l : List ℕ). Wrote base l out′ to′)
+              (append-assoc done (short (textTrees (s .put))) (stringBytes (textIn xml (i + 6))) ∙ ap (λ (l : List ℕ). done ++ (short (textTrees (s .put)) ++ stringBytes l)) in-text ∙ ap (λ (l : List ℕ). done ++ l) (sym new-bytes))
+              (p .1 base (done ++ short (textTrees (s .put))) (s .wrote base done w g) (omega (arith, s .place)));
+        };
+      } where
+        within : (a c whole : List (List ℕ)) → whole ≡ a ++ c → {m : ℕ} → length (short (textTrees a)) ≡ m → m ≤ length (short (textTrees whole))
+        within a c whole e q = omega (arith, q, ap (λ (l : List (List ℕ)). length (short (textTrees l))) e, short-le a c)
+
+  -- all are put
+  pub ended : count ≤ k → StringsPut xml out₀ out
+  unfolding StringsPut
+  ended h ts is base done w g =
+      let z : document (s .fits .ts) ≡ document ts = sym (s .fits .is) ∙ is in
+      let same : s .fits .ts ≡ ts = cc in
+      let none-left : s .left ≡ [] = empty (s .left) (omega (arith, s .counted, s .fits .many, ap length (s .split), length-append (s .put) (s .left))) in
+      let all-put : s .put ≡ ts = sym (append-nil (s .put)) ∙ ap (λ (l : List (List ℕ)). s .put ++ l) (sym none-left) ∙ sym (s .split) ∙ same in
+      let n : to ≡ 133 + length (short (textTrees ts)) = s .place ∙ ap (λ (l : List (List ℕ)). 133 + length (short (textTrees l))) all-put in
+      rw (← all-put, ← s .place) (s .wrote base done w (rw same g)) where
+        empty : (l : List (List ℕ)) → length l ≡ 0 → l ≡ []
+        empty [] e = refl
+        empty (x ∷ l) e = absurd (omega arith)

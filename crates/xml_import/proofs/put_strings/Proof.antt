@@ -1,0 +1,72 @@
+-- `put_strings` meets its contract: before each turn the first k texts are put. Assumes nothing.
+use borrow.Author.Needs.{needs}
+use Prim.Native.Nat.{_-_}
+use native.Mathlib.Omega.{arith}
+use Rattle.xml_import.proofs.Strings.{Stringing, start, next-item, known-next, no-failure, turn, ended}
+use Rattle.xml_import.proofs.put_strings.Statement.{statement}
+use Rattle.xml_import.proofs.put_strings.Tie as tie
+
+abbrev Inv-loop : tie.InvT-loop
+Inv-loop xml out₀ count i₀ to₀ k₀ out i to k = Stringing xml out₀ count out i to k
+
+abbrev μ-loop : tie.MeasureT-loop
+μ-loop xml out₀ count i₀ to₀ k₀ out i to k = count - k
+
+loop-holds : tie.Need-loop-holds Inv-loop μ-loop
+loop-holds c = start (c .before .before .pre)
+
+add-at : tie.Need-add-at Inv-loop μ-loop
+add-at c = omega (arith, next-item (c .before .loop .inv) (c .loop-test .taken) .at-text)
+
+text-at-requires : tie.Need-text-at-requires Inv-loop μ-loop
+text-at-requires c κs = let v = next-item (c .before .loop .inv) (c .loop-test .taken) in (v .at-text, λ e. known-next (c .before .loop .inv) (c .loop-test .taken))
+
+enum-told : tie.Need-enum-told Inv-loop μ-loop
+enum-told c = search needs
+
+same-length : tie.Need-same-length Inv-loop μ-loop
+same-length c = absurd (no-failure (c .before .before .before .before .loop .inv) (c .before .before .before .loop-test .taken) (c .before .before .text-at .ensures) (c .enum-told .given .1))
+
+returns : tie.Need-returns Inv-loop μ-loop
+returns c = absurd (no-failure (c .before .before .before .before .loop .inv) (c .before .before .before .loop-test .taken) (c .before .before .text-at .ensures) (c .enum-told .given .1))
+
+enum-known-size : tie.Need-enum-known-size Inv-loop μ-loop
+enum-known-size c = search needs
+
+put-string-requires : tie.Need-put-string-requires Inv-loop μ-loop
+put-string-requires c κs = let v = turn (c .before .before .before .before .before .before .loop .inv) (c .before .before .before .before .before .loop-test .taken) (c .before .before .before .before .text-at .ensures) (c .before .before .size .given .1) in (v .ready, v .small, v .room)
+
+add-k : tie.Need-add-k Inv-loop μ-loop
+add-k c = search needs
+
+loop-less : tie.Need-loop-less Inv-loop μ-loop
+loop-less c = search needs
+
+loop-again : tie.Need-loop-again Inv-loop μ-loop
+loop-again c = let v = turn (c .before .before .before .before .before .before .before .before .before .loop .inv) (c .before .before .before .before .before .before .before .before .loop-test .taken) (c .before .before .before .before .before .before .before .text-at .ensures) (c .before .before .before .before .before .size .given .1) in v .turns (search needs) (c .before .before .put-string .ensures)
+
+same-length-2 : tie.Need-same-length-2 Inv-loop μ-loop
+same-length-2 c = c .before .loop .inv .same-size
+
+returns-2 : tie.Need-returns-2 Inv-loop μ-loop
+returns-2 c = ended (c .before .loop .inv) (c .loop-test .left)
+
+pub put-strings-spec : {M : Type 1} → statement M
+put-strings-spec =
+    tie.close
+    (tie.spec
+    Inv-loop
+    μ-loop
+    loop-holds
+    add-at
+    text-at-requires
+    enum-told
+    same-length
+    returns
+    enum-known-size
+    put-string-requires
+    add-k
+    loop-less
+    loop-again
+    same-length-2
+    returns-2)

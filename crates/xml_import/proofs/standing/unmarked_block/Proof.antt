@@ -1,0 +1,63 @@
+use borrow.Author.Needs.{needs}
+use mathlib.Core.Path.{_≡_}
+use mathlib.Core.Bool.{false, false≢true}
+use Prim.Native.Nat.{_-_, _≤_}
+use native.Mathlib.Omega.{arith}
+use Rattle.xml_import.specs.Places.{AllUnmarked}
+use Rattle.xml_import.proofs.Marks.{block-step}
+use Rattle.xml_import.proofs.standing.unmarked_block.Statement.{statement}
+use Rattle.xml_import.proofs.standing.unmarked_block.Tie as tie
+
+abbrev Inv-loop : tie.InvT-loop
+Inv-loop xml i n j₀ other₀ j other = (j ≤ n) × (other ≡ false → AllUnmarked xml i j)
+
+abbrev μ-loop : tie.MeasureT-loop
+μ-loop xml i n j₀ other₀ j other = n - j
+
+loop-holds : tie.Need-loop-holds Inv-loop μ-loop
+loop-holds c = (omega arith, λ h k l. absurd (omega arith))
+
+add-marked : tie.Need-add-marked Inv-loop μ-loop
+add-marked c = search needs
+
+shared-slice-read-marked : tie.Need-shared-slice-read-marked Inv-loop μ-loop
+shared-slice-read-marked c = search needs
+
+marked-requires : tie.Need-marked-requires Inv-loop μ-loop
+marked-requires c κs = search needs
+
+add-j : tie.Need-add-j Inv-loop μ-loop
+add-j c = search needs
+
+loop-less : tie.Need-loop-less Inv-loop μ-loop
+loop-less c = search needs
+
+loop-again : tie.Need-loop-again Inv-loop μ-loop
+loop-again c =
+    let a = c .before .before .before .before .before .args in
+    let m = c .before .before .before .loop in
+    (search needs, block-step (a .xml .now) (a .i) (m .j) (m .other) _ (m .inv .1) (c .marked .ensures))
+
+returns : tie.Need-returns Inv-loop μ-loop
+returns c = λ e. absurd (false≢true e)
+
+returns-2 : tie.Need-returns-2 Inv-loop μ-loop
+returns-2 c =
+    let m = c .before .before .loop in
+    λ e k l. m .inv .1 (c .if1 .left) k (omega (arith, c .before .loop-test .left))
+
+pub unmarked-block-spec : {M : Type 1} → statement M
+unmarked-block-spec =
+    tie.close
+    (tie.spec
+    Inv-loop
+    μ-loop
+    loop-holds
+    add-marked
+    shared-slice-read-marked
+    marked-requires
+    add-j
+    loop-less
+    loop-again
+    returns
+    returns-2)

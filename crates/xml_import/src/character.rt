@@ -1,0 +1,226 @@
+// A character as it stands in the XML, and literals.
+ghost use mathlib.Core.Path.{_≡_};
+ghost use Prim.Native.Nat.{_≤_, _<_, max};
+ghost use lib.ListN.{length, drop, getD};
+ghost use mathlib.Core.List.{[], _∷_};
+ghost use Rattle.names.specs.Parse.{common};
+ghost use Rattle.xml_layout.specs.Xml.{itemEnd};
+ghost use Rattle.xml_import.specs.Places.{standsAlone, RangesAt, TopAt, PlainAt, PieceAt};
+
+// The larger of two numbers.
+pub fn larger(a: usize, b: usize) -> usize
+    ensures { λ r. ⌜ r ≡ max a b ⌝ }
+{
+    if a < b {
+        return b;
+    }
+    a
+}
+
+// How many bytes of a literal stand in the XML from `at` on, up to the first that does not.
+pub fn agree(xml: &[u8], at: usize, literal: &[u8]) -> usize
+    requires { ⌜ at ≤ length (now xml) ⌝ }
+    ensures { λ r. ⌜ r ≡ common (now (literal .entry)) (drop at (now (xml .entry))) ⌝ }
+{
+    let mut i = 0;
+    while i < literal.len() {
+        if xml.len() - at <= i {
+            return i;
+        }
+        if literal[i] != xml[at + i] {
+            return i;
+        }
+        i += 1;
+    }
+    i
+}
+
+// How many bytes of an item's end stand in the XML from `at` on.
+pub fn end_at(xml: &[u8], at: usize) -> usize
+    requires { ⌜ at < length (now xml) ⌝ }
+    ensures { λ r. ⌜ r ≡ common itemEnd (drop at (now (xml .entry))) ⌝ }
+{
+    if xml[at] != 0x3C {
+        return 0;
+    }
+    agree(xml, at, b"</Item>")
+}
+
+// Where bytes fail, or where they end.
+pub enum Matched {
+    Fails(usize),
+    Takes(usize),
+}
+
+// A byte from `low` to `high`.
+fn byte_at(xml: &[u8], at: usize, low: u8, high: u8) -> Matched
+    requires { ⌜ at ≤ length (now xml) ⌝ }
+    ensures { λ r. ⌜ RangesAt ((low, high) ∷ []) (now (xml .entry)) at r ⌝ }
+{
+    if xml.len() <= at {
+        return Matched::Fails(at);
+    }
+    let b = xml[at];
+    if b < low {
+        return Matched::Fails(at);
+    }
+    if high < b {
+        return Matched::Fails(at);
+    }
+    Matched::Takes(at + 1)
+}
+
+// A byte from `low` to `high`, and one from 80 hex to `most`.
+fn two_at(xml: &[u8], at: usize, low: u8, high: u8, most: u8) -> Matched
+    requires { ⌜ at ≤ length (now xml) ⌝ }
+    ensures { λ r. ⌜ RangesAt ((low, high) ∷ (0x80, most) ∷ []) (now (xml .entry)) at r ⌝ }
+{
+    match byte_at(xml, at, low, high) {
+        Matched::Fails(place) => Matched::Fails(place),
+        Matched::Takes(next) => byte_at(xml, next, 0x80, most),
+    }
+}
+
+// A byte from `low` to `high`, and two from 80 to BF hex.
+fn three_at(xml: &[u8], at: usize, low: u8, high: u8) -> Matched
+    requires { ⌜ at ≤ length (now xml) ⌝ }
+    ensures { λ r. ⌜ RangesAt ((low, high) ∷ (0x80, 0xBF) ∷ (0x80, 0xBF) ∷ []) (now (xml .entry)) at r ⌝ }
+{
+    match byte_at(xml, at, low, high) {
+        Matched::Fails(place) => Matched::Fails(place),
+        Matched::Takes(next) => two_at(xml, next, 0x80, 0xBF, 0xBF),
+    }
+}
+
+// The two bytes behind EF hex, which are not those of U+FFFE and U+FFFF.
+fn top_at(xml: &[u8], at: usize) -> Matched
+    requires { ⌜ at ≤ length (now xml) ⌝ }
+    ensures { λ r. ⌜ TopAt (now (xml .entry)) at r ⌝ }
+{
+    match byte_at(xml, at, 0x80, 0xBE) {
+        Matched::Fails(_) => two_at(xml, at, 0xBF, 0xBF, 0xBD),
+        Matched::Takes(next) => byte_at(xml, next, 0x80, 0xBF),
+    }
+}
+
+// Whether a byte is an ASCII character that stands as it is.
+fn ordinary(b: u8) -> bool
+    ensures { λ r. ⌜ r ≡ standsAlone b ⌝ }
+{
+    if b < 0x20 {
+        return false;
+    }
+    if 0x7F < b {
+        return false;
+    }
+    if b == 0x22 {
+        return false;
+    }
+    if b == 0x26 {
+        return false;
+    }
+    if b == 0x3C {
+        return false;
+    }
+    b != 0x3E
+}
+
+// A character that is not ASCII, by its first byte.
+fn wide_at(xml: &[u8], at: usize) -> Matched
+    requires { ⌜ (at < length (now xml)) × (0x80 ≤ getD (now xml) at 0) ⌝ }
+    ensures { λ r. ⌜ PlainAt (now (xml .entry)) at r ⌝ }
+{
+    let b = xml[at];
+    let next = at + 1;
+    if b < 0xC2 {
+        return Matched::Fails(at);
+    }
+    if b < 0xE0 {
+        return byte_at(xml, next, 0x80, 0xBF);
+    }
+    if b == 0xE0 {
+        return two_at(xml, next, 0xA0, 0xBF, 0xBF);
+    }
+    if b < 0xED {
+        return two_at(xml, next, 0x80, 0xBF, 0xBF);
+    }
+    if b == 0xED {
+        return two_at(xml, next, 0x80, 0x9F, 0xBF);
+    }
+    if b == 0xEE {
+        return two_at(xml, next, 0x80, 0xBF, 0xBF);
+    }
+    if b == 0xEF {
+        return top_at(xml, next);
+    }
+    if b == 0xF0 {
+        return three_at(xml, next, 0x90, 0xBF);
+    }
+    if b < 0xF4 {
+        return three_at(xml, next, 0x80, 0xBF);
+    }
+    if b == 0xF4 {
+        return three_at(xml, next, 0x80, 0x8F);
+    }
+    Matched::Fails(at)
+}
+
+// A character that stands as it is.
+fn plain_at(xml: &[u8], at: usize) -> Matched
+    requires { ⌜ at < length (now xml) ⌝ }
+    ensures { λ r. ⌜ PlainAt (now (xml .entry)) at r ⌝ }
+{
+    let b = xml[at];
+    if ordinary(b) {
+        return Matched::Takes(at + 1);
+    }
+    if b < 0x80 {
+        return Matched::Fails(at);
+    }
+    wide_at(xml, at)
+}
+
+// Where a character fails; or an entity's character, or one that stands as it is, and where it ends.
+pub enum Piece {
+    Fails(usize),
+    Entity(u8, usize),
+    Plain(usize),
+}
+
+// One of the four entities.
+fn entity_at(xml: &[u8], at: usize) -> Piece
+    requires { ⌜ (at < length (now xml)) × (getD (now xml) at 0 ≡ 0x26) ⌝ }
+    ensures { λ r. ⌜ PieceAt (now (xml .entry)) at r ⌝ }
+{
+    let a = agree(xml, at, b"&amp;");
+    if a == 5 {
+        return Piece::Entity(0x26, at + 5);
+    }
+    let l = agree(xml, at, b"&lt;");
+    if l == 4 {
+        return Piece::Entity(0x3C, at + 4);
+    }
+    let g = agree(xml, at, b"&gt;");
+    if g == 4 {
+        return Piece::Entity(0x3E, at + 4);
+    }
+    let q = agree(xml, at, b"&quot;");
+    if q == 6 {
+        return Piece::Entity(0x22, at + 6);
+    }
+    Piece::Fails(at + larger(a, larger(l, larger(g, q))))
+}
+
+// A character, as it stands in the XML.
+pub fn character_at(xml: &[u8], at: usize) -> Piece
+    requires { ⌜ at < length (now xml) ⌝ }
+    ensures { λ r. ⌜ PieceAt (now (xml .entry)) at r ⌝ }
+{
+    if xml[at] == 0x26 {
+        return entity_at(xml, at);
+    }
+    match plain_at(xml, at) {
+        Matched::Fails(place) => Piece::Fails(place),
+        Matched::Takes(next) => Piece::Plain(next),
+    }
+}

@@ -1,0 +1,270 @@
+// Importing XML as a file (Req 13): the texts of the XML's items, in a file with an Array of String.
+mod character;
+mod standing;
+
+use character::Piece;
+ghost use mathlib.Core.Path.{_≡_};
+ghost use mathlib.Core.Bool.{true};
+ghost use Prim.Native.Nat.{_+_, _^_, _≤_, _<_};
+ghost use lib.ListN.{length};
+ghost use Rattle.layout.specs.Number.{little};
+ghost use Rattle.fill.specs.Fill.{copied};
+ghost use Rattle.reading.specs.Output.{outputOf};
+ghost use Rattle.numbers.specs.Shortest.{shortest};
+ghost use Rattle.xml_reading.specs.Answers.{importOf};
+ghost use Rattle.xml_import.specs.Places.{Known, TextAt, Measures};
+ghost use Rattle.xml_import.specs.Puts.{frontPut, Ready, TextPut, StringPut, Fits, StringsPut, answerOf};
+
+// Where the text of an item fails, or how many bytes it has and where the item ends.
+pub enum Texted {
+    Fails(usize),
+    Ends(usize, usize),
+}
+
+// The text of an item from `at` on, and the item's end; one that is known to have been taken before is only measured.
+fn text_at(xml: &[u8], at: usize, known: bool) -> Texted
+    requires { ⌜ (at ≤ length (now xml)) × (known ≡ true → Known (now xml) at) ⌝ }
+    ensures { λ r. ⌜ TextAt (now (xml .entry)) at r ⌝ }
+{
+    let mut i = at;
+    let mut size = 0;
+    while i < xml.len() {
+        let run = standing::standing(xml, i, known);
+        if i < run {
+            size += run - i;
+            i = run;
+        } else {
+            let n = character::end_at(xml, i);
+            if n == 7 {
+                return Texted::Ends(size, i + 7);
+            }
+            match character::character_at(xml, i) {
+                Piece::Fails(place) => {
+                    return Texted::Fails(character::larger(i + n, place));
+                }
+                Piece::Entity(_, next) => {
+                    size += 1;
+                    i = next;
+                }
+                Piece::Plain(next) => {
+                    size += next - i;
+                    i = next;
+                }
+            }
+        }
+    }
+    Texted::Fails(i)
+}
+
+// How many bytes the shortest form of a text's length has.
+fn length_size(n: usize) -> usize
+    ensures { λ r. ⌜ r ≡ length (shortest n) ⌝ }
+{
+    if n < 128 {
+        return 1;
+    }
+    if n < 16384 {
+        return 2;
+    }
+    if n < 2097152 {
+        return 3;
+    }
+    if n < 268435456 {
+        return 4;
+    }
+    5
+}
+
+// Where the XML is not of the form; or how many texts it has, and how many bytes their file.
+pub enum Measured {
+    Other(usize),
+    Texts(usize, usize),
+}
+
+// Matches the whole XML.
+fn measure(xml: &[u8]) -> Measured
+    ensures { λ r. ⌜ Measures (now (xml .entry)) r ⌝ }
+{
+    let start = b"<?xml version=\"1.0\" encoding=\"utf-8\"?><XnaContent><Asset Type=\"string[]\">";
+    let n = character::agree(xml, 0, start);
+    if n != 73 {
+        return Measured::Other(n);
+    }
+    let mut i = 73;
+    let mut count = 0;
+    let mut size = 133;
+    while i < xml.len() {
+        let e = character::agree(xml, i, b"</Asset></XnaContent>");
+        if e == 21 {
+            let end = i + 21;
+            if end != xml.len() {
+                return Measured::Other(end);
+            }
+            return Measured::Texts(count, size);
+        }
+        let s = character::agree(xml, i, b"<Item>");
+        if s != 6 {
+            return Measured::Other(i + character::larger(e, s));
+        }
+        match text_at(xml, i + 6, false) {
+            Texted::Fails(place) => {
+                return Measured::Other(character::larger(i + e, place));
+            }
+            Texted::Ends(bytes, next) => {
+                count += 1;
+                size += 1 + length_size(bytes) + bytes;
+                i = next;
+            }
+        }
+    }
+    Measured::Other(i)
+}
+
+// A number in four bytes, into the output.
+fn put_four(out: &mut [u8], to: usize, n: usize)
+    ensures { λ _. ⌜ now (out .exit) ≡ copied (now (out .entry)) to (little 4 n) 0 4 ⌝ }
+{
+    let a = n / 256;
+    let b = a / 256;
+    let c = b / 256;
+    let bytes = [
+        (n % 256) as u8,
+        (a % 256) as u8,
+        (b % 256) as u8,
+        (c % 256) as u8,
+    ];
+    fill::copy(out, to, &bytes, 0, 4);
+}
+
+// Two readers and no shared objects, and the type id of an Array that the first reads.
+const LISTS: [u8; 119] = *b"\
+        \x02\
+        \x3eMicrosoft.Xna.Framework.Content.ArrayReader`1[[System.String]]\x00\x00\x00\x00\
+        \x2cMicrosoft.Xna.Framework.Content.StringReader\x00\x00\x00\x00\
+        \x00\
+        \x01";
+
+// What stands before the texts: the header with the file's length, the readers, and the Array with its count.
+fn put_front(out: &mut [u8], size: usize, count: usize)
+    ensures { λ _. ⌜ now (out .exit) ≡ frontPut size count (now (out .entry)) ⌝ }
+{
+    let header = *b"XNBw\x05\x00";
+    let lists = LISTS;
+    fill::copy(out, 0, &header, 0, 6);
+    put_four(out, 6, size);
+    fill::copy(out, 10, &lists, 0, 119);
+    put_four(out, 129, count);
+}
+
+// The text of an item from `at` on, of so many bytes, into the output from `to` on.
+fn put_text(xml: &[u8], out: &mut [u8], at: usize, to: usize, size: usize)
+    requires { ⌜ Ready (now xml) at size × (to + size ≤ length (now out)) ⌝ }
+    ensures { λ _. ⌜ TextPut (now (xml .entry)) at to size (now (out .entry)) (now (out .exit)) ⌝ }
+{
+    let end = to + size;
+    let mut i = at;
+    let mut j = to;
+    while j < end {
+        let run = standing::standing(xml, i, true);
+        if i < run {
+            let k = run - i;
+            fill::copy(out, j, xml, i, k);
+            j += k;
+            i = run;
+        } else {
+            match character::character_at(xml, i) {
+                Piece::Fails(_) => {
+                    return;
+                }
+                Piece::Entity(b, next) => {
+                    let one = [b];
+                    fill::copy(out, j, &one, 0, 1);
+                    j += 1;
+                    i = next;
+                }
+                Piece::Plain(next) => {
+                    let n = next - i;
+                    fill::copy(out, j, xml, i, n);
+                    j += n;
+                    i = next;
+                }
+            }
+        }
+    }
+}
+
+// The same as a String: its type id, its length and the text; answers where it ends.
+fn put_string(xml: &[u8], out: &mut [u8], at: usize, to: usize, size: usize) -> usize
+    requires { ⌜ Ready (now xml) at size × (size < 2 ^ 32) × (to + 1 + length (shortest size) + size ≤ length (now out)) ⌝ }
+    ensures { λ r. ⌜ StringPut (now (xml .entry)) at to size (now (out .entry)) (now (out .exit)) r ⌝ }
+{
+    let id = [2u8];
+    fill::copy(out, to, &id, 0, 1);
+    let next = to + 1;
+    numbers::shortest::write_shortest(out, next, size as u32);
+    let start = next + length_size(size);
+    put_text(xml, out, at, start, size);
+    start + size
+}
+
+// So many items from byte 73 on, as Strings into the output from byte 133 on.
+fn put_strings(xml: &[u8], out: &mut [u8], count: usize)
+    requires { ⌜ Fits (now xml) count (length (now out)) ⌝ }
+    ensures { λ _. ⌜ StringsPut (now (xml .entry)) (now (out .entry)) (now (out .exit)) ⌝ }
+{
+    let mut i = 73;
+    let mut to = 133;
+    let mut k = 0;
+    while k < count {
+        let at = i + 6;
+        match text_at(xml, at, true) {
+            Texted::Fails(_) => {
+                return;
+            }
+            Texted::Ends(size, next) => {
+                to = put_string(xml, out, at, to, size);
+                i = next;
+            }
+        }
+        k += 1;
+    }
+}
+
+// A refusal's number and place, or the length of the file.
+pub enum Importing {
+    Refused { number: u32, place: usize },
+    Imported { length: usize },
+}
+
+// Imports XML: the shortest file with its texts, into the output.
+pub fn import(xml: &[u8], out: &mut [u8]) -> Importing
+    ensures { λ r. ⌜ r ≡ answerOf (importOf (now (xml .entry)) (length (now (out .entry)))) ⌝ }
+    ensures { λ _. ⌜ now (out .exit) ≡ outputOf (importOf (now (xml .entry)) (length (now (out .entry)))) (now (out .entry)) ⌝ }
+{
+    match measure(xml) {
+        Measured::Other(place) => Importing::Refused { number: 64, place },
+        Measured::Texts(count, size) => {
+            if 65535 < count {
+                return Importing::Refused {
+                    number: 9,
+                    place: 0,
+                };
+            }
+            if 16777216 < size {
+                return Importing::Refused {
+                    number: 9,
+                    place: 0,
+                };
+            }
+            if out.len() < size {
+                return Importing::Refused {
+                    number: 21,
+                    place: size,
+                };
+            }
+            put_front(out, size, count);
+            put_strings(xml, out, count);
+            Importing::Imported { length: size }
+        }
+    }
+}
