@@ -39,6 +39,18 @@ uint64_t xnb_load(const uint8_t *file, size_t file_length);
 uint64_t xnb_load_rows(const uint8_t *file, size_t file_length, const uint8_t *enums, size_t enums_length,
                        uint32_t *words, size_t words_length, uint32_t *readers, uint32_t *shared, uint32_t *padding);
 
+/* Loads a file for the driver's own screen, as xnb_load_rows does, if it keeps the driver's rules. What xnb_load_rows refuses
+   is refused with the same answer; then the rules are judged one after the other, and the first that is broken decides:
+   41 the platform is not `w` (at 3); 42 a seven-bit number is not in its shortest form (at the number); 43 no type id
+   names a listed reader (at the first byte of the reader's name); 44 a reader has the target of an earlier one (at the first
+   byte of the later one's name); 45 a String key has the bytes of an earlier key of its dictionary (at the later key's first
+   byte, the lowest of all dictionaries); 46 the first object is no Page (at its first byte); 47 a page's next has resource id
+   0 (at the reference). Of one rule the lowest place decides. After every refusal all words are zero, and so are the number of
+   readers, the shared count and the padding. A dictionary of n keys takes about n log n comparisons of texts; the entry takes
+   256 KB more of stack than xnb_load_rows. */
+uint64_t xnb_load_driver(const uint8_t *file, size_t file_length, const uint8_t *enums, size_t enums_length,
+                         uint32_t *words, size_t words_length, uint32_t *readers, uint32_t *shared, uint32_t *padding);
+
 /* Writes the file, with each seven-bit number in its shortest form and the header's length set, to the start of `out`, and
    leaves in the words what loading the file leaves. The answer is packed, with the length of the rewritten file in place of
    the number of rows. On a refusal `out` is unchanged and the words are zero; 21 says that `out` is too short, and its place

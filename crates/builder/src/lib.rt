@@ -1,5 +1,6 @@
 // The entries for an asset builder in another language: each takes slices and numbers, and answers one number.
 mod by_columns;
+mod driver_entry;
 mod pack;
 mod xml;
 

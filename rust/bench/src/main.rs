@@ -4,6 +4,7 @@
 //! All tasks use the same file, words and output; these are not cleared between turns.
 
 mod branches;
+mod driver;
 mod inputs;
 mod marks;
 mod measure;
@@ -20,7 +21,7 @@ use second::NO_ENUMS;
 use std::hint::black_box;
 use xnb::{Loader, Shape};
 
-const PARTS: [(&str, fn()); 15] = [
+const PARTS: [(&str, fn()); 16] = [
     ("builder", builder),
     ("load", load),
     ("load-columns", load_columns),
@@ -36,6 +37,7 @@ const PARTS: [(&str, fn()); 15] = [
     ("marks", marks::convert),
     ("salvage", salvage::salvage),
     ("xml", xml::measure),
+    ("driver", driver::measure),
 ];
 
 /// Measures the parts that are named, or all.

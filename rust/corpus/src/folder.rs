@@ -42,6 +42,7 @@ fn all_kept_files() -> Vec<Sample> {
                 rows: std::fs::read_to_string(path.with_extension("rows")).expect("its rows"),
                 padding: kept_padding(&path.with_extension("padding")),
                 export: std::fs::read(path.with_extension("export")).ok(),
+                driver: std::fs::read_to_string(path.with_extension("driver")).ok(),
                 kept: true,
             });
         }

@@ -7,7 +7,8 @@
 //! enums that is lent (empty without such a line), and the others are the file's bytes: two hexadecimal digits for a byte,
 //! `AA*60` for sixty of them, and characters in quotation marks.
 //! Lines behind `xml` and `xml-bytes` are the XML that the file's export must give, the former as it stands and the
-//! latter in bytes; a line behind `export` is the refusal of the export.
+//! latter in bytes; a line behind `export` is the refusal of the export. A line behind `driver` is what the driver's
+//! profile says of the file, `passed` or a refusal.
 
 use crate::sample::Sample;
 
@@ -23,6 +24,7 @@ const TEXTS: &[&str] = &[
     include_str!("../literal/meshes.txt"),
     include_str!("../literal/retyped.txt"),
     include_str!("../literal/exports.txt"),
+    include_str!("../literal/driver.txt"),
 ];
 
 pub fn samples() -> Vec<Sample> {
@@ -50,6 +52,7 @@ fn sample(block: &str) -> Option<Sample> {
     let mut rows = String::new();
     let mut padding = 0;
     let mut export: Option<Vec<u8>> = None;
+    let mut driver = None;
     for line in lines {
         if let Some(printed) = line.strip_prefix("= ") {
             rows += &format!("{printed}\n");
@@ -57,6 +60,8 @@ fn sample(block: &str) -> Option<Sample> {
             export.get_or_insert_default().extend(xml);
         } else if let Some(refusal) = line.strip_prefix("export ") {
             export = Some(format!("{refusal}\n").into());
+        } else if let Some(answer) = line.strip_prefix("driver ") {
+            driver = Some(format!("{answer}\n"));
         } else if let Some(entries) = line.strip_prefix("enums ") {
             enums.extend(line_bytes(entries));
         } else if let Some(number) = line.strip_prefix("padding ") {
@@ -73,6 +78,7 @@ fn sample(block: &str) -> Option<Sample> {
         rows,
         padding,
         export,
+        driver,
         kept: true,
     })
 }

@@ -13,6 +13,8 @@ pub struct Sample {
     pub padding: usize,
     /// What its export as XML must give, where the sample tells it: the XML, or a refusal's line.
     pub export: Option<Vec<u8>>,
+    /// What the driver's profile must say of it, where the sample tells it: `passed`, or a refusal's line.
+    pub driver: Option<String>,
     /// Whether the sample is kept in the repository as files; every sample is used in tests.
     pub kept: bool,
 }
@@ -33,8 +35,8 @@ impl Sample {
 
     /// The files that keep the sample, by name.
     ///
-    /// NAME.enums stands beside the others unless the list is empty, NAME.padding unless the padding is 0, and
-    /// NAME.export where the sample tells its export.
+    /// NAME.enums stands beside the others unless the list is empty, NAME.padding unless the padding is 0,
+    /// and NAME.export and NAME.driver where the sample tells its export and the driver's answer.
     pub fn files(&self) -> Vec<(String, Vec<u8>)> {
         let mut files = vec![
             (format!("{}.xnb", self.name), self.bytes.clone()),
@@ -50,6 +52,9 @@ impl Sample {
         if let Some(export) = &self.export {
             files.push((format!("{}.export", self.name), export.clone()));
         }
+        if let Some(driver) = &self.driver {
+            files.push((format!("{}.driver", self.name), driver.clone().into()));
+        }
         files
     }
 }
@@ -64,6 +69,7 @@ pub fn accepted(name: &str, file: File) -> Sample {
         bytes: written.bytes,
         enums: Vec::new(),
         export: None,
+        driver: None,
         kept: true,
     }
 }
@@ -84,6 +90,7 @@ pub fn refused_bytes(name: &str, number: u32, place: usize, bytes: Vec<u8>) -> S
         bytes,
         enums: Vec::new(),
         export: None,
+        driver: None,
         kept: true,
     }
 }

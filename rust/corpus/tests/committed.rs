@@ -29,7 +29,7 @@ fn kept_files_are_up_to_date() {
         let name = entry.expect("a file").file_name();
         let name = name.to_string_lossy().into_owned();
         let extension = name.rsplit('.').next().unwrap_or(&name);
-        if ["xnb", "rows", "enums", "padding", "export"].contains(&extension) {
+        if ["xnb", "rows", "enums", "padding", "export", "driver"].contains(&extension) {
             found.insert(name);
         }
     }

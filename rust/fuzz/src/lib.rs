@@ -7,11 +7,13 @@
 //! `enums::case(seed)` gives one with a list of enum types that is lent with it, and `enums::limits()` those at bounds.
 //! `meshes::case(seed)` gives one with many meshes, and `meshes::limits()` those at bounds.
 //! `padding::case(seed)` gives one whose seven-bit numbers are padded by chosen amounts.
+//! `driver::case(seed)` gives one that breaks chosen rules of the driver's profile, and `driver::limits()` those at bounds.
 //! `xml::exports` gives files to be exported as XML, and `xml::imports` XML to be imported.
 //! `tables::case(seed)` gives a table that no loader left, and `tables::in_columns` puts a table into columns.
 
 mod aimed;
 mod blind;
+pub mod driver;
 pub mod enums;
 pub mod limits;
 mod maker;

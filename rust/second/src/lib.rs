@@ -4,6 +4,7 @@
 
 mod branches;
 mod cursor;
+pub mod driver;
 mod enums;
 mod header;
 mod image;

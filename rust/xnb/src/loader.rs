@@ -107,13 +107,54 @@ impl<'e> Loader<'e> {
         file: &[u8],
         words: &mut [u32],
     ) -> Result<Loaded, Refused> {
-        let answer = raw::load_table(shape, file, self.enums, words);
-        Ok(Loaded {
-            rows: unpacked(answer.packed)?,
-            readers: answer.readers as usize,
-            shared: answer.shared as usize,
-            padding: answer.padding as usize,
-        })
+        loaded(raw::load_table(shape, file, self.enums, words))
+    }
+
+    /// Loads a file for the driver's own screen, with room for all its rows.
+    ///
+    /// What [`load`](Loader::load) refuses is refused alike; then each rule of the driver's profile is judged, and the
+    /// first that is broken decides: platform `w`, every seven-bit number in its shortest form, every reader used, no
+    /// two readers of one target, no two String keys of equal bytes in a dictionary, a Page first, and a next page to
+    /// each page.
+    ///
+    /// ```
+    /// use xnb::{Loader, Refusal, Table};
+    ///
+    /// // A page of no title that leads to itself, as the primary object and as the shared one.
+    /// let mut file = b"XNBw\x05\x00\x59\x00\x00\x00\x01\x18Coach.Console.PageReader\x00\x00\x00\x00\x01".to_vec();
+    /// for _ in 0..2 {
+    ///     file.extend_from_slice(b"\x01\x00\x00\x00\x00\x00\x00\x00\x00\x00\x00\x00\x00\x00\x00\x00\x00\x00\x00\x01");
+    /// }
+    /// file[6] = file.len() as u8;
+    /// let table = Loader::new().load_driver(&file)?;
+    /// assert_eq!(table.words(), Table::load(&file)?.words());
+    ///
+    /// // No next page: the plain loader takes it.
+    /// let last = file.len() - 1;
+    /// file[last] = 0;
+    /// assert!(Table::load(&file).is_ok());
+    /// let refused = Loader::new().load_driver(&file).unwrap_err();
+    /// assert_eq!((refused.refusal, refused.place as usize), (Refusal::NoNextPage, last));
+    /// let told = xnb::explain(&file, refused, 1024).unwrap();
+    /// assert_eq!(told.found, "the page without a title of row 5 has no next page");
+    /// # Ok::<(), xnb::Refused>(())
+    /// ```
+    pub fn load_driver<'f>(self, file: &'f [u8]) -> Result<Table<'f>, Refused> {
+        let table = self.load_driver_into(file, full_words(file))?;
+        Ok(table.without_room_left())
+    }
+
+    /// Loads a file for the driver's own screen into these words, by rows.
+    pub fn load_driver_into<'f, W>(
+        self,
+        file: &'f [u8],
+        mut words: W,
+    ) -> Result<Table<'f, W>, Refused>
+    where
+        W: AsRef<[u32]> + AsMut<[u32]>,
+    {
+        let loaded = loaded(raw::load_driver(file, self.enums, words.as_mut()))?;
+        Ok(Grid::of(file, words, loaded))
     }
 
     /// Writes the shortest form of a file to the start of the output, as [`rewrite`](crate::rewrite) does.
@@ -134,4 +175,14 @@ impl<'e> Loader<'e> {
     pub fn explain(self, file: &[u8], refused: Refused, room: usize) -> Option<Explanation<'_>> {
         explain_with(self.enums, file, refused, room)
     }
+}
+
+/// What an entry that loads answers.
+fn loaded(answer: raw::LoadAnswer) -> Result<Loaded, Refused> {
+    Ok(Loaded {
+        rows: unpacked(answer.packed)?,
+        readers: answer.readers as usize,
+        shared: answer.shared as usize,
+        padding: answer.padding as usize,
+    })
 }

@@ -118,6 +118,17 @@ mod entries {
             ticks: *mut u32,
         ) -> u32;
         pub fn xnb_columns_next(words: *const u32, words_length: usize, row: u32) -> u32;
+        pub fn xnb_load_driver(
+            file: *const u8,
+            file_length: usize,
+            enums: *const u8,
+            enums_length: usize,
+            words: *mut u32,
+            words_length: usize,
+            readers: *mut u32,
+            shared: *mut u32,
+            padding: *mut u32,
+        ) -> u64;
     }
 }
 
@@ -148,6 +159,28 @@ pub fn load_table(shape: Shape, file: &[u8], enums: &[u8], words: &mut [u32]) ->
         Shape::Rows => entries::xnb_load_rows,
         Shape::Columns => entries::xnb_load_columns,
     };
+    call_load(entry, file, enums, words)
+}
+
+/// Loads a file for the driver's own screen into lent words, by rows.
+pub fn load_driver(file: &[u8], enums: &[u8], words: &mut [u32]) -> LoadAnswer {
+    call_load(entries::xnb_load_driver, file, enums, words)
+}
+
+/// An entry that loads.
+type Load = unsafe extern "C" fn(
+    *const u8,
+    usize,
+    *const u8,
+    usize,
+    *mut u32,
+    usize,
+    *mut u32,
+    *mut u32,
+    *mut u32,
+) -> u64;
+
+fn call_load(entry: Load, file: &[u8], enums: &[u8], words: &mut [u32]) -> LoadAnswer {
     let (mut readers, mut shared, mut padding) = (u32::MAX, u32::MAX, u32::MAX);
     let packed = unsafe {
         entry(

@@ -36,6 +36,13 @@ pub enum Refusal {
     ArgumentBrackets = 36,
     TailByte = 37,
     NestedTooDeep = 38,
+    OtherPlatform = 41,
+    PaddedNumber = 42,
+    UnusedReader = 43,
+    EqualReaders = 44,
+    RepeatedKey = 45,
+    NotAPageFirst = 46,
+    NoNextPage = 47,
     MissingMark = 51,
     ListTooShort = 52,
     NoTextList = 61,
@@ -47,7 +54,7 @@ pub enum Refusal {
 use Refusal::*;
 
 /// Each refusal with its rule in words, in order of number.
-const RULES: [(Refusal, &str); 37] = [
+const RULES: [(Refusal, &str); 44] = [
     (PastEnd, "a field runs past the end of the file"),
     (NotXnb, "the file does not begin with XNB"),
     (Platform, "the platform is not w, m or x"),
@@ -100,6 +107,22 @@ const RULES: [(Refusal, &str); 37] = [
     ),
     (TailByte, "bad byte in a tail"),
     (NestedTooDeep, "nested past 8"),
+    (
+        OtherPlatform,
+        "the driver's screen takes platform w, not another",
+    ),
+    (
+        PaddedNumber,
+        "a seven-bit number is not in its shortest form",
+    ),
+    (UnusedReader, "no type id names a listed reader"),
+    (EqualReaders, "a reader has the target of an earlier one"),
+    (
+        RepeatedKey,
+        "a String key has the bytes of an earlier key of its dictionary",
+    ),
+    (NotAPageFirst, "the first object is no Page"),
+    (NoNextPage, "a page's next has resource id 0"),
     (MissingMark, "a file's record does not begin with a mark"),
     (
         ListTooShort,
@@ -136,6 +159,11 @@ impl Refusal {
             .find(of_self)
             .expect("every refusal has a rule")
             .1
+    }
+
+    /// Whether a file breaks the driver's profile alone (41 to 47).
+    pub(crate) fn is_of_profile(self) -> bool {
+        (OtherPlatform..=NoNextPage).contains(&self)
     }
 
     /// Whether a reader's name breaks the grammar (33 to 38).
@@ -187,13 +215,14 @@ mod tests {
 
     #[test]
     fn numbers_and_refusals_match() {
-        let packs_and_xml = [51, 52, 61, 62, 63, 64];
-        for number in (1..=9).chain(11..=24).chain(31..=38).chain(packs_and_xml) {
+        let of_files = (1..=9).chain(11..=24).chain(32..=38).chain(41..=47);
+        let of_packs_and_xml = [31, 51, 52, 61, 62, 63, 64];
+        for number in of_files.chain(of_packs_and_xml) {
             let refusal = Refusal::of_number(number).expect("a refusal");
             assert_eq!(refusal.number(), number);
             assert!(!refusal.rule().is_empty());
         }
-        for number in [0, 10, 25, 39, 50, 53, 60, 65] {
+        for number in [0, 10, 25, 39, 40, 48, 50, 53, 60, 65] {
             assert_eq!(Refusal::of_number(number), None);
         }
     }

@@ -80,6 +80,13 @@ impl<'f, S: Shaped> Grid<'f, S> {
     }
 }
 
+impl<'f> Table<'f> {
+    /// Loads a file for the driver's own screen, as [`Loader::load_driver`] does.
+    pub fn load_driver(file: &'f [u8]) -> Result<Table<'f>, Refused> {
+        Loader::new().load_driver(file)
+    }
+}
+
 impl<'f, S: Shaped, W: AsRef<[u32]> + AsMut<[u32]>> Grid<'f, S, W> {
     /// Loads a file into these words; a row takes [`WORDS_PER_ROW`].
     pub fn load_into(file: &'f [u8], words: W) -> Result<Grid<'f, S, W>, Refused> {

@@ -196,8 +196,13 @@ fn padding(table: &xnb::Table) -> String {
 fn texts(table: &xnb::Table) -> String {
     let rows = (0..).zip(table.rows());
     let rows = rows.filter(|(_, row)| row.kind == xnb::Kind::String);
-    rows.map(|(number, _)| format!("row {number}: {}\n", table.text(number).expect("a text")))
-        .collect()
+    let line = |(number, _)| {
+        let text = table.text(number).expect("a text");
+        // C's printf ends a text at a byte 0.
+        let (text, _) = text.split_once('\0').unwrap_or((text, ""));
+        format!("row {number}: {text}\n")
+    };
+    rows.map(line).collect()
 }
 
 /// The lines that it prints for the kinds of a table's objects.

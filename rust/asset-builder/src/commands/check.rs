@@ -1,7 +1,7 @@
 //! `check`: whether the asset builder takes each file.
 
 use super::ranking::{Padding, Ranking};
-use super::{at_most_all_rows, counted, for_each, load, BUILDER_ROWS};
+use super::{at_most_all_rows, counted, for_each, load, words_for, BUILDER_ROWS};
 use crate::enums::Enums;
 use crate::input::{Input, Inputs};
 use crate::json::{Line, Report, Why};
@@ -9,7 +9,7 @@ use crate::refusal::Told;
 use crate::run::{End, Run, Status};
 use serde::Serialize;
 use std::fmt::{self, Display, Formatter};
-use xnb::{Loaded, Loader, Refused};
+use xnb::{Loaded, Loader, Refused, Table};
 
 /// Say whether the asset builder takes each file, and why not
 ///
@@ -19,6 +19,10 @@ use xnb::{Loaded, Loader, Refused};
 /// numbers have more than their shortest forms, which `shorten` leaves out. A refusal
 /// names the rule, what was found, and the bytes around the place. The last line sums
 /// up, with the padding of all files and how many of them pad.
+/// With --driver, a file must keep the rules of the driver's own screen besides:
+/// platform w, each seven-bit number in its shortest form, each reader used and none
+/// of an earlier one's type, no String key twice in a dictionary, a Page as the first
+/// object, and a next page to each page.
 #[derive(clap::Args)]
 #[command(verbatim_doc_comment)]
 pub struct Check {
@@ -32,6 +36,10 @@ pub struct Check {
 
     #[command(flatten)]
     enums: Enums,
+
+    /// Ask whether the driver's own screen takes each file (refusals 41 to 47)
+    #[arg(long)]
+    driver: bool,
 
     /// List the files that pad instead of all that are taken, most padding first, then each folder named with its sum
     #[arg(long)]
@@ -128,12 +136,20 @@ impl Check {
                 }
             }
         };
-        match load(loader, file, self.rows) {
+        match self.load(loader, file) {
             Ok(table) => Checked::accepted(Accepted::of(file, table.loaded())),
             Err(refused) => Checked {
                 answer: Some(packed(refused)),
                 outcome: Outcome::Refused(Told::of_file(loader, file, refused, self.rows as usize)),
             },
+        }
+    }
+
+    /// Loads a file with the rules that are asked for.
+    fn load<'f>(&self, loader: Loader, file: &'f [u8]) -> Result<Table<'f>, Refused> {
+        match self.driver {
+            true => loader.load_driver_into(file, words_for(file, self.rows)),
+            false => load(loader, file, self.rows),
         }
     }
 }

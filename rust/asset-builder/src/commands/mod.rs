@@ -114,8 +114,13 @@ fn for_each(
 
 /// Loads a file with room for so many rows.
 fn load<'f>(loader: Loader, file: &'f [u8], room: u32) -> Result<Table<'f>, xnb::Refused> {
+    loader.load_into(file, words_for(file, room))
+}
+
+/// Words with room for so many rows, or for all that a file can have.
+fn words_for(file: &[u8], room: u32) -> Vec<u32> {
     let rows = file.len().min(room as usize);
-    loader.load_into(file, vec![0; WORDS_PER_ROW * rows])
+    vec![0; WORDS_PER_ROW * rows]
 }
 
 /// Reports a file that cannot be read to a program; to people it was reported when it was met.

@@ -5,6 +5,7 @@
 //! does not show the fault that was named, there is no explanation.
 
 mod cursor;
+mod driver;
 mod header;
 mod meshes;
 mod names;
@@ -101,6 +102,7 @@ pub(crate) fn explain_with<'f>(
         // Their place is no byte of the file.
         Refusal::OutputTooSmall | Refusal::NoSuchRow | Refusal::OtherKind => None,
         Refusal::EnumEntry => explain_entry(enums, refused.place as usize),
+        refusal if refusal.is_of_profile() => driver::explain(enums, file, refused),
         _ => match walk::follow(Cursor::new(file, refused), enums, room.min(MOST_ROWS)) {
             Err(Stop::Found(explanation)) => Some(explanation),
             Err(Stop::Lost) | Ok(()) => None,

@@ -1,0 +1,1 @@
+// Where each rule of the driver's profile is first broken: specifications only.
