@@ -175,6 +175,24 @@ uint64_t xnb_export_xml(const uint8_t *file, size_t file_length, const uint8_t *
    is the number of bytes needed. */
 uint32_t xnb_import_xml(const uint8_t *xml, size_t xml_length, uint8_t *out, size_t out_length, uint64_t *at);
 
+/* The entries below count what packs contain. A report is 132 words, zero at first: word 0 counts files, 1 the XNB files that
+   were accepted, 2 the bytes of texts and 3 the bytes of image levels, both without counts and sizes, 4 + n the XNB files
+   refused with number n, for n below 64, and 68 + k the rows of kind k, for k below 64. A file that does not start with
+   `XNB` counts as a file only, and only an accepted file has rows and bytes. */
+
+/* Adds the files of a pack, as xnb_pack_read reads it, to a report. Each XNB file is loaded under the list of enum types with
+   room for 65,536 rows; a list that is refused counts 32 for each. Writes 0 to `at`. The table is left as xnb_pack_read
+   leaves it, and every word of `words` is zero. On a refusal, of which the answer is the number, `at` is its place, the
+   report is unchanged and every word of the table is zero: 72 `words` has no room for 65,536 rows, which are 458,752 words
+   (at 0, before all else); those of xnb_pack_read; 71 a word of the report would pass 2 to the 64 less 1 (at 0). */
+uint32_t xnb_report_add(const uint8_t *pack, size_t pack_length, const uint8_t *enums, size_t enums_length,
+                        uint64_t *table, size_t table_length, uint32_t *words, size_t words_length,
+                        uint64_t report[132], uint64_t *at);
+
+/* Adds another report word by word. Reports of two lists of packs, made with one list of enum types and one length of table,
+   add up to the report of both. The answer is 0, or 71 if a word would pass 2 to the 64 less 1; `into` is then unchanged. */
+uint32_t xnb_report_sum(uint64_t into[132], const uint64_t other[132]);
+
 #ifdef __cplusplus
 }
 #endif

@@ -2,3 +2,4 @@ pub mod Packed
 pub mod Places
 pub mod Told
 pub mod Packs
+pub mod Reports

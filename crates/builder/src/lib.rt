@@ -1,11 +1,12 @@
 // The entries for an asset builder in another language: each takes slices and numbers, and answers one number.
+mod bare;
 mod by_columns;
 mod driver_entry;
 mod pack;
+mod report;
 mod xml;
 
 use ids::RowNumber;
-use ids::WIDTH;
 use load::Loading;
 use lookups::Moment;
 use lookups::Span;
@@ -40,18 +41,11 @@ fn refused(number: u32, place: usize) -> u64
 pub extern "C" fn xnb_load(file: &[u8]) -> u64
     ensures { λ r. ⌜ r ≡ packed (loadUnder [] (now (file .entry)) (1024 * width)) ⌝ }
 {
-    let mut words = [0u32; 1024 * WIDTH as usize];
-    let mut readers = 0u32;
-    let mut shared = 0u32;
-    let mut padding = 0u32;
-    xnb_load_rows(
-        file,
-        b"",
-        &mut words,
-        &mut readers,
-        &mut shared,
-        &mut padding,
-    )
+    let few = bare::load_few(file);
+    if few / 4294967296 == 19 {
+        return bare::load_many(file);
+    }
+    few
 }
 
 // Loads a file into the words, by rows or in columns, under a list of enum types: the answer is packed as above, and the number of readers, the shared count

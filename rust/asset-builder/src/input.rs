@@ -72,6 +72,11 @@ impl Packs {
         is_one_file(&self.packs)
     }
 
+    /// Whether standard input is among them.
+    pub fn have_stdin(&self) -> bool {
+        self.packs.iter().any(|path| is_stdin(path))
+    }
+
     /// Every pack; what cannot be listed is told.
     pub fn list(&self) -> Vec<Input> {
         list(&self.packs, OF_PACKS)
@@ -202,6 +207,17 @@ impl Input {
     pub fn read_or_report(&self, run: &mut Run) -> Result<Bytes, String> {
         let read = self.bytes(run.progress());
         run.progress().clear();
+        self.reported(run, read)
+    }
+
+    /// The same as a part of work whose progress is shown.
+    pub fn read_as_part(&self, run: &mut Run) -> Result<Bytes, String> {
+        let read = self.bytes(&mut Progress::new(false));
+        self.reported(run, read)
+    }
+
+    /// What was read, or why it was not, which is reported.
+    fn reported(&self, run: &mut Run, read: io::Result<Bytes>) -> Result<Bytes, String> {
         match read {
             Ok(bytes) => {
                 let (name, length) = (self.shown(), bytes.len());

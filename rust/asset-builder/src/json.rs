@@ -3,14 +3,14 @@
 use crate::input::Input;
 use crate::names::is_printable;
 use crate::refusal::Told;
-use serde::Serialize;
+use serde::{Deserialize, Serialize};
 use serde_json::ser::{Formatter, Serializer};
 use std::io::{self, Write};
 use std::os::unix::ffi::OsStrExt;
 use std::path::Path;
 
 /// The number of the form that docs/JSON.md describes.
-const SCHEMA: u32 = 1;
+pub const SCHEMA: u32 = 1;
 
 /// A line of any kind: the form's number, then the fields.
 #[derive(Serialize)]
@@ -47,9 +47,9 @@ impl<T: Serialize> Report<T> {
 }
 
 /// The name of a file, and its bytes where it is no text.
-#[derive(Serialize)]
+#[derive(Clone, Debug, PartialEq, Eq, Serialize, Deserialize)]
 pub struct Name {
-    file: String,
+    pub file: String,
     #[serde(rename = "fileBytes", skip_serializing_if = "Option::is_none")]
     bytes: Option<String>,
 }

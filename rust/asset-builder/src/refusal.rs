@@ -117,6 +117,18 @@ impl<'f> Told<'f> {
         told
     }
 
+    pub fn number(&self) -> u32 {
+        self.number
+    }
+
+    pub fn place(&self) -> u64 {
+        self.place
+    }
+
+    pub fn rule(&self) -> &'static str {
+        self.rule
+    }
+
     /// The first line: `refused 7 at 6: the rule`.
     fn line(&self, paint: Paint) -> String {
         let Told {

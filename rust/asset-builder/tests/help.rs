@@ -5,7 +5,7 @@ mod common;
 use common::{run, shell};
 use corpus::folder::folder;
 
-const COMMANDS: [&str; 13] = [
+const COMMANDS: [&str; 14] = [
     "check",
     "rows",
     "tree",
@@ -17,6 +17,7 @@ const COMMANDS: [&str; 13] = [
     "mark",
     "unmark",
     "salvage",
+    "report",
     "completions",
     "man",
 ];
@@ -65,7 +66,7 @@ fn every_command_has_help_and_a_version() {
 fn wrong_commands_are_told() {
     let sample = "ok-kind-13-string.xnb";
     let pack = "ok-pack-of-one-file.pak";
-    let wrong: [(&[&str], &str); 30] = [
+    let wrong: [(&[&str], &str); 34] = [
         (&[], "Usage: asset-builder [OPTIONS] <COMMAND>"),
         (&["build", sample], "'build'"),
         (&["check"], "<FILE>"),
@@ -105,6 +106,10 @@ fn wrong_commands_are_told() {
         ),
         (&["import", "-"], "--output <OUT.xnb>"),
         (&["import", "-o", "-"], "<IN.xml>"),
+        (&["report"], "<PACK>"),
+        (&["report", "--json", "--csv", pack], "cannot be used with"),
+        (&["report", "sum"], "<REPORT.json>"),
+        (&["report", "sum", "--enums", "a", "b"], "'--enums'"),
         (&["mark", pack], "--output <OUT>"),
         (&["unmark", "-o", "out"], "<IN>"),
         (&["salvage", pack], "--output <OUT>"),
@@ -167,7 +172,8 @@ fn the_manual_page_says_what_the_help_says() {
     }
     let of_packs = OF_PACKS.map(|command| format!("pack {command}"));
     let commands = COMMANDS.iter().map(|command| command.to_string());
-    for command in commands.chain(of_packs) {
+    let of_reports = ["report sum".to_string()];
+    for command in commands.chain(of_packs).chain(of_reports) {
         assert!(page.contains(&format!("\n.SS {command}\n")), "{command}");
         let words: Vec<&str> = command.split(' ').chain(["--help"]).collect();
         let help = run(&words).out;

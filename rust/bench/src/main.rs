@@ -11,6 +11,7 @@ mod measure;
 mod meshes;
 mod names;
 mod packs;
+mod report;
 mod salvage;
 mod search;
 mod xml;
@@ -21,7 +22,7 @@ use second::NO_ENUMS;
 use std::hint::black_box;
 use xnb::{Loader, Shape};
 
-const PARTS: [(&str, fn()); 16] = [
+const PARTS: [(&str, fn()); 17] = [
     ("builder", builder),
     ("load", load),
     ("load-columns", load_columns),
@@ -38,6 +39,7 @@ const PARTS: [(&str, fn()); 16] = [
     ("salvage", salvage::salvage),
     ("xml", xml::measure),
     ("driver", driver::measure),
+    ("report", report::measure),
 ];
 
 /// Measures the parts that are named, or all.

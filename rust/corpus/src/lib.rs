@@ -12,6 +12,7 @@ pub mod meshes;
 pub mod names;
 pub mod packs;
 pub mod readers;
+pub mod reports;
 pub mod sample;
 pub mod values;
 pub mod writer;

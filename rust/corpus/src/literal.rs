@@ -22,9 +22,9 @@ const TEXTS: &[&str] = &[
     include_str!("../literal/values.txt"),
     include_str!("../literal/textures.txt"),
     include_str!("../literal/meshes.txt"),
-    include_str!("../literal/retyped.txt"),
     include_str!("../literal/exports.txt"),
     include_str!("../literal/driver.txt"),
+    include_str!("../literal/retyped.txt"),
 ];
 
 pub fn samples() -> Vec<Sample> {

@@ -38,11 +38,14 @@ fn write_samples(folder: &Path, all: bool) -> std::io::Result<usize> {
             std::fs::write(folder.join(name), bytes)?;
         }
     }
-    let imports = corpus::xml::samples();
-    for (name, bytes) in imports.iter().flat_map(|sample| sample.files()) {
+    let (imports, reports) = (corpus::xml::samples(), corpus::reports::samples());
+    let files = imports.iter().flat_map(|sample| sample.files());
+    let files = files.chain(reports.iter().flat_map(|sample| sample.files()));
+    for (name, bytes) in files {
         std::fs::write(folder.join(name), bytes)?;
     }
-    Ok(samples.len() + imports.len() + corpus::packs::folder::write_packs(folder)?)
+    let packs = corpus::packs::folder::write_packs(folder)?;
+    Ok(samples.len() + imports.len() + reports.len() + packs)
 }
 
 fn write_names(folder: &Path) -> std::io::Result<usize> {

@@ -8,6 +8,7 @@
 //! `meshes::case(seed)` gives one with many meshes, and `meshes::limits()` those at bounds.
 //! `padding::case(seed)` gives one whose seven-bit numbers are padded by chosen amounts.
 //! `driver::case(seed)` gives one that breaks chosen rules of the driver's profile, and `driver::limits()` those at bounds.
+//! `reports::case(seed)` gives a pack to be counted, and `reports::limits()` those at bounds.
 //! `xml::exports` gives files to be exported as XML, and `xml::imports` XML to be imported.
 //! `tables::case(seed)` gives a table that no loader left, and `tables::in_columns` puts a table into columns.
 
@@ -22,6 +23,7 @@ pub mod names;
 pub mod packs;
 pub mod padding;
 pub mod random;
+pub mod reports;
 pub mod retyped;
 mod shape;
 pub mod tables;

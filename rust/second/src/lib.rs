@@ -17,6 +17,7 @@ mod name;
 pub mod pack;
 mod printed;
 mod refusal;
+pub mod report;
 mod rewrite;
 mod row;
 pub mod salvage;

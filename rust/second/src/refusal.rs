@@ -48,6 +48,8 @@ pub const NO_TEXT_LIST: u32 = 61;
 pub const NULL_TEXT: u32 = 62;
 pub const NO_XML_CHARACTER: u32 = 63;
 pub const OTHER_XML: u32 = 64;
+pub const FIGURE_TOO_LARGE: u32 = 71;
+pub const NO_ROOM_FOR_ROWS: u32 = 72;
 
 /// A refusal as the answer of any reading.
 pub fn refuse<T>(number: u32, place: usize) -> Result<T, Refusal> {

@@ -2,7 +2,7 @@
 
 use crate::row::{Row, WORDS_PER_ROW};
 
-const MOST_ROWS: usize = 65_536;
+pub const MOST_ROWS: usize = 65_536;
 
 /// How the words of a table stand.
 #[derive(Clone, Copy, Debug, PartialEq, Eq)]

@@ -7,6 +7,8 @@ use std::process::Command;
 mod meshes;
 #[path = "wrong/names.rs"]
 mod names;
+#[path = "wrong/requests.rs"]
+mod requests;
 
 /// A rule as it stands in a source file, and a wrong one for it.
 struct Wrong {
@@ -139,34 +141,10 @@ const WRONG: &[Wrong] = &[
     },
 ];
 
-/// Prints the name of every file in the folder whose rows or padding are not those beside it.
-const PROBE: &str = r#"
-/// Whether the padding that is told of a file is that beside it, 0 without a file for it.
-fn tells_padding(file: &[u8], enums: &[u8], path: &std::path::Path) -> bool {
-    let line = std::fs::read_to_string(path.with_extension("padding"));
-    let kept = line.unwrap_or("0\n".to_string());
-    let answer = load(file, enums, &mut vec![0; 1024 * WORDS_PER_ROW]);
-    format!("{}\n", padding_told(answer)) == kept
-}
+/// Prints the name of every kept file that gives another answer than is kept beside it.
+const PROBE: &str = include_str!("wrong/probe.txt");
 
-fn main() {
-    let folder = std::env::args().nth(1).expect("a folder");
-    for entry in std::fs::read_dir(folder).expect("the corpus is there") {
-        let path = entry.expect("a file").path();
-        if path.extension().is_some_and(|it| it == "xnb") {
-            let file = std::fs::read(&path).expect("a sample");
-            let enums = std::fs::read(path.with_extension("enums")).unwrap_or_default();
-            let rows = std::fs::read_to_string(path.with_extension("rows")).expect("its rows");
-            let prints_rows = printed_rows_with(&enums, &file) == rows;
-            if !prints_rows || !tells_padding(&file, &enums, &path) {
-                println!("{}", path.file_stem().expect("a name").to_string_lossy());
-            }
-        }
-    }
-}
-"#;
-
-/// Builds a copy of this loader and answers which kept files give other rows by it.
+/// Builds a copy of this program and answers which kept files give other answers by it.
 fn differing(name: &str, wrong: Option<&Wrong>) -> Vec<String> {
     let folder = Path::new(env!("CARGO_TARGET_TMPDIR")).join(name);
     copy_sources(&folder, wrong);
@@ -207,15 +185,24 @@ fn copy_sources(folder: &PathBuf, wrong: Option<&Wrong>) {
 }
 
 #[test]
-fn the_right_rules_give_all_rows() {
+fn the_right_rules_give_all_answers() {
     assert_eq!(differing("right", None), Vec::<String>::new());
 }
 
 #[test]
 fn each_wrong_rule_is_shown_by_a_kept_file() {
     let rules = WRONG.iter().chain(&names::WRONG).chain(&meshes::WRONG);
+    all_are_shown("wrong", rules);
+}
+
+#[test]
+fn each_wrong_rule_over_files_and_packs_is_shown_by_a_kept_file() {
+    all_are_shown("wrong-request", requests::WRONG.iter());
+}
+
+fn all_are_shown<'r>(folder: &str, rules: impl Iterator<Item = &'r Wrong>) {
     for (number, wrong) in rules.enumerate() {
-        let names = differing(&format!("wrong-{number}"), Some(wrong));
+        let names = differing(&format!("{folder}-{number}"), Some(wrong));
         assert!(!names.is_empty(), "no file shows {}", wrong.what);
         println!("{}: {}", wrong.what, names.join(" "));
     }

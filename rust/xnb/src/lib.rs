@@ -24,6 +24,7 @@ pub mod pack;
 #[allow(unsafe_code)]
 pub mod raw;
 mod refusal;
+pub mod report;
 mod row;
 pub mod salvage;
 mod search;
@@ -39,6 +40,7 @@ pub use loader::Loader;
 pub use memory::OutOfMemory;
 pub use pack::Pack;
 pub use refusal::{Refusal, Refused};
+pub use report::Report;
 pub use row::{Detail, Row, MOST_ROWS, WORDS_PER_ROW};
 pub use shape::{ByColumns, ByRows, Shape, Shaped};
 pub use table::{Columns, Grid, Table};

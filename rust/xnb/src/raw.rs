@@ -6,6 +6,7 @@
 
 pub mod marks;
 pub mod pack;
+pub mod report;
 pub mod salvage;
 pub mod xml;
 

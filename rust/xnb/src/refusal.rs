@@ -49,12 +49,14 @@ pub enum Refusal {
     NullText = 62,
     NoXmlCharacter = 63,
     OtherXml = 64,
+    FigureTooLarge = 71,
+    NoRowRoom = 72,
 }
 
 use Refusal::*;
 
 /// Each refusal with its rule in words, in order of number.
-const RULES: [(Refusal, &str); 44] = [
+const RULES: [(Refusal, &str); 46] = [
     (PastEnd, "a field runs past the end of the file"),
     (NotXnb, "the file does not begin with XNB"),
     (Platform, "the platform is not w, m or x"),
@@ -138,6 +140,14 @@ const RULES: [(Refusal, &str); 44] = [
         "a text has a character below 20 hex, U+FFFE or U+FFFF",
     ),
     (OtherXml, "the XML is not of the form that an export writes"),
+    (
+        FigureTooLarge,
+        "a figure of the report would pass 2 to the 64 less 1",
+    ),
+    (
+        NoRowRoom,
+        "the words for rows have no room for 65,536 of them",
+    ),
 ];
 
 impl Refusal {
@@ -216,13 +226,13 @@ mod tests {
     #[test]
     fn numbers_and_refusals_match() {
         let of_files = (1..=9).chain(11..=24).chain(32..=38).chain(41..=47);
-        let of_packs_and_xml = [31, 51, 52, 61, 62, 63, 64];
+        let of_packs_and_xml = [31, 51, 52, 61, 62, 63, 64, 71, 72];
         for number in of_files.chain(of_packs_and_xml) {
             let refusal = Refusal::of_number(number).expect("a refusal");
             assert_eq!(refusal.number(), number);
             assert!(!refusal.rule().is_empty());
         }
-        for number in [0, 10, 25, 39, 40, 48, 50, 53, 60, 65] {
+        for number in [0, 10, 25, 39, 40, 48, 50, 53, 60, 65, 70, 73] {
             assert_eq!(Refusal::of_number(number), None);
         }
     }

@@ -12,6 +12,11 @@ use xnb::{raw, EnumList, Shape, MOST_ROWS, WORDS_PER_ROW};
 /// The types of an entry's parameters and of its answer, as C has them.
 type Types = (Vec<String>, String);
 
+/// What stands between the brackets of a slice or an array.
+fn in_brackets(rattle: &str) -> Option<&str> {
+    rattle.strip_prefix('[')?.strip_suffix(']')
+}
+
 /// What C passes for a type of a parameter in Rattle.
 fn c_types(rattle: &str) -> Vec<String> {
     let number = |name: &str| match name {
@@ -22,8 +27,16 @@ fn c_types(rattle: &str) -> Vec<String> {
         "usize" => "size_t",
         _ => panic!("a type that C entries do not have: {rattle}"),
     };
-    let slice = |it: &str| it.strip_prefix('[')?.strip_suffix(']').map(number);
     let length = "size_t".to_string();
+    let (constant, inner) = match rattle.strip_prefix("&mut ") {
+        Some(inner) => ("", inner),
+        None => ("const ", rattle.trim_start_matches('&')),
+    };
+    if let Some((element, count)) = in_brackets(inner).and_then(|it| it.split_once("; ")) {
+        // An array has its length in its type.
+        return vec![format!("{constant}{} [{count}]", number(element))];
+    }
+    let slice = |it| in_brackets(it).map(number);
     match rattle.strip_prefix("&mut ") {
         Some(inner) => match slice(inner) {
             Some(element) => vec![format!("{element} *"), length],
@@ -67,8 +80,11 @@ fn without(text: &str, start: &str, end: &str) -> String {
     rest
 }
 
-/// The type of a parameter, which stands before its name.
+/// The type of a parameter, which stands before its name; the length of an array stands behind it.
 fn type_of(parameter: &str) -> String {
+    if let Some((element, length)) = parameter.trim().split_once('[') {
+        return format!("{} [{length}", type_of(element));
+    }
     let name = |it: char| it.is_ascii_alphanumeric() || it == '_';
     let words = parameter.trim().trim_end_matches(name);
     words.trim().to_string()

@@ -8,6 +8,7 @@ mod import;
 mod man;
 mod pack;
 mod ranking;
+mod report;
 mod retype;
 mod rows;
 mod salvage;
@@ -57,6 +58,7 @@ pub enum Command {
     Mark(convert::Mark),
     Unmark(convert::Unmark),
     Salvage(salvage::Salvage),
+    Report(report::Report),
     Completions(completions::Completions),
     Man(man::Man),
 }
@@ -75,6 +77,7 @@ impl Command {
             Command::Mark(command) => command.run(run),
             Command::Unmark(command) => command.run(run),
             Command::Salvage(command) => command.run(run),
+            Command::Report(command) => command.run(run),
             Command::Completions(command) => command.run(run),
             Command::Man(command) => command.run(run),
         }

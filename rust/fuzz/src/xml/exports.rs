@@ -5,7 +5,7 @@ use super::{refused, XmlKnown};
 use crate::enums::{bytes_of, damaged, some_enums, with_enums, Listed};
 use crate::maker::{make, Planted};
 use crate::random::Random;
-use crate::shape::{Shape, ARRAY, LIST, STRING};
+use crate::shape::{Shape, ARRAY, STRING};
 use crate::{blind, some_words};
 use corpus::readers::{array_of, list_of};
 use corpus::values::*;
@@ -52,33 +52,38 @@ struct Maker<'r> {
 /// What stands for a text: no string is a null.
 type Text = Option<String>;
 
+/// The target of the reader that a list of texts needs.
+fn text_list() -> Shape {
+    Shape::of(ARRAY, Shape::plain(STRING))
+}
+
+const LONGEST_NAME: usize = 1024;
+
 impl Maker<'_> {
     /// The array of texts in a file: two readers and perhaps others in any order, any of the String readers for a
     /// text, any platform and flags, some numbers padded.
     fn file(&mut self, texts: &[Text], shared: Vec<Value>) -> File {
-        let array_shape = Shape::of(ARRAY, Shape::plain(STRING));
-        let mut shapes = vec![Shape::plain(STRING)];
-        for _ in 0..self.random.pick(&[0, 0, 0, 1, 3]) {
-            let shape = Shape::any(self.random);
-            let other = with_enums(self.random, shape, self.enums);
-            let shape = self
-                .random
-                .pick(&[&other, &Shape::plain(STRING), &array_shape])
-                .clone();
-            let place = self.random.below(shapes.len() + 1);
+        let mut shapes = Vec::new();
+        let mut names = Vec::new();
+        let further = self.random.pick(&[0, 0, 0, 1, 3]);
+        for number in 0..2 + further {
+            let (shape, name) = match number {
+                0 => self.named(Shape::plain(STRING)),
+                1 => self.named(text_list()),
+                _ => self.further_reader(),
+            };
+            let place = self.random.below(names.len() + 1);
             shapes.insert(place, shape);
+            names.insert(place, name);
         }
-        let place = self.random.below(shapes.len() + 1);
-        shapes.insert(place, array_shape.clone());
-        let names: Vec<String> = shapes.iter().map(|it| self.reader_name(it)).collect();
-
-        let elements = texts.iter().map(|it| self.text(it, &shapes));
-        let elements = array(elements.collect());
-        let mut file = file(
-            &names,
-            object(self.id_of(&array_shape, &shapes), elements),
-            shared,
-        );
+        let ids_of = |target: Shape| {
+            let ids = (1..).zip(&shapes).filter(|(_, shape)| **shape == target);
+            ids.map(|(id, _)| id).collect::<Vec<u32>>()
+        };
+        let (text_ids, list_ids) = (ids_of(Shape::plain(STRING)), ids_of(text_list()));
+        let elements = texts.iter().map(|it| self.text(it, &text_ids)).collect();
+        let primary = object(self.random.pick(&list_ids), array(elements));
+        let mut file = file(&names, primary, shared);
         file.start[3] = self.random.pick(b"wwmx");
         file.start[5] = self.random.pick(&[0, 0, 1]);
         if self.random.chance(30) {
@@ -88,31 +93,34 @@ impl Maker<'_> {
         file
     }
 
-    /// A name that is not too long.
-    fn reader_name(&mut self, shape: &Shape) -> String {
+    /// A target and the name of its reader, with any tails.
+    fn named(&mut self, shape: Shape) -> (Shape, String) {
+        let name = shape.reader_name(self.random);
+        (shape, name)
+    }
+
+    /// Another reader, or once more one of the two that are needed.
+    fn further_reader(&mut self) -> (Shape, String) {
         loop {
-            let name = shape.reader_name(self.random);
-            if name.len() <= 1024 {
-                return name;
+            let any = Shape::any(self.random);
+            let shape = match self.random.below(3) {
+                0 => Shape::plain(STRING),
+                1 => text_list(),
+                _ => with_enums(self.random, any, self.enums),
+            };
+            let (shape, name) = self.named(shape);
+            if name.len() <= LONGEST_NAME {
+                return (shape, name);
             }
         }
     }
 
-    fn text(&mut self, of: &Text, shapes: &[Shape]) -> Value {
+    /// A text by one of these readers, or null.
+    fn text(&mut self, of: &Text, ids: &[u32]) -> Value {
         match of {
-            Some(characters) => {
-                let id = self.id_of(&Shape::plain(STRING), shapes);
-                bound_object(id, text(characters))
-            }
+            Some(characters) => bound_object(self.random.pick(ids), text(characters)),
             None => null(),
         }
-    }
-
-    /// The type id of one of the readers with this target.
-    fn id_of(&mut self, target: &Shape, shapes: &[Shape]) -> u32 {
-        let same = shapes.iter().enumerate().filter(|(_, it)| *it == target);
-        let ids: Vec<u32> = same.map(|(position, _)| position as u32 + 1).collect();
-        self.random.pick(&ids)
     }
 
     fn texts(&mut self) -> Vec<Text> {
@@ -151,11 +159,8 @@ impl Maker<'_> {
     /// 61: a primary that differs from an Array of String in one thing.
     fn other_primary(mut self) -> ExportCase {
         let string = || Shape::plain(STRING).reader_head();
-        let texts: Vec<Value> = self
-            .texts()
-            .iter()
-            .map(|it| self.text(it, &[Shape::plain(LIST), Shape::plain(STRING)]))
-            .collect();
+        let texts = self.texts();
+        let texts: Vec<Value> = texts.iter().map(|it| self.text(it, &[2])).collect();
         let (readers, primary) = match self.random.below(6) {
             0 => (vec![], null()),
             1 => (vec![string()], object(1, text("a"))),
