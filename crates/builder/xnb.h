@@ -1,7 +1,8 @@
 /* The entries for an asset builder. Link libbuilder.a, which `rt staticlib builder` writes.
 
    No pointer may be NULL. One with a length of 0 may point anywhere else. What an entry writes to may overlap nothing
-   else that it is given.
+   else that it is given. The entries keep nothing from call to call and have no data of their own, so threads may call them
+   at once, each with buffers that no other writes to. They allocate nothing, and call memcpy and memset and nothing else.
 
    A packed answer is the refusal's number (0 if there is none) times 2 to the 32, plus the refusal's place, or the number
    of rows. Any other answer is the refusal's number, or 0; those of xnb_next, xnb_columns_next and xnb_pack_find
@@ -11,6 +12,157 @@
 
 #include <stddef.h>
 #include <stdint.h>
+
+/* The version of this header. */
+#define XNB_VERSION "0.1.0"
+
+/* Limits and sizes: the bytes of an XNB file; the words of a row and the rows that a table has room for at most; for a pack
+   the words of a file in its table, its files, the bytes of a path; the words of a skipped stretch and how many there are at
+   most; the words of a report. */
+#define XNB_LONGEST_FILE 16777216
+#define XNB_WORDS_PER_ROW 7
+#define XNB_MOST_ROWS 65536
+#define XNB_WORDS_PER_PACK_FILE 4
+#define XNB_MOST_PACK_FILES 4096
+#define XNB_LONGEST_PATH 260
+#define XNB_WORDS_PER_STRETCH 2
+#define XNB_MOST_STRETCHES 4097
+#define XNB_WORDS_PER_REPORT 132
+
+/* The words of a row by place: words[XNB_WORDS_PER_ROW * row + XNB_WORD_KIND], in columns words[room * XNB_WORD_KIND + row]. */
+enum xnb_word {
+    XNB_WORD_KIND = 0,     /* one of the kinds below */
+    XNB_WORD_FIRST = 1,    /* the place of the value's first byte in the file; an object's is that of its type id, a level's
+                              that of its size */
+    XNB_WORD_LENGTH = 2,   /* its number of bytes from there on */
+    XNB_WORD_CHILDREN = 3, /* its number of children */
+    XNB_WORD_PARENT = 4,   /* its parent's row number plus 1, or 0 */
+    XNB_WORD_DETAIL = 5,   /* the type id of an object that is not null, the resource id of a reference, else 0 */
+    XNB_WORD_ROWS = 6      /* its number of rows with all below it, itself included */
+};
+
+/* Each kind of a value: its name, its number, what it is. */
+#define XNB_EACH_KIND(X) \
+    X(XNB_KIND_NULL, 0, "an object that is missing") \
+    X(XNB_KIND_BYTE, 1, "a whole number from 0 to 255") \
+    X(XNB_KIND_SBYTE, 2, "a whole number from -128 to 127") \
+    X(XNB_KIND_INT16, 3, "a whole number of two bytes") \
+    X(XNB_KIND_UINT16, 4, "a whole number of two bytes without a sign") \
+    X(XNB_KIND_INT32, 5, "a whole number of four bytes") \
+    X(XNB_KIND_UINT32, 6, "a whole number of four bytes without a sign") \
+    X(XNB_KIND_INT64, 7, "a whole number of eight bytes") \
+    X(XNB_KIND_UINT64, 8, "a whole number of eight bytes without a sign") \
+    X(XNB_KIND_SINGLE, 9, "a floating-point number of four bytes") \
+    X(XNB_KIND_DOUBLE, 10, "a floating-point number of eight bytes") \
+    X(XNB_KIND_BOOLEAN, 11, "true or false") \
+    X(XNB_KIND_CHAR, 12, "a character of one to three bytes of UTF-8") \
+    X(XNB_KIND_STRING, 13, "a text in UTF-8 behind its number of bytes") \
+    X(XNB_KIND_ENUM, 15, "a whole number that stands for a name") \
+    X(XNB_KIND_NULLABLE, 16, "a value that may be missing") \
+    X(XNB_KIND_ARRAY, 17, "elements of one type behind their number") \
+    X(XNB_KIND_LIST, 18, "elements of one type behind their number") \
+    X(XNB_KIND_DICTIONARY, 19, "pairs of a key and a value behind their number") \
+    X(XNB_KIND_TIME_SPAN, 20, "a length of time in ticks of 100 nanoseconds") \
+    X(XNB_KIND_DATE_TIME, 21, "a moment in ticks of 100 nanoseconds from the year 1 on, and its zone") \
+    X(XNB_KIND_DECIMAL, 22, "a decimal number of up to 28 places behind the point") \
+    X(XNB_KIND_VECTOR2, 23, "two Single numbers, x and y") \
+    X(XNB_KIND_VECTOR3, 24, "three Single numbers, x, y and z") \
+    X(XNB_KIND_VECTOR4, 25, "four Single numbers, x, y, z and w") \
+    X(XNB_KIND_MATRIX, 26, "sixteen Single numbers, row by row") \
+    X(XNB_KIND_QUATERNION, 27, "four Single numbers, x, y, z and w") \
+    X(XNB_KIND_COLOR, 28, "red, green, blue and alpha, a byte each") \
+    X(XNB_KIND_POINT, 29, "two Int32 numbers, x and y") \
+    X(XNB_KIND_RECTANGLE, 30, "four Int32 numbers, x, y, width and height") \
+    X(XNB_KIND_TEXTURE2D, 32, "a picture with its levels") \
+    X(XNB_KIND_SPRITE_FONT, 33, "a font: a picture of glyphs and how to set them") \
+    X(XNB_KIND_PAGE, 34, "a page of the console: title, area, picture and next page") \
+    X(XNB_KIND_IMAGE_LEVEL, 35, "one level of a texture") \
+    X(XNB_KIND_SHARED_REFERENCE, 36, "a reference to a shared object") \
+    X(XNB_KIND_INDEX_BUFFER, 37, "the numbers of vertices, in the order in which they are drawn") \
+    X(XNB_KIND_VERTEX_DECLARATION, 38, "what a vertex consists of") \
+    X(XNB_KIND_VERTEX_BUFFER, 39, "vertices and what they consist of") \
+    X(XNB_KIND_MODEL, 40, "bones, and meshes that hang on them") \
+    X(XNB_KIND_DATA_BYTES, 41, "the data of an index buffer or of a vertex buffer") \
+    X(XNB_KIND_BONE_REFERENCE, 42, "a reference to a bone of the model")
+
+/* Each refusal: its name, its number, its rule. Its place is a byte of what is read, but for 21 (the bytes that the output
+   needs), 52 (the stretches that the list needs), 23, 24, 62 and 63 (a row number), 32 (an entry of the enum list, counted from
+   0), 71 and 72 (always 0). 33 to 38 are those of a reader's name. */
+#define XNB_EACH_REFUSAL(X) \
+    X(XNB_REFUSAL_PAST_END, 1, "a field runs past the end of the file") \
+    X(XNB_REFUSAL_NOT_XNB, 2, "the file does not begin with XNB") \
+    X(XNB_REFUSAL_PLATFORM, 3, "the platform is not w, m or x") \
+    X(XNB_REFUSAL_FORMAT_VERSION, 4, "the format version is not 5") \
+    X(XNB_REFUSAL_COMPRESSED, 5, "the file is compressed") \
+    X(XNB_REFUSAL_FLAGS, 6, "a flag other than the profile is set") \
+    X(XNB_REFUSAL_FILE_LENGTH, 7, "the header's length is not the file's length") \
+    X(XNB_REFUSAL_BROKEN_NUMBER, 8, "a seven-bit number has a wrong fifth byte") \
+    X(XNB_REFUSAL_TOO_LARGE, 9, "the file, a count or a name's length is over its limit, or a name is empty") \
+    X(XNB_REFUSAL_NAME_HEAD, 11, "a reader's name has an unknown type or wrong arguments") \
+    X(XNB_REFUSAL_READER_VERSION, 12, "a reader's version is not 0") \
+    X(XNB_REFUSAL_NO_READER, 13, "a type id is past the reader list, or its reader is never invoked") \
+    X(XNB_REFUSAL_NOT_DECLARED, 14, "an object is not of the declared type") \
+    X(XNB_REFUSAL_BAD_VALUE, 15, "a value breaks the rule of its kind") \
+    X(XNB_REFUSAL_NO_RESOURCE, 16, "a resource id is above the shared count") \
+    X(XNB_REFUSAL_RESOURCE_TYPE, 17, "a resource is of the wrong type") \
+    X(XNB_REFUSAL_TOO_DEEP, 18, "a value is deeper than 32") \
+    X(XNB_REFUSAL_NO_ROW_LEFT, 19, "no row is left for a value") \
+    X(XNB_REFUSAL_LEFT_OVER, 20, "bytes are left over behind the last object") \
+    X(XNB_REFUSAL_OUTPUT_TOO_SMALL, 21, "the output is too small for what is written") \
+    X(XNB_REFUSAL_FONT_RULE, 22, "a font lacks an object, or its lists differ in count, or its characters do not rise") \
+    X(XNB_REFUSAL_NO_SUCH_ROW, 23, "there is no such row") \
+    X(XNB_REFUSAL_OTHER_KIND, 24, "the row is not of the kind asked for") \
+    X(XNB_REFUSAL_NO_TABLE_ROOM, 31, "the table has no room for a file") \
+    X(XNB_REFUSAL_ENUM_ENTRY, 32, "an entry of the enum list is cut short, or its size or its name breaks a rule") \
+    X(XNB_REFUSAL_EMPTY_HEAD, 33, "empty head") \
+    X(XNB_REFUSAL_HEAD_BYTE, 34, "bad byte in a head") \
+    X(XNB_REFUSAL_ARGUMENT_DIGIT, 35, "digit not 1 or 2") \
+    X(XNB_REFUSAL_ARGUMENT_BRACKETS, 36, "argument brackets out of form or followed by a wrong byte") \
+    X(XNB_REFUSAL_TAIL_BYTE, 37, "bad byte in a tail") \
+    X(XNB_REFUSAL_NESTED_TOO_DEEP, 38, "nested past 8") \
+    X(XNB_REFUSAL_NOT_WINDOWS, 41, "the platform is not w, which the driver's screen asks for") \
+    X(XNB_REFUSAL_NOT_SHORTEST, 42, "a seven-bit number is not in its shortest form") \
+    X(XNB_REFUSAL_UNUSED_READER, 43, "a listed reader is used by no type id") \
+    X(XNB_REFUSAL_EQUAL_READERS, 44, "a reader has the target of an earlier one") \
+    X(XNB_REFUSAL_REPEATED_KEY, 45, "a String key has the bytes of an earlier one in its dictionary") \
+    X(XNB_REFUSAL_NOT_PAGE, 46, "the first object is not a Page") \
+    X(XNB_REFUSAL_NO_NEXT_PAGE, 47, "the next of a page has resource id 0") \
+    X(XNB_REFUSAL_MISSING_MARK, 51, "a file's record does not begin with a mark") \
+    X(XNB_REFUSAL_LIST_TOO_SHORT, 52, "the list is too short for the skipped stretches") \
+    X(XNB_REFUSAL_NOT_TEXT_ARRAY, 61, "the primary object is not an Array of String, or there are shared objects") \
+    X(XNB_REFUSAL_NULL_TEXT, 62, "a text is null") \
+    X(XNB_REFUSAL_NOT_IN_XML, 63, "a text has a character below 20 hex, U+FFFE or U+FFFF, which XML cannot hold") \
+    X(XNB_REFUSAL_NOT_EXPORTED, 64, "the XML is not of the form that the export writes") \
+    X(XNB_REFUSAL_FIGURE_TOO_LARGE, 71, "a figure of the report would pass 2 to the 64 less 1") \
+    X(XNB_REFUSAL_NO_ROW_ROOM, 72, "the row table has no room for 65,536 rows")
+
+#define XNB_CONSTANT(name, number, words) name = number,
+enum xnb_kind { XNB_EACH_KIND(XNB_CONSTANT) XNB_NO_KIND = 255 };
+enum xnb_refusal { XNB_EACH_REFUSAL(XNB_CONSTANT) XNB_NO_REFUSAL = 0 };
+#undef XNB_CONSTANT
+
+#define XNB_WORDS(name, number, words) \
+    case number: \
+        return words;
+
+/* What a value of this kind is, in words; an empty text for another number. */
+static inline const char *xnb_kind_text(uint32_t kind) {
+    switch (kind) {
+        XNB_EACH_KIND(XNB_WORDS)
+    default:
+        return "";
+    }
+}
+
+/* The rule of this refusal in words; an empty text for another number. */
+static inline const char *xnb_refusal_text(uint32_t refusal) {
+    switch (refusal) {
+        XNB_EACH_REFUSAL(XNB_WORDS)
+    default:
+        return "";
+    }
+}
+#undef XNB_WORDS
 
 #ifdef __cplusplus
 extern "C" {
@@ -24,7 +176,7 @@ uint64_t xnb_load(const uint8_t *file, size_t file_length);
    lawful. 32 refuses a list before all else, and its place is the number, from 0 and modulo 2 to the 32, of the first entry
    that is cut short, has another size, or whose name is no head of a reader's name, is a target name, or is listed earlier. */
 
-/* README.md has the refusals of a load by number. Those of a reader's name are placed at the wrong byte, or at the name's end
+/* docs/FORMAT.md has the refusals by number. Those of a reader's name are placed at the wrong byte, or at the name's end
    if it ends too soon: 33 an empty head, 34 a bad byte in a head, 35 a digit that is not 1 or 2, 36 argument brackets out of
    form or followed by a wrong byte, 37 a bad byte in a tail, 38 a part nested past level 8, where it starts; then 11 at the
    leftmost head that is not known or has wrong arguments. */

@@ -1,13 +1,8 @@
--- Bytes that are written as they are, whatever stands around them, and the size of a text. Assumes nothing.
+-- Bytes that are written as they are, whatever stands around them. Assumes nothing.
 use mathlib.Core.Path.{_≡_}
-use mathlib.Core.Bool.{cond}
-use mathlib.Core.List.{List, _++_}
+use mathlib.Core.List.{List}
 use Prim.Native.Nat.{ℕ, _+_, _-_, _≤_, _<_}
 use lib.ListN.{length, getD}
-use Rattle.xml_layout.specs.Xml.{escape, itemStart, itemEnd}
-use Rattle.xml_reading.specs.Written.{writable}
-use Rattle.xml_escape.specs.declared.Sizing.{Sizing}
-use Rattle.xml_escape.specs.declared.Sizing.the-variants.{Unwritten, Size}
 
 -- no control character, none of the four, not the first byte of U+FFFE and U+FFFF, and none above `most`
 pub record Quiet (most b : ℕ) : Type 0 where
@@ -29,10 +24,8 @@ pub record Ran (most : ℕ) (s : List ℕ) (from i : ℕ) : Type 0 where
   pub inside : i ≤ length s
   pub quiet : AllQuiet most s from (i - from)
 
--- Req 13, 63: whether each character of a text is written; and the text's size
-unfoldable pub sizeOf : List ℕ → Sizing
-sizeOf t = cond (writable t) (Size (length (escape t))) Unwritten
-
--- Req 13: "`<Item>`, text, `</Item>` for each text"
-abbrev pub item : List ℕ → List ℕ
-item t = itemStart ++ (escape t ++ itemEnd)
+-- and where such a run ends: at the first other byte or the list's end; a place past the list's end stays
+pub record RunEnd (most : ℕ) (s : List ℕ) (from i : ℕ) : Type 0 where
+  pub run : from ≤ length s → Ran most s from i
+  pub other : i < length s → Quiet most (getD s i 0) → ⊥
+  pub stays : length s < from → i ≡ from

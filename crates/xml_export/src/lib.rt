@@ -1,10 +1,12 @@
 // Exporting a file as XML (Req 13): load, judge the primary, judge the texts by their rows, and write.
+mod escape;
+
 use answers::Number;
+use escape::Sizing;
 use ids::RowNumber;
 use load::Loading;
 use lookups::Span;
 use readers::Lists;
-use xml_escape::Sizing;
 ghost use mathlib.Core.Path.{_≡_};
 ghost use mathlib.Core.Bool.{true};
 ghost use Prim.Native.Nat.{ℕ, _+_, _-_, _≤_};
@@ -35,7 +37,7 @@ fn row_size(file: &[u8], words: &[u32], row: u32) -> RowSize
         Span::Refused(_, _) => RowSize::Null,
         Span::Found(first, n) => {
             let end = first + n;
-            match xml_escape::text_size(&file[first..end]) {
+            match escape::text_size(&file[first..end]) {
                 Sizing::Unwritten => RowSize::Unwritten,
                 Sizing::Size(size) => RowSize::Size(size),
             }
@@ -82,7 +84,7 @@ fn put_row(file: &[u8], words: &[u32], out: &mut [u8], row: u32, to: usize) -> u
         Span::Refused(_, _) => to,
         Span::Found(first, n) => {
             let end = first + n;
-            xml_escape::put_item(&file[first..end], out, to)
+            escape::put_item(&file[first..end], out, to)
         }
     }
 }

@@ -18,7 +18,7 @@ pub fn larger(a: usize, b: usize) -> usize
 }
 
 // How many bytes of a literal stand in the XML from `at` on, up to the first that does not.
-pub fn agree(xml: &[u8], at: usize, literal: &[u8]) -> usize
+pub(crate) fn agree(xml: &[u8], at: usize, literal: &[u8]) -> usize
     requires { ⌜ at ≤ length (now xml) ⌝ }
     ensures { λ r. ⌜ r ≡ common (now (literal .entry)) (drop at (now (xml .entry))) ⌝ }
 {
@@ -36,7 +36,7 @@ pub fn agree(xml: &[u8], at: usize, literal: &[u8]) -> usize
 }
 
 // How many bytes of an item's end stand in the XML from `at` on.
-pub fn end_at(xml: &[u8], at: usize) -> usize
+pub(crate) fn end_at(xml: &[u8], at: usize) -> usize
     requires { ⌜ at < length (now xml) ⌝ }
     ensures { λ r. ⌜ r ≡ common itemEnd (drop at (now (xml .entry))) ⌝ }
 {
@@ -212,7 +212,7 @@ fn entity_at(xml: &[u8], at: usize) -> Piece
 }
 
 // A character, as it stands in the XML.
-pub fn character_at(xml: &[u8], at: usize) -> Piece
+pub(crate) fn character_at(xml: &[u8], at: usize) -> Piece
     requires { ⌜ at < length (now xml) ⌝ }
     ensures { λ r. ⌜ PieceAt (now (xml .entry)) at r ⌝ }
 {

@@ -114,7 +114,7 @@ fn whole_run(xml: &[u8], from: usize) -> usize
 }
 
 // Past characters that stand as they are, from `from` on; `from` itself where none is found so. A text that was taken before is not judged again.
-pub fn standing(xml: &[u8], from: usize, known: bool) -> usize
+pub(crate) fn standing(xml: &[u8], from: usize, known: bool) -> usize
     requires { ⌜ from ≤ length (now xml) ⌝ }
     ensures { λ r. ⌜ Runs (now (xml .entry)) from r ⌝ }
     ensures { λ r. ⌜ (known ≡ false → Stands (now (xml .entry)) from r) ⌝ }

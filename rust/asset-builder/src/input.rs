@@ -15,7 +15,7 @@ use std::path::{Path, PathBuf};
 use walkdir::{DirEntry, WalkDir};
 
 /// The longest file that the loader takes.
-pub const LONGEST_FILE: u64 = 16_777_216;
+const LONGEST_FILE: u64 = 16_777_216;
 const STANDARD_INPUT: &str = "-";
 const OF_FILES: &str = "xnb";
 const OF_PACKS: &str = "pak";
@@ -198,26 +198,31 @@ impl Input {
     }
 
     /// The bytes of an XNB file, up to one more than the loader takes; what cannot be read is reported.
-    pub fn read_file_or_report(&self, run: &mut Run) -> Option<Vec<u8>> {
+    pub fn read_file_or_report(&self, run: &mut Run) -> Result<Vec<u8>, String> {
+        // The loader refuses a longer file whatever follows.
         let read = self.read_at_most(LONGEST_FILE + 1);
-        read.map_err(|error| run.fail(self.shown(), error)).ok()
+        self.report(run, read)
     }
 
     /// All its bytes; what cannot be read is reported.
     pub fn read_or_report(&self, run: &mut Run) -> Result<Bytes, String> {
         let read = self.bytes(run.progress());
         run.progress().clear();
-        self.reported(run, read)
+        self.report(run, read)
     }
 
     /// The same as a part of work whose progress is shown.
     pub fn read_as_part(&self, run: &mut Run) -> Result<Bytes, String> {
         let read = self.bytes(&mut Progress::new(false));
-        self.reported(run, read)
+        self.report(run, read)
     }
 
-    /// What was read, or why it was not, which is reported.
-    fn reported(&self, run: &mut Run, read: io::Result<Bytes>) -> Result<Bytes, String> {
+    /// Reports what came of reading it: the length if that is wanted, and a failure.
+    fn report<B: Deref<Target = [u8]>>(
+        &self,
+        run: &mut Run,
+        read: io::Result<B>,
+    ) -> Result<B, String> {
         match read {
             Ok(bytes) => {
                 let (name, length) = (self.shown(), bytes.len());

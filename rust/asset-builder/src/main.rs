@@ -1,4 +1,4 @@
-//! Checks, shows and shortens XNB files, and reads, converts and salvages packs of files, through the proved library.
+//! Checks, shows and rewrites XNB files, takes texts to XML and back, and reads, converts, salvages and counts packs of files, through the proved library.
 //!
 //! Each command is a module of `commands` over the parts that all share: inputs, outputs, printing
 //! and the rendering of refusals.

@@ -5,8 +5,8 @@ use crate::names::{is_printable, plain_lines};
 use crate::terminal::Paint;
 use serde::Serialize;
 use xnb::pack::{explain, PackRefused};
-use xnb::Refusal::{EnumEntry, ListTooShort, NoRowLeft, NoSuchRow, OtherKind, OutputTooSmall};
-use xnb::{Explanation, Loader, NameLine, Refused, ShownName, MOST_ROWS};
+use xnb::Refusal::NoRowLeft;
+use xnb::{Explanation, Loader, NameLine, Place, Refused, ShownName, MOST_ROWS};
 
 /// The bytes on a line of a dump.
 const LINE: usize = 16;
@@ -75,8 +75,7 @@ impl<'f> Told<'f> {
                 *found += &format!("; --rows N gives more, up to {MOST_ROWS}");
             }
         }
-        if matches!(refusal, OutputTooSmall | NoSuchRow | OtherKind | EnumEntry) {
-            // The place is no byte of the file.
+        if refusal.place() != Place::Byte {
             told.around = None;
         }
         told
@@ -110,8 +109,7 @@ impl<'f> Told<'f> {
         let PackRefused { refusal, place } = refused;
         let mut told = Told::at_byte(pack, refusal.number(), place, refused.rule());
         told.found = explain(pack, refused, marked);
-        if matches!(refusal, OutputTooSmall | ListTooShort) {
-            // The place is the number of bytes or of stretches needed.
+        if refusal.place() != Place::Byte {
             told.around = None;
         }
         told

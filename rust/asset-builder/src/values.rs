@@ -3,7 +3,7 @@
 use crate::names::shown_text;
 use serde::Serialize;
 use std::fmt::{self, Debug, Display, Formatter};
-use xnb::{Detail, Kind, Refused, Row, Table};
+use xnb::{Table, Time};
 
 /// What stands behind the kind of a row.
 #[derive(Clone, Debug, PartialEq, Serialize)]
@@ -82,89 +82,65 @@ impl<F: Debug> Display for Float<F> {
 }
 
 /// The value of a row of its table.
-pub fn value(table: &Table, number: u32, row: &Row) -> Value {
-    looked_up(table, number, row).expect("a loaded row can be looked up")
+pub fn value(table: &Table, number: u32) -> Value {
+    let value = table.value(number).expect("a loaded row has a value");
+    Value::from(value)
 }
 
-fn looked_up(table: &Table, number: u32, row: &Row) -> Result<Value, Refused> {
-    use Kind::*;
-    let part = match row.length {
-        // A row of empty data names no part of the file.
-        0 => &[][..],
-        _ => table.part(number)?,
-    };
-    let bytes = raw_bytes(part, row.detail);
-    Ok(match row.kind {
-        Null | SpriteFont | Page | IndexBuffer | VertexDeclaration | VertexBuffer | Model => {
-            Value::Nothing
-        }
-        String => Value::Text(table.text(number)?.to_string()),
-        SByte | Int16 | Int32 => Value::Signed(table.signed(number)?),
-        Int64 => Value::Long(table.signed(number)?),
-        TimeSpan => {
-            let time = table.time(number)?;
-            Value::Time {
-                seconds: time.seconds,
-                ticks: time.ticks,
+impl From<xnb::Value<'_>> for Value {
+    fn from(value: xnb::Value) -> Value {
+        use xnb::Value::*;
+        let singles =
+            |numbers: &[f32]| Value::Singles(numbers.iter().copied().map(Float).collect());
+        match value {
+            String(text) => Value::Text(text.to_string()),
+            Char(character) => Value::Char(character),
+            Boolean(truth) => Value::Boolean(truth),
+            SByte(number) => Value::Signed(number.into()),
+            Int16(number) => Value::Signed(number.into()),
+            Int32(number) => Value::Signed(number.into()),
+            Int64(number) => Value::Long(number),
+            Enum(number) if number.size() == 8 => Value::Long(number.usual()),
+            Enum(number) => Value::Signed(number.usual()),
+            Byte(number) => Value::Unsigned(number.into()),
+            UInt16(number) => Value::Unsigned(number.into()),
+            UInt32(number) => Value::Unsigned(number.into()),
+            UInt64(number) => Value::UnsignedLong(number),
+            Single(number) => Value::Single(Float(number)),
+            Double(number) => Value::Double(Float(number)),
+            Vector2(numbers) => singles(&numbers),
+            Vector3(numbers) => singles(&numbers),
+            Vector4(numbers) => singles(&numbers),
+            Matrix(numbers) => singles(&numbers),
+            Quaternion(numbers) => singles(&numbers),
+            Color(channels) => Value::Bytes(channels.to_vec()),
+            Point(point) => Value::Integers(vec![point.x, point.y]),
+            Rectangle(it) => Value::Integers(vec![it.x, it.y, it.width, it.height]),
+            Decimal(number) => Value::Decimal(number.to_string()),
+            TimeSpan(span) => {
+                let Time { seconds, ticks } = span.time();
+                Value::Time { seconds, ticks }
             }
-        }
-        Byte | UInt16 | UInt32 => Value::Unsigned(unsigned(bytes) as u64),
-        UInt64 => Value::UnsignedLong(unsigned(bytes) as u64),
-        Enum if bytes.len() == 8 => Value::Long(enumeration(bytes)),
-        Enum => Value::Signed(enumeration(bytes)),
-        Point | Rectangle => Value::Integers(each(bytes, i32::from_le_bytes)),
-        Single => match each(bytes, f32::from_le_bytes)[..] {
-            [number] => Value::Single(Float(number)),
-            _ => Value::Nothing,
-        },
-        Vector2 | Vector3 | Vector4 | Matrix | Quaternion => {
-            Value::Singles(each(bytes, |it| Float(f32::from_le_bytes(it))))
-        }
-        Double => Value::Double(Float(f64::from_bits(unsigned(bytes) as u64))),
-        Boolean => Value::Boolean(bytes[0] == 1),
-        Char => match std::str::from_utf8(bytes).map(|text| text.chars().next()) {
-            Ok(Some(character)) => Value::Char(character),
-            _ => Value::Nothing,
-        },
-        Color => Value::Bytes(bytes.to_vec()),
-        Decimal => Value::Decimal(decimal(bytes)),
-        DateTime => {
-            let packed = unsigned(bytes) as u64;
-            Value::DateTime {
-                ticks: packed & ((1 << 62) - 1),
-                zone: packed >> 62,
-            }
-        }
-        Nullable if row.children == 0 => Value::Absent { present: false },
-        Nullable => Value::Nothing,
-        Array | List => Value::Count {
-            count: row.children,
-        },
-        Dictionary => Value::Count {
-            count: row.children / 2,
-        },
-        Texture2D => {
-            let field = |index: usize| unsigned(&bytes[4 * index..4 * index + 4]) as u64;
-            Value::Image {
-                width: field(1),
-                height: field(2),
-                format: field(0),
-            }
-        }
-        ImageLevel => Value::Data {
-            bytes: bytes.len() - 4,
-        },
-        DataBytes => Value::Data { bytes: bytes.len() },
-        BoneReference => Value::Bone {
-            bone: Some(unsigned(bytes) as u64).filter(|bone| *bone > 0),
-        },
-        SharedReference => Value::Resource {
-            shared: match row.detail {
-                Detail::ResourceId(id) => Some(id),
-                _ => None,
+            DateTime(moment) => Value::DateTime {
+                ticks: moment.ticks,
+                zone: moment.zone as u64,
             },
-        },
-    })
+            Nullable(None) => Value::Absent { present: false },
+            Array(count) | List(count) | Dictionary(count) => Value::Count { count },
+            Texture2D(texture) => Value::Image {
+                width: texture.width.into(),
+                height: texture.height.into(),
+                format: texture.format.code().into(),
+            },
+            ImageLevel(data) | DataBytes(data) => Value::Data { bytes: data.len() },
+            BoneReference(bone) => Value::Bone {
+                bone: bone.map(u64::from),
+            },
+            SharedReference(shared) => Value::Resource { shared },
+            // Their fields stand below them.
+            _ => Value::Nothing,
+        }
+    }
 }
 
 impl Value {
@@ -215,45 +191,4 @@ fn as_text<S: serde::Serializer>(number: &impl Display, out: S) -> Result<S::Ok,
 fn spaced(numbers: &[impl Display]) -> String {
     let numbers: Vec<String> = numbers.iter().map(|it| it.to_string()).collect();
     numbers.join(" ")
-}
-
-/// The part behind the type id, if it has one.
-fn raw_bytes(part: &[u8], detail: Detail) -> &[u8] {
-    let Detail::TypeId(_) = detail else {
-        return part;
-    };
-    let goes_on = part.iter().take_while(|byte| **byte >= 0x80);
-    &part[goes_on.count() + 1..]
-}
-
-fn unsigned(bytes: &[u8]) -> u128 {
-    let add = |number, byte: &u8| number << 8 | u128::from(*byte);
-    bytes.iter().rev().fold(0, add)
-}
-
-/// The number of an enum, whose sign its size tells: the usual types of these sizes are Byte, Int16, Int32 and Int64.
-fn enumeration(bytes: &[u8]) -> i64 {
-    let number = unsigned(bytes) as u64;
-    match bytes.len() {
-        1 => number as i64,
-        2 => i64::from(number as i16),
-        4 => i64::from(number as i32),
-        _ => number as i64,
-    }
-}
-
-/// The numbers of which the bytes consist.
-fn each<const SIZE: usize, T>(bytes: &[u8], number: fn([u8; SIZE]) -> T) -> Vec<T> {
-    let (chunks, _) = bytes.as_chunks();
-    chunks.iter().map(|it| number(*it)).collect()
-}
-
-/// A Decimal: twelve bytes of a whole number, then its scale and its sign.
-fn decimal(bytes: &[u8]) -> String {
-    let scale = usize::from(bytes[14]);
-    let digits = format!("{:0width$}", unsigned(&bytes[..12]), width = scale + 1);
-    let (whole, fraction) = digits.split_at(digits.len() - scale);
-    let sign = if bytes[15] >= 0x80 { "-" } else { "" };
-    let point = if scale > 0 { "." } else { "" };
-    format!("{sign}{whole}{point}{fraction}")
 }

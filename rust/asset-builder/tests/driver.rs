@@ -61,7 +61,7 @@ fn what_breaks_a_rule_is_named() {
     let readers = [PAGE, STRING];
     let lines = told(&write(&file(&readers, object(1, page_to(null(), 0)), vec![])).bytes);
     assert!(
-        lines[0].contains(": no type id names a listed reader"),
+        lines[0].contains(": a listed reader is used by no type id"),
         "{lines:?}"
     );
     assert_eq!(lines[1], "  no type id names reader 2");
@@ -113,7 +113,7 @@ fn what_breaks_a_rule_is_named() {
     let second = object(1, page_to(bound_object(2, text("Steps\n")), 0));
     let lines = told(&write(&file(&readers, first, vec![second])).bytes);
     assert!(
-        lines[0].ends_with(": a page's next has resource id 0"),
+        lines[0].ends_with(": the next of a page has resource id 0"),
         "{lines:?}"
     );
     assert_eq!(

@@ -254,7 +254,9 @@ fn a_signal_leaves_no_part_of_a_file() {
         (SIGINT, true),
         (SIGTERM, true),
     ] {
-        let mut command = Command::new(COMMAND);
+        // A test that runs in the background may have been given signals as ignored.
+        let mut command = Command::new("env");
+        command.args(["--default-signal=HUP,INT,TERM", COMMAND]);
         command.args(["pack", "find", "in.pak", "a", "-o", "out"]);
         if named {
             command.env(NAMED, "1");

@@ -75,7 +75,7 @@ fn the_page_names_every_field_and_no_other() {
         for line in out.lines() {
             let value = json_of(line);
             assert_eq!(value["schema"], 1, "{line}");
-            let named = ["file", "folder", "summary"];
+            let named = ["file", "folder", "summary", "packs"];
             assert!(named.iter().any(|it| value.get(it).is_some()), "{line}");
             add_fields(&value, &mut fields);
             lines += 1;
@@ -89,6 +89,14 @@ fn the_page_names_every_field_and_no_other() {
         "shorten --json xnb -o short",
         "shorten --json xnb -o short",
         "shorten --json -i - < /dev/null",
+        "check --json --driver xnb",
+        "retype --json xnb/ok-kind-13-string.xnb --row 0 --text no -o typed",
+        "retype --json xnb/ok-kind-13-string.xnb --row 0 --text yes -o longer",
+        "retype --json xnb/ok-kind-13-string.xnb --row 1 --text no -o other",
+        "export --json xnb/ok-texts-entities.xnb -o texts.xml",
+        "export --json xnb/ok-texts-second-null.xnb -o other",
+        "import --json texts.xml -o texts.xnb",
+        "import --json xnb/ok-texts-entities.xnb -o other",
         "pack list --json pak",
         "mark --json pak/ok-pack-mixed-case.pak -o new",
         "mark --json pak/ok-pack-mixed-case.pak -o new",
@@ -97,6 +105,7 @@ fn the_page_names_every_field_and_no_other() {
         "pack extract --json pak/ok-pack-mixed-case.pak -o out",
         "pack extract --json pak/ok-marked-mixed-case.pak -o south*",
         "salvage --json pak/ok-pack-mixed-case.pak -o other",
+        "report --json pak",
     ] {
         let ran = shell(&top, &format!("mkdir -p short; asset-builder {words}"));
         assert!(!ran.out.is_empty(), "{words}: {}", ran.err);
@@ -139,6 +148,11 @@ fn what_cannot_be_read_is_an_object_in_every_command() {
     }
     for words in [
         &["pack", "extract", "missing", "-o", "out"][..],
+        &[
+            "retype", "missing", "--row", "0", "--text", "a", "-o", "out",
+        ],
+        &["export", "missing", "-o", "out"],
+        &["import", "missing", "-o", "out"],
         &["mark", "missing", "-o", "out"],
         &["unmark", "missing", "-o", "out"],
         &["salvage", "missing", "-o", "out"],
@@ -182,6 +196,24 @@ fn what_is_written_or_not_is_reported_to_programs() {
         json_of(&ran.err)["written"],
         json!({"file": "-", "bytes": 65})
     );
+
+    let name = "xnb/ok-kind-13-string.xnb";
+    let words = ["retype", "--json", name, "--row", "0", "--text"];
+    let ran = run_in(&top, &[&words[..], &["no", "-o", "no"]].concat(), &[]);
+    let written = json!({"file": "no", "bytes": 65});
+    let expected = json!({"schema": 1, "file": name, "bytes": 65, "written": written});
+    assert_eq!((json_of(&ran.out), ran.status), (expected, Some(0)));
+    let ran = run_in(&top, &[&words[..], &["yes", "-o", "yes"]].concat(), &[]);
+    let why = "its text has 2 bytes, the one given has 3 bytes";
+    let expected = json!({"schema": 1, "file": name, "bytes": 65, "unwritten": {"why": why}});
+    assert_eq!((json_of(&ran.out), ran.status), (expected, Some(2)));
+    let name = "xnb/ok-texts-second-null.xnb";
+    let ran = run_in(&top, &["export", "--json", name, "-o", "xml"], &[]);
+    let refused = &json_of(&ran.out)["refused"];
+    let told = (&refused["number"], &refused["place"], &refused["found"]);
+    let found = json!("the 2nd text is null");
+    assert_eq!(told, (&json!(62), &json!(2), &found));
+    assert_eq!((ran.err.as_str(), ran.status), ("", Some(1)));
 
     let pack = "pak/ok-pack-mixed-case.pak";
     let ran = run_in(

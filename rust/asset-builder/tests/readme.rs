@@ -1,4 +1,4 @@
-//! README's tour: each command prints what README says, and the packages are those in use.
+//! The tours of README.md and of docs/COMMAND.md: each command prints what they say, and the packages are those in use.
 
 mod common;
 
@@ -14,12 +14,19 @@ struct Shown {
     printed: String,
 }
 
-/// The commands of README, which stand behind `$`, each with the indented lines below it.
-fn tour() -> Vec<Shown> {
-    let readme = fs::read_to_string(root().join("README.md")).expect("README");
+/// The commands of a page, which stand behind `$`, each with the indented lines below it.
+fn tour(page: &str) -> Vec<Shown> {
+    let page = fs::read_to_string(root().join(page)).expect("a page");
     let mut tour: Vec<Shown> = Vec::new();
     let mut inside = false;
-    for line in readme.lines() {
+    // Empty lines among those below a command are printed by it.
+    let mut empty = String::new();
+    for line in page.lines() {
+        if line.is_empty() {
+            empty += "\n";
+            continue;
+        }
+        let empty = std::mem::take(&mut empty);
         let Some(line) = line.strip_prefix("    ") else {
             inside = false;
             continue;
@@ -32,6 +39,7 @@ fn tour() -> Vec<Shown> {
             });
         } else if inside {
             let shown = tour.last_mut().expect("a command above");
+            shown.printed += &empty;
             shown.printed += line;
             shown.printed += "\n";
         }
@@ -40,31 +48,39 @@ fn tour() -> Vec<Shown> {
 }
 
 #[test]
-fn the_tour_prints_what_readme_says() {
-    let folder = scratch("tour");
-    symlink(root().join("corpus"), folder.join("corpus")).expect("a link");
-    let tour = tour();
-    for shown in &tour {
-        let ran = shell(&folder, &format!("exec 2>&1; {}", shown.command));
-        assert_eq!(ran.out, shown.printed, "{}", shown.command);
+fn the_tours_print_what_the_pages_say() {
+    let mut commands = Vec::new();
+    for (name, page) in [("readme", "README.md"), ("tour", "docs/COMMAND.md")] {
+        let folder = scratch(name);
+        symlink(root().join("corpus"), folder.join("corpus")).expect("a link");
+        for shown in tour(page) {
+            let ran = shell(&folder, &format!("exec 2>&1; {}", shown.command));
+            assert_eq!(ran.out, shown.printed, "{page}: {}", shown.command);
+            commands.push(shown.command);
+        }
     }
     for command in [
         "check",
         "rows",
         "tree",
         "shorten",
+        "retype",
+        "export",
+        "import",
         "pack list",
         "pack find",
         "pack extract",
         "mark",
         "unmark",
         "salvage",
+        "report",
+        "report sum",
         "completions",
         "man",
     ] {
         let start = format!("asset-builder {command} ");
         assert!(
-            tour.iter().any(|it| it.command.starts_with(&start)),
+            commands.iter().any(|it| it.starts_with(&start)),
             "{command}"
         );
     }

@@ -246,7 +246,7 @@ fn files_that_cannot_be_exported_are_told() {
         let lines: Vec<&str> = ran.err.lines().map(str::trim_start).collect();
         (lines[0].to_string(), lines[1].to_string(), lines.len())
     };
-    let no_list = "the primary object is no Array of String, or there are shared objects";
+    let no_list = "the primary object is not an Array of String, or there are shared objects";
     let null = told(&sample("ok-kind-00-null.xnb"));
     assert_eq!(null.0, format!("-: refused 61 at 12: {no_list}"));
     assert_eq!(null.1, "the primary object is of kind Null");
@@ -267,7 +267,7 @@ fn files_that_cannot_be_exported_are_told() {
     assert_eq!(
         (control.0.as_str(), control.1.as_str(), control.2),
         (
-            "-: refused 63 at 3: a text has a character below 20 hex, U+FFFE or U+FFFF",
+            "-: refused 63 at 3: a text has a character below 20 hex, U+FFFE or U+FFFF, which XML cannot hold",
             "the 3rd text has U+000A as character 4: \"two\\nlines \\u{1b}\"",
             2
         )

@@ -7,9 +7,14 @@ use crate::shape::Shape;
 
 /// What an accepted file holds.
 #[derive(Clone, Copy, Debug, PartialEq, Eq)]
+#[cfg_attr(feature = "serde", derive(serde::Serialize))]
+#[non_exhaustive]
 pub struct Loaded {
+    /// The number of its values.
     pub rows: usize,
+    /// The number of its readers.
     pub readers: usize,
+    /// The number of its shared objects.
     pub shared: usize,
     /// How many bytes its seven-bit numbers have more than their shortest forms.
     pub padding: usize,
@@ -17,8 +22,11 @@ pub struct Loaded {
 
 /// Whole seconds, rounded down, and the ticks above them, 10,000,000 to a second.
 #[derive(Clone, Copy, Debug, PartialEq, Eq)]
+#[cfg_attr(feature = "serde", derive(serde::Serialize))]
 pub struct Time {
+    /// The whole seconds, rounded down.
     pub seconds: i64,
+    /// The ticks above them, 0 to 9,999,999.
     pub ticks: u32,
 }
 

@@ -75,6 +75,7 @@ impl EnumList {
         entries(&self.bytes).count()
     }
 
+    /// Whether no type is listed.
     pub fn is_empty(&self) -> bool {
         self.bytes.is_empty()
     }
@@ -112,6 +113,7 @@ pub enum EnumFault {
     CutShort,
     /// Its size is this one.
     Size(u8),
+    /// Its name has no byte.
     EmptyName,
     /// This byte of its name is none of a head.
     NameByte(u8),

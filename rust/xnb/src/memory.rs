@@ -5,6 +5,7 @@ use std::fmt::{self, Display, Formatter};
 /// The system has no memory for so many bytes.
 #[derive(Clone, Copy, Debug, PartialEq, Eq)]
 pub struct OutOfMemory {
+    /// How many were asked for.
     pub bytes: usize,
 }
 

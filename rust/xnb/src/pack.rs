@@ -36,7 +36,9 @@ pub(crate) const COUNT_BYTES: usize = 4;
 /// A refusal and its place: a byte of the pack, or the bytes of output or the stretches of a list that are needed.
 #[derive(Clone, Copy, Debug, PartialEq, Eq)]
 pub struct PackRefused {
+    /// The rule that is broken.
     pub refusal: Refusal,
+    /// Where, or what is needed.
     pub place: u64,
 }
 
@@ -67,12 +69,7 @@ impl PackRefused {
 
 impl Display for PackRefused {
     fn fmt(&self, out: &mut Formatter) -> fmt::Result {
-        let (rule, place) = (self.rule(), self.place);
-        match self.refusal {
-            Refusal::OutputTooSmall => write!(out, "{rule}, which takes {place} bytes"),
-            Refusal::ListTooShort => write!(out, "{rule}, which are {place}"),
-            _ => write!(out, "{rule}, at byte {place}"),
-        }
+        self.refusal.tell(self.rule(), self.place, out)
     }
 }
 
@@ -81,7 +78,9 @@ impl std::error::Error for PackRefused {}
 /// Why there is no new pack: the old one breaks a rule, or there is no memory for the new one.
 #[derive(Clone, Copy, Debug, PartialEq, Eq)]
 pub enum PackError {
+    /// The pack breaks a rule, or the output is too small.
     Refused(PackRefused),
+    /// The system has no memory for the output.
     OutOfMemory(OutOfMemory),
 }
 
@@ -159,7 +158,9 @@ fn part(pack: &[u8], first: u64, length: u64) -> &[u8] {
 /// A file of a pack.
 #[derive(Clone, Copy, Debug, PartialEq, Eq)]
 pub struct PackFile<'p> {
+    /// Its path.
     pub path: &'p str,
+    /// Its bytes.
     pub data: &'p [u8],
 }
 
@@ -216,6 +217,7 @@ impl<'p, W: AsRef<[u64]> + AsMut<[u64]>> Pack<'p, W> {
 }
 
 impl<'p, W: AsRef<[u64]>> Pack<'p, W> {
+    /// The bytes of the pack.
     pub fn bytes(&self) -> &'p [u8] {
         self.bytes
     }
@@ -225,6 +227,7 @@ impl<'p, W: AsRef<[u64]>> Pack<'p, W> {
         self.files
     }
 
+    /// Whether it has no file.
     pub fn is_empty(&self) -> bool {
         self.files == 0
     }

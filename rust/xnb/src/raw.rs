@@ -133,11 +133,9 @@ mod entries {
     }
 }
 
-// SAFETY of every call below: each pointer and length are those of one slice, or the pointer is
-// that of a number of this function; the entry reads and writes nothing else and keeps no pointer.
-
 /// The asset builder's number.
 pub fn load(file: &[u8]) -> u64 {
+    // SAFETY: pointer and length are those of one slice, which the entry only reads; it keeps no pointer.
     unsafe { entries::xnb_load(file.as_ptr(), file.len()) }
 }
 
@@ -183,6 +181,8 @@ type Load = unsafe extern "C" fn(
 
 fn call_load(entry: Load, file: &[u8], enums: &[u8], words: &mut [u32]) -> LoadAnswer {
     let (mut readers, mut shared, mut padding) = (u32::MAX, u32::MAX, u32::MAX);
+    // SAFETY: file and enums are slices that the entry only reads, the words are one that nothing else holds and that it
+    // fills; the three numbers are this function's own. It reads and writes nothing else and keeps no pointer.
     let packed = unsafe {
         entry(
             file.as_ptr(),
@@ -206,6 +206,8 @@ fn call_load(entry: Load, file: &[u8], enums: &[u8], words: &mut [u32]) -> LoadA
 
 /// The packed answer; its lower half is the new length, or the place.
 pub fn rewrite(file: &[u8], enums: &[u8], words: &mut [u32], out: &mut [u8]) -> u64 {
+    // SAFETY: file and enums are slices that the entry only reads, words and output are two that nothing else holds and
+    // that it writes; it reads and writes nothing else and keeps no pointer.
     unsafe {
         entries::xnb_rewrite(
             file.as_ptr(),
@@ -233,6 +235,8 @@ fn look_up<A, B>(
     (mut one, mut two): (A, B),
 ) -> (u32, A, B) {
     let (bytes, rows) = (file.as_ptr(), words.as_ptr());
+    // SAFETY: file and words are slices that the entry only reads, of any content; it writes the two numbers of this
+    // function, whose types `Lookup` holds to the entry's, and keeps no pointer.
     let refusal = unsafe {
         entry(
             bytes,
@@ -276,6 +280,8 @@ pub fn signed(shape: Shape, file: &[u8], words: &[u32], row: u32) -> (u32, i64) 
     };
     let mut value = -1;
     let (bytes, rows) = (file.as_ptr(), words.as_ptr());
+    // SAFETY: file and words are slices that the entry only reads, of any content; it writes this function's number and
+    // keeps no pointer.
     let refusal = unsafe { entry(bytes, file.len(), rows, words.len(), row, &mut value) };
     (refusal, value)
 }
@@ -297,5 +303,6 @@ pub fn next(shape: Shape, words: &[u32], row: u32) -> u32 {
         Shape::Rows => entries::xnb_next,
         Shape::Columns => entries::xnb_columns_next,
     };
+    // SAFETY: pointer and length are those of one slice of any content, which the entry only reads; it keeps no pointer.
     unsafe { entry(words.as_ptr(), words.len(), row) }
 }

@@ -9,7 +9,12 @@ pub const MOST_ROWS: usize = 65_536;
 
 /// One value of the file.
 #[derive(Clone, Copy, Debug, PartialEq, Eq)]
+#[cfg_attr(feature = "serde", derive(serde::Serialize))]
+#[non_exhaustive]
 pub struct Row {
+    /// Its number in the table, counted from 0.
+    pub number: u32,
+    /// What it is.
     pub kind: Kind,
     /// The place of its first byte in the file.
     pub first: usize,
@@ -19,6 +24,7 @@ pub struct Row {
     pub children: usize,
     /// The row number of the value that it belongs to.
     pub parent: Option<u32>,
+    /// What it points to.
     pub detail: Detail,
     /// Its number of rows with all below it, itself included.
     pub rows: usize,
@@ -26,7 +32,10 @@ pub struct Row {
 
 /// What an object or a reference points to.
 #[derive(Clone, Copy, Debug, PartialEq, Eq)]
+#[cfg_attr(feature = "serde", derive(serde::Serialize))]
+#[non_exhaustive]
 pub enum Detail {
+    /// It is neither an object nor a reference, or it is null.
     Nothing,
     /// The reader of an object, counted from 1.
     TypeId(u32),
@@ -35,9 +44,9 @@ pub enum Detail {
 }
 
 impl Row {
-    /// The row in these words, or nothing if their kind is unknown.
+    /// The row of this number in these words, or nothing if their kind is unknown.
     #[inline]
-    pub fn of_words(words: [u32; WORDS_PER_ROW]) -> Option<Row> {
+    pub fn of_words(number: u32, words: [u32; WORDS_PER_ROW]) -> Option<Row> {
         let [kind, first, length, children, parent, detail, rows] = words;
         let kind = Kind::of_number(kind)?;
         let detail = match (kind, detail) {
@@ -46,6 +55,7 @@ impl Row {
             (_, id) => Detail::TypeId(id),
         };
         Some(Row {
+            number,
             kind,
             first: first as usize,
             length: length as usize,

@@ -12,14 +12,18 @@ pub const MOST_STRETCHES: usize = MOST_FILES + 1;
 /// A part of a damaged pack that is in no kept record.
 #[derive(Clone, Copy, Debug, PartialEq, Eq)]
 pub struct Stretch {
+    /// The place of its first byte.
     pub start: u64,
+    /// Its number of bytes.
     pub length: u64,
 }
 
 /// The kept records as a marked pack, and what was skipped, in the order of the damaged pack.
 #[derive(Clone, Debug, PartialEq, Eq)]
 pub struct Salvaged {
+    /// The new marked pack.
     pub pack: Vec<u8>,
+    /// What is not in it.
     pub skipped: Vec<Stretch>,
 }
 

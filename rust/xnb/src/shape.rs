@@ -61,6 +61,7 @@ pub(crate) fn room(words: &[u32]) -> usize {
 
 /// A shape as a type: [`ByRows`] or [`ByColumns`].
 pub trait Shaped: sealed::Sealed {
+    /// The shape that this type stands for.
     const SHAPE: Shape;
 }
 

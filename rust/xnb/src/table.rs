@@ -3,7 +3,7 @@
 use crate::calls::{Loaded, Time};
 use crate::kind::Kind;
 use crate::loader::Loader;
-use crate::refusal::Refused;
+use crate::refusal::{Refusal, Refused};
 use crate::row::{Row, WORDS_PER_ROW};
 use crate::search::places;
 use crate::shape::{room, ByColumns, ByRows, Shaped};
@@ -107,6 +107,7 @@ impl<'f, S, W> Grid<'f, S, W> {
 }
 
 impl<'f, S: Shaped, W: AsRef<[u32]>> Grid<'f, S, W> {
+    /// The bytes of the file.
     pub fn file(&self) -> &'f [u8] {
         self.file
     }
@@ -146,18 +147,25 @@ impl<'f, S: Shaped, W: AsRef<[u32]>> Grid<'f, S, W> {
 
     /// One row, found without looking at any other.
     pub fn row(&self, number: u32) -> Option<Row> {
-        let number = number as usize;
-        (number < self.loaded.rows).then(|| self.used_row(number))
+        ((number as usize) < self.loaded.rows).then(|| self.used_row(number))
+    }
+
+    /// One row, or 23.
+    pub(crate) fn known_row(&self, number: u32) -> Result<Row, Refused> {
+        self.row(number).ok_or(Refused {
+            refusal: Refusal::NoSuchRow,
+            place: number,
+        })
     }
 
     /// Every row in file order: a value stands before all below it.
     pub fn rows(&self) -> impl Iterator<Item = Row> + '_ {
-        (0..self.loaded.rows).map(|number| self.used_row(number))
+        (0..self.loaded.rows as u32).map(|number| self.used_row(number))
     }
 
-    fn used_row(&self, number: usize) -> Row {
-        let words = S::SHAPE.row(self.words.as_ref(), number);
-        let row = words.and_then(Row::of_words);
+    fn used_row(&self, number: u32) -> Row {
+        let words = S::SHAPE.row(self.words.as_ref(), number as usize);
+        let row = words.and_then(|words| Row::of_words(number, words));
         row.expect("a load leaves rows of known kinds")
     }
 

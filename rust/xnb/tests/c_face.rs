@@ -1,4 +1,4 @@
-//! The C header beside the entries of crates/builder, and README's C programs, compiled and run.
+//! The C header beside the entries of crates/builder, and the programs of docs/C.md, compiled and run.
 
 use corpus::folder::{kept_files, kept_files_with_enums, root};
 use corpus::packs::folder::{kept_damaged_packs, kept_packs};
@@ -93,10 +93,12 @@ fn type_of(parameter: &str) -> String {
 /// The entries that the header declares.
 fn declarations() -> BTreeMap<String, Types> {
     let header = fs::read_to_string(root().join("crates/builder/xnb.h")).expect("the header");
-    let code = without(&header, "/*", "*/");
+    // Constants and what is said of them stand before the entries.
+    let (_, declared) = header.split_once("extern \"C\" {").expect("entries");
+    let code = without(declared, "/*", "*/");
     let lines = code.lines().filter(|it| !it.starts_with('#'));
     let code: String = lines.map(|it| it.to_string() + " ").collect();
-    let code = code.replace("extern \"C\" {", "").replace('}', "");
+    let code = code.replace('}', "");
     let declared = code.split(';').filter_map(|it| it.trim().split_once('('));
     let types = |(head, parameters): (&str, &str)| {
         let (answer, name) = head.split_once(' ').expect("an answer and a name");
@@ -114,14 +116,13 @@ fn the_header_declares_each_entry_as_the_code_has_it() {
     assert_eq!(declarations(), entries);
 }
 
-/// The indented parts of README's section on C: the command that compiles, then the programs.
-fn readme_parts() -> Vec<String> {
-    let readme = fs::read_to_string(root().join("README.md")).expect("README");
-    let (_, section) = readme.split_once("\n### C\n").expect("a section on C");
-    let (section, _) = section.split_once("\n### ").expect("a section behind it");
+/// The indented parts of docs/C.md before its second heading: the command that compiles, then the programs.
+fn parts_of_page() -> Vec<String> {
+    let page = fs::read_to_string(root().join("docs/C.md")).expect("the page on C");
+    let (page, _) = page.split_once("\n## ").expect("a second heading");
     let mut parts: Vec<String> = Vec::new();
     let mut inside = false;
-    for line in section.lines() {
+    for line in page.lines() {
         let code = line.strip_prefix("    ");
         if let (Some(code), true) = (code.or(line.is_empty().then_some("")), inside) {
             *parts.last_mut().expect("a part") += &format!("{code}\n");
@@ -135,7 +136,7 @@ fn readme_parts() -> Vec<String> {
     parts
 }
 
-/// Calls what README defines: its program, and the functions below it.
+/// Calls what the page defines: its program, and the functions below it.
 const DRIVER: &str = r#"
 #undef main
 static uint8_t out[16777217];
@@ -143,9 +144,9 @@ static uint8_t out[16777217];
 int main(int count, char **words_given) {
     size_t length;
     if (count == 1)
-        return readme_main();
+        return main_of_page();
     if (!strcmp(words_given[1], "kinds")) {
-        int refused = readme_main();
+        int refused = main_of_page();
         kinds((uint32_t)(words_given[2][0] - '0'));
         return refused;
     }
@@ -164,7 +165,7 @@ int main(int count, char **words_given) {
 }
 "#;
 
-/// Compiles README's programs by its command, with every warning an error.
+/// Compiles the programs of the page by its command, with every warning an error.
 fn compiled() -> PathBuf {
     let folder = Path::new(env!("CARGO_TARGET_TMPDIR")).join("c-face");
     let _ = fs::remove_dir_all(&folder);
@@ -172,9 +173,9 @@ fn compiled() -> PathBuf {
     for name in ["crates", "target"] {
         symlink(root().join(name), folder.join(name)).expect("a link");
     }
-    let parts = readme_parts();
+    let parts = parts_of_page();
     let (command, programs) = parts.split_first().expect("a command");
-    let source = format!("#define main readme_main\n{}{DRIVER}", programs.concat());
+    let source = format!("#define main main_of_page\n{}{DRIVER}", programs.concat());
     fs::write(folder.join("show.c"), source).expect("a source");
     let strict = "cc -std=c99 -O1 -Wall -Wextra -Werror ";
     let command = command.replacen("cc ", strict, 1);
@@ -202,7 +203,7 @@ fn run(program: &Path, words: &[&str], input: &[u8]) -> (Vec<u8>, String, bool) 
     (ran.stdout, besides, ran.status.success())
 }
 
-/// The line that README's program prints first.
+/// The line that the page's program prints first.
 fn padding(table: &xnb::Table) -> String {
     let (padding, length) = (table.padding(), table.file().len());
     format!("{padding} of {length} bytes are padding\n")
@@ -230,7 +231,7 @@ fn kinds(table: &xnb::Table) -> String {
     table.objects().enumerate().map(line).collect()
 }
 
-/// README's program over files that pad and some others: the padding, the texts by rows and in columns, and the objects.
+/// The page's program over files that pad and some others: the padding, the texts by rows and in columns, and the objects.
 fn compare_files(program: &Path) {
     let kept = kept_files();
     let padded = kept.iter().filter(|file| file.padding > 0);
@@ -260,7 +261,7 @@ fn compare_files(program: &Path) {
     }
 }
 
-/// Loads of kept files with README's list of enum types.
+/// Loads of kept files with the page's list of enum types.
 fn compare_enums(program: &Path) {
     let types = [("Coach.Door", 1), ("Coach.Screen+Mode", 2)];
     let enums = EnumList::new(types).expect("a lawful list");

@@ -241,7 +241,7 @@ fn compare_imports(random: &mut Random, counts: &mut Counts, (name, xml): (&str,
         (Err(XmlRefused { refusal, place }), Err(expected)) => {
             let told = (refusal.number(), place as usize);
             assert_eq!(told, (expected.number, expected.place), "{name}");
-            if refusal == xnb::Refusal::OtherXml {
+            if refusal == xnb::Refusal::NotExported {
                 check_expected(name, xml, place as usize);
             }
         }
@@ -325,7 +325,7 @@ fn what_is_expected_is_told_in_words() {
     let told = |rest: &str| {
         let xml = format!("{start}{rest}");
         let refused = xnb::xml::import(&xml).expect_err("wrong XML");
-        assert_eq!(refused.refusal, xnb::Refusal::OtherXml, "{rest}");
+        assert_eq!(refused.refusal, xnb::Refusal::NotExported, "{rest}");
         Expected::at(&xml, refused.place as usize).to_string()
     };
     let between = "<Item> or </Asset></XnaContent>";

@@ -36,7 +36,7 @@ loop-again : tie.Need-loop-again Inv-loop μ-loop
 loop-again c =
     let a = c .before .before .before .before .before .args in
     let m = c .before .before .before .loop in
-    (search needs, block-step (a .s .now) (a .i) (m .j) (m .other) _ (m .inv .1) (c .loud .ensures))
+    (search needs, block-step (a .s .now) (a .i) (m .j) (m .other) _ (m .inv .1) (c .loud .ensures .0))
 
 returns : tie.Need-returns Inv-loop μ-loop
 returns c = λ e. absurd (false≢true e)

@@ -1,9 +1,11 @@
 use borrow.Author.Needs.{needs}
+use mathlib.Core.Path.{sym, _∙_}
+use mathlib.Core.Bool.{false≢true}
 use Prim.Native.Nat.{_-_}
 use native.Mathlib.Omega.{arith}
 use lib.ListN.{length}
 use Rattle.xml_escape.specs.Quiet.{Ran}
-use Rattle.xml_escape.proofs.Quiets.{ran-none, ran-more, one-quiet}
+use Rattle.xml_escape.proofs.Quiets.{ran-none, ran-more, one-quiet, ends-at, past-end}
 use Rattle.xml_escape.proofs.quiet_run.Statement.{statement}
 use Rattle.xml_escape.proofs.quiet_run.Tie as tie
 
@@ -14,7 +16,7 @@ abbrev μ-loop : tie.MeasureT-loop
 μ-loop s from most i₀ i = length s - i
 
 returns : tie.Need-returns Inv-loop μ-loop
-returns c = ran-none (c .before .before .pre)
+returns c = past-end (c .if1 .taken)
 
 shared-slice-read-loud : tie.Need-shared-slice-read-loud Inv-loop μ-loop
 shared-slice-read-loud c = search needs
@@ -23,7 +25,7 @@ loud-requires : tie.Need-loud-requires Inv-loop μ-loop
 loud-requires c κs = search needs
 
 returns-2 : tie.Need-returns-2 Inv-loop μ-loop
-returns-2 c = ran-none (c .before .before .before .before .before .pre)
+returns-2 c = ends-at (ran-none (search needs)) (λ h q. false≢true (sym (c .before .loud .ensures .1 q) ∙ c .if2 .taken))
 
 quiet-blocks-requires : tie.Need-quiet-blocks-requires Inv-loop μ-loop
 quiet-blocks-requires c κs = search needs
@@ -38,7 +40,7 @@ loud-requires-2 : tie.Need-loud-requires-2 Inv-loop μ-loop
 loud-requires-2 c κs = search needs
 
 returns-3 : tie.Need-returns-3 Inv-loop μ-loop
-returns-3 c = c .before .before .before .before .loop .inv
+returns-3 c = ends-at (c .before .before .before .before .loop .inv) (λ h q. false≢true (sym (c .before .loud2 .ensures .1 q) ∙ c .if3 .taken))
 
 add-i : tie.Need-add-i Inv-loop μ-loop
 add-i c = search needs
@@ -47,10 +49,10 @@ loop-less : tie.Need-loop-less Inv-loop μ-loop
 loop-less c = search needs
 
 loop-again : tie.Need-loop-again Inv-loop μ-loop
-loop-again c = ran-more (c .before .before .before .before .loop .inv) 1 (omega arith) (one-quiet (c .before .before .before .before .before .before .before .before .before .before .before .args .s .now) (c .before .before .before .before .loop .i) (c .before .loud2 .ensures (c .if3 .left)))
+loop-again c = ran-more (c .before .before .before .before .loop .inv) 1 (omega arith) (one-quiet (c .before .before .before .before .before .before .before .before .before .before .before .args .s .now) (c .before .before .before .before .loop .i) (c .before .loud2 .ensures .0 (c .if3 .left)))
 
 returns-4 : tie.Need-returns-4 Inv-loop μ-loop
-returns-4 c = c .before .loop .inv
+returns-4 c = ends-at (c .before .loop .inv) (λ h. absurd (omega (arith, c .loop-test .left)))
 
 pub quiet-run-spec : {M : Type 1} → statement M
 quiet-run-spec =

@@ -1,6 +1,6 @@
 //! `export`: the texts of a file as XML.
 
-use super::{counted, load, tell_refusal, MOST_ROWS};
+use super::{counted, load, unread, Writing, MOST_ROWS};
 use crate::enums::Enums;
 use crate::input::Input;
 use crate::names::escaped;
@@ -8,7 +8,7 @@ use crate::output::{Force, Form, Output};
 use crate::refusal::Told;
 use crate::run::{End, Run};
 use std::path::PathBuf;
-use xnb::Refusal::{NoTextList, NoXmlCharacter, NullText};
+use xnb::Refusal::{NotInXml, NotTextArray, NullText};
 use xnb::{Kind, Loader, Refused, Table};
 
 /// The mark before each text.
@@ -26,11 +26,11 @@ const ITEM: &str = "<Item>";
 #[command(verbatim_doc_comment)]
 pub struct Export {
     /// A file, or - for standard input
-    #[arg(value_name = "FILE")]
+    #[arg(value_name = "FILE", value_hint = clap::ValueHint::FilePath)]
     input: PathBuf,
 
     /// A file, or - for standard output
-    #[arg(short, long, value_name = "OUT.xml")]
+    #[arg(short, long, value_name = "OUT.xml", value_hint = clap::ValueHint::FilePath)]
     output: PathBuf,
 
     #[command(flatten)]
@@ -38,50 +38,55 @@ pub struct Export {
 
     #[command(flatten)]
     enums: Enums,
+
+    /// Print JSON: an object on a line of its own
+    #[arg(long)]
+    json: bool,
 }
 
 impl Export {
     pub fn run(&self, run: &mut Run) -> End {
         let input = Input::of(&self.input);
         let (output, existing) = (Output::of(&self.output), self.force.existing());
+        let writing = Writing {
+            input: &input,
+            output: &output,
+            json: self.json,
+        };
         // A text may hold what a terminal takes for a command.
         if !output.is_free(run, Form::Raw, existing) {
-            return Ok(());
+            return writing.unwritten(run, None);
         }
         let Some(enums) = self.enums.read_beside(input.is_stdin(), run) else {
             return Ok(());
         };
         let loader = Loader::new().with_enums(&enums);
-        let Some(file) = input.read_file_or_report(run) else {
-            return Ok(());
+        let file = match input.read_file_or_report(run) {
+            Ok(file) => file,
+            Err(why) => return unread(run, &input, &why, self.json),
         };
         let xml = match loader.export_xml(&file) {
             Ok(xml) => xml,
-            Err(refused) => {
-                tell_refusal(run, &input, &told(loader, &file, refused));
-                return Ok(());
-            }
+            Err(refused) => return writing.refused(run, told(loader, &file, refused)),
         };
         if !output.write(run, xml.as_bytes(), Form::Raw, existing)? {
-            return Ok(());
+            return writing.unwritten(run, Some(file.len()));
         }
-        let Output::File(_) = output else {
-            return Ok(());
-        };
         let texts = counted(xml.matches(ITEM).count(), "text", "texts");
         let bytes = counted(xml.len(), "byte", "bytes");
-        run.print_done(&format!("{}: {texts}, {bytes} of XML\n", input.shown()))
+        let words = format!("{texts}, {bytes} of XML");
+        writing.written_as(run, file.len(), xml.len(), &words)
     }
 }
 
 /// A refusal with what was found.
 fn told<'f>(loader: Loader, file: &'f [u8], refused: Refused) -> Told<'f> {
     let table = match refused.refusal {
-        NoTextList | NullText | NoXmlCharacter => load(loader, file, MOST_ROWS).ok(),
+        NotTextArray | NullText | NotInXml => load(loader, file, MOST_ROWS).ok(),
         _ => None,
     };
     match table {
-        Some(table) if refused.refusal == NoTextList => {
+        Some(table) if refused.refusal == NotTextArray => {
             let told = Told::of_file(loader, file, refused, MOST_ROWS as usize);
             told.with_found(what_is_exported(&table))
         }

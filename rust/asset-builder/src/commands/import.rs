@@ -1,6 +1,6 @@
 //! `import`: a file from the XML of its texts.
 
-use super::{counted, tell_refusal};
+use super::{counted, unread, Writing};
 use crate::input::Input;
 use crate::output::{Force, Form, Output};
 use crate::refusal::{shown_byte, Told};
@@ -13,7 +13,7 @@ use xnb::{Refusal, Table};
 ///
 /// The XML is taken exactly as `export` writes it: nothing stands between items, and
 /// & < > and " stand in a text as &amp; &lt; &gt; and &quot;. Where it differs, the line
-/// and the column are told, what was found there and what is expected. The file is
+/// and the column are reported, what was found there and what is expected. The file is
 /// the shortest one with these texts.
 /// The output takes its place when it is whole; a file that is there is overwritten
 /// only with -f. Refused XML leaves the output as it is; the refusal goes to standard
@@ -22,44 +22,49 @@ use xnb::{Refusal, Table};
 #[command(verbatim_doc_comment)]
 pub struct Import {
     /// XML, or - for standard input
-    #[arg(value_name = "IN.xml")]
+    #[arg(value_name = "IN.xml", value_hint = clap::ValueHint::FilePath)]
     input: PathBuf,
 
     /// A file, or - for standard output
-    #[arg(short, long, value_name = "OUT.xnb")]
+    #[arg(short, long, value_name = "OUT.xnb", value_hint = clap::ValueHint::FilePath)]
     output: PathBuf,
 
     #[command(flatten)]
     force: Force,
+
+    /// Print JSON: an object on a line of its own
+    #[arg(long)]
+    json: bool,
 }
 
 impl Import {
     pub fn run(&self, run: &mut Run) -> End {
         let input = Input::of(&self.input);
         let (output, existing) = (Output::of(&self.output), self.force.existing());
+        let writing = Writing {
+            input: &input,
+            output: &output,
+            json: self.json,
+        };
         if !output.is_free(run, Form::Raw, existing) {
-            return Ok(());
+            return writing.unwritten(run, None);
         }
-        let Ok(xml) = input.read_or_report(run) else {
-            return Ok(());
+        let xml = match input.read_or_report(run) {
+            Ok(xml) => xml,
+            Err(why) => return unread(run, &input, &why, self.json),
         };
         let file = match run.progress().during("importing", || import(&xml[..])) {
             Ok(file) => file,
-            Err(refused) => {
-                tell_refusal(run, &input, &told(&xml, refused));
-                return Ok(());
-            }
+            Err(refused) => return writing.refused(run, told(&xml, refused)),
         };
         if !input.is_unchanged(run, &xml) || !output.write(run, &file, Form::Raw, existing)? {
-            return Ok(());
+            return writing.unwritten(run, Some(xml.len()));
         }
-        let Output::File(_) = output else {
-            return Ok(());
-        };
         let texts = Table::load(&file).map_or(0, |table| table.loaded().rows - 1);
         let texts = counted(texts, "text", "texts");
         let bytes = counted(file.len(), "byte", "bytes");
-        run.print_done(&format!("{}: {texts}, a file of {bytes}\n", input.shown()))
+        let words = format!("{texts}, a file of {bytes}");
+        writing.written_as(run, xml.len(), file.len(), &words)
     }
 }
 
@@ -68,7 +73,7 @@ fn told(xml: &[u8], refused: XmlRefused) -> Told<'_> {
     let number = refused.refusal.number();
     let told = Told::at_byte(xml, number, refused.place, refused.rule());
     match refused.refusal {
-        Refusal::OtherXml => told.with_found(what_is_wrong(xml, refused.place as usize)),
+        Refusal::NotExported => told.with_found(what_is_wrong(xml, refused.place as usize)),
         // The place is no byte of the XML that would show anything.
         _ => told.without_bytes(),
     }

@@ -15,7 +15,7 @@ mod salvage;
 mod shorten;
 mod tree;
 
-use crate::input::{Input, Inputs, LONGEST_FILE};
+use crate::input::{Input, Inputs};
 use crate::json::{self, Converted, Outcome, Refused, Report};
 use crate::output::Output;
 use crate::refusal::Told;
@@ -33,7 +33,7 @@ const MOST_ROWS: u32 = xnb::MOST_ROWS as u32;
 const STATUSES: &str = "0 if every file was taken, 1 if one was refused or not found, \
     2 for a wrong command or a file that could not be read or written.";
 
-/// Checks, shows and shortens XNB files, and reads, converts and salvages packs of files, through the proved library
+/// Checks, shows and rewrites XNB files, takes texts to XML and back, and reads, converts, salvages and counts packs of files, through the proved library
 #[derive(Parser)]
 #[command(name = "asset-builder", version, propagate_version = true)]
 #[command(after_help = format!("Exit status: {STATUSES}"))]
@@ -98,18 +98,8 @@ fn for_each(
     let inputs = inputs.list();
     run.progress().expect(inputs.len());
     for input in inputs {
-        // The loader refuses a longer file whatever follows.
-        match input.read_at_most(LONGEST_FILE + 1) {
-            Ok(file) => {
-                let (name, length) = (input.shown(), file.len());
-                run.say(&format!("{name}: {length} bytes read\n"));
-                action(run, &input, Ok(&file))?;
-            }
-            Err(error) => {
-                run.fail(input.shown(), &error);
-                action(run, &input, Err(error.to_string()))?;
-            }
-        }
+        let file = input.read_file_or_report(run);
+        action(run, &input, file.as_deref().map_err(String::clone))?;
         run.progress().step();
     }
     Ok(())
@@ -144,6 +134,11 @@ struct Writing<'a> {
 impl Writing<'_> {
     /// Reports the file that was written, with the length of both.
     fn written(&self, run: &mut Run, old: usize, new: usize) -> End {
+        self.written_as(run, old, new, &format!("{old} bytes, now {new}"))
+    }
+
+    /// Reports the file that was written: to a program with the length of both, to people in these words.
+    fn written_as(&self, run: &mut Run, old: usize, new: usize, words: &str) -> End {
         let path = match self.output {
             Output::Standard => Path::new("-"),
             Output::File(path) => path,
@@ -154,7 +149,7 @@ impl Writing<'_> {
         let name = self.input.shown();
         match self.output {
             Output::Standard => Ok(()),
-            Output::File(_) => run.print_done(&format!("{name}: {old} bytes, now {new}\n")),
+            Output::File(_) => run.print_done(&format!("{name}: {words}\n")),
         }
     }
 

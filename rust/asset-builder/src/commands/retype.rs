@@ -1,8 +1,9 @@
 //! `retype`: a file with another text of the same length in the place of one of its texts.
 
-use super::{counted, load, tell_refusal, MOST_ROWS};
+use super::{counted, load, unread, Writing, MOST_ROWS};
 use crate::enums::Enums;
 use crate::input::Input;
+use crate::names::shown_text;
 use crate::output::{is_same_place, Existing, Force, Form, Output};
 use crate::refusal::Told;
 use crate::run::{End, Run};
@@ -13,7 +14,7 @@ use xnb::{Loader, Row, Table};
 ///
 /// The new text takes as many bytes as the old one, counted in UTF-8; every other
 /// byte stays. The new file is loaded and has the same rows: typed text never steers
-/// the loader. `rows` and `tree --json` tell which row a text has.
+/// the loader. `rows` and `tree --json` say which row a text has.
 /// The output takes its place when it is whole. A file that is there is overwritten
 /// only with -f, or if it is the input, named as both FILE and OUT.
 /// A refused file leaves the output as it is; the refusal goes to standard error.
@@ -21,7 +22,7 @@ use xnb::{Loader, Row, Table};
 #[command(verbatim_doc_comment)]
 pub struct Retype {
     /// A file, or - for standard input
-    #[arg(value_name = "FILE")]
+    #[arg(value_name = "FILE", value_hint = clap::ValueHint::FilePath)]
     input: PathBuf,
 
     /// The row number of a String
@@ -33,7 +34,7 @@ pub struct Retype {
     text: String,
 
     /// A file, which may be the input by its own name, or - for standard output
-    #[arg(short, long, value_name = "OUT")]
+    #[arg(short, long, value_name = "OUT", value_hint = clap::ValueHint::FilePath)]
     output: PathBuf,
 
     #[command(flatten)]
@@ -41,6 +42,10 @@ pub struct Retype {
 
     #[command(flatten)]
     enums: Enums,
+
+    /// Print JSON: an object on a line of its own
+    #[arg(long)]
+    json: bool,
 }
 
 /// A file with another text.
@@ -62,30 +67,38 @@ impl Retype {
     pub fn run(&self, run: &mut Run) -> End {
         let input = Input::of(&self.input);
         let (output, existing) = (Output::of(&self.output), self.existing());
+        let writing = Writing {
+            input: &input,
+            output: &output,
+            json: self.json,
+        };
         if !output.is_free(run, Form::Raw, existing) {
-            return Ok(());
+            return writing.unwritten(run, None);
         }
         let Some(enums) = self.enums.read_beside(input.is_stdin(), run) else {
             return Ok(());
         };
         let loader = Loader::new().with_enums(&enums);
-        let Some(file) = input.read_file_or_report(run) else {
-            return Ok(());
+        let file = match input.read_file_or_report(run) {
+            Ok(file) => file,
+            Err(why) => return unread(run, &input, &why, self.json),
         };
-        match self.retyped(loader, &file) {
-            Ok(new) => self.write(run, &input, &new, existing),
-            Err(Wrong::Refused(told)) => {
-                tell_refusal(run, &input, &told);
-                Ok(())
-            }
+        let retyped = match self.retyped(loader, &file) {
+            Ok(retyped) => retyped,
+            Err(Wrong::Refused(told)) => return writing.refused(run, *told),
             Err(Wrong::Text(why)) => {
-                run.fail(self.name_of(&input), why);
-                Ok(())
+                run.fail(format!("{}: row {}", input.shown(), self.row), why);
+                return writing.unwritten(run, Some(file.len()));
             }
+        };
+        if !output.write(run, &retyped.new, Form::Raw, existing)? {
+            return writing.unwritten(run, Some(file.len()));
         }
+        let words = self.words(&retyped);
+        writing.written_as(run, file.len(), retyped.new.len(), &words)
     }
 
-    /// The file with the new text, which is told as the file is.
+    /// The file with the new text, which loads as the file does.
     fn retyped<'f>(&self, loader: Loader, file: &'f [u8]) -> Result<Retyped<'f>, Wrong<'f>> {
         let refused = |refused| {
             let told = Told::of_file(loader, file, refused, MOST_ROWS as usize);
@@ -104,29 +117,20 @@ impl Retype {
         }
         let row = table.row(self.row).expect("a row with a text");
         let new = with_text(file, &row, &self.text);
-        if !is_told_alike(loader, &table, &new) {
-            let why = "the file with the new text is told otherwise; nothing is written";
+        if !loads_alike(loader, &table, &new) {
+            let why = "the file with the new text loads otherwise; nothing is written";
             return Err(Wrong::Text(why.to_string()));
         }
         let rows = table.loaded().rows;
         Ok(Retyped { old, new, rows })
     }
 
-    fn write(&self, run: &mut Run, input: &Input, retyped: &Retyped, existing: Existing) -> End {
-        let output = Output::of(&self.output);
-        if !output.write(run, &retyped.new, Form::Raw, existing)? {
-            return Ok(());
-        }
-        let Output::File(_) = output else {
-            return Ok(());
-        };
-        let (name, old, new) = (self.name_of(input), retyped.old, &self.text);
+    /// What is reported to people.
+    fn words(&self, retyped: &Retyped) -> String {
+        let (old, new) = (shown_text(retyped.old, '"'), shown_text(&self.text, '"'));
         let rows = counted(retyped.rows, "row", "rows");
-        run.print_done(&format!("{name}: {old:?}, now {new:?}; {rows} as before\n"))
-    }
-
-    fn name_of(&self, input: &Input) -> String {
-        format!("{}: row {}", input.shown(), self.row)
+        let row = self.row;
+        format!("row {row}: \"{old}\", now \"{new}\"; {rows} as before")
     }
 
     /// What the file has in place of a String in the row.
@@ -163,7 +167,7 @@ fn with_text(file: &[u8], row: &Row, text: &str) -> Vec<u8> {
 }
 
 /// Whether the new file has the same answer and the same rows.
-fn is_told_alike(loader: Loader, table: &Table, new: &[u8]) -> bool {
+fn loads_alike(loader: Loader, table: &Table, new: &[u8]) -> bool {
     load(loader, new, MOST_ROWS)
         .is_ok_and(|new| new.loaded() == table.loaded() && new.words() == table.words())
 }

@@ -141,7 +141,7 @@ fn node(table: &Table, number: u32, field: Field) -> Node {
             Detail::ResourceId(id) => Some(id),
             _ => None,
         },
-        value: value(table, number, &row),
+        value: value(table, number),
         meaning: field.meaning,
         children: children.collect(),
     }

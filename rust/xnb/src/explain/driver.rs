@@ -25,11 +25,11 @@ pub fn explain<'f>(enums: &[u8], file: &'f [u8], refused: Refused) -> Option<Exp
     let place = refused.place as usize;
     let mut reader = None;
     let found = match refused.refusal {
-        OtherPlatform => {
+        NotWindows => {
             let platform = char::from(*file.get(3)?).escape_default();
             Some(format!("the platform is {platform}, w is taken"))
         }
-        PaddedNumber => {
+        NotShortest => {
             let what = number_at(&table, &readers, shared_count, place)?;
             padded(file, place, &what)
         }
@@ -44,7 +44,7 @@ pub fn explain<'f>(enums: &[u8], file: &'f [u8], refused: Refused) -> Option<Exp
             equal_reader(&readers, later)
         }
         RepeatedKey => repeated_key(&table, place),
-        NotAPageFirst => {
+        NotPage => {
             let kind = table.row(0)?.kind;
             Some(format!("the first object is of kind {kind}"))
         }

@@ -16,23 +16,24 @@ mod values;
 mod walk;
 
 use crate::enums::EnumsRefused;
-use crate::refusal::{Refusal, Refused};
+use crate::refusal::{Place, Refused};
 use crate::row::MOST_ROWS;
 use cursor::{Cursor, Stop};
 pub use shown::{NameLine, ShownName};
 use std::fmt::{self, Display, Formatter};
 use std::ops::Range;
-pub(crate) use types::is_target_name;
+pub(crate) use types::{is_target_name, reader_target};
 
 /// What a refusal found.
 #[derive(Clone, Debug, PartialEq, Eq)]
+#[non_exhaustive]
 pub struct Explanation<'f> {
     /// The value found and the limit that it breaks, in words.
     pub found: String,
     /// The reader that is meant.
     pub reader: Option<ReaderName<'f>>,
     /// The bytes of the reader's name that are wrong, counted from its first: the byte at the place, or the head at the
-    /// place for [`NameHead`](Refusal::NameHead); none at the end of a name that ends too soon.
+    /// place for [`NameHead`](crate::Refusal::NameHead); none at the end of a name that ends too soon.
     pub mark: Option<Range<usize>>,
 }
 
@@ -63,6 +64,7 @@ pub struct ReaderName<'f> {
     pub number: usize,
     /// The place of its first byte in the file.
     pub first: usize,
+    /// Its bytes as they stand in the file, lawful or not.
     pub bytes: &'f [u8],
 }
 
@@ -98,15 +100,14 @@ pub(crate) fn explain_with<'f>(
     refused: Refused,
     room: usize,
 ) -> Option<Explanation<'f>> {
-    match refused.refusal {
-        // Their place is no byte of the file.
-        Refusal::OutputTooSmall | Refusal::NoSuchRow | Refusal::OtherKind => None,
-        Refusal::EnumEntry => explain_entry(enums, refused.place as usize),
-        refusal if refusal.is_of_profile() => driver::explain(enums, file, refused),
-        _ => match walk::follow(Cursor::new(file, refused), enums, room.min(MOST_ROWS)) {
+    match refused.refusal.place() {
+        Place::Byte if refused.refusal.is_of_profile() => driver::explain(enums, file, refused),
+        Place::EnumEntry => explain_entry(enums, refused.place as usize),
+        Place::Byte => match walk::follow(Cursor::new(file, refused), enums, room.min(MOST_ROWS)) {
             Err(Stop::Found(explanation)) => Some(explanation),
             Err(Stop::Lost) | Ok(()) => None,
         },
+        _ => None,
     }
 }
 

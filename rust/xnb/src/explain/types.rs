@@ -2,6 +2,7 @@
 
 use super::names::{Name, Wrong};
 use crate::enums::size_in;
+use crate::header::Target;
 use crate::kind::Kind;
 use std::fmt::{self, Display, Formatter};
 
@@ -207,6 +208,45 @@ fn target_name(head: Head) -> Option<String> {
         other => format!("{other:?}"),
     };
     Some(format!("{space}{name}"))
+}
+
+/// The type that a reader of an accepted name reads.
+pub fn reader_target(name: &str) -> Option<Target<'_>> {
+    let name = Name::parse(name.as_bytes()).ok()?;
+    match reader_head(name.head)? {
+        Of(Kind::Enum) => argument_target(name.arguments.first()?),
+        head => target(head, &name),
+    }
+}
+
+/// The type that an argument of an accepted name is; what is no target name is an enum.
+fn argument_target<'f>(name: &Name<'f>) -> Option<Target<'f>> {
+    match target_head(name.head) {
+        Some(head) => target(head, name),
+        None => Some(Target {
+            kind: Some(Kind::Enum),
+            name: std::str::from_utf8(name.head).ok()?.into(),
+            arguments: Vec::new(),
+        }),
+    }
+}
+
+/// The type of this head with the arguments of a name.
+fn target<'f>(head: Head, name: &Name<'f>) -> Option<Target<'f>> {
+    let kind = match head {
+        Of(kind) => Some(kind),
+        _ => None,
+    };
+    let own = target_name(head).unwrap_or("System.Array".to_string());
+    Some(Target {
+        kind,
+        name: own.into(),
+        arguments: name
+            .arguments
+            .iter()
+            .map(argument_target)
+            .collect::<Option<_>>()?,
+    })
 }
 
 /// The type's name without tails.

@@ -12,7 +12,7 @@ const LONGEST_SIDE: u32 = 4096;
 /// A value of fixed size is one field.
 pub fn take_fixed<'f>(cursor: &mut Cursor<'f>, kind: Kind) -> Step<'f, ()> {
     let start = cursor.at;
-    let size = fixed_size(kind).ok_or(Stop::Lost)?;
+    let size = kind.size().ok_or(Stop::Lost)?;
     let bytes = cursor.take(size, format_args!("a value of kind {kind}"))?;
     cursor.meet(BadValue, start, || match kind {
         Kind::Boolean => wrong_flag("Boolean", bytes[0]),
@@ -27,20 +27,6 @@ pub fn take_enum<'f>(cursor: &mut Cursor<'f>, size: usize) -> Step<'f, ()> {
     let kind = Kind::Enum;
     cursor.take(size, format_args!("a value of kind {kind}"))?;
     Ok(())
-}
-
-fn fixed_size(kind: Kind) -> Option<usize> {
-    use Kind::*;
-    Some(match kind {
-        Byte | SByte | Boolean => 1,
-        Int16 | UInt16 => 2,
-        Int32 | UInt32 | Single | Color => 4,
-        Int64 | UInt64 | Double | TimeSpan | DateTime | Vector2 | Point => 8,
-        Vector3 => 12,
-        Decimal | Vector4 | Quaternion | Rectangle => 16,
-        Matrix => 64,
-        _ => return None,
-    })
 }
 
 fn wrong_flag(kind: &str, flag: u8) -> Option<String> {

@@ -1,10 +1,11 @@
 //! Index buffers, vertex buffers and their declarations.
 
 use super::codes::{ElementFormat, ElementUsage};
-use super::fields::Fields;
+use crate::fields::Fields;
 
 /// An index buffer: numbers of two bytes or of four.
 #[derive(Clone, Copy, Debug, PartialEq, Eq)]
+#[cfg_attr(feature = "serde", derive(serde::Serialize))]
 pub struct IndexBuffer<'f> {
     /// Whether an index has two bytes.
     pub is_16_bit: bool,
@@ -36,6 +37,7 @@ impl<'f> IndexBuffer<'f> {
 pub struct VertexBuffer<'t, 'f> {
     /// What a vertex consists of.
     pub declaration: VertexDeclaration<'t, 'f>,
+    /// The number of its vertices.
     pub vertex_count: u32,
     /// The bytes of all vertices, stride times vertex count.
     pub data: &'f [u8],
@@ -86,11 +88,15 @@ impl<'t, 'f> VertexDeclaration<'t, 'f> {
 
 /// An element of a vertex.
 #[derive(Clone, Copy, Debug, PartialEq, Eq)]
+#[cfg_attr(feature = "serde", derive(serde::Serialize))]
 pub struct VertexElement {
     /// Its first byte in the vertex.
     pub offset: u32,
+    /// How it is stored.
     pub format: ElementFormat,
+    /// What it is for.
     pub usage: ElementUsage,
+    /// Which one it is of several for the same use, counted from 0.
     pub usage_index: u32,
 }
 

@@ -1,108 +1,80 @@
-//! The codes of document 000 for the elements of a vertex.
+//! The codes of document 000 for the elements of a vertex, each once: its number, its name and what it is.
 
 use std::fmt::{self, Display, Formatter};
 
-/// How an element of a vertex is stored, by its code in document 000.
-#[derive(Clone, Copy, Debug, PartialEq, Eq, PartialOrd, Ord, Hash)]
-pub enum ElementFormat {
-    Single = 0,
-    Vector2 = 1,
-    Vector3 = 2,
-    Vector4 = 3,
-    Color = 4,
-    Byte4 = 5,
-    Short2 = 6,
-    Short4 = 7,
-    NormalizedShort2 = 8,
-    NormalizedShort4 = 9,
-    HalfVector2 = 10,
-    HalfVector4 = 11,
+macro_rules! codes {
+    ($(#[$about:meta])* $codes:ident { $($code:literal $name:ident: $words:literal;)* }) => {
+        $(#[$about])*
+        #[derive(Clone, Copy, Debug, PartialEq, Eq, PartialOrd, Ord, Hash)]
+        #[cfg_attr(feature = "serde", derive(serde::Serialize))]
+        pub enum $codes {
+            $(#[doc = concat!("Code ", $code, ": ", $words, ".")] $name = $code,)*
+        }
+
+        impl $codes {
+            /// The number in the file.
+            pub fn code(self) -> i32 {
+                self as i32
+            }
+
+            /// What this number stands for; a load takes no other.
+            pub fn of_code(code: i32) -> Option<$codes> {
+                Some(match code {
+                    $($code => $codes::$name,)*
+                    _ => return None,
+                })
+            }
+
+            /// The name in document 000.
+            pub fn name(self) -> &'static str {
+                match self {
+                    $($codes::$name => stringify!($name),)*
+                }
+            }
+        }
+
+        impl Display for $codes {
+            fn fmt(&self, out: &mut Formatter) -> fmt::Result {
+                out.pad(self.name())
+            }
+        }
+    };
 }
 
-/// What an element of a vertex is for, by its code in document 000.
-#[derive(Clone, Copy, Debug, PartialEq, Eq, PartialOrd, Ord, Hash)]
-pub enum ElementUsage {
-    Position = 0,
-    Color = 1,
-    TextureCoordinate = 2,
-    Normal = 3,
-    Binormal = 4,
-    Tangent = 5,
-    BlendIndices = 6,
-    BlendWeight = 7,
-    Depth = 8,
-    Fog = 9,
-    PointSize = 10,
-    Sample = 11,
-    TessellateFactor = 12,
-}
-
-const FORMATS: [ElementFormat; 12] = {
-    use ElementFormat::*;
-    [
-        Single,
-        Vector2,
-        Vector3,
-        Vector4,
-        Color,
-        Byte4,
-        Short2,
-        Short4,
-        NormalizedShort2,
-        NormalizedShort4,
-        HalfVector2,
-        HalfVector4,
-    ]
-};
-
-const USAGES: [ElementUsage; 13] = {
-    use ElementUsage::*;
-    [
-        Position,
-        Color,
-        TextureCoordinate,
-        Normal,
-        Binormal,
-        Tangent,
-        BlendIndices,
-        BlendWeight,
-        Depth,
-        Fog,
-        PointSize,
-        Sample,
-        TessellateFactor,
-    ]
-};
-
-impl ElementFormat {
-    pub fn code(self) -> i32 {
-        self as i32
-    }
-
-    pub fn of_code(code: i32) -> Option<ElementFormat> {
-        FORMATS.get(usize::try_from(code).ok()?).copied()
+codes! {
+    /// How an element of a vertex is stored, by its code in document 000.
+    ElementFormat {
+        0 Single: "a Single number";
+        1 Vector2: "two Single numbers";
+        2 Vector3: "three Single numbers";
+        3 Vector4: "four Single numbers";
+        4 Color: "four bytes of a colour";
+        5 Byte4: "four bytes";
+        6 Short2: "two numbers of two bytes";
+        7 Short4: "four numbers of two bytes";
+        8 NormalizedShort2: "two numbers of two bytes that stand for -1 to 1";
+        9 NormalizedShort4: "four numbers of two bytes that stand for -1 to 1";
+        10 HalfVector2: "two floating-point numbers of two bytes";
+        11 HalfVector4: "four floating-point numbers of two bytes";
     }
 }
 
-impl ElementUsage {
-    pub fn code(self) -> i32 {
-        self as i32
-    }
-
-    pub fn of_code(code: i32) -> Option<ElementUsage> {
-        USAGES.get(usize::try_from(code).ok()?).copied()
-    }
-}
-
-impl Display for ElementFormat {
-    fn fmt(&self, out: &mut Formatter) -> fmt::Result {
-        write!(out, "{self:?}")
-    }
-}
-
-impl Display for ElementUsage {
-    fn fmt(&self, out: &mut Formatter) -> fmt::Result {
-        write!(out, "{self:?}")
+codes! {
+    /// What an element of a vertex is for, by its code in document 000.
+    ElementUsage {
+        0 Position: "where the vertex is";
+        1 Color: "its colour";
+        2 TextureCoordinate: "its place in a texture";
+        3 Normal: "the direction away from the surface";
+        4 Binormal: "a direction along the surface";
+        5 Tangent: "the other direction along the surface";
+        6 BlendIndices: "the bones that move it";
+        7 BlendWeight: "how much each bone moves it";
+        8 Depth: "its depth";
+        9 Fog: "its fog";
+        10 PointSize: "the size of its point";
+        11 Sample: "a sample";
+        12 TessellateFactor: "how finely it is divided";
     }
 }
 

@@ -41,7 +41,6 @@
 
 mod buffers;
 mod codes;
-mod fields;
 mod model;
 
 pub use buffers::{IndexBuffer, VertexBuffer, VertexDeclaration, VertexElement};
@@ -49,10 +48,9 @@ pub use codes::{ElementFormat, ElementUsage};
 pub use model::{Bone, Mesh, MeshPart, Model};
 
 use crate::kind::Kind;
-use crate::refusal::{Refusal, Refused};
+use crate::refusal::Refused;
 use crate::shape::Shaped;
 use crate::table::Grid;
-use fields::{Fields, View};
 
 impl<'f, S: Shaped, W: AsRef<[u32]>> Grid<'f, S, W> {
     /// The model of a row, which takes one step for each of its fields.
@@ -76,28 +74,5 @@ impl<'f, S: Shaped, W: AsRef<[u32]>> Grid<'f, S, W> {
     pub fn vertex_declaration(&self, number: u32) -> Result<VertexDeclaration<'_, 'f>, Refused> {
         self.fields(number, Kind::VertexDeclaration)
             .map(VertexDeclaration::take)
-    }
-
-    /// The row number of a shared object by its resource id, which counts from 1.
-    pub fn resource(&self, id: u32) -> Option<u32> {
-        self.view().resource(id)
-    }
-
-    /// The fields of a row of this kind.
-    fn fields(&self, number: u32, kind: Kind) -> Result<Fields<'_, 'f>, Refused> {
-        let refused = |refusal| Refused {
-            refusal,
-            place: number,
-        };
-        let row = self.row(number);
-        let row = row.ok_or(refused(Refusal::NoSuchRow))?;
-        if row.kind != kind {
-            return Err(refused(Refusal::OtherKind));
-        }
-        Ok(self.view().fields(number))
-    }
-
-    fn view(&self) -> View<'_, 'f> {
-        View::new(S::SHAPE, self.file(), self.all_words(), self.loaded())
     }
 }

@@ -1,8 +1,7 @@
 //! Models: bones, meshes and their parts.
 
 use super::buffers::{IndexBuffer, VertexBuffer};
-use super::fields::{Fields, View};
-use crate::kind::Kind;
+use crate::fields::{Fields, View};
 
 /// A model: bones in a tree, and meshes that hang on them.
 ///
@@ -106,6 +105,7 @@ impl<'t, 'f> Model<'t, 'f> {
 /// A bone of a model.
 #[derive(Clone, Copy, Debug)]
 pub struct Bone<'t, 'f> {
+    /// Its name, unless it is null.
     pub name: Option<&'f str>,
     /// A matrix, row by row.
     pub transform: [f32; 16],
@@ -140,6 +140,7 @@ impl<'t, 'f> Bone<'t, 'f> {
 /// A mesh of a model.
 #[derive(Clone, Copy, Debug)]
 pub struct Mesh<'t, 'f> {
+    /// Its name, unless it is null.
     pub name: Option<&'f str>,
     /// The place of the bone that it hangs on among the bones.
     pub bone: Option<usize>,
@@ -185,9 +186,13 @@ const PART_FIELDS: u32 = 8;
 /// A part of a mesh: a stretch of a vertex buffer and of an index buffer.
 #[derive(Clone, Copy, Debug)]
 pub struct MeshPart<'t, 'f> {
+    /// The first of its vertices in the vertex buffer.
     pub vertex_offset: u32,
+    /// The number of its vertices.
     pub vertex_count: u32,
+    /// The first of its indices in the index buffer.
     pub start_index: u32,
+    /// The number of its triangles.
     pub primitive_count: u32,
     /// The row number of its tag.
     pub tag: u32,
@@ -227,8 +232,7 @@ impl<'t, 'f> MeshPart<'t, 'f> {
 
     /// The fields of a resource that is not null; a load has judged its type.
     fn resource(&self, id: Option<u32>) -> Option<Fields<'t, 'f>> {
-        let number = self.view.resource(id?)?;
-        let is_null = self.view.row(number).kind == Kind::Null;
-        (!is_null).then(|| self.view.fields(number))
+        let number = self.view.present_resource(id)?;
+        Some(self.view.fields(number))
     }
 }

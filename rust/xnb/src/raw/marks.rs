@@ -32,8 +32,8 @@ type Entry<T> = unsafe extern "C" fn(*const u8, usize, *mut T, usize, *mut u64) 
 /// The refusal or 0, and the number that the entry writes.
 fn call<T>(entry: Entry<T>, pack: &[u8], lent: &mut [T]) -> (u32, u64) {
     let mut at = u64::MAX;
-    // SAFETY: each pointer and length are those of one slice, or the pointer is that of a number
-    // of this function; the entry reads and writes nothing else and keeps no pointer.
+    // SAFETY: the pack is a slice that the entry only reads, what is lent one that nothing else holds and that it writes;
+    // the number is this function's own. It reads and writes nothing else and keeps no pointer.
     let refusal = unsafe {
         entry(
             pack.as_ptr(),

@@ -25,10 +25,6 @@ mod entries {
     }
 }
 
-// SAFETY of every call below: each pointer and length are those of one slice, or the pointer is
-// that of a report or of a number of this function; the entry reads and writes nothing else and
-// keeps no pointer.
-
 /// The refusal or 0, and its place or 0.
 pub fn add(
     pack: &[u8],
@@ -38,6 +34,9 @@ pub fn add(
     report: &mut [u64; REPORT_WORDS],
 ) -> (u32, u64) {
     let mut at = u64::MAX;
+    // SAFETY: pack and enums are slices that the entry only reads, table and words are two that nothing else holds and that
+    // it writes, as it does the report, which is of the length that it asks for, and this function's own number; it reads
+    // and writes nothing else and keeps no pointer.
     let refusal = unsafe {
         entries::xnb_report_add(
             pack.as_ptr(),
@@ -57,5 +56,7 @@ pub fn add(
 
 /// The refusal or 0.
 pub fn sum(into: &mut [u64; REPORT_WORDS], other: &[u64; REPORT_WORDS]) -> u32 {
+    // SAFETY: both reports are of the length that the entry asks for; it writes the one, which nothing else holds, and only
+    // reads the other, and keeps no pointer.
     unsafe { entries::xnb_report_sum(into, other) }
 }

@@ -18,8 +18,8 @@ mod entries {
 /// The refusal or 0, its place or the output's length, and the number of stretches in the list.
 pub fn salvage(pack: &[u8], out: &mut [u8], list: &mut [u64]) -> (u32, u64, u64) {
     let (mut at, mut stretches) = (u64::MAX, u64::MAX);
-    // SAFETY: each pointer and length are those of one slice, or the pointer is that of a number
-    // of this function; the entry reads and writes nothing else and keeps no pointer.
+    // SAFETY: the pack is a slice that the entry only reads, output and list are two that nothing else holds and that it
+    // writes; the numbers are this function's own. It reads and writes nothing else and keeps no pointer.
     let refusal = unsafe {
         entries::xnb_pack_salvage(
             pack.as_ptr(),

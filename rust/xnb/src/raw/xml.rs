@@ -22,11 +22,10 @@ mod entries {
     }
 }
 
-// SAFETY of every call below: each pointer and length are those of one slice, or the pointer is
-// that of a number of this function; the entry reads and writes nothing else and keeps no pointer.
-
 /// The packed answer; its lower half is the length of the XML, or the place.
 pub fn export(file: &[u8], enums: &[u8], words: &mut [u32], out: &mut [u8]) -> u64 {
+    // SAFETY: file and enums are slices that the entry only reads, words and output are two that nothing else holds and
+    // that it writes; it reads and writes nothing else and keeps no pointer.
     unsafe {
         entries::xnb_export_xml(
             file.as_ptr(),
@@ -44,6 +43,8 @@ pub fn export(file: &[u8], enums: &[u8], words: &mut [u32], out: &mut [u8]) -> u
 /// The refusal or 0, and its place or the file's length.
 pub fn import(xml: &[u8], out: &mut [u8]) -> (u32, u64) {
     let mut at = u64::MAX;
+    // SAFETY: the XML is a slice that the entry only reads, the output one that nothing else holds and that it writes,
+    // and the number is this function's own; it reads and writes nothing else and keeps no pointer.
     let refusal = unsafe {
         entries::xnb_import_xml(
             xml.as_ptr(),

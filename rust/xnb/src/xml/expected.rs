@@ -13,16 +13,27 @@ const LONGEST_SHOWN: usize = 24;
 /// What may stand at a place of XML, all before it being as an export writes it.
 #[derive(Clone, Copy, Debug, PartialEq, Eq)]
 pub enum Expected {
-    /// The rest of this markup or entity, of which so many bytes stand before the place.
-    Markup { whole: &'static str, before: usize },
-    /// `<Item>` or `</Asset></XnaContent>`, of which so many bytes stand before the place.
-    ItemOrEnd { before: usize },
+    /// The rest of this markup or entity.
+    Markup {
+        /// The markup or entity.
+        whole: &'static str,
+        /// How many of its bytes stand before the place.
+        before: usize,
+    },
+    /// The rest of `<Item>` or of `</Asset></XnaContent>`.
+    ItemOrEnd {
+        /// How many of its bytes stand before the place.
+        before: usize,
+    },
     /// A character, an entity or `</Item>`.
     Text,
     /// `amp;`, `lt;`, `gt;` or `quot;`, behind an ampersand.
     Entity,
-    /// The rest of a character, of which so many bytes stand before the place.
-    Character { before: usize },
+    /// The rest of a character.
+    Character {
+        /// How many of its bytes stand before the place.
+        before: usize,
+    },
     /// Nothing more.
     End,
 }
@@ -30,7 +41,7 @@ pub enum Expected {
 use Expected::*;
 
 impl Expected {
-    /// What may stand at a place that an import refuses with [`OtherXml`](crate::Refusal::OtherXml).
+    /// What may stand at a place that an import refuses with [`NotExported`](crate::Refusal::NotExported).
     pub fn at(xml: impl AsRef<[u8]>, place: usize) -> Expected {
         let xml = xml.as_ref();
         let before = &xml[..place.min(xml.len())];

@@ -36,7 +36,7 @@ const LONGER_THAN_XML: usize = 39;
 /// ```
 /// let null = b"XNBw\x05\x00\x0D\x00\x00\x00\x00\x00\x00";
 /// let refused = xnb::xml::export(null).unwrap_err();
-/// assert_eq!(refused.refusal, xnb::Refusal::NoTextList);
+/// assert_eq!(refused.refusal, xnb::Refusal::NotTextArray);
 /// assert_eq!(refused.place, 12);
 /// ```
 pub fn export(file: &[u8]) -> Result<String, Refused> {
@@ -83,9 +83,9 @@ impl Loader<'_> {
 /// ```
 /// let xml = "<?xml version=\"1.0\" encoding=\"utf-8\"?><XnaContent><Asset Type=\"string[]\"><Item>A & B";
 /// let refused = xnb::xml::import(xml).unwrap_err();
-/// assert_eq!(refused.refusal, xnb::Refusal::OtherXml);
+/// assert_eq!(refused.refusal, xnb::Refusal::NotExported);
 /// assert_eq!(refused.place, 82);
-/// assert_eq!(refused.to_string(), "the XML is not of the form that an export writes, at byte 82");
+/// assert_eq!(refused.to_string(), "the XML is not of the form that the export writes, at byte 82");
 ///
 /// let expected = xnb::xml::Expected::at(xml, 82);
 /// assert_eq!(expected.to_string(), "amp; lt; gt; or quot; behind &");
@@ -121,8 +121,11 @@ pub fn import_into(xml: &[u8], out: &mut [u8]) -> Result<usize, XmlRefused> {
 
 /// A refusal of an import and its place: a byte of the XML, or the bytes of output that are needed.
 #[derive(Clone, Copy, Debug, PartialEq, Eq)]
+#[cfg_attr(feature = "serde", derive(serde::Serialize))]
 pub struct XmlRefused {
+    /// The rule that is broken.
     pub refusal: Refusal,
+    /// Where, or what is needed.
     pub place: u64,
 }
 
@@ -141,11 +144,7 @@ impl XmlRefused {
 
 impl Display for XmlRefused {
     fn fmt(&self, out: &mut Formatter) -> fmt::Result {
-        let (rule, place) = (self.rule(), self.place);
-        match self.refusal {
-            Refusal::OutputTooSmall => write!(out, "{rule}, which takes {place} bytes"),
-            _ => write!(out, "{rule}, at byte {place}"),
-        }
+        self.refusal.tell(self.rule(), self.place, out)
     }
 }
 

@@ -27,7 +27,7 @@ quiet-run-requires : tie.Need-quiet-run-requires
 quiet-run-requires c κs = search needs
 
 returns-5 : tie.Need-returns-5
-returns-5 c = (stands-runs (stands-ascii (c .quiet-run .ensures)), λ e. stands-ascii (c .quiet-run .ensures))
+returns-5 c = (stands-runs (stands-ascii (c .quiet-run .ensures .run (search needs))), λ e. stands-ascii (c .quiet-run .ensures .run (search needs)))
 
 utf8-run-requires : tie.Need-utf8-run-requires
 utf8-run-requires c κs = search needs

@@ -22,17 +22,17 @@ quiet-run-requires : tie.Need-quiet-run-requires
 quiet-run-requires c κs = search needs
 
 slice-aggregate-is-utf8 : tie.Need-slice-aggregate-is-utf8
-slice-aggregate-is-utf8 c = sym (length-take-le _ _ (c .before .quiet-run .ensures .inside))
+slice-aggregate-is-utf8 c = sym (length-take-le _ _ (c .before .quiet-run .ensures .run (search needs) .inside))
 
 is-utf8-requires : tie.Need-is-utf8-requires
 is-utf8-requires c κs = search needs
 
 add-result : tie.Need-add-result
-add-result c = search needs
+add-result c = search (needs, c .before .before .before .quiet-run .ensures .run (search needs))
 
 returns : tie.Need-returns
 returns c =
-    stands-utf8 (c .before .before .before .before .before .cut .ensures .0) (c .before .before .before .before .before .cut .ensures .1) refl (c .before .before .before .quiet-run .ensures) (utf8s-sound _ (sym (c .before .is-utf8 .ensures) ∙ c .if1 .taken))
+    stands-utf8 (c .before .before .before .before .before .cut .ensures .0) (c .before .before .before .before .before .cut .ensures .1) refl (c .before .before .before .quiet-run .ensures .run (search needs)) (utf8s-sound _ (sym (c .before .is-utf8 .ensures) ∙ c .if1 .taken))
 
 returns-2 : tie.Need-returns-2
 returns-2 c = stands-none (c .before .before .before .before .before .before .before .pre)

@@ -16,7 +16,7 @@ use std::path::PathBuf;
 #[command(verbatim_doc_comment)]
 pub struct Sum {
     /// Reports as JSON, or - for standard input
-    #[arg(value_name = "REPORT.json", required = true)]
+    #[arg(value_name = "REPORT.json", required = true, value_hint = clap::ValueHint::FilePath)]
     reports: Vec<PathBuf>,
 
     #[command(flatten)]
@@ -48,7 +48,7 @@ impl Sum {
     }
 }
 
-/// Adds a report; one that makes a figure too large is told and left out.
+/// Adds a report; one that makes a figure too large is reported and left out.
 fn add(run: &mut Run, input: &Input, sum: &mut Season, season: Season) {
     if let Err(refused) = sum.add(season) {
         let (number, place, rule) = (refused.refusal.number(), refused.place, refused.rule());

@@ -1,0 +1,82 @@
+//! crates.txt: each crate stands behind those that it uses, and docs/CRATES.md says what crates.txt says.
+
+use corpus::folder::root;
+use std::collections::BTreeSet;
+use std::fs;
+
+/// A line of crates.txt that says something.
+enum Line<'t> {
+    Section(&'t str),
+    Comment(&'t str),
+    Crate { name: &'t str, uses: Vec<&'t str> },
+}
+
+fn lines(text: &str) -> Vec<Line<'_>> {
+    let said = text.lines().filter(|line| !line.is_empty());
+    said.map(|line| {
+        if let Some(title) = line.strip_prefix("## ") {
+            return Line::Section(title);
+        }
+        if let Some(comment) = line.strip_prefix("# ") {
+            return Line::Comment(comment);
+        }
+        let (name, uses) = line.split_once(':').expect("a crate and what it uses");
+        let uses = uses.split_whitespace().collect();
+        Line::Crate { name, uses }
+    })
+    .collect()
+}
+
+fn crates_txt() -> String {
+    fs::read_to_string(root().join("crates.txt")).expect("crates.txt")
+}
+
+#[test]
+fn each_crate_stands_behind_those_that_it_uses() {
+    let text = crates_txt();
+    let all: BTreeSet<&str> = lines(&text)
+        .into_iter()
+        .filter_map(|line| match line {
+            Line::Crate { name, .. } => Some(name),
+            _ => None,
+        })
+        .collect();
+    assert!(all.len() > 70, "only {} crates", all.len());
+    let mut above = BTreeSet::new();
+    for line in lines(&text) {
+        if let Line::Crate { name, uses } = line {
+            for used in uses {
+                // The toolchain's own crates have no line.
+                assert!(
+                    !all.contains(used) || above.contains(used),
+                    "{name} stands before {used}"
+                );
+            }
+            assert!(above.insert(name), "{name} has two lines");
+        }
+    }
+}
+
+/// What docs/CRATES.md has to be: a table for each section, with the comment of each crate.
+fn page(text: &str) -> String {
+    let mut page = String::from(
+        "# The crates\n\nEach crate uses only crates above it. This page says what the comments of `crates.txt` say; a test holds the two to each other.\n",
+    );
+    let mut said = "";
+    for line in lines(text) {
+        match line {
+            Line::Section(title) => {
+                page += &format!("\n## {title}\n\n| crate | what it holds |\n|---|---|\n");
+            }
+            Line::Comment(comment) => said = comment,
+            Line::Crate { name, .. } => page += &format!("| `{name}` | {said} |\n"),
+        }
+    }
+    page
+}
+
+#[test]
+fn the_page_of_crates_says_what_the_list_says() {
+    let kept = fs::read_to_string(root().join("docs/CRATES.md")).expect("docs/CRATES.md");
+    assert_eq!(kept, page(&crates_txt()));
+}
