@@ -12,6 +12,7 @@ mod input;
 mod json;
 mod names;
 mod output;
+mod picture;
 mod progress;
 mod refusal;
 mod room;

@@ -5,7 +5,7 @@ mod common;
 use common::{run, shell};
 use corpus::folder::folder;
 
-const COMMANDS: [&str; 14] = [
+const COMMANDS: [&str; 15] = [
     "check",
     "rows",
     "tree",
@@ -13,6 +13,7 @@ const COMMANDS: [&str; 14] = [
     "retype",
     "export",
     "import",
+    "image",
     "pack",
     "mark",
     "unmark",
@@ -66,7 +67,7 @@ fn every_command_has_help_and_a_version() {
 fn wrong_commands_are_told() {
     let sample = "ok-kind-13-string.xnb";
     let pack = "ok-pack-of-one-file.pak";
-    let wrong: [(&[&str], &str); 34] = [
+    let wrong: [(&[&str], &str); 36] = [
         (&[], "Usage: asset-builder [OPTIONS] <COMMAND>"),
         (&["build", sample], "'build'"),
         (&["check"], "<FILE>"),
@@ -106,6 +107,8 @@ fn wrong_commands_are_told() {
         ),
         (&["import", "-"], "--output <OUT.xnb>"),
         (&["import", "-o", "-"], "<IN.xml>"),
+        (&["image", sample], "--output <OUT.png|FOLDER>"),
+        (&["image", "--level", "one", sample, "-o", "-"], "'one'"),
         (&["report"], "<PACK>"),
         (&["report", "--json", "--csv", pack], "cannot be used with"),
         (&["report", "sum"], "<REPORT.json>"),

@@ -67,6 +67,7 @@ fn the_tours_print_what_the_pages_say() {
         "retype",
         "export",
         "import",
+        "image",
         "pack list",
         "pack find",
         "pack extract",

@@ -4,6 +4,7 @@ mod check;
 mod completions;
 mod convert;
 mod export;
+mod image;
 mod import;
 mod man;
 mod pack;
@@ -54,6 +55,7 @@ pub enum Command {
     Retype(retype::Retype),
     Export(export::Export),
     Import(import::Import),
+    Image(image::Image),
     Pack(pack::Pack),
     Mark(convert::Mark),
     Unmark(convert::Unmark),
@@ -73,6 +75,7 @@ impl Command {
             Command::Retype(command) => command.run(run),
             Command::Export(command) => command.run(run),
             Command::Import(command) => command.run(run),
+            Command::Image(command) => command.run(run),
             Command::Pack(command) => command.run(run),
             Command::Mark(command) => command.run(run),
             Command::Unmark(command) => command.run(run),
@@ -155,9 +158,14 @@ impl Writing<'_> {
 
     /// Reports to a program that nothing was written; to people it was reported when it was met.
     fn unwritten(&self, run: &mut Run, old: Option<usize>) -> End {
-        let outcome = Outcome::unwritten(run.failure());
+        let why = run.failure().to_string();
+        self.unwritten_since(run, old, &why)
+    }
+
+    /// The same for another reason than the last failure.
+    fn unwritten_since(&self, run: &mut Run, old: Option<usize>, why: &str) -> End {
         match self.json {
-            true => self.print(run, old, outcome),
+            true => self.print(run, old, Outcome::unwritten(why)),
             false => Ok(()),
         }
     }
