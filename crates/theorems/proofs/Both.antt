@@ -18,9 +18,9 @@ use Rattle.columns.specs.Words.{row-word, column-word}
 use Rattle.words.specs.Grids.{rowsGrid, columnsGrid}
 use Rattle.words.specs.Same.{SameRows}
 use Rattle.theorems.specs.Exact.{table}
-use Rattle.theorems.proofs.Columns.{zero-words}
-use Rattle.theorems.proofs.Fits.{rows-room}
-use Rattle.theorems.proofs.Laws.{Ends, fits, refuses, bad-list, ends, table-in, cleared-in}
+use Rattle.theorems.specs.Standing.{zero-words}
+use Rattle.theorems.specs.Fitted.{rows-room}
+use Rattle.theorems.specs.Laws.{Ends, fits, refuses, bad-list, ends, table-in, cleared-in}
 
 -- the answer depends on the room alone
 pub same-load : (enums file : List ℕ) (n m : ℕ) → roomOf n ≡ roomOf m → loadUnder enums file n ≡ loadUnder enums file m

@@ -27,7 +27,7 @@ use Rattle.pack_load.specs.declared.Opened.{Opened}
 use Rattle.pack_load.specs.declared.Opened.the-variants as opened
 use Rattle.pack_load.specs.Opened.{loadedAs, opening, openedOf, leaving, rowsOf}
 use Rattle.theorems.specs.Packs.{Accepted, Reads, Finds, openedAs, Opens, bytesOf, Gives}
-use Rattle.theorems.proofs.Laws.{load-exact}
+use Rattle.theorems.specs.Laws.{load-exact}
 
 -- ---- Reading a pack
 

@@ -25,9 +25,9 @@ use Rattle.rewrite.specs.declared.Rewriting.{Rewriting}
 use Rattle.rewrite.specs.declared.Rewriting.the-variants as rewriting
 use Rattle.theorems.specs.Rewriting as R
 use Rattle.theorems.specs.Padding.{Shortest}
-use Rattle.theorems.proofs.Fits.{least, same-tree}
+use Rattle.theorems.specs.Fitted.{least, same-tree}
 use Rattle.theorems.specs.Fits.{Fitting, rowsIn}
-use Rattle.theorems.proofs.Laws.{Ends, fits, refuses, bad-list, ends, loads, handed-on}
+use Rattle.theorems.specs.Laws.{Ends, fits, refuses, bad-list, ends, loads, handed-on}
 
 module _ (enums file : List ℕ) (words : ℕ) (bytes : Bytes enums) (small : Small file) {left out end : List ℕ} {l : Loading} {r : Rewriting}
     (answers : l ≡ answerOf file (loadUnder enums file words)) (x : R.Exact enums file words left out end r)

@@ -6,3 +6,6 @@ pub mod Columns
 pub mod Packs
 pub mod Marks
 pub mod Salvage
+pub mod Fitted
+pub mod Standing
+pub mod Laws

@@ -4,8 +4,12 @@ use load::Loading;
 use lookups::Moment;
 use lookups::Span;
 use lookups::Whole;
+ghost use mathlib.Core.Path.{_≡_};
 ghost use lib.ListN.{length};
-ghost use Rattle.theorems.specs.Columns.{Both, LooksUp};
+ghost use Rattle.words.specs.Grids.{rowsGrid, columnsGrid};
+ghost use Rattle.load.specs.Under.{loadUnder};
+ghost use Rattle.load.specs.Loads.{answerOf};
+ghost use Rattle.theorems.specs.Columns.{Both, LooksUp, lookedUp};
 
 // The answers of a load by rows and of one in columns.
 pub struct Loads {
@@ -30,7 +34,10 @@ pub struct Looked {
 
 // A file that is loaded by rows and in columns, under one list of enum types.
 fn load_both(file: &[u8], enums: &[u8], words: &mut [u32], columns: &mut [u32]) -> Loads
-    ensures { λ r. ⌜ Both (length (now (words .entry))) (length (now (columns .entry))) (now (words .exit)) (now (columns .exit)) r ⌝ }
+    ensures { λ r. ⌜ Both (now (enums .entry)) (now (file .entry)) (length (now (words .entry))) (length (now (columns .entry)))
+        (now (words .exit)) (now (columns .exit)) r ⌝ }
+    ensures { λ r. ⌜ r .rows ≡ answerOf (now (file .entry)) (loadUnder (now (enums .entry)) (now (file .entry)) (length (now (words .entry)))) ⌝ }
+    ensures { λ r. ⌜ r .columns ≡ answerOf (now (file .entry)) (loadUnder (now (enums .entry)) (now (file .entry)) (length (now (columns .entry)))) ⌝ }
 {
     let by_rows = load::load(file, enums, words);
     let by_columns = load::load_columns(file, enums, columns);
@@ -43,6 +50,8 @@ fn load_both(file: &[u8], enums: &[u8], words: &mut [u32], columns: &mut [u32]) 
 // A row that is looked up by rows and in columns.
 fn look_up_both(file: &[u8], words: &[u32], columns: &[u32], row: RowNumber) -> Looked
     ensures { λ r. ⌜ LooksUp (now (words .entry)) (now (columns .entry)) r ⌝ }
+    ensures { λ r. ⌜ r .rows ≡ lookedUp (rowsGrid (length (now (words .entry)))) (now (file .entry)) (now (words .entry)) (row .0) ⌝ }
+    ensures { λ r. ⌜ r .columns ≡ lookedUp (columnsGrid (length (now (columns .entry)))) (now (file .entry)) (now (columns .entry)) (row .0) ⌝ }
 {
     let grid = words::columns_grid(columns.len());
     let rows = Lookups {

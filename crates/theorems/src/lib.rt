@@ -10,14 +10,23 @@ mod salvaged;
 
 use load::Loading;
 use rewrite::Rewriting;
+ghost use mathlib.Core.Path.{_≡_};
 ghost use mathlib.Core.Bool.{true, false};
 ghost use lib.ListN.{length};
+ghost use Rattle.load.specs.Under.{loadUnder};
+ghost use Rattle.load.specs.Loads.{answerOf};
+ghost use Rattle.rewrite.specs.Whole.{rewritten};
+ghost use Rattle.rewrite.specs.Contract as rewriting;
 ghost use Rattle.theorems.specs.Exact.{Exact};
 ghost use Rattle.theorems.specs.Rewriting as R;
+
+// Each function that ends in `_exact` has two contracts: the demand, with no reading in it, and the answer of the code that it calls, which fixes a refusal's
+// number and place.
 
 // A file that is loaded, under a list of enum types.
 pub fn load_exact(file: &[u8], enums: &[u8], words: &mut [u32]) -> Loading
     ensures { λ r. ⌜ Exact false (now (enums .entry)) (now (file .entry)) (length (now (words .entry))) (now (words .exit)) r ⌝ }
+    ensures { λ r. ⌜ r ≡ answerOf (now (file .entry)) (loadUnder (now (enums .entry)) (now (file .entry)) (length (now (words .entry)))) ⌝ }
 {
     load::load(file, enums, words)
 }
@@ -25,6 +34,7 @@ pub fn load_exact(file: &[u8], enums: &[u8], words: &mut [u32]) -> Loading
 // A file that is loaded in columns, under a list of enum types.
 pub fn load_columns_exact(file: &[u8], enums: &[u8], words: &mut [u32]) -> Loading
     ensures { λ r. ⌜ Exact true (now (enums .entry)) (now (file .entry)) (length (now (words .entry))) (now (words .exit)) r ⌝ }
+    ensures { λ r. ⌜ r ≡ answerOf (now (file .entry)) (loadUnder (now (enums .entry)) (now (file .entry)) (length (now (words .entry)))) ⌝ }
 {
     load::load_columns(file, enums, words)
 }
@@ -33,6 +43,7 @@ pub fn load_columns_exact(file: &[u8], enums: &[u8], words: &mut [u32]) -> Loadi
 pub fn rewrite_exact(file: &[u8], enums: &[u8], words: &mut [u32], out: &mut [u8]) -> Rewriting
     ensures { λ r. ⌜ R.Exact (now (enums .entry)) (now (file .entry)) (length (now (words .entry))) (now (words .exit))
         (now (out .entry)) (now (out .exit)) r ⌝ }
+    ensures { λ r. ⌜ r ≡ rewriting.answerOf (rewritten (now (enums .entry)) (now (file .entry)) (now (words .entry)) (now (out .entry))) ⌝ }
 {
     rewrite::rewrite(file, enums, words, out)
 }

@@ -2,7 +2,7 @@ use mathlib.Core.Path.{sym}
 use lib.Seq.{length-take-le}
 use native.Mathlib.Omega.{arith}
 use borrow.Author.Needs.{needs}
-use Rattle.theorems.proofs.Laws.{not-loaded-again, loaded-again}
+use Rattle.theorems.specs.Laws.{not-loaded-again, loaded-again}
 use Rattle.theorems.proofs.load_again.Statement.{statement}
 use Rattle.theorems.proofs.load_again.Tie as tie
 
@@ -16,10 +16,10 @@ enum-known-n : tie.Need-enum-known-n
 enum-known-n c = search needs
 
 slice-reshare-prefix-load-exact : tie.Need-slice-reshare-prefix-load-exact
-slice-reshare-prefix-load-exact c = omega (arith, c .before .before .before .before .before .before .before .rewrite-exact .ensures .written _ (c .before .n .given .1) .1)
+slice-reshare-prefix-load-exact c = omega (arith, c .before .before .before .before .before .before .before .rewrite-exact .ensures .0 .written _ (c .before .n .given .1) .1)
 
 slice-aggregate-load-exact : tie.Need-slice-aggregate-load-exact
-slice-aggregate-load-exact c = sym (length-take-le _ _ (c .before .before .before .before .before .before .before .before .rewrite-exact .ensures .written _ (c .before .before .n .given .1) .1))
+slice-aggregate-load-exact c = sym (length-take-le _ _ (c .before .before .before .before .before .before .before .before .rewrite-exact .ensures .0 .written _ (c .before .before .n .given .1) .1))
 
 load-exact-requires : tie.Need-load-exact-requires
 load-exact-requires c κs = search needs
@@ -31,7 +31,7 @@ same-length-2 : tie.Need-same-length-2
 same-length-2 c = search needs
 
 returns : tie.Need-returns
-returns c = not-loaded-again (c .before .before .before .before .before .before .before .rewrite-exact .ensures) (c .before .number .given .1)
+returns c = not-loaded-again (c .before .before .before .before .before .before .before .rewrite-exact .ensures .0) (c .before .number .given .1)
 
 same-length-3 : tie.Need-same-length-3
 same-length-3 c = search needs
@@ -40,7 +40,7 @@ same-length-4 : tie.Need-same-length-4
 same-length-4 c = search needs
 
 returns-2 : tie.Need-returns-2
-returns-2 c = loaded-again (c .before .before .before .before .before .before .before .before .before .before .before .before .rewrite-exact .ensures) (c .before .before .before .before .before .before .n .given .1) (c .before .before .before .before .before .before .before .before .before .before .before .before .rewrite-exact .kept .1 .1 .0) (c .before .before .load-exact .ensures)
+returns-2 c = loaded-again (c .before .before .before .before .before .before .before .before .before .before .before .before .rewrite-exact .ensures .0) (c .before .before .before .before .before .before .n .given .1) (c .before .before .before .before .before .before .before .before .before .before .before .before .rewrite-exact .kept .1 .1 .0) (c .before .before .load-exact .ensures .0)
 
 pub load-again-spec : {M : Type 1} → statement M
 load-again-spec =

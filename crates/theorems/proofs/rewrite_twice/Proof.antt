@@ -2,7 +2,7 @@ use mathlib.Core.Path.{sym}
 use lib.Seq.{length-take-le}
 use native.Mathlib.Omega.{arith}
 use borrow.Author.Needs.{needs}
-use Rattle.theorems.proofs.Laws.{not-rewritten-again, rewritten-again}
+use Rattle.theorems.specs.Laws.{not-rewritten-again, rewritten-again}
 use Rattle.theorems.proofs.rewrite_twice.Statement.{statement}
 use Rattle.theorems.proofs.rewrite_twice.Tie as tie
 
@@ -16,10 +16,10 @@ enum-known-n : tie.Need-enum-known-n
 enum-known-n c = search needs
 
 slice-reshare-prefix-rewrite-exact : tie.Need-slice-reshare-prefix-rewrite-exact
-slice-reshare-prefix-rewrite-exact c = omega (arith, c .before .before .before .before .before .before .before .rewrite-exact .ensures .written _ (c .before .n .given .1) .1)
+slice-reshare-prefix-rewrite-exact c = omega (arith, c .before .before .before .before .before .before .before .rewrite-exact .ensures .0 .written _ (c .before .n .given .1) .1)
 
 slice-aggregate-rewrite-exact : tie.Need-slice-aggregate-rewrite-exact
-slice-aggregate-rewrite-exact c = sym (length-take-le _ _ (c .before .before .before .before .before .before .before .before .rewrite-exact .ensures .written _ (c .before .before .n .given .1) .1))
+slice-aggregate-rewrite-exact c = sym (length-take-le _ _ (c .before .before .before .before .before .before .before .before .rewrite-exact .ensures .0 .written _ (c .before .before .n .given .1) .1))
 
 rewrite-exact-requires-2 : tie.Need-rewrite-exact-requires-2
 rewrite-exact-requires-2 c κs = search needs
@@ -31,7 +31,7 @@ same-length-2 : tie.Need-same-length-2
 same-length-2 c = search needs
 
 returns : tie.Need-returns
-returns c = not-rewritten-again (c .before .before .before .before .before .before .before .rewrite-exact .ensures) (c .before .number .given .1)
+returns c = not-rewritten-again (c .before .before .before .before .before .before .before .rewrite-exact .ensures .0) (c .before .number .given .1)
 
 same-length-3 : tie.Need-same-length-3
 same-length-3 c = search needs
@@ -44,7 +44,7 @@ same-length-5 c = search needs
 
 returns-2 : tie.Need-returns-2
 returns-2 c =
-    rewritten-again (c .before .before .before .before .before .before .before .before .before .before .before .before .before .before .before .rewrite-exact .ensures) (c .before .before .before .before .before .before .before .before .before .n .given .1) (c .before .before .before .before .before .before .before .before .before .before .before .before .before .before .before .rewrite-exact .kept .1 .1 .0) (c .before .before .before .before .rewrite-exact2 .ensures)
+    rewritten-again (c .before .before .before .before .before .before .before .before .before .before .before .before .before .before .before .rewrite-exact .ensures .0) (c .before .before .before .before .before .before .before .before .before .n .given .1) (c .before .before .before .before .before .before .before .before .before .before .before .before .before .before .before .rewrite-exact .kept .1 .1 .0) (c .before .before .before .before .rewrite-exact2 .ensures .0)
 
 pub rewrite-twice-spec : {M : Type 1} → statement M
 rewrite-twice-spec =

@@ -1,10 +1,12 @@
 use mathlib.Core.Path.{sym, ap, _∙_}
+use mathlib.Core.Bool.{true, false}
 use native.Mathlib.Omega.{arith}
 use lib.ListN.{length}
 use Rattle.reading.specs.Reads.{small-by-index}
 use Rattle.load.specs.Loads.{answerOf}
 use Rattle.enums.specs.Lists.{Bytes}
 use borrow.Author.Needs.{needs}
+use Rattle.theorems.specs.Laws.{load-exact}
 use Rattle.theorems.proofs.Both.{same-load, same-rows}
 use Rattle.theorems.proofs.columned.load_both.Statement.{statement}
 use Rattle.theorems.proofs.columned.load_both.Tie as tie
@@ -22,7 +24,7 @@ same-length-2 : tie.Need-same-length-2
 same-length-2 c = search needs
 
 returns : tie.Need-returns
-returns c = λ room.
+returns c =
     let a = c .before .before .before .before .before .before .before .before .before .before .before .before .args in
     let file = a .file .now in
     let enums = a .enums .now in
@@ -32,7 +34,12 @@ returns c = λ room.
     let small = small-by-index file (λ i h. omega (arith, c .before .before .before .before .before .before .before .before .before .before .before .shared-slice-known .given i)) in
     let by-rows = c .before .before .before .before .before .before .load .ensures in
     let by-columns = c .before .before .load-columns .ensures in
-    (by-rows .0 ∙ ap (answerOf file) (same-load enums file n m room) ∙ sym (by-columns .0), same-rows enums file n m bytes small room (by-rows .1) (by-columns .1))
+    (record {
+      by-rows = load-exact enums file n false bytes small (by-rows .0) (by-rows .1);
+      by-columns = load-exact enums file m true bytes small (by-columns .0) (by-columns .1);
+      same = λ room.
+          (by-rows .0 ∙ ap (answerOf file) (same-load enums file n m room) ∙ sym (by-columns .0), same-rows enums file n m bytes small room (by-rows .1) (by-columns .1));
+    }, (by-rows .0, by-columns .0))
 
 pub load-both-spec : {M : Type 1} → statement M
 load-both-spec = tie.close (tie.spec load-requires load-columns-requires same-length same-length-2 returns)

@@ -1,6 +1,6 @@
 use native.Mathlib.Omega.{arith}
 use Rattle.reading.specs.Reads.{small-by-index}
-use Rattle.theorems.proofs.Laws.{rewrite-exact}
+use Rattle.theorems.specs.Laws.{rewrite-exact}
 use Rattle.theorems.proofs.Padding.{total, needed, none, refused}
 use Rattle.enums.specs.Lists.{Bytes}
 use borrow.Author.Needs.{needs}

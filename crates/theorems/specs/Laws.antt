@@ -30,9 +30,9 @@ use Rattle.reading.specs.File.{Load, refusal, accepted, toLoad, roomOf, loadOf,
 use Rattle.reading.specs.Grid.{byRows, byColumns, shapeOf}
 use Rattle.columns.specs.Columns.{columnsTableOf, tableIn}
 use Rattle.branches.specs.Table.{TableSkips, rows-stand, file-skips}
-use Rattle.theorems.proofs.Columns.{columns-stand}
+use Rattle.theorems.specs.Standing.{columns-stand}
 use Rattle.theorems.specs.Fits.{Fitting, rowsIn}
-use Rattle.theorems.proofs.Fits.{rows-are, table-is, rows-room, rewrite-is, least, again, stays, padding-is, table-length}
+use Rattle.theorems.specs.Fitted.{rows-are, table-is, rows-room, rewrite-is, least, again, stays, padding-is, table-length}
 use Rattle.reading.specs.Refusals.{refusal-number, refusal-place}
 use Rattle.reading.specs.Theorems as T
 use Rattle.shortest.specs.File.{shortFile}
