@@ -1,6 +1,6 @@
 // The entries for an asset builder in another language: each takes slices and numbers, and answers one number.
 mod bare;
-mod by_columns;
+pub mod by_columns;
 mod driver_entry;
 mod pack;
 mod report;

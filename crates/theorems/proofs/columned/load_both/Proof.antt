@@ -33,13 +33,15 @@ returns c =
     let m = length (a .columns .now) in
     let small = small-by-index file (λ i h. omega (arith, c .before .before .before .before .before .before .before .before .before .before .before .shared-slice-known .given i)) in
     let by-rows = c .before .before .before .before .before .before .load .ensures in
-    let by-columns = c .before .before .load-columns .ensures in
-    (record {
-      by-rows = load-exact enums file n false bytes small (by-rows .0) (by-rows .1);
-      by-columns = load-exact enums file m true bytes small (by-columns .0) (by-columns .1);
-      same = λ room.
-          (by-rows .0 ∙ ap (answerOf file) (same-load enums file n m room) ∙ sym (by-columns .0), same-rows enums file n m bytes small room (by-rows .1) (by-columns .1));
-    }, (by-rows .0, by-columns .0))
+    let by-columns = c .before .before .load-columns .ensures in (
+      record {
+        by-rows = load-exact enums file n false bytes small (by-rows .0) (by-rows .1);
+        by-columns = load-exact enums file m true bytes small (by-columns .0) (by-columns .1);
+        same = λ room.
+            (by-rows .0 ∙ ap (answerOf file) (same-load enums file n m room) ∙ sym (by-columns .0), same-rows enums file n m bytes small room (by-rows .1) (by-columns .1));
+      },
+      (by-rows .0, by-columns .0),
+    )
 
 pub load-both-spec : {M : Type 1} → statement M
 load-both-spec = tie.close (tie.spec load-requires load-columns-requires same-length same-length-2 returns)

@@ -59,16 +59,19 @@ returns c =
     let text₂ = c .before .before .before .text-of .ensures ∙ ap (λ (g : Grid). textOf g file w row) e in
     let signed₂ = c .before .before .signed-of .ensures ∙ ap (λ (g : Grid). signedOf g file w row) e in
     let time₂ = c .before .time-of .ensures ∙ ap (λ (g : Grid). timeOf g file w row) e in
-    let next₂ = c .next-of .ensures ∙ ap (λ (g : Grid). nextOf g w row) e in
-    (λ s.
-        let part-same = part ∙ same-part s file row ∙ sym part₂ in
-        let text-same = text ∙ same-text s file row ∙ sym text₂ in
-        let signed-same = signed ∙ same-signed s file row ∙ sym signed₂ in
-        let time-same = time ∙ same-time s file row ∙ sym time₂ in
-        let next-same = next ∙ same-next s row ∙ sym next₂ in
-        λ i. record { part = part-same i; text = text-same i; signed = signed-same i; time = time-same i; next = next-same i },
-    (λ i. record { part = part i; text = text i; signed = signed i; time = time i; next = next i },
-    λ i. record { part = part₂ i; text = text₂ i; signed = signed₂ i; time = time₂ i; next = next₂ i }))
+    let next₂ = c .next-of .ensures ∙ ap (λ (g : Grid). nextOf g w row) e in (
+      λ s.
+          let part-same = part ∙ same-part s file row ∙ sym part₂ in
+          let text-same = text ∙ same-text s file row ∙ sym text₂ in
+          let signed-same = signed ∙ same-signed s file row ∙ sym signed₂ in
+          let time-same = time ∙ same-time s file row ∙ sym time₂ in
+          let next-same = next ∙ same-next s row ∙ sym next₂ in
+          λ i. record { part = part-same i; text = text-same i; signed = signed-same i; time = time-same i; next = next-same i },
+      (
+        λ i. record { part = part i; text = text i; signed = signed i; time = time i; next = next i },
+        λ i. record { part = part₂ i; text = text₂ i; signed = signed₂ i; time = time₂ i; next = next₂ i },
+      ),
+    )
 
 pub look-up-both-spec : {M : Type 1} → statement M
 look-up-both-spec =

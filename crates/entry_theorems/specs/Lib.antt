@@ -1,0 +1,2 @@
+-- What is demanded of the entries' numbers.
+pub mod Told
