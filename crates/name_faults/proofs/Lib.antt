@@ -1,0 +1,4 @@
+pub mod Others
+pub mod Leftmost
+pub mod First
+pub mod Laws
