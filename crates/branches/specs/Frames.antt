@@ -189,3 +189,14 @@ skips ts =
       many = λ i h. naming-tally rows (suc i) 0 rows refl ∙ many-in rows ts 0 0 [] here (omega arith) i (omega arith) (omega arith);
       chain = λ i h. chains rows ts 0 0 [] here i (omega arith) (omega arith);
     }
+
+-- the trees' own rows, which name no parent, are as many as the trees: the first is row 0, each other one stands as many rows further on as the former has, and the last one's count ends with the last row
+pub roots : (ts : Trees) → ChainIn (frames ts 0 0) 0 0 (count ts) (length (frames ts 0 0))
+roots ts =
+    let rows = frames ts 0 0 in
+    let here : drop 0 rows ≡ rows ++ [] = sym (append-nil rows) in
+    let l : 0 + size ts ≡ length rows = omega (arith, length-frames ts 0 0) in
+    rw l at (siblings rows ts 0 0 [] here)
+
+pub root-count : (ts : Trees) → naming (parentOf (frames ts 0 0)) 0 0 (length (frames ts 0 0)) ≡ count ts
+root-count ts = naming-tally (frames ts 0 0) 0 0 (frames ts 0 0) refl ∙ own-children ts 0 0 (omega arith)

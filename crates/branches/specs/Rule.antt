@@ -42,3 +42,38 @@ skips-same c d p q b e used f g h s = record {
   many = λ i l. sym (naming-same p q (suc i) 0 used used g (omega arith)) ∙ s .many i l ∙ f i l;
   chain = λ i l. rw (← f i l, ← h i l) (chain-same p q b e used (suc i) (suc i) (c i) (i + b i) g h (s .chain i l));
 }
+
+-- the rows of the primary and the shared objects, which name no parent, follow each other too: they are so many, the first is row 0, each other one stands the former's count further on, and the last one's count ends with the last row
+pub record Roots (parent branch : ℕ → ℕ) (used objects : ℕ) : Type 0 where
+  pub many : naming parent 0 0 used ≡ objects
+  pub chain : Chain parent branch used 0 0 objects used
+
+pub roots-same : (p q b e : ℕ → ℕ) (used objects : ℕ) → ((i : ℕ) → i < used → p i ≡ q i) → ((i : ℕ) → i < used → b i ≡ e i) → Roots p b used objects → Roots q e used objects
+roots-same p q b e used objects g h s = record {
+  many = sym (naming-same p q 0 0 used used g (omega arith)) ∙ s .many;
+  chain = chain-same p q b e used 0 0 objects used g h (s .chain);
+}
+
+-- ---- Where a branch ends
+
+module _ {children parent branch : ℕ → ℕ} {used : ℕ} (s : Skips children parent branch used) where
+  abbrev Ends : ℕ → Type 0
+  Ends i = (1 ≤ branch i) × (i + branch i ≤ used)
+
+  chain-ends : (name at n end : ℕ) → at ≤ used → ((i : ℕ) → at ≤ i → i < used → Ends i) → Chain parent branch used name at n end → (at ≤ end) × (end ≤ used)
+  unfolding Chain
+  chain-ends name at zero end l f c = (omega arith, omega arith)
+  chain-ends name at (suc n) end l f c =
+      let x = f at (omega arith) (c .0) in
+      let y = chain-ends name (at + branch at) n end (x .1) (λ i h k. f i (omega (arith, x .0)) k) (c .2) in
+      (omega (arith, x .0, y .0), y .1)
+
+  ends-in : (rows i : ℕ) → used ≤ i + rows → i < used → Ends i
+  ends-in zero i h l = absurd (omega arith)
+  ends-in (suc rows) i h l =
+      let y = chain-ends (suc i) (suc i) (children i) (i + branch i) (omega arith) (λ j k m. ends-in rows j (omega arith) m) (s .chain i l) in
+      (omega (arith, y .0), y .1)
+
+  -- a used row and all below it are used rows
+  pub branch-ends : (i : ℕ) → i < used → (1 ≤ branch i) × (i + branch i ≤ used)
+  branch-ends i l = ends-in used i (omega arith) l

@@ -5,18 +5,24 @@ use Prim.Native.Nat.{ℕ, zero, suc, _+_, _*_, _<_}
 use native.Mathlib.Omega.{arith}
 use lib.ListN.{length, getD, List·getD-append}
 use Rattle.layout.specs.Target.{Target}
-use Rattle.layout.specs.Tree.{Trees, count}
+use Rattle.layout.specs.Tree.{Trees, none, tree, count}
+use Rattle.layout.specs.Slot.{each}
+use Rattle.layout.specs.Layout.{Lays}
 use Rattle.layout.specs.Resource.{Resource}
 use Rattle.layout.specs.Rows.{Row, words, flat, width}
 use Rattle.layout.specs.File.{FileTree, sharedOf, objectsPlan, FileLays, fileRows}
 use Rattle.reading.specs.Grid.{Shape, byRows, cell}
-use Rattle.branches.specs.Rule.{Skips, skips-same}
-use Rattle.branches.specs.Frames.{frames, childrenOf, parentOf, branchOf, skips}
+use Rattle.branches.specs.Rule.{Skips, skips-same, Roots, roots-same}
+use Rattle.branches.specs.Frames.{frames, childrenOf, parentOf, branchOf, skips, roots, root-count}
 use Rattle.branches.specs.Framed.{framed, rows-framed}
 
 -- a table with room for so many rows, of which so many are used, keeps the rule: a row's number of children, its parent and its count are its words 3, 4 and 6
 abbrev pub TableSkips : Shape → (room : ℕ) (table : List ℕ) (used : ℕ) → Type 0
 TableSkips s room table used = Skips (λ i. getD table (cell s room i 3) 0) (λ i. getD table (cell s room i 4) 0) (λ i. getD table (cell s room i 6) 0) used
+
+-- the rows of its objects, so many, follow each other
+abbrev pub TableRoots : Shape → (room : ℕ) (table : List ℕ) (used objects : ℕ) → Type 0
+TableRoots s room table used objects = Roots (λ i. getD table (cell s room i 4) 0) (λ i. getD table (cell s room i 6) 0) used objects
 
 -- the words of row i of some rows stand in the table
 abbrev pub Stand : Shape → (room : ℕ) (table : List ℕ) → List Row → Type 0
@@ -46,6 +52,14 @@ stand-skips s room table rows ts e stand =
     (branchOf (framed rows)) (λ i. getD table (cell s room i 6) 0) (length rows)
     (λ i h. sym (stand i 3 h (omega arith) ∙ w i h .0)) (λ i h. sym (stand i 4 h (omega arith) ∙ w i h .1)) (λ i h. sym (stand i 6 h (omega arith) ∙ w i h .2)) k
 
+stand-roots : (s : Shape) (room : ℕ) (table : List ℕ) (rows : List Row) (ts : Trees) → framed rows ≡ frames ts 0 0 → Stand s room table rows → TableRoots s room table (length rows) (count ts)
+stand-roots s room table rows ts e stand =
+    let k : Roots (parentOf (framed rows)) (branchOf (framed rows)) (length rows) (count ts)
+    = record { many = rw (← e, length-framed rows) at (root-count ts); chain = rw (← e, length-framed rows) at (roots ts) } in
+    let w = frame-words rows in
+    roots-same (parentOf (framed rows)) (λ i. getD table (cell s room i 4) 0) (branchOf (framed rows)) (λ i. getD table (cell s room i 6) 0) (length rows) (count ts)
+    (λ i h. sym (stand i 4 h (omega arith) ∙ w i h .1)) (λ i h. sym (stand i 6 h (omega arith) ∙ w i h .2)) k
+
 -- rows one after the other, and words behind them, are a table by rows
 pub rows-stand : (room : ℕ) (rows : List Row) (rest : List ℕ) → Stand byRows room (flat rows ++ rest) rows
 unfolding cell flat words
@@ -66,3 +80,20 @@ file-skips named s room ft bs w table stand =
     let refers = Resource (sharedOf (ft .objects)) in
     stand-skips s room table (fileRows named ft bs w) (ft .objects)
     (rows-framed (w .readers) refers plan (ft .objects) (w .values) (w .laid) (10 + length (w .before)) 0 0) stand
+
+-- there is a primary object before the shared ones
+some-object : (readers : List Target) (refers : ℕ → ℕ → Type 0) (shared : ℕ) (ts : Trees) (bs : List ℕ) → Lays readers refers (objectsPlan shared) ts bs → count ts ≡ suc (count (sharedOf ts))
+unfolding Lays objectsPlan each sharedOf count
+some-object readers refers shared none bs w = absurd w
+some-object readers refers shared (tree k i own cs rest) bs w = refl
+
+-- the rows of its objects, the primary and the shared ones, follow each other in every such table
+pub file-roots : (named : List ℕ → Target → Type 0) (s : Shape) (room : ℕ) (ft : FileTree) (bs : List ℕ) (w : FileLays named ft bs) (table : List ℕ)
+    → Stand s room table (fileRows named ft bs w) → TableRoots s room table (length (fileRows named ft bs w)) (suc (count (sharedOf (ft .objects))))
+unfolding fileRows
+file-roots named s room ft bs w table stand =
+    let plan = objectsPlan (count (sharedOf (ft .objects))) in
+    let refers = Resource (sharedOf (ft .objects)) in
+    rw (some-object (w .readers) refers (count (sharedOf (ft .objects))) (ft .objects) (w .values) (w .laid)) at
+    (stand-roots s room table (fileRows named ft bs w) (ft .objects)
+    (rows-framed (w .readers) refers plan (ft .objects) (w .values) (w .laid) (10 + length (w .before)) 0 0) stand)

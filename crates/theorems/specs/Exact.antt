@@ -3,7 +3,7 @@ use mathlib.Core.Path.{_≡_, sym, ap, _∙_}
 use mathlib.Core.Bool.{Bool, true, false}
 use mathlib.Core.List.{List, [], _∷_, _++_}
 use mathlib.Core.Logic.{_↔_}
-use Prim.Native.Nat.{ℕ, _*_, _-_, _≤_}
+use Prim.Native.Nat.{ℕ, suc, _*_, _-_, _≤_}
 use lib.ListN.{length, replicate}
 use Rattle.layout.specs.Target.{Target}
 use Rattle.layout.specs.Tree.{Trees, count}
@@ -21,7 +21,7 @@ use Rattle.reading.specs.Numbers.{LoadNumber}
 use Rattle.reading.specs.File.{roomOf}
 use Rattle.reading.specs.Grid.{shapeOf}
 use Rattle.columns.specs.Columns.{columnsOf}
-use Rattle.branches.specs.Table.{TableSkips}
+use Rattle.branches.specs.Table.{TableSkips, TableRoots}
 use Rattle.reading.specs.Theorems as T
 use Rattle.shortest.specs.File.{shortFile}
 use Rattle.load.specs.declared.Loading.{Loading}
@@ -76,5 +76,7 @@ pub record Exact (columns : Bool) (enums file : List ℕ) (words : ℕ) (left : 
   pub list : Unlawful enums → (place : ℕ) × (r ≡ Refused 32 place) × FirstBad enums 32 place
   -- 02, Req 09: "It must hold of every table we leave, in rows or columns": the rule of the seventh word
   pub skips : (used readers shared padding : ℕ) → r ≡ Loaded used readers shared padding → TableSkips (shapeOf columns) (roomOf words) left used
+  -- and the rows of the primary and the shared objects follow each other too, to the last row
+  pub roots : (used readers shared padding : ℕ) → r ≡ Loaded used readers shared padding → TableRoots (shapeOf columns) (roomOf words) left used (suc shared)
   -- under a lawful list a refusal's number is one of 01's and 02's for a load, and its place is in the file
   pub inside : (es : List EnumEntry) → Enums es → enums ≡ writeEnums es → (number place : ℕ) → r ≡ Refused number place → LoadNumber number × (place ≤ length file)

@@ -3,7 +3,7 @@ use mathlib.Core.Path.{_≡_, refl, ap, _∙_}
 use mathlib.Core.Bool.{Bool, true, false}
 use mathlib.Core.List.{List, _++_}
 use mathlib.Core.Logic.{_⊎_, inl, inr}
-use Prim.Native.Nat.{ℕ, _+_, _*_, _-_, _<_, _≤_}
+use Prim.Native.Nat.{ℕ, suc, _+_, _*_, _-_, _<_, _≤_}
 use native.Mathlib.Omega.{arith}
 use lib.Dec.{leb}
 use lib.ListN.{length, take, drop, replicate, length-append}
@@ -29,7 +29,7 @@ use Rattle.reading.specs.File as reading
 use Rattle.reading.specs.File.{Load, refusal, accepted, toLoad, roomOf, loadOf, tableOf}
 use Rattle.reading.specs.Grid.{byRows, byColumns, shapeOf}
 use Rattle.columns.specs.Columns.{columnsTableOf, tableIn}
-use Rattle.branches.specs.Table.{TableSkips, rows-stand, file-skips}
+use Rattle.branches.specs.Table.{TableSkips, TableRoots, Stand, rows-stand, file-skips, file-roots}
 use Rattle.theorems.specs.Standing.{columns-stand}
 use Rattle.theorems.specs.Fits.{Fitting, rowsIn}
 use Rattle.theorems.specs.Fitted.{rows-are, table-is, rows-room, rewrite-is, least, again, stays, padding-is, table-length}
@@ -93,11 +93,19 @@ unfolding tableOf columnsTableOf
 cleared-in enums file words m q e false = rw e
 cleared-in enums file words m q e true = rw e
 
--- the rule of the seventh word holds of the table of a file tree that fits
+-- the rows of a file tree that fits stand in its table
+table-stands : {enums file : List ℕ} {words : ℕ} (f : Fitting enums file words) (columns : Bool) {left : List ℕ} → left ≡ table columns (rowsIn f) words → Stand (shapeOf columns) (roomOf words) left (rowsIn f)
+table-stands {words = words} f false e = rw e (rows-stand (roomOf words) (rowsIn f) (replicate (words - width * length (rowsIn f)) 0))
+table-stands {words = words} f true e = rw e (columns-stand (roomOf words) (rowsIn f) (rows-room f) (replicate (words - width * roomOf words) 0))
+
+-- so the rule of the seventh word holds of it, and its objects' rows follow each other
 table-skips : {enums file : List ℕ} {words : ℕ} (f : Fitting enums file words) (columns : Bool) {left : List ℕ} → left ≡ table columns (rowsIn f) words
     → TableSkips (shapeOf columns) (roomOf words) left (length (rowsIn f))
-table-skips {enums} {file} {words} f false e = rw e (file-skips (named (f .es)) byRows (roomOf words) (f .tree) file (f .lays) (table false (rowsIn f) words) (rows-stand (roomOf words) (rowsIn f) (replicate (words - width * length (rowsIn f)) 0)))
-table-skips {enums} {file} {words} f true e = rw e (file-skips (named (f .es)) byColumns (roomOf words) (f .tree) file (f .lays) (table true (rowsIn f) words) (columns-stand (roomOf words) (rowsIn f) (rows-room f) (replicate (words - width * roomOf words) 0)))
+table-skips {enums} {file} {words} f columns {left} e = file-skips (named (f .es)) (shapeOf columns) (roomOf words) (f .tree) file (f .lays) left (table-stands f columns e)
+
+table-roots : {enums file : List ℕ} {words : ℕ} (f : Fitting enums file words) (columns : Bool) {left : List ℕ} → left ≡ table columns (rowsIn f) words
+    → TableRoots (shapeOf columns) (roomOf words) left (length (rowsIn f)) (suc (count (sharedOf (f .tree .objects))))
+table-roots {enums} {file} {words} f columns {left} e = file-roots (named (f .es)) (shapeOf columns) (roomOf words) (f .tree) file (f .lays) left (table-stands f columns e)
 
 -- ---- Loading
 
@@ -158,10 +166,23 @@ module _ (enums file : List ℕ) (words : ℕ) (columns : Bool) {left : List ℕ
       let k : length (rowsIn f) ≡ used = cc in
       rw k at (table-skips f columns (l .1))
 
+  rooted : Ends enums file words → (used readers shared padding : ℕ) → r ≡ Loaded used readers shared padding → TableRoots (shapeOf columns) (roomOf words) left used (suc shared)
+  rooted (refuses es l b m q g i) used readers shared padding e =
+      let h : r ≡ Refused m q = refused-is g in
+      differ cc
+  rooted (bad-list i b n g) used readers shared padding e =
+      let h : r ≡ Refused 32 i = refused-is g in
+      differ cc
+  rooted (fits f) used readers shared padding e =
+      let l = loaded f in
+      let k : length (rowsIn f) ≡ used = cc in
+      let m : count (sharedOf (f .tree .objects)) ≡ shared = cc in
+      rw (k, m) at (table-roots f columns (l .1))
+
   pub load-exact : Exact columns enums file words left r
   load-exact =
       let e = ends enums file words bytes small in
-      record { accepts = (only e, λ f. rw (loaded f .0) tt); rows = loaded; refuses = refused-as e; list = list-first e; skips = skipped e; inside = placed e }
+      record { accepts = (only e, λ f. rw (loaded f .0) tt); rows = loaded; refuses = refused-as e; list = list-first e; skips = skipped e; roots = rooted e; inside = placed e }
 
 -- ---- Rewriting
 
@@ -269,10 +290,18 @@ module _ (enums file : List ℕ) (words : ℕ) (out : List ℕ) {left end : List
         let l = too-long f (leb-false _ _ t) .0 in
         differ cc
 
+  rewrite-rooted : (n : ℕ) → r ≡ rewriting.Rewritten n → (f : Fitting enums file words) → TableRoots byRows (roomOf words) left (length (rowsIn f)) (suc (count (sharedOf (f .tree .objects))))
+  rewrite-rooted n e f = go (leb (length (shortFile (f .tree))) (length out)) refl where
+    go : (t : Bool) → leb (length (shortFile (f .tree))) (length out) ≡ t → TableRoots byRows (roomOf words) left (length (rowsIn f)) (suc (count (sharedOf (f .tree .objects))))
+    go true t = table-roots f false (rewritten f (leb-true _ _ t) .2)
+    go false t =
+        let l = too-long f (leb-false _ _ t) .0 in
+        differ cc
+
   pub rewrite-exact : R.Exact enums file words left out end r
   rewrite-exact =
       let e = ends enums file words bytes small in
-      record { rewrites = rewritten; too-small = too-long; refuses = not-rewritten e; list = rewrite-list e; inside = rewrite-placed e; skips = rewrite-skipped; written = begins e }
+      record { rewrites = rewritten; too-small = too-long; refuses = not-rewritten e; list = rewrite-list e; inside = rewrite-placed e; skips = rewrite-skipped; roots = rewrite-rooted; written = begins e }
 
 -- ---- A file that is rewritten, and then loaded or rewritten again
 

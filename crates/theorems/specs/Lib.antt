@@ -3,6 +3,7 @@ pub mod Exact
 pub mod Rewriting
 pub mod Padding
 pub mod Columns
+pub mod Branches
 pub mod Packs
 pub mod Marks
 pub mod Salvage

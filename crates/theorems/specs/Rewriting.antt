@@ -3,7 +3,7 @@ use mathlib.Core.Path.{_≡_}
 use mathlib.Core.Bool.{false}
 use mathlib.Core.List.{List, _++_}
 use mathlib.Core.Logic.{_⊎_}
-use Prim.Native.Nat.{ℕ, _+_, _<_, _≤_}
+use Prim.Native.Nat.{ℕ, suc, _+_, _<_, _≤_}
 use lib.ListN.{length, take, drop, replicate}
 use Rattle.layout.specs.Tree.{count}
 use Rattle.layout.specs.File.{sharedOf, FileLays}
@@ -14,7 +14,7 @@ use Rattle.enums.specs.Lists.{Unlawful}
 use Rattle.reading.specs.Numbers.{LoadNumber}
 use Rattle.reading.specs.File.{roomOf}
 use Rattle.reading.specs.Grid.{byRows}
-use Rattle.branches.specs.Table.{TableSkips}
+use Rattle.branches.specs.Table.{TableSkips, TableRoots}
 use Rattle.load.specs.declared.Loading.{Loading}
 use Rattle.load.specs.declared.Loading.the-variants.{Loaded}
 use Rattle.numbers.specs.Shortest.{Shortens}
@@ -53,6 +53,7 @@ pub record Exact (enums file : List ℕ) (words : ℕ) (left out end : List ℕ)
   pub inside : (es : List EnumEntry) → Enums es → enums ≡ writeEnums es → (number place : ℕ) → r ≡ Refused number place → (LoadNumber number ⊎ (number ≡ 21)) × (place ≤ length file)
   -- 02, Req 09: "It must hold of every table we leave": the rule of the seventh word
   pub skips : (n : ℕ) → r ≡ Rewritten n → (f : Fitting enums file words) → TableSkips byRows (roomOf words) left (length (rowsIn f))
+  pub roots : (n : ℕ) → r ≡ Rewritten n → (f : Fitting enums file words) → TableRoots byRows (roomOf words) left (length (rowsIn f)) (suc (count (sharedOf (f .tree .objects))))
   -- what is rewritten is a file tree's bytes, and the output then begins with bytes of which the above holds
   pub written : (n : ℕ) → r ≡ Rewritten n → (f : Fitting enums file words) × (n ≤ length end) × Written f (take n end)
 

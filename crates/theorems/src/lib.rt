@@ -1,7 +1,8 @@
 // What is demanded of loading and rewriting, as contracts: each function calls the code, and is here for what it ensures
 // (specs/Exact.antt and specs/Rewriting.antt, from top to bottom; of padding, padded.rt and specs/Padding.antt;
-// of columns, columned.rt and specs/Columns.antt;
+// of columns, columned.rt and specs/Columns.antt; of a row and all below it, branched.rt and specs/Branches.antt;
 // of packs, packed.rt and specs/Packs.antt, converted.rt and specs/Marks.antt, salvaged.rt and specs/Salvage.antt).
+mod branched;
 mod columned;
 mod converted;
 mod packed;
