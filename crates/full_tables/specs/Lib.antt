@@ -1,0 +1,2 @@
+-- What 19 says of a file.
+pub mod Full
