@@ -70,7 +70,8 @@ $(BUILD)/completions: $(BUILD)/asset-builder
 
 install: all
 	install -d $(DESTDIR)$(LIBDIR)/pkgconfig $(DESTDIR)$(PREFIX)/include $(DESTDIR)$(PREFIX)/bin \
-		$(DESTDIR)$(PREFIX)/share/man/man1 $(DESTDIR)$(PREFIX)/share/bash-completion/completions \
+		$(DESTDIR)$(PREFIX)/share/man/man1 $(DESTDIR)$(PREFIX)/share/doc/xnb \
+		$(DESTDIR)$(PREFIX)/share/bash-completion/completions \
 		$(DESTDIR)$(PREFIX)/share/zsh/vendor-completions $(DESTDIR)$(PREFIX)/share/fish/vendor_completions.d
 	install -m 644 $(BUILD)/libxnb.a $(DESTDIR)$(LIBDIR)
 	install -m 755 $(BUILD)/$(SHARED) $(DESTDIR)$(LIBDIR)
@@ -80,6 +81,7 @@ install: all
 	install -m 644 crates/builder/xnb.h $(DESTDIR)$(PREFIX)/include
 	install -m 755 $(BUILD)/asset-builder $(DESTDIR)$(PREFIX)/bin
 	install -m 644 $(BUILD)/asset-builder.1 $(DESTDIR)$(PREFIX)/share/man/man1
+	cat LICENSE-MIT LICENSE-APACHE > $(DESTDIR)$(PREFIX)/share/doc/xnb/copyright
 	install -m 644 $(BUILD)/completions/asset-builder $(DESTDIR)$(PREFIX)/share/bash-completion/completions
 	install -m 644 $(BUILD)/completions/_asset-builder $(DESTDIR)$(PREFIX)/share/zsh/vendor-completions
 	install -m 644 $(BUILD)/completions/asset-builder.fish $(DESTDIR)$(PREFIX)/share/fish/vendor_completions.d
@@ -90,7 +92,8 @@ uninstall:
 		$(DESTDIR)$(PREFIX)/bin/asset-builder $(DESTDIR)$(PREFIX)/share/man/man1/asset-builder.1 \
 		$(DESTDIR)$(PREFIX)/share/bash-completion/completions/asset-builder \
 		$(DESTDIR)$(PREFIX)/share/zsh/vendor-completions/_asset-builder \
-		$(DESTDIR)$(PREFIX)/share/fish/vendor_completions.d/asset-builder.fish
+		$(DESTDIR)$(PREFIX)/share/fish/vendor_completions.d/asset-builder.fish \
+		$(DESTDIR)$(PREFIX)/share/doc/xnb/copyright
 
 # The command with all that it needs inside it.
 alone: $(ARCHIVE)

@@ -4,17 +4,22 @@
    else that it is given. The entries keep nothing from call to call and have no data of their own, so threads may call them
    at once, each with buffers that no other writes to. They allocate nothing, and call memcpy and memset and nothing else.
 
+   The stack that an entry takes at most, in KB of 1,024 bytes, measured over files of the greatest depth: xnb_load 94,
+   xnb_load_rows 66, xnb_load_columns 66, xnb_rewrite 66, xnb_export_xml 90, xnb_load_driver 324, xnb_report_add 68; every
+   other entry 1.
+
    A packed answer is the refusal's number (0 if there is none) times 2 to the 32, plus the refusal's place, or the number
-   of rows. Any other answer is the refusal's number, or 0; those of xnb_next, xnb_columns_next and xnb_pack_find
-   are told there. */
+   of rows. Any other answer is the refusal's number, or 0; those of xnb_version, xnb_next, xnb_columns_next and
+   xnb_pack_find are described there. */
 #ifndef XNB_H
 #define XNB_H
 
 #include <stddef.h>
 #include <stdint.h>
 
-/* The version of this header. */
+/* The version of this header, as a text and as the number that xnb_version answers. */
 #define XNB_VERSION "0.1.0"
+#define XNB_VERSION_NUMBER 100
 
 /* Limits and sizes: the bytes of an XNB file; the words of a row and the rows that a table has room for at most; for a pack
    the words of a file in its table, its files, the bytes of a path; the words of a skipped stretch and how many there are at
@@ -168,6 +173,10 @@ static inline const char *xnb_refusal_text(uint32_t refusal) {
 extern "C" {
 #endif
 
+/* The version of the library that is linked: 10,000 times the first number, plus 100 times the second, plus the third. It is
+   XNB_VERSION_NUMBER where the library is that of this header. */
+uint32_t xnb_version(void);
+
 /* Loads an XNB file with room for 1,024 rows and no enum types listed. The answer is packed. */
 uint64_t xnb_load(const uint8_t *file, size_t file_length);
 
@@ -176,18 +185,18 @@ uint64_t xnb_load(const uint8_t *file, size_t file_length);
    lawful. 32 refuses a list before all else, and its place is the number, from 0 and modulo 2 to the 32, of the first entry
    that is cut short, has another size, or whose name is no head of a reader's name, is a target name, or is listed earlier. */
 
-/* docs/FORMAT.md has the refusals by number. Those of a reader's name are placed at the wrong byte, or at the name's end
-   if it ends too soon: 33 an empty head, 34 a bad byte in a head, 35 a digit that is not 1 or 2, 36 argument brackets out of
-   form or followed by a wrong byte, 37 a bad byte in a tail, 38 a part nested past level 8, where it starts; then 11 at the
-   leftmost head that is not known or has wrong arguments. */
+/* The refusals of a reader's name are placed at the wrong byte, or at the name's end if it ends too soon: 33 an empty head,
+   34 a bad byte in a head, 35 a digit that is not 1 or 2, 36 argument brackets out of form or followed by a wrong byte, 37 a
+   bad byte in a tail, 38 a part nested past level 8, where it starts; then 11 at the leftmost head that is not known or has
+   wrong arguments. */
 
 /* Loads an XNB file into the words: seven make a row, and every word not in a used row is zero. A row is kind, first byte,
    number of bytes, number of children, the parent's row number plus 1 or 0, type id or resource id, and the number of rows
-   that the value has with all below it, itself included. Kinds are those of document 01, and 37 IndexBuffer, 38
-   VertexDeclaration, 39 VertexBuffer, 40 Model, 41 data bytes, 42 bone reference; the children of 37 to 40 are all of their
-   fields in file order. Writes the number of readers, the shared count and the padding: how many bytes the seven-bit
-   numbers of the file have beyond their shortest forms, which is the file's length less that of the rewritten file. All
-   three are 0 on a refusal. The answer is packed. */
+   that the value has with all below it, itself included. XNB_EACH_KIND lists the kinds. The bytes of an object begin with its
+   type id, which is a seven-bit number and 0 for null, and those of a level with its size; a value that is no object has no
+   type id. The children of kinds 37 to 40 are all of their fields in file order. Writes the number of readers, the shared
+   count and the padding: how many bytes the seven-bit numbers of the file have beyond their shortest forms, which is the
+   file's length less that of the rewritten file. All three are 0 on a refusal. The answer is packed. */
 uint64_t xnb_load_rows(const uint8_t *file, size_t file_length, const uint8_t *enums, size_t enums_length,
                        uint32_t *words, size_t words_length, uint32_t *readers, uint32_t *shared, uint32_t *padding);
 

@@ -4,6 +4,7 @@ pub mod by_columns;
 mod driver_entry;
 mod pack;
 mod report;
+mod version;
 mod xml;
 
 use ids::RowNumber;

@@ -112,7 +112,7 @@ fn entry(line: usize, text: &[u8]) -> Result<Option<Entry<'_>>, String> {
     Ok(Some(Entry { line, name, size }))
 }
 
-/// Why the library refuses an entry, told of its line.
+/// Why the library refuses an entry, reported of its line.
 fn wrong_entry(entries: &[Entry], refused: &EnumsRefused) -> Wrong {
     let Entry { line, name, .. } = entries[refused.entry];
     let name = escaped(name);

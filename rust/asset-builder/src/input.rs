@@ -15,7 +15,7 @@ use std::path::{Path, PathBuf};
 use walkdir::{DirEntry, WalkDir};
 
 /// The longest file that the loader takes.
-const LONGEST_FILE: u64 = 16_777_216;
+pub const LONGEST_FILE: u64 = 16_777_216;
 const STANDARD_INPUT: &str = "-";
 const OF_FILES: &str = "xnb";
 const OF_PACKS: &str = "pak";
@@ -39,6 +39,30 @@ pub struct Packs {
     packs: Vec<PathBuf>,
 }
 
+#[derive(clap::Args)]
+pub struct FilesAndPacks {
+    /// Files, packs, folders (the .xnb and .pak files below them), or - for standard input
+    #[arg(value_name = "FILE|FOLDER|PACK", required = true, value_hint = clap::ValueHint::AnyPath)]
+    files: Vec<PathBuf>,
+}
+
+impl FilesAndPacks {
+    /// Whether standard input is among them.
+    pub fn have_stdin(&self) -> bool {
+        self.files.iter().any(|path| is_stdin(path))
+    }
+
+    /// Every file and pack; what cannot be listed is told.
+    pub fn list(&self) -> Vec<Input> {
+        list(&self.files, &[OF_FILES, OF_PACKS])
+    }
+
+    /// What was named.
+    pub fn paths(&self) -> &[PathBuf] {
+        &self.files
+    }
+}
+
 /// One file to work on.
 #[derive(Clone, Debug)]
 pub struct Input {
@@ -60,9 +84,9 @@ impl Inputs {
         self.files.iter().any(|path| is_stdin(path))
     }
 
-    /// Every file; what cannot be listed is told.
+    /// Every file; what cannot be listed is reported.
     pub fn list(&self) -> Vec<Input> {
-        list(&self.files, OF_FILES)
+        list(&self.files, &[OF_FILES])
     }
 }
 
@@ -77,9 +101,9 @@ impl Packs {
         self.packs.iter().any(|path| is_stdin(path))
     }
 
-    /// Every pack; what cannot be listed is told.
+    /// Every pack; what cannot be listed is reported.
     pub fn list(&self) -> Vec<Input> {
-        list(&self.packs, OF_PACKS)
+        list(&self.packs, &[OF_PACKS])
     }
 }
 
@@ -88,13 +112,13 @@ fn is_one_file(paths: &[PathBuf]) -> bool {
 }
 
 /// Every file that is named, and those of a folder in order of their names.
-fn list(paths: &[PathBuf], extension: &str) -> Vec<Input> {
+fn list(paths: &[PathBuf], extensions: &[&str]) -> Vec<Input> {
     let mut inputs: Vec<Input> = Vec::new();
     for path in paths {
         if is_stdin(path) && inputs.iter().any(Input::is_stdin) {
             inputs.push(Input::unlisted(path, ONCE));
         } else if !is_stdin(path) && path.is_dir() {
-            inputs.extend(below(path, extension));
+            inputs.extend(below(path, extensions));
         } else {
             inputs.push(Input::of(path));
         }
@@ -102,12 +126,12 @@ fn list(paths: &[PathBuf], extension: &str) -> Vec<Input> {
     inputs
 }
 
-/// The files with the extension below a folder, links followed.
-fn below(folder: &Path, extension: &str) -> Vec<Input> {
+/// The files with one of the extensions below a folder, links followed.
+fn below(folder: &Path, extensions: &[&str]) -> Vec<Input> {
     let mut found = Vec::new();
     for entry in WalkDir::new(folder).follow_links(true).sort_by_file_name() {
         match entry {
-            Ok(entry) if has_extension(&entry, extension) => found.push(Input {
+            Ok(entry) if has_extension(&entry, extensions) => found.push(Input {
                 path: entry.into_path(),
                 folder: Some(folder.to_path_buf()),
                 unlisted: None,
@@ -124,15 +148,16 @@ fn below(folder: &Path, extension: &str) -> Vec<Input> {
         }
     }
     if found.is_empty() {
-        let why = format!("no .{extension} file is in it");
+        let why = format!("no .{} file is in it", extensions.join(" or ."));
         found.push(Input::unlisted(folder, &why));
     }
     found
 }
 
-fn has_extension(entry: &DirEntry, extension: &str) -> bool {
+fn has_extension(entry: &DirEntry, extensions: &[&str]) -> bool {
     let found = entry.path().extension();
-    entry.file_type().is_file() && found.is_some_and(|it| it.eq_ignore_ascii_case(extension))
+    let is_one = |found: &OsStr| extensions.iter().any(|it| found.eq_ignore_ascii_case(it));
+    entry.file_type().is_file() && found.is_some_and(is_one)
 }
 
 fn is_stdin(path: &Path) -> bool {
@@ -217,6 +242,17 @@ impl Input {
         self.report(run, read)
     }
 
+    /// All its bytes, without a report.
+    pub fn mapped(&self) -> io::Result<Bytes> {
+        self.bytes(&mut Progress::new(false))
+    }
+
+    /// All its bytes as they are now, copied: no change of the file reaches them.
+    pub fn copied(&self) -> io::Result<Bytes> {
+        self.check_listed()?;
+        Room::read(File::open(&self.path)?, |_| {}).map(Bytes::Read)
+    }
+
     /// Reports what came of reading it: the length if that is wanted, and a failure.
     fn report<B: Deref<Target = [u8]>>(
         &self,
@@ -278,7 +314,7 @@ pub enum Bytes {
     Mapped {
         bytes: Mmap,
         file: File,
-        /// What tells whether the file has changed.
+        /// What shows whether the file has changed.
         found: (u64, i64, i64),
     },
 }

@@ -13,6 +13,7 @@ mod json;
 mod names;
 mod output;
 mod picture;
+mod preview;
 mod progress;
 mod refusal;
 mod room;

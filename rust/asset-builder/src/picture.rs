@@ -8,26 +8,36 @@ const PIECE: usize = 1 << 16;
 
 /// Writes a level as PNG in pieces, and answers how many bytes that took.
 pub fn write_png(level: &Level, out: &mut dyn Write) -> io::Result<usize> {
+    write_pixels(level.width, level.height, &level.rgba8(), out)
+}
+
+/// The same of pixels with red, green, blue and alpha in a byte each.
+pub fn write_pixels(
+    width: u32,
+    height: u32,
+    pixels: &[u8],
+    out: &mut dyn Write,
+) -> io::Result<usize> {
     let mut out = Watched {
         out,
         written: 0,
         failure: None,
     };
-    let encoded = encode(level, &mut out);
+    let encoded = encode(width, height, pixels, &mut out);
     match out.failure {
         Some(error) => Err(error),
         None => encoded.map(|()| out.written),
     }
 }
 
-fn encode(level: &Level, out: &mut Watched) -> io::Result<()> {
-    let mut encoder = png::Encoder::new(out, level.width, level.height);
+fn encode(width: u32, height: u32, pixels: &[u8], out: &mut Watched) -> io::Result<()> {
+    let mut encoder = png::Encoder::new(out, width, height);
     encoder.set_color(png::ColorType::Rgba);
     encoder.set_depth(png::BitDepth::Eight);
     let mut writer = encoder.write_header()?;
-    let mut pixels = writer.stream_writer_with_size(PIECE)?;
-    pixels.write_all(&level.rgba8())?;
-    pixels.finish()?;
+    let mut stream = writer.stream_writer_with_size(PIECE)?;
+    stream.write_all(pixels)?;
+    stream.finish()?;
     Ok(writer.finish()?)
 }
 
@@ -90,7 +100,7 @@ mod tests {
     }
 
     #[test]
-    fn a_failure_at_any_write_is_told() {
+    fn a_failure_at_any_write_is_reported() {
         let file = std::fs::read(corpus::folder::folder().join("ok-kind-32-texture.xnb"));
         let file = file.expect("a sample");
         let table = Table::load(&file).expect("a file that is taken");
@@ -104,8 +114,8 @@ mod tests {
         let (whole, writes) = written(usize::MAX);
         assert!(whole.is_ok() && writes > 10, "{whole:?}, {writes} writes");
         for failing in 0..writes {
-            let told = written(failing).0;
-            assert_eq!(told, Err("a full disk".to_string()), "at {failing}");
+            let reported = written(failing).0;
+            assert_eq!(reported, Err("a full disk".to_string()), "at {failing}");
         }
     }
 }

@@ -127,6 +127,21 @@ impl<'f> Told<'f> {
         self.rule
     }
 
+    /// Whether its place is a byte of the input, or its end.
+    pub fn is_at_byte(&self) -> bool {
+        self.around.is_some()
+    }
+
+    /// The first line, plain and without its end.
+    pub fn head(&self) -> String {
+        self.line(Paint::none()).trim_end().to_string()
+    }
+
+    /// The lines behind the first, plain.
+    pub fn body(&self) -> String {
+        self.other_lines(Paint::none())
+    }
+
     /// The first line: `refused 7 at 6: the rule`.
     fn line(&self, paint: Paint) -> String {
         let Told {
@@ -139,8 +154,13 @@ impl<'f> Told<'f> {
         format!("{refused}: {rule}\n")
     }
 
-    /// Every line; a name with a mark in it stands above what is found there.
+    /// Every line.
     pub fn lines(&self, paint: Paint) -> String {
+        self.line(paint) + &self.other_lines(paint)
+    }
+
+    /// Every line behind the first; a name with a mark in it stands above what is found there.
+    fn other_lines(&self, paint: Paint) -> String {
         let found = self
             .found
             .iter()
@@ -148,8 +168,7 @@ impl<'f> Told<'f> {
         let found: String = found.collect();
         let name = self.name_lines(paint);
         let marked = self.reader.as_ref().is_some_and(|it| it.offset.is_some());
-        let mut out = self.line(paint);
-        out += &if marked { name + &found } else { found + &name };
+        let mut out = if marked { name + &found } else { found + &name };
         if let Some(around) = &self.around {
             out += &around.lines(self.place as usize, paint);
         }

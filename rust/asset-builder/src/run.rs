@@ -119,6 +119,11 @@ impl Run {
         self.progress.aside(|| out.write_by(action)).map_err(stop)
     }
 
+    /// Lets standard output have all that was printed.
+    pub fn flush(&mut self) -> End {
+        self.out.flush().map_err(stop)
+    }
+
     /// Whether standard output is a terminal.
     pub fn prints_to_terminal(&self) -> bool {
         self.out.is_any_terminal()
@@ -135,7 +140,7 @@ impl Run {
         });
     }
 
-    /// Tells on standard error that something failed.
+    /// Says on standard error that something failed.
     pub fn fail(&mut self, what: impl Display, why: impl Display) {
         self.failure = why.to_string();
         self.note(&format!("{what}: {why}\n"));

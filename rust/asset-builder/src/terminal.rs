@@ -75,6 +75,11 @@ impl<W: Write + IsTerminal> Stream<W> {
 pub struct Paint(bool);
 
 impl Paint {
+    /// No colours.
+    pub fn none() -> Paint {
+        Paint(false)
+    }
+
     pub fn bad(self, text: &str) -> String {
         self.painted("1;31", text)
     }

@@ -61,7 +61,7 @@ pub enum Value {
     },
 }
 
-/// A number that JSON may lack: one that is not finite is told by its name.
+/// A number that JSON may lack: one that is not finite is given by its name.
 #[derive(Clone, Copy, Debug, PartialEq)]
 pub struct Float<F>(F);
 

@@ -121,7 +121,7 @@ fn check_has_room_for_1024_rows_unless_asked() {
 }
 
 #[test]
-fn check_tells_each_file_and_sums_up() {
+fn check_reports_each_file_and_sums_up() {
     let files = kept_files();
     let names: Vec<String> = files.iter().map(|it| format!("{}.xnb", it.name)).collect();
     let mut words = vec!["check"];
@@ -266,7 +266,7 @@ fn tree_shows_texts_and_numbers() {
         (&"primary".into(), &"List".into())
     );
     assert_eq!(list["value"]["count"], 13);
-    let told: Vec<&Json> = (0..13)
+    let reported: Vec<&Json> = (0..13)
         .map(|index| &list["children"][index]["value"])
         .collect();
     let expected = serde_json::json!([
@@ -285,7 +285,7 @@ fn tree_shows_texts_and_numbers() {
         "€"
     ]);
     assert_eq!(
-        told,
+        reported,
         expected
             .as_array()
             .expect("a list")
@@ -386,10 +386,10 @@ fn refused_files_have_no_tree() {
     assert_eq!(ran.out, "==> ok-kind-00-null.xnb <==\nprimary: Null\n");
     for command in ["tree", "rows"] {
         let ran = run(&[command, "--json", "bad-06-flags.xnb"]);
-        let told = json(&ran.out);
-        assert_eq!(told["refused"]["number"], 6);
+        let reported = json(&ran.out);
+        assert_eq!(reported["refused"]["number"], 6);
         assert_eq!(
-            told["refused"]["found"],
+            reported["refused"]["found"],
             "the flags are 02; only 00 and 01 are taken"
         );
         assert_eq!((ran.status, ran.err.as_str()), (Some(1), ""));
@@ -405,13 +405,13 @@ fn every_accepted_file_has_a_tree() {
             let Ran { out, status, .. } = run(&["tree", &name]);
             assert_eq!((out.lines().count(), status), (rows, Some(0)), "{name}");
             let tree = json(&run(&["tree", "--json", &name]).out);
-            let told: usize = tree["objects"]
+            let reported: usize = tree["objects"]
                 .as_array()
                 .expect("objects")
                 .iter()
                 .map(count)
                 .sum();
-            assert_eq!(told, rows, "{name}");
+            assert_eq!(reported, rows, "{name}");
             let listed = json(&run(&["rows", "--json", &name]).out);
             let words = |line: &str| -> Json {
                 let words = line.split(' ').skip(1);
@@ -423,7 +423,7 @@ fn every_accepted_file_has_a_tree() {
     }
 }
 
-/// The number of values in a tree, which each value tells of itself and all below it.
+/// The number of values in a tree, which each value gives of itself and all below it.
 fn count(tree: &Json) -> usize {
     let children = tree["children"].as_array();
     let rows = 1 + children.map_or(0, |children| children.iter().map(count).sum());
@@ -432,7 +432,7 @@ fn count(tree: &Json) -> usize {
 }
 
 #[test]
-fn missing_files_are_told() {
+fn missing_files_are_reported() {
     for command in ["rows", "tree"] {
         let ran = run(&[command, "no-such-file"]);
         assert_eq!((ran.status, ran.out.as_str()), (Some(2), ""));

@@ -11,8 +11,8 @@ use serde_json::Value as Json;
 use std::collections::BTreeSet;
 use std::fs;
 
-/// The lines that are told of one file from standard input.
-fn told(file: &[u8]) -> Vec<String> {
+/// The lines that are reported of one file from standard input.
+fn reported(file: &[u8]) -> Vec<String> {
     let Ran { out, err, status } = run_in(&folder(), &["check", "--driver", "-"], file);
     assert_eq!((err.as_str(), status), ("", Some(1)), "{out}");
     assert!(!has_control(&out), "{out}");
@@ -59,7 +59,7 @@ fn kept_files_have_their_answers() {
 #[test]
 fn what_breaks_a_rule_is_named() {
     let readers = [PAGE, STRING];
-    let lines = told(&write(&file(&readers, object(1, page_to(null(), 0)), vec![])).bytes);
+    let lines = reported(&write(&file(&readers, object(1, page_to(null(), 0)), vec![])).bytes);
     assert!(
         lines[0].contains(": a listed reader is used by no type id"),
         "{lines:?}"
@@ -70,7 +70,7 @@ fn what_breaks_a_rule_is_named() {
     let readers = [format!("{PAGE},a tail"), PAGE.to_string()];
     let first = object(1, page_to(null(), 1));
     let second = object(2, page_to(null(), 1));
-    let lines = told(&write(&file(&readers, first, vec![second])).bytes);
+    let lines = reported(&write(&file(&readers, first, vec![second])).bytes);
     assert!(
         lines[0].contains(" a reader has the target of an earlier one"),
         "{lines:?}"
@@ -97,7 +97,7 @@ fn what_breaks_a_rule_is_named() {
         object(2, dictionary(entries)),
     ];
     let written = write(&file(&readers, page, shared));
-    let lines = told(&written.bytes);
+    let lines = reported(&written.bytes);
     let (earlier, later) = (written.rows[11][1], written.rows[15][1]);
     assert!(
         lines[0].starts_with(&format!("-: refused 45 at {later}: ")),
@@ -111,7 +111,7 @@ fn what_breaks_a_rule_is_named() {
     let readers = [PAGE, STRING];
     let first = object(1, page_to(bound_object(2, text("Doors")), 1));
     let second = object(1, page_to(bound_object(2, text("Steps\n")), 0));
-    let lines = told(&write(&file(&readers, first, vec![second])).bytes);
+    let lines = reported(&write(&file(&readers, first, vec![second])).bytes);
     assert!(
         lines[0].ends_with(": the next of a page has resource id 0"),
         "{lines:?}"
@@ -121,15 +121,15 @@ fn what_breaks_a_rule_is_named() {
         "  the page \"Steps\\n\" of row 5 has no next page"
     );
 
-    let lines = told(&sample("ok-kind-13-string.xnb"));
+    let lines = reported(&sample("ok-kind-13-string.xnb"));
     assert_eq!(lines[1], "  the first object is of kind String");
-    let lines = told(&sample("ok-header-phone-reach.xnb"));
+    let lines = reported(&sample("ok-header-phone-reach.xnb"));
     assert_eq!(lines[1], "  the platform is m, w is taken");
 }
 
 #[test]
 fn padded_numbers_are_named() {
-    let of = |name: &str| told(&sample(name))[1].trim_start().to_string();
+    let of = |name: &str| reported(&sample(name))[1].trim_start().to_string();
     assert_eq!(
         of("ok-padded-reader-count-of-0.xnb"),
         "the reader count is 0 in 2 bytes, 1 would do"

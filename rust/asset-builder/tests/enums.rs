@@ -22,8 +22,8 @@ fn folder_with(name: &str, list: &[u8], files: &[(&str, &[u8])]) -> PathBuf {
     top
 }
 
-/// What is told of a list by a command that must fail.
-fn told(name: &str, list: &[u8]) -> String {
+/// What is reported of a list by a command that must fail.
+fn reported(name: &str, list: &[u8]) -> String {
     let top = folder_with(name, list, &[]);
     let null = sample("ok-kind-00-null.xnb");
     let ran = run_in(&top, &["check", "--enums", "enums.txt", "-"], &null);
@@ -155,7 +155,7 @@ fn lists_are_read_as_people_write_them() {
 }
 
 #[test]
-fn a_wrong_line_is_told_by_its_number() {
+fn a_wrong_line_is_reported_by_its_number() {
     let expected = "\
 enums.txt, line 3: a name and a size are due, as in Coach.Door 1, found Coach.Screen
 enums.txt, line 5: Coach.Seat: the size is 3; only 1, 2, 4 and 8 are taken
@@ -165,7 +165,7 @@ enums.txt, line 8: A: the size is 01; only 1, 2, 4 and 8 are taken
 ";
     let list =
         b"# list\nCoach.Door 1\nCoach.Screen\n\nCoach.Seat 3\nCoach.Route 8 bytes\nCoach Row\nA 01";
-    assert_eq!(told("wrong-lines", list), expected);
+    assert_eq!(reported("wrong-lines", list), expected);
     let long = "x".repeat(256);
     let of_names = [
         (
@@ -192,19 +192,19 @@ enums.txt, line 8: A: the size is 01; only 1, 2, 4 and 8 are taken
     ];
     for (list, why) in of_names {
         let expected = format!("enums.txt, {why}\n");
-        assert_eq!(told("wrong-names", list.as_bytes()), expected);
+        assert_eq!(reported("wrong-names", list.as_bytes()), expected);
     }
 }
 
 #[test]
 fn no_control_byte_of_a_list_is_printed() {
-    let err = told("control-list", b"A\x1B[2J 1\n\xFF\x07 2 3\n");
+    let err = reported("control-list", b"A\x1B[2J 1\n\xFF\x07 2 3\n");
     assert!(!common::has_control(&err), "{err:?}");
     assert!(err.contains("line 2: a name and a size are due"), "{err}");
 }
 
 #[test]
-fn a_list_that_cannot_be_read_is_told() {
+fn a_list_that_cannot_be_read_is_reported() {
     for command in ["check", "rows", "tree"] {
         let ran = run(&[command, "--enums", "no-such-list", "ok-kind-00-null.xnb"]);
         assert_eq!((ran.status, ran.out.as_str()), (Some(2), ""), "{command}");
@@ -257,7 +257,7 @@ fn refusals_are_explained_with_the_list() {
         &["rows", "--json", "--enums", "enums.txt", "cut.xnb"],
         &[],
     );
-    let told: Json = serde_json::from_str(&ran.out).expect("JSON");
-    assert_eq!(told["refused"]["found"], words);
-    assert_eq!(told["refused"]["number"], 1);
+    let reported: Json = serde_json::from_str(&ran.out).expect("JSON");
+    assert_eq!(reported["refused"]["found"], words);
+    assert_eq!(reported["refused"]["number"], 1);
 }

@@ -64,7 +64,7 @@ fn every_command_has_help_and_a_version() {
 }
 
 #[test]
-fn wrong_commands_are_told() {
+fn wrong_commands_are_reported() {
     let sample = "ok-kind-13-string.xnb";
     let pack = "ok-pack-of-one-file.pak";
     let wrong: [(&[&str], &str); 36] = [
@@ -157,7 +157,7 @@ fn shells_complete_commands_and_flags() {
     assert_eq!(lines[2], "extract");
 }
 
-/// The page tells what the help tells: every command, every flag, every sentence.
+/// The page says what the help says: every command, every flag, every sentence.
 #[test]
 fn the_manual_page_says_what_the_help_says() {
     let ran = run(&["man"]);

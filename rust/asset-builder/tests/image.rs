@@ -45,7 +45,7 @@ fn shown(path: &Path) -> Shown {
     }
 }
 
-fn told(ran: &Ran) -> (&str, &str, Option<i32>) {
+fn reported(ran: &Ran) -> (&str, &str, Option<i32>) {
     (&ran.out, &ran.err, ran.status)
 }
 
@@ -406,14 +406,14 @@ fn one_picture_goes_to_a_file() {
     }
     let ran = run_in(&top, &["image", FONT, "-o", "font.PNG"], &[]);
     let line = format!("{FONT}: row 1 level 0: 1 by 1, Color, written to font.PNG\n");
-    assert_eq!(told(&ran), (line.as_str(), "", Some(0)));
+    assert_eq!(reported(&ran), (line.as_str(), "", Some(0)));
     assert_eq!(shown(&top.join("font.PNG")).pixels, [[0, 1, 2, 3]]);
     let words = [
         "image", TEXTURE, "--row", "0", "--level", "0", "-o", "0.png",
     ];
     let ran = run_in(&top, &words, &[]);
     let line = format!("{TEXTURE}: row 0 level 0: 2 by 2, Color, written to 0.png\n");
-    assert_eq!(told(&ran), (line.as_str(), "", Some(0)));
+    assert_eq!(reported(&ran), (line.as_str(), "", Some(0)));
     let shown = shown(&top.join("0.png"));
     let pixels = [[0, 1, 2, 3], [4, 5, 6, 7], [8, 9, 10, 11], [12, 13, 14, 15]];
     assert_eq!((shown.width, shown.height), (2, 2));
@@ -421,21 +421,21 @@ fn one_picture_goes_to_a_file() {
     // Standard input and standard output: only the picture is printed there, and what is said goes beside it.
     let line = format!("asset-builder image - --level 0 -o - < {TEXTURE} | cmp - 0.png");
     let said = "-: row 0 level 0: 2 by 2, Color\n";
-    assert_eq!(told(&shell(&top, &line)), ("", said, Some(0)));
+    assert_eq!(reported(&shell(&top, &line)), ("", said, Some(0)));
     let ran = shell(
         &top,
         &line.replace("asset-builder image", "asset-builder image -q"),
     );
-    assert_eq!(told(&ran), ("", "", Some(0)));
+    assert_eq!(reported(&ran), ("", "", Some(0)));
     // What is no plain file is written as it stands.
     let ran = shell(
         &top,
         &format!("asset-builder image -q {FONT} -o >(cat) | cmp - font.PNG"),
     );
-    assert_eq!(told(&ran), ("", "", Some(0)));
+    assert_eq!(reported(&ran), ("", "", Some(0)));
     // -q prints no more than is asked for, -v says what is read and written.
     let words = ["image", FONT, "-fqo", "font.PNG"];
-    assert_eq!(told(&run_in(&top, &words, &[])), ("", "", Some(0)));
+    assert_eq!(reported(&run_in(&top, &words, &[])), ("", "", Some(0)));
     let ran = run_in(&top, &["image", FONT, "-fvo", "font.PNG"], &[]);
     let said = format!("{FONT}: 589 bytes read\nfont.PNG: written\n");
     assert_eq!((ran.err, ran.status), (said, Some(0)));
@@ -445,7 +445,7 @@ fn one_picture_goes_to_a_file() {
         let why = format!(
             "{output}: 2 pictures do not go to {place}; a folder takes them, --row and --level choose one\n"
         );
-        assert_eq!(told(&ran), ("", why.as_str(), Some(2)));
+        assert_eq!(reported(&ran), ("", why.as_str(), Some(2)));
     }
     assert_eq!(names(&top), ["0.png", "font.PNG", TEXTURE, FONT]);
 }
@@ -479,11 +479,11 @@ fn pictures_go_to_a_folder_by_row_and_level() {
         let ran = run_in(&top, &words, &[]);
         (ran.err, ran.status, names(&top.join(output)))
     };
-    let told = of(&["--row", "7"], "of-row");
-    assert_eq!(told, (String::new(), Some(0), strings(&all[4..])));
-    let told = of(&["--row", "1", "--level", "2"], "of-both");
-    assert_eq!(told, (String::new(), Some(0), strings(&all[2..3])));
-    // A texture without the level is told, and the others are written.
+    let reported = of(&["--row", "7"], "of-row");
+    assert_eq!(reported, (String::new(), Some(0), strings(&all[4..])));
+    let reported = of(&["--row", "1", "--level", "2"], "of-both");
+    assert_eq!(reported, (String::new(), Some(0), strings(&all[2..3])));
+    // A texture without the level is reported, and the others are written.
     let (err, status, names) = of(&["--level", "1"], "of-level");
     let why = "three.xnb: row 5 level 1: the texture has 1 level, counted from 0\n";
     assert_eq!((err.as_str(), status), (why, Some(1)));
@@ -495,7 +495,7 @@ fn strings(names: &[&str]) -> Vec<String> {
 }
 
 #[test]
-fn what_is_not_there_is_told() {
+fn what_is_not_there_is_reported() {
     let top = scratch("image-refused");
     fs::write(top.join("out.png"), "kept").expect("a file");
     let of = |file: &str, words: &[&str]| {
@@ -521,10 +521,10 @@ fn what_is_not_there_is_told() {
     assert!(few.contains("; --rows N gives more, up to 65536\n"));
     let ran = run_in(&top, &["image", "none.xnb", "-fo", "out.png"], &[]);
     let why = "none.xnb: No such file or directory (os error 2)\n";
-    assert_eq!(told(&ran), ("", why, Some(2)));
+    assert_eq!(reported(&ran), ("", why, Some(2)));
     let ran = run_in(&top, &["image", "-", "-o", "out.png/"], &sample(FONT));
     let why = "out.png/: it is there already, and it is no folder\n";
-    assert_eq!(told(&ran), ("", why, Some(2)));
+    assert_eq!(reported(&ran), ("", why, Some(2)));
     assert_eq!(fs::read(top.join("out.png")).expect("a file"), b"kept");
     assert_eq!(names(&top), ["out.png"]);
 }
@@ -536,7 +536,7 @@ fn nothing_is_overwritten_unasked_or_left_half_written() {
     let words = ["image", "-", "-o", "font.png"];
     let ran = run_in(&top, &words, &sample(FONT));
     let why = "font.png: it is there already; -f overwrites it\n";
-    assert_eq!(told(&ran), ("", why, Some(2)));
+    assert_eq!(reported(&ran), ("", why, Some(2)));
     assert_eq!(fs::read(top.join("font.png")).expect("a file"), b"kept");
     let ran = run_in(&top, &[&words[..], &["-f"]].concat(), &sample(FONT));
     assert_eq!((ran.err.as_str(), ran.status), ("", Some(0)));
@@ -547,7 +547,7 @@ fn nothing_is_overwritten_unasked_or_left_half_written() {
     let ran = run_in(&top, &["image", "-", "-o", "both"], &sample(TEXTURE));
     let why = "both/row-0-level-0.png: it is there already; -f overwrites it\n";
     let line = "-: row 0 level 1: 1 by 1, Color, written to both/row-0-level-1.png\n";
-    assert_eq!(told(&ran), (line, why, Some(2)));
+    assert_eq!(reported(&ran), (line, why, Some(2)));
     let kept = fs::read(top.join("both/row-0-level-0.png"));
     assert_eq!(kept.expect("a file"), b"kept");
     let shown = shown(&top.join("both/row-0-level-1.png"));
@@ -555,7 +555,7 @@ fn nothing_is_overwritten_unasked_or_left_half_written() {
     symlink("nowhere", top.join("link.png")).expect("a link");
     let ran = run_in(&top, &["image", "-", "-fo", "link.png"], &sample(FONT));
     let why = "link.png: it is a link to a file that is not there\n";
-    assert_eq!(told(&ran), ("", why, Some(2)));
+    assert_eq!(reported(&ran), ("", why, Some(2)));
 
     // A disk that is full at any byte of the picture: a failure, and nothing is left.
     let noise: Vec<u8> = (0..40_000_u32)
@@ -571,12 +571,12 @@ fn nothing_is_overwritten_unasked_or_left_half_written() {
         let line = format!("ulimit -f {blocks}; asset-builder image noise.xnb -o cut.png");
         let ran = shell(&top, &line);
         let why = "cut.png: File too large (os error 27)\n";
-        assert_eq!(told(&ran), ("", why, Some(2)), "{blocks} of {whole}");
+        assert_eq!(reported(&ran), ("", why, Some(2)), "{blocks} of {whole}");
         assert_eq!(names(&top), before, "{blocks} of {whole}");
     }
     let ran = run_in(&top, &["image", "noise.xnb", "-o", "/dev/full"], &[]);
     let why = "/dev/full: No space left on device (os error 28)\n";
-    assert_eq!(told(&ran), ("", why, Some(2)));
+    assert_eq!(reported(&ran), ("", why, Some(2)));
 }
 
 /// Six pictures of 16 MB each, by a run that may have 50 MB of memory, of which the file takes 12.
@@ -592,7 +592,7 @@ fn memory_is_taken_for_one_level() {
         &top,
         "ulimit -d 50000; asset-builder image six.xnb -qo pictures",
     );
-    assert_eq!(told(&ran), ("", "", Some(0)));
+    assert_eq!(reported(&ran), ("", "", Some(0)));
     let shown = shown(&top.join("pictures/row-11-level-0.png"));
     assert_eq!((shown.width, shown.height), (width, height));
     assert!(shown.pixels.iter().all(|pixel| *pixel == [0, 0, 0, 255]));
@@ -611,7 +611,7 @@ fn a_terminal_gets_no_raw_bytes() {
 }
 
 #[test]
-fn programs_are_told_in_json() {
+fn programs_are_reported_in_json() {
     let top = scratch("image-json");
     for name in [TEXTURE, FONT] {
         fs::write(top.join(name), sample(name)).expect("a file");
@@ -690,7 +690,7 @@ fn the_list_of_enum_types_is_lent() {
     ];
     let ran = run_in(&top, &words, &[]);
     let line = "doors.xnb: row 2 level 0: 1 by 1, Color, written to door.png\n";
-    assert_eq!(told(&ran), (line, "", Some(0)));
+    assert_eq!(reported(&ran), (line, "", Some(0)));
     assert_eq!(run_in(&top, &words[..4], &[]).status, Some(1));
     let ran = run(&["image", FONT]);
     assert!(ran.err.contains("--output <OUT.png|FOLDER>"), "{}", ran.err);

@@ -214,9 +214,9 @@ fn what_is_written_or_not_is_reported_to_programs() {
     let name = "xnb/ok-texts-second-null.xnb";
     let ran = run_in(&top, &["export", "--json", name, "-o", "xml"], &[]);
     let refused = &json_of(&ran.out)["refused"];
-    let told = (&refused["number"], &refused["place"], &refused["found"]);
+    let reported = (&refused["number"], &refused["place"], &refused["found"]);
     let found = json!("the 2nd text is null");
-    assert_eq!(told, (&json!(62), &json!(2), &found));
+    assert_eq!(reported, (&json!(62), &json!(2), &found));
     assert_eq!((ran.err.as_str(), ran.status), ("", Some(1)));
 
     let pack = "pak/ok-pack-mixed-case.pak";

@@ -27,8 +27,8 @@ fn quiet_prints_refusals_and_failures_only() {
         for quiet in ["-q", "--quiet"] {
             let line = format!("asset-builder {words} {quiet}; rm -f out new old saved data");
             let ran = shell(&top, &line);
-            let told = (ran.out.as_str(), ran.err.as_str(), ran.status);
-            assert_eq!(told, ("", "", Some(0)), "{words}");
+            let reported = (ran.out.as_str(), ran.err.as_str(), ran.status);
+            assert_eq!(reported, ("", "", Some(0)), "{words}");
         }
     }
     let ran = run_in(&top, &["-q", "check", "in.xnb", "bad.xnb"], &[]);

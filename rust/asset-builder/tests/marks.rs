@@ -12,7 +12,7 @@ const PLAIN: &str = "ok-pack-mixed-case.pak";
 const MARKED: &str = "ok-marked-mixed-case.marked";
 const NO_MARKS: &str = "bad-51-marked-no-marks.marked";
 
-/// Every kept pack: converted and back it is its own bytes, or its refusal is told.
+/// Every kept pack: converted and back it is its own bytes, or its refusal is reported.
 #[test]
 fn kept_packs_are_converted_and_back_or_refused() {
     let plain = kept_packs()
@@ -47,10 +47,10 @@ fn kept_packs_are_converted_and_back_or_refused() {
             continue;
         }
         let new = fs::read(top.join("there")).expect("a file").len();
-        let told = format!("{input}: {} bytes, now {new}\n", pack.bytes.len());
+        let reported = format!("{input}: {} bytes, now {new}\n", pack.bytes.len());
         assert_eq!(
             (ran.out, ran.err.as_str(), ran.status),
-            (told, "", Some(0)),
+            (reported, "", Some(0)),
             "{name}"
         );
         let ran = run_in(&top, &[back, "there", "-f", "-o", "back"], &[]);
@@ -138,7 +138,7 @@ fn a_missing_mark_is_shown_at_its_place() {
 }
 
 #[test]
-fn what_cannot_be_read_or_written_is_told() {
+fn what_cannot_be_read_or_written_is_reported() {
     let top = scratch("unwritten");
     fs::write(top.join("in"), sample(PLAIN)).expect("a file");
     fs::create_dir(top.join("folder")).expect("a folder");

@@ -164,7 +164,7 @@ fn json_has_bones_data_and_meanings() {
 
 /// Each code of document 000 by its name.
 #[test]
-fn codes_are_told_by_name() {
+fn codes_are_reported_by_name() {
     let formats = [
         "Single",
         "Vector2",
@@ -225,7 +225,7 @@ primary: IndexBuffer
 }
 
 #[test]
-fn refusals_of_meshes_tell_the_rule() {
+fn refusals_of_meshes_report_the_rule() {
     let start = "\
 bad-15-bone-parent-2-of-1.xnb: refused 15 at 179: a value breaks the rule of its kind
   BoneReference: the number is 2, the bone count 1

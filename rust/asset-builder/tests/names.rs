@@ -1,4 +1,4 @@
-//! Req 04: which part of a reader's name is wrong, as people and programs are told.
+//! Req 04: which part of a reader's name is wrong, as it is reported to people and programs.
 
 mod common;
 
@@ -19,10 +19,10 @@ fn file_with(name: &[u8]) -> Vec<u8> {
     file
 }
 
-/// What `check` tells of a file with this name.
-fn told(name: &[u8]) -> String {
+/// What `check` reports of a file with this name.
+fn reported(name: &[u8]) -> String {
     let ran = run_in(
-        &scratch("names-told"),
+        &scratch("names-reported"),
         &["check", "--rows=1024", "-"],
         &file_with(name),
     );
@@ -103,7 +103,7 @@ refused 33 at 18: empty head
        ^
   reader 1: a head is due, found the name's end
 ";
-    assert!(told(b"A`1[[").starts_with(end));
+    assert!(reported(b"A`1[[").starts_with(end));
     let head = "\
 refused 11 at 59: a reader's name has an unknown type or wrong arguments
   Microsoft.Xna.Framework.Content.ListReader`1[[System.Object`1[[A]], b]]
@@ -111,7 +111,7 @@ refused 11 at 59: a reader's name has an unknown type or wrong arguments
   reader 1: it takes 0 arguments, the name has 1
 ";
     let name = b"Microsoft.Xna.Framework.Content.ListReader`1[[System.Object`1[[A]], b]]";
-    assert!(told(name).starts_with(head));
+    assert!(reported(name).starts_with(head));
 }
 
 /// A byte as the command shows it in a name.
@@ -187,8 +187,8 @@ fn the_mark_stands_below_the_wrong_byte() {
 
 /// JSON has the name and the offset in it.
 fn check_json(line: &str, judged: &Judged) {
-    let told: Json = serde_json::from_str(line).expect("JSON");
-    let refused = &told["refused"];
+    let reported: Json = serde_json::from_str(line).expect("JSON");
+    let refused = &reported["refused"];
     assert_eq!(refused["number"], judged.number);
     assert_eq!(refused["place"], 13 + judged.place);
     let reader = json!({
@@ -201,8 +201,8 @@ fn check_json(line: &str, judged: &Judged) {
 }
 
 #[test]
-fn a_name_that_is_not_text_is_told() {
-    let out = told(b"A\xFF\xC3\x28");
+fn a_name_that_is_not_text_is_reported() {
+    let out = reported(b"A\xFF\xC3\x28");
     let lines = "\
 refused 34 at 14: bad byte in a head
   A\\xFF\\xC3(
@@ -213,7 +213,7 @@ refused 34 at 14: bad byte in a head
     // Nearly all of a name that needs four columns a byte: the mark is not scrolled away.
     let mut name = b"A, ".to_vec();
     name.resize(1024, 0x9B);
-    let out = told(&name);
+    let out = reported(&name);
     assert!(!has_control(&out), "{out:?}");
     assert!(out.contains("\n     ^^^^\n"), "{out}");
     assert!(out.contains("\n  ...\n  reader 1: "), "{out}");
@@ -243,8 +243,8 @@ fn other_refusals_have_no_mark_in_a_name() {
   00000020";
     assert!(out.contains(lines), "{out}");
     let json = run(&["check", "--json", "bad-12-version-1.xnb"]).out;
-    let told: Json = serde_json::from_str(json.lines().next().expect("a line")).expect("JSON");
-    let reader = &told["refused"]["reader"];
+    let reported: Json = serde_json::from_str(json.lines().next().expect("a line")).expect("JSON");
+    let reader = &reported["refused"]["reader"];
     assert_eq!(reader["number"], 1);
     assert_eq!(reader.get("offset"), None);
 }

@@ -129,7 +129,7 @@ fn a_folder_takes_several_files() {
 }
 
 #[test]
-fn what_cannot_be_written_is_told_and_leaves_nothing() {
+fn what_cannot_be_written_is_reported_and_leaves_nothing() {
     let top = scratch("unwritten");
     fs::create_dir(top.join("out.xnb")).expect("a folder");
     let input = folder().join(PADDED);
@@ -145,7 +145,7 @@ fn what_cannot_be_written_is_told_and_leaves_nothing() {
     assert_eq!((ran.status, ran.out.as_str()), (Some(2), ""));
     assert!(!top.join("no-such-folder").exists());
 
-    // A device is written as it stands; one that is full is told.
+    // A device is written as it stands; one that is full is reported.
     assert_eq!(run(&["shorten", PADDED, "-o", "/dev/null"]).status, Some(0));
     let ran = run(&["shorten", PADDED, "-o", "/dev/full"]);
     assert_eq!(ran.status, Some(2));

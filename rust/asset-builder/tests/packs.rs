@@ -71,7 +71,7 @@ fn files_are_listed_in_their_order() {
 }
 
 #[test]
-fn a_list_is_told_to_programs() {
+fn a_list_is_reported_to_programs() {
     let ran = run(&["pack", "list", "--json", MIXED, LEFT_OVER]);
     assert_eq!((ran.status, ran.err.as_str()), (Some(1), ""));
     let lines: Vec<Json> = ran.out.lines().map(json).collect();
@@ -118,8 +118,8 @@ fn kept_packs_are_listed_or_refused() {
             assert_eq!(ran.out.lines().count(), read.len(), "{name}");
         }
     }
-    let told: Vec<&str> = numbers.keys().map(String::as_str).collect();
-    assert_eq!(told, ["1", "15", "20", "8", "9"]);
+    let reported: Vec<&str> = numbers.keys().map(String::as_str).collect();
+    assert_eq!(reported, ["1", "15", "20", "8", "9"]);
 }
 
 #[test]
@@ -190,7 +190,7 @@ fn data_is_found_by_its_path() {
 }
 
 #[test]
-fn an_absent_path_is_told_and_nothing_is_written() {
+fn an_absent_path_is_reported_and_nothing_is_written() {
     let top = scratch("pack-absent");
     fs::write(top.join("out"), "old").expect("a file");
     let pack = folder().join(MIXED);
@@ -258,7 +258,7 @@ fn files_are_written_below_a_folder() {
 }
 
 #[test]
-fn paths_that_name_no_place_are_told() {
+fn paths_that_name_no_place_are_reported() {
     let top = scratch("no-place");
     let bad = [
         ("../out", "a part of it is .."),
@@ -319,10 +319,10 @@ fn of_paths_that_match_the_first_is_written() {
     let matches = "not written, a file before it has a path that matches\n";
     // The lookup takes the two separators for different bytes, a folder does not.
     let place = "not written, a file before it has the same place\n";
-    let told = format!(
+    let reported = format!(
         "-: fonts\\door: {matches}-: Fonts\\Door: {matches}-: Fonts/Door: {place}-: fonts/door: {matches}"
     );
-    assert_eq!((ran.err, ran.status), (told, Some(1)));
+    assert_eq!((ran.err, ran.status), (reported, Some(1)));
     assert_eq!(ran.out, "-: 3 of 7 files written to out\n");
     let written = [
         ("out/", ""),
@@ -383,7 +383,7 @@ fn nothing_is_written_through_a_link() {
 }
 
 #[test]
-fn what_cannot_be_written_is_told_and_the_rest_is_written() {
+fn what_cannot_be_written_is_reported_and_the_rest_is_written() {
     let top = scratch("pack-unwritten");
     fs::create_dir_all(top.join("out/folder/deep")).expect("a folder");
     let long = "n".repeat(256);

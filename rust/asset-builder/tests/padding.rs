@@ -1,4 +1,4 @@
-//! The padding that `check` tells, and the files that pad, most first.
+//! The padding that `check` reports, and the files that pad, most first.
 
 mod common;
 
@@ -110,18 +110,18 @@ fn programs_get_the_files_that_pad_the_folders_and_the_summary() {
         &["check", "--by-padding", "--json", "west", "north", "south"],
         &[],
     );
-    let told = lines(&ran.out);
-    let files: Vec<&Json> = told.iter().map(|it| &it["file"]).collect();
+    let reported = lines(&ran.out);
+    let files: Vec<&Json> = reported.iter().map(|it| &it["file"]).collect();
     let expected = ["south/a.xnb", "north/a.xnb", "north/b/b.xnb"];
     assert_eq!(files[..3], expected);
-    assert_eq!(told[0]["accepted"]["padding"], 29);
-    assert_eq!(told[0]["accepted"]["bytes"], 751);
+    assert_eq!(reported[0]["accepted"]["padding"], 29);
+    assert_eq!(reported[0]["accepted"]["bytes"], 751);
     let expected = [
         json!({"schema": 1, "folder": "south", "accepted": 2, "padding": 29, "padded": 1}),
         json!({"schema": 1, "folder": "north", "accepted": 3, "padding": 4, "padded": 2}),
         json!({"schema": 1, "summary": {"files": 6, "accepted": 6, "refused": 0, "unread": 0, "padding": 33, "padded": 3}}),
     ];
-    assert_eq!(told[3..], expected);
+    assert_eq!(reported[3..], expected);
 }
 
 /// Of equal padding the file named first stands first; a file that is named has no folder.
@@ -152,9 +152,9 @@ fn files_without_padding_are_not_listed() {
     assert_eq!((ran.out.as_str(), ran.status), (expected, Some(0)));
 }
 
-/// What is refused or unread is told, and has no padding.
+/// What is refused or unread is reported, and has no padding.
 #[test]
-fn refusals_are_told_beside_the_list() {
+fn refusals_are_reported_beside_the_list() {
     let top = depot("by-padding-refused");
     // Padded and cut: the last byte of a padded file lacks.
     let mut cut = sample("ok-text-count-in-2-bytes.xnb");
@@ -182,10 +182,10 @@ north: padding 4 in 2 of 3 files
         &["check", "--by-padding", "--json", "north/cut.xnb"],
         &[],
     );
-    let told = lines(&ran.out);
-    assert_eq!(told[0]["refused"]["number"], 7);
-    assert_eq!(told[0].get("accepted"), None);
-    let padding = &told[1]["summary"]["padding"];
+    let reported = lines(&ran.out);
+    assert_eq!(reported[0]["refused"]["number"], 7);
+    assert_eq!(reported[0].get("accepted"), None);
+    let padding = &reported[1]["summary"]["padding"];
     assert_eq!((padding, ran.status), (&json!(0), Some(1)));
 }
 

@@ -68,6 +68,7 @@ fn the_tours_print_what_the_pages_say() {
         "export",
         "import",
         "image",
+        "preview",
         "pack list",
         "pack find",
         "pack extract",
@@ -92,13 +93,11 @@ fn the_tours_print_what_the_pages_say() {
 fn the_packages_of_debian_are_named() {
     let read = |path| fs::read_to_string(root().join(path)).expect("a file of the repository");
     let cargo = read("rust/asset-builder/Cargo.toml");
-    let used: BTreeSet<String> = cargo
+    let (_, dependencies) = cargo.split_once("[dependencies]").expect("dependencies");
+    let used: BTreeSet<String> = dependencies
         .lines()
         .filter_map(|line| line.split_once(" = "))
-        .filter(|(name, value)| {
-            value.contains(|it: char| it.is_ascii_digit()) && *name != "version"
-        })
-        .filter(|(name, _)| *name != "edition")
+        .filter(|(_, value)| value.contains(|it: char| it.is_ascii_digit()))
         .map(|(name, _)| format!("librust-{}-dev", name.replace('_', "-")))
         .collect();
     assert!(used.len() >= 5, "{used:?}");

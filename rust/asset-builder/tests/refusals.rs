@@ -6,7 +6,7 @@ use common::{run, run_in, sample, scratch};
 use corpus::folder::kept_files;
 
 /// What `check` prints for a sample, without its name and without the summary.
-fn told(name: &str) -> String {
+fn reported(name: &str) -> String {
     let name = format!("{name}.xnb");
     let out = run(&["check", &name]).out;
     let out = out
@@ -17,14 +17,14 @@ fn told(name: &str) -> String {
 }
 
 #[test]
-fn a_refusal_tells_the_rule_the_value_and_the_bytes() {
+fn a_refusal_reports_the_rule_the_value_and_the_bytes() {
     let expected = "\
 refused 7 at 6: the header's length is not the file's length
   the header says 14 bytes, the file has 13
   00000000  58 4E 42 77 05 00 0E 00 00 00 00 00 00           XNBw.........
                               ^^                                   ^
 ";
-    assert_eq!(told("bad-07-length-too-large"), expected);
+    assert_eq!(reported("bad-07-length-too-large"), expected);
 }
 
 #[test]
@@ -35,14 +35,14 @@ refused 1 at 0: a field runs past the end of the file
   00000000
             ^^                                               ^ the end
 ";
-    assert_eq!(told("bad-01-no-byte"), expected);
+    assert_eq!(reported("bad-01-no-byte"), expected);
     let expected = "\
 refused 1 at 13: a field runs past the end of the file
   the type id is due where the file ends
   00000000  58 4E 42 77 05 00 0D 00 00 00 00 01 00           XNBw.........
                                                    ^^                     ^ the end
 ";
-    assert_eq!(told("bad-01-no-shared-object"), expected);
+    assert_eq!(reported("bad-01-no-shared-object"), expected);
 }
 
 #[test]
@@ -55,7 +55,7 @@ refused 14 at 132: an object is not of the declared type
   00000080  00 00 00 00 02 00 00 00 00                       .........
                         ^^                                       ^
 ";
-    assert_eq!(told("bad-14-number-where-text-is-declared"), expected);
+    assert_eq!(reported("bad-14-number-where-text-is-declared"), expected);
     let expected = "\
 refused 37 at 104: bad byte in a tail
   Microsoft.Xna.Framework.Content.ByteReader, a]b
@@ -65,7 +65,7 @@ refused 37 at 104: bad byte in a tail
   00000060  65 61 64 65 72 2C 20 61 5D 62 01 00 00 00 00 00  eader, a]b......
                                     ^^                               ^
 ";
-    assert_eq!(told("bad-37-bracket-in-tail"), expected);
+    assert_eq!(reported("bad-37-bracket-in-tail"), expected);
 }
 
 /// The byte above the mark is the byte at the place, in both columns.
@@ -109,7 +109,7 @@ fn the_mark_stands_below_the_place() {
 }
 
 #[test]
-fn room_that_is_too_small_is_told() {
+fn room_that_is_too_small_is_reported() {
     let ran = run_in(
         &scratch("room"),
         &["check", "--rows", "7", "-"],

@@ -49,7 +49,7 @@ fn season(name: &str) -> PathBuf {
     top
 }
 
-fn told(ran: &Ran) -> (&str, &str, Option<i32>) {
+fn reported(ran: &Ran) -> (&str, &str, Option<i32>) {
     (&ran.out, &ran.err, ran.status)
 }
 
@@ -91,7 +91,10 @@ rows, by kind
 packs refused
 
 ";
-    assert_eq!(told(&ran), (&*format!("{expected}{REFUSED}"), "", Some(1)));
+    assert_eq!(
+        reported(&ran),
+        (&*format!("{expected}{REFUSED}"), "", Some(1))
+    );
     let ran = run_in(&top, &["report", "monday.pak"], &[]);
     assert!(ran
         .out
@@ -124,7 +127,7 @@ fn programs_get_json_and_spreadsheets_csv() {
         r#""rule":"a field runs past the end of the pack"}],"packsUnread":[]}"#,
         "\n"
     );
-    assert_eq!(told(&ran), (expected, "", Some(1)));
+    assert_eq!(reported(&ran), (expected, "", Some(1)));
 
     let names = ["monday.pak", "tuesday.pak", "wednesday.pak"];
     let ran = run_in(&top, &[&["report", "--csv"][..], &names].concat(), &[]);
@@ -143,7 +146,7 @@ rows,13,String,3
 rows,32,Texture2D,1
 rows,35,ImageLevel,1
 ";
-    assert_eq!(told(&ran), (expected, REFUSED, Some(1)));
+    assert_eq!(reported(&ran), (expected, REFUSED, Some(1)));
     // A rule with a comma in it is quoted.
     let cut = pack(&[("a", sample("bad-09-empty-name.xnb"))]);
     let ran = run_in(&top, &["report", "--csv", "-"], &cut);
@@ -217,7 +220,7 @@ fn a_list_of_enum_types_is_lent() {
 }
 
 #[test]
-fn what_cannot_be_read_is_told_and_listed() {
+fn what_cannot_be_read_is_reported_and_listed() {
     let top = season("report-unread");
     let ran = run_in(&top, &["report", "--json", "none.pak", "monday.pak"], &[]);
     assert!(ran.err.starts_with("none.pak: "), "{}", ran.err);
@@ -265,12 +268,12 @@ fn reports_add_up() {
     for form in [&[][..], &["--json"], &["--csv"]] {
         let expected = run_in(&top, &[&whole[..], form].concat(), &[]);
         let ran = run_in(&top, &[&sum[..], form].concat(), &[]);
-        assert_eq!(told(&ran), told(&expected), "{form:?}");
+        assert_eq!(reported(&ran), reported(&expected), "{form:?}");
     }
     // Several reports in one input, one behind the other.
     let line = "cat monday.json tuesday.json wednesday.json | asset-builder report sum --json -";
     let expected = run_in(&top, &[&whole[..], &["--json"]].concat(), &[]);
-    assert_eq!(told(&shell(&top, line)), told(&expected));
+    assert_eq!(reported(&shell(&top, line)), reported(&expected));
     // In another order the figures are the same.
     let turned = run_in(
         &top,
@@ -282,7 +285,7 @@ fn reports_add_up() {
 }
 
 #[test]
-fn what_is_no_report_is_told() {
+fn what_is_no_report_is_reported() {
     let top = season("report-wrong");
     parts(&top);
     let whole = fs::read_to_string(top.join("monday.json")).expect("a report");
@@ -332,7 +335,7 @@ fn many_processes_count_what_one_run_counts() {
         "printf '%s\\0' *.pak | parallel --will-cite -0 -k -j 3 asset-builder report --json {} \
         | asset-builder report sum --json -";
     let many = shell(&top, many);
-    assert_eq!(told(&many), told(&one));
+    assert_eq!(reported(&many), reported(&one));
     assert_eq!(json(&one)["packs"], 14);
     // In groups of five packs, in any order.
     let groups =

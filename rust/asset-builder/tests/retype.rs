@@ -13,7 +13,7 @@ use xnb::{Kind, Table};
 /// Its primary object is the text "Hi" in row 0.
 const TEXT: &str = "ok-kind-13-string.xnb";
 
-fn told(ran: &Ran) -> (&str, &str, Option<i32>) {
+fn reported(ran: &Ran) -> (&str, &str, Option<i32>) {
     (&ran.out, &ran.err, ran.status)
 }
 
@@ -28,7 +28,7 @@ fn the_text_takes_the_place_of_the_old_one() {
     };
     let ran = run_in(&top, &words("no", "out.xnb"), &[]);
     let line = "in.xnb: row 0: \"Hi\", now \"no\"; 1 row as before\n";
-    assert_eq!(told(&ran), (line, "", Some(0)));
+    assert_eq!(reported(&ran), (line, "", Some(0)));
     let mut expected = sample(TEXT);
     let end = expected.len();
     expected[end - 2..].copy_from_slice(b"no");
@@ -40,7 +40,7 @@ fn the_text_takes_the_place_of_the_old_one() {
         &top,
         "asset-builder retype - --row 0 --text no -o - < in.xnb | cmp - out.xnb",
     );
-    assert_eq!(told(&ran), ("", "", Some(0)));
+    assert_eq!(reported(&ran), ("", "", Some(0)));
     // A text may begin with a hyphen, and a character may have two bytes.
     for text in ["-o", "--", "é"] {
         // A file that is there stays without -f, the input apart.
@@ -106,7 +106,7 @@ fn every_text_of_the_kept_files_is_retyped() {
 }
 
 #[test]
-fn a_text_of_another_length_is_told_with_both_lengths() {
+fn a_text_of_another_length_is_reported_with_both_lengths() {
     let top = scratch("retype-length");
     fs::write(top.join("out.xnb"), "kept").expect("a file");
     let cases = [
@@ -122,13 +122,13 @@ fn a_text_of_another_length_is_told_with_both_lengths() {
         ];
         let ran = run_in(&top, &words, &sample(TEXT));
         let line = format!("-: row 0: {why}\n");
-        assert_eq!(told(&ran), ("", line.as_str(), Some(2)));
+        assert_eq!(reported(&ran), ("", line.as_str(), Some(2)));
     }
     assert_eq!(fs::read(top.join("out.xnb")).expect("a file"), b"kept");
 }
 
 #[test]
-fn a_row_without_a_text_is_told() {
+fn a_row_without_a_text_is_reported() {
     let of = |file: &str, row: &str| {
         let ran = run(&["retype", file, "--row", row, "--text", "Hi", "-o", "-"]);
         assert_eq!(
@@ -197,7 +197,7 @@ fn the_list_of_enum_types_is_lent() {
     ];
     let ran = run_in(&top, &words, &[]);
     let line = "doors.xnb: row 2: \"North\", now \"South\"; 3 rows as before\n";
-    assert_eq!(told(&ran), (line, "", Some(0)));
+    assert_eq!(reported(&ran), (line, "", Some(0)));
     let ran = run_in(&top, &words[..8], &[]);
     assert_eq!((ran.out.as_str(), ran.status), ("", Some(1)), "{}", ran.err);
 }

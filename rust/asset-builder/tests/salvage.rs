@@ -137,14 +137,14 @@ fn a_pack_without_marks_is_not_overwritten() {
         &["--list"],
     ] {
         let ran = run_in(&top, &[&["salvage", "good.pak"], words].concat(), &[]);
-        let told = (ran.out.as_str(), ran.err.as_str(), ran.status);
-        assert_eq!(told, ("", why, Some(1)), "{words:?}");
+        let reported = (ran.out.as_str(), ran.err.as_str(), ran.status);
+        assert_eq!(reported, ("", why, Some(1)), "{words:?}");
     }
     assert_eq!(names(&top), ["good.pak"]);
     assert_eq!(fs::read(top.join("good.pak")).expect("a file"), plain);
     let ran = run_in(&top, &["salvage", "good.pak", "--list", "--json"], &[]);
-    let told: Json = serde_json::from_str(&ran.out).expect("JSON");
-    let words = told["unwritten"]["why"].as_str().expect("a text");
+    let reported: Json = serde_json::from_str(&ran.out).expect("JSON");
+    let words = reported["unwritten"]["why"].as_str().expect("a text");
     assert!(words.starts_with("it is a pack without marks"), "{words}");
 }
 
@@ -224,16 +224,16 @@ fn a_refused_pack_leaves_the_output() {
     assert_eq!(names(&top), ["in", "out"]);
 
     let ran = run(&["salvage", "--json", "--list", THREE_BYTES]);
-    let told: Json = serde_json::from_str(&ran.out).expect("JSON");
+    let reported: Json = serde_json::from_str(&ran.out).expect("JSON");
     assert_eq!((ran.err.as_str(), ran.status), ("", Some(1)));
-    assert_eq!(told["file"], THREE_BYTES);
-    assert_eq!(told["refused"]["number"], 1);
-    assert_eq!(told["refused"]["place"], 0);
-    assert_eq!(told["refused"]["rule"], rule);
+    assert_eq!(reported["file"], THREE_BYTES);
+    assert_eq!(reported["refused"]["number"], 1);
+    assert_eq!(reported["refused"]["place"], 0);
+    assert_eq!(reported["refused"]["rule"], rule);
 }
 
 #[test]
-fn what_cannot_be_read_or_written_is_told() {
+fn what_cannot_be_read_or_written_is_reported() {
     let top = scratch("salvage-unwritten");
     fs::write(top.join("in"), sample(BETWEEN)).expect("a file");
     fs::create_dir(top.join("folder")).expect("a folder");

@@ -55,8 +55,8 @@ fn long_work_shows_progress_on_a_terminal() {
 /// The reader of the pipe has gone before the command writes.
 #[test]
 fn a_closed_pipe_ends_quietly() {
-    // The status is that of the files told until then.
-    let told = [
+    // The status is that of the files reported until then.
+    let reported = [
         ("check .", "1\n"),
         ("check --json .", "1\n"),
         ("check --by-padding .", "1\n"),
@@ -71,7 +71,7 @@ fn a_closed_pipe_ends_quietly() {
         ("man", "0\n"),
         ("--help", "0\n"),
     ];
-    for (words, status) in told {
+    for (words, status) in reported {
         let line =
             format!("{{ sleep 0.2; asset-builder {words}; }} | true; echo ${{PIPESTATUS[0]}}");
         let ran = shell(&folder(), &line);

@@ -19,7 +19,7 @@ const END: &str = "</Asset></XnaContent>";
 /// Four texts with each of the entities.
 const ENTITIES: &str = "ok-texts-entities.xnb";
 
-fn told(ran: &Ran) -> (&str, &str, Option<i32>) {
+fn reported(ran: &Ran) -> (&str, &str, Option<i32>) {
     (&ran.out, &ran.err, ran.status)
 }
 
@@ -118,20 +118,20 @@ fn a_list_goes_out_and_comes_back() {
         <Item>Türen, 扉, 🚪</Item><Item>'</Item>{END}"
     );
     let line = format!("doors.xnb: 5 texts, {} bytes of XML\n", xml.len());
-    assert_eq!(told(&ran), (line.as_str(), "", Some(0)));
+    assert_eq!(reported(&ran), (line.as_str(), "", Some(0)));
     assert_eq!(read(&top, "doors.xml"), xml.as_bytes());
 
     let ran = run_in(&top, &["import", "doors.xml", "-o", "back.xnb"], &[]);
     let back = read(&top, "back.xnb");
     let line = format!("doors.xml: 5 texts, a file of {} bytes\n", back.len());
-    assert_eq!(told(&ran), (line.as_str(), "", Some(0)));
+    assert_eq!(reported(&ran), (line.as_str(), "", Some(0)));
     assert_eq!(texts_of(&back), texts);
 
     // By standard input and output, with nothing else printed.
     let line =
         "asset-builder export - -o - < doors.xnb | asset-builder import - -o - | cmp - back.xnb";
     let ran = shell(&top, line);
-    assert_eq!(told(&ran), ("", "", Some(0)));
+    assert_eq!(reported(&ran), ("", "", Some(0)));
     assert_eq!(names(&top), ["back.xnb", "doors.xml", "doors.xnb"]);
 }
 
@@ -161,14 +161,14 @@ fn a_file_that_is_there_stays_without_force() {
 
 /// The line and the column of each fault, what is found there, what is expected, and what to write instead.
 #[test]
-fn wrong_xml_is_told_by_line_and_column() {
-    let told = |xml: &str| {
+fn wrong_xml_is_reported_by_line_and_column() {
+    let reported = |xml: &str| {
         let ran = run_in(&folder(), &["import", "-", "-o", "-"], xml.as_bytes());
         assert_eq!((ran.out.as_str(), ran.status), ("", Some(1)), "{xml}");
         let second = ran.err.lines().nth(1).expect("a second line");
         second.trim_start().to_string()
     };
-    let of = |rest: &str| told(&format!("{START}{rest}"));
+    let of = |rest: &str| reported(&format!("{START}{rest}"));
     assert_eq!(
         of("<Item>Doors & steps</Item>"),
         "line 1, column 87: found ' ' (20), expected amp; lt; gt; or quot; behind &; & is written as &amp;"
@@ -203,16 +203,16 @@ fn wrong_xml_is_told_by_line_and_column() {
         "line 1, column 89: found the end, expected > behind </Item"
     );
     assert_eq!(
-        told(&format!("\u{FEFF}{START}{END}")),
+        reported(&format!("\u{FEFF}{START}{END}")),
         "line 1, column 1: found EF, expected <?xml version=\"1.0\" enco...; \
         the XML begins with a byte order mark, save it without one"
     );
     assert_eq!(
-        told("<?xml version=\"1.0\"\nencoding"),
+        reported("<?xml version=\"1.0\"\nencoding"),
         "line 1, column 20: found 0A, expected  encoding=\"utf-8\"?><XnaC... behind <?xml version=\"1.0\""
     );
     assert_eq!(
-        told(""),
+        reported(""),
         "line 1, column 1: found the end, expected <?xml version=\"1.0\" enco..."
     );
 }
@@ -239,31 +239,31 @@ fn wrong_xml_is_shown_at_its_place() {
 }
 
 #[test]
-fn files_that_cannot_be_exported_are_told() {
-    let told = |bytes: &[u8]| {
+fn files_that_cannot_be_exported_are_reported() {
+    let reported = |bytes: &[u8]| {
         let ran = run_in(&folder(), &["export", "-", "-o", "-"], bytes);
         assert_eq!((ran.out.as_str(), ran.status), ("", Some(1)));
         let lines: Vec<&str> = ran.err.lines().map(str::trim_start).collect();
         (lines[0].to_string(), lines[1].to_string(), lines.len())
     };
     let no_list = "the primary object is not an Array of String, or there are shared objects";
-    let null = told(&sample("ok-kind-00-null.xnb"));
+    let null = reported(&sample("ok-kind-00-null.xnb"));
     assert_eq!(null.0, format!("-: refused 61 at 12: {no_list}"));
     assert_eq!(null.1, "the primary object is of kind Null");
-    let other = told(&sample("ok-kind-17-array-of-int32.xnb"));
+    let other = reported(&sample("ok-kind-17-array-of-int32.xnb"));
     assert!(other.0.ends_with(no_list), "{}", other.0);
     assert_eq!(other.1, "the primary object is an Array of another type");
-    let shared = told(&sample("ok-texts-and-a-shared-null.xnb"));
+    let shared = reported(&sample("ok-texts-and-a-shared-null.xnb"));
     assert_eq!(shared.1, "the file has 1 shared object");
     // The place is a row number, so no bytes are shown.
-    let null = told(&sample("ok-texts-second-null.xnb"));
+    let null = reported(&sample("ok-texts-second-null.xnb"));
     let lines = (
         "-: refused 62 at 2: a text is null",
         "the 2nd text is null",
         2,
     );
     assert_eq!((null.0.as_str(), null.1.as_str(), null.2), lines);
-    let control = told(&list_of_texts(&["a", "b", "two\nlines \x1B"]));
+    let control = reported(&list_of_texts(&["a", "b", "two\nlines \x1B"]));
     assert_eq!(
         (control.0.as_str(), control.1.as_str(), control.2),
         (
@@ -290,7 +290,7 @@ fn an_export_lends_the_list_of_enum_types() {
     let words = ["export", "in.xnb", "-o", "-", "--enums", "enums.txt"];
     let ran = run_in(&top, &words, &[]);
     let xml = format!("{START}<Item>a</Item>{END}");
-    assert_eq!(told(&ran), (xml.as_str(), "", Some(0)));
+    assert_eq!(reported(&ran), (xml.as_str(), "", Some(0)));
     let ran = run_in(&top, &words[..4], &[]);
     assert!(ran.err.starts_with("in.xnb: refused 11 at "), "{}", ran.err);
 }
@@ -337,7 +337,7 @@ fn another_reader_of_xml_finds_the_same_texts() {
         let ran = run_in(&top, &["export", "-", "-fo", "out.xml"], &bytes);
         assert_eq!((ran.err.as_str(), ran.status), ("", Some(0)));
         let ran = shell(&top, "xmllint --huge --noout out.xml");
-        assert_eq!(told(&ran), ("", "", Some(0)));
+        assert_eq!(reported(&ran), ("", "", Some(0)));
         let texts = texts_of(&bytes);
         let count = xmllint(
             &top,

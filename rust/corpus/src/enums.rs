@@ -134,9 +134,9 @@ fn in_each_place(size: u8) -> Vec<Sample> {
 /// 32: an entry with a target name, behind a lawful one.
 fn target_name(name: &str) -> Sample {
     let list = list_bytes(&[(DOOR, 1), (name, 1)]);
-    let told = name.to_lowercase().replace('.', "-");
+    let shown = name.to_lowercase().replace('.', "-");
     let file = write(&file_a()).bytes;
-    refused_bytes(&format!("enums-named-{told}"), 32, 1, file).lending(list)
+    refused_bytes(&format!("enums-named-{shown}"), 32, 1, file).lending(list)
 }
 
 /// A name of 255 bytes, the most that its length byte can say.

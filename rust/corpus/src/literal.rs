@@ -3,7 +3,7 @@
 //! Each stands in a text of `literal/` as document 000 or 01 says it; no code and no table made it.
 //! A text has blocks between empty lines. `#` starts a comment, often the rule that the blocks below it show.
 //! The first line of a block is the sample's name, lines behind `=` are what `rows` must print, a line behind `padding`
-//! is the padding that must be told of it (0 without such a line), lines behind `enums` are the bytes of the list of
+//! is the padding that must be reported of it (0 without such a line), lines behind `enums` are the bytes of the list of
 //! enums that is lent (empty without such a line), and the others are the file's bytes: two hexadecimal digits for a byte,
 //! `AA*60` for sixty of them, and characters in quotation marks.
 //! Lines behind `xml` and `xml-bytes` are the XML that the file's export must give, the former as it stands and the

@@ -9,11 +9,11 @@ pub struct Sample {
     pub enums: Vec<u8>,
     /// The expected output of `rows`.
     pub rows: String,
-    /// The padding that must be told of it, 0 for a refused file.
+    /// The padding that must be reported of it, 0 for a refused file.
     pub padding: usize,
-    /// What its export as XML must give, where the sample tells it: the XML, or a refusal's line.
+    /// What its export as XML must give, where the sample has it: the XML, or a refusal's line.
     pub export: Option<Vec<u8>>,
-    /// What the driver's profile must say of it, where the sample tells it: `passed`, or a refusal's line.
+    /// What the driver's profile must say of it, where the sample has it: `passed`, or a refusal's line.
     pub driver: Option<String>,
     /// Whether the sample is kept in the repository as files; every sample is used in tests.
     pub kept: bool,
@@ -36,7 +36,7 @@ impl Sample {
     /// The files that keep the sample, by name.
     ///
     /// NAME.enums stands beside the others unless the list is empty, NAME.padding unless the padding is 0,
-    /// and NAME.export and NAME.driver where the sample tells its export and the driver's answer.
+    /// and NAME.export and NAME.driver where the sample has its export and the driver's answer.
     pub fn files(&self) -> Vec<(String, Vec<u8>)> {
         let mut files = vec![
             (format!("{}.xnb", self.name), self.bytes.clone()),

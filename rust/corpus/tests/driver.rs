@@ -13,8 +13,8 @@ fn each_rule_has_a_file_on_both_sides() {
         }
     }
     let refusals = ["41", "42", "43", "44", "45", "46", "47"];
-    let told: Vec<&str> = answers.keys().map(String::as_str).collect();
-    assert_eq!(told, [&refusals[..], &["passed"]].concat());
+    let reported: Vec<&str> = answers.keys().map(String::as_str).collect();
+    assert_eq!(reported, [&refusals[..], &["passed"]].concat());
     // What stands beside 43 to 45 and 47: a reader that shared objects alone use, enums of two names, one key in two
     // dictionaries, and a next that is a null resource.
     for name in [

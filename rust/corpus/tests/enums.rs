@@ -16,10 +16,10 @@ struct Kept {
 fn kept() -> Vec<Kept> {
     let of = |sample: Sample| {
         let line = sample.rows.strip_prefix("refused ").unwrap_or_default();
-        let told = line.trim_end().split_once(" at ");
+        let reported = line.trim_end().split_once(" at ");
         let number = |digits: &str| digits.parse().expect("a number");
         Kept {
-            refusal: told.map(|(refusal, place)| (number(refusal) as u32, number(place))),
+            refusal: reported.map(|(refusal, place)| (number(refusal) as u32, number(place))),
             rows: sample.rows.lines().filter_map(row).collect(),
             sample,
         }

@@ -1,5 +1,6 @@
 //! Damage at one field of a lawful file, with the refusal that it must meet.
 
+use crate::broken::{Broken, Fault};
 use crate::maker::{make, Made, Planted, Wish};
 use crate::meshes;
 use crate::random::Random;
@@ -9,6 +10,11 @@ use corpus::writer::{set_length, seven_bytes, write, Field, Role, Seven, Written
 
 /// A damaged file whose refusal is known.
 pub fn aimed_case<'l>(random: &mut Random, wish: impl Into<Wish<'l>>) -> Case {
+    broken_case(random, wish).case
+}
+
+/// The same with how it was damaged.
+pub fn broken_case<'l>(random: &mut Random, wish: impl Into<Wish<'l>>) -> Broken {
     let wish = wish.into();
     match random.below(20) {
         0 => planted_case(random, wish, Planted::WrongResource, 17),
@@ -20,6 +26,13 @@ pub fn aimed_case<'l>(random: &mut Random, wish: impl Into<Wish<'l>>) -> Case {
         6..=7 => cut(random, wish),
         _ => bad_field(random, wish),
     }
+}
+
+/// A lawful file, with what it is made of.
+fn unbroken(random: &mut Random, made: &Made, written: Written) -> Broken {
+    let before = written.clone();
+    let case = crate::lawful_case(random, written);
+    Broken::new(case, made, before, None)
 }
 
 /// A case whose words have room enough.
@@ -47,39 +60,47 @@ fn made_and_written(random: &mut Random, wish: Wish, planted: Planted) -> (Made,
 }
 
 /// A file with a fault built in; without one, if the fault found no place.
-fn planted_case(random: &mut Random, wish: Wish, planted: Planted, number: u32) -> Case {
-    let (_, written) = made_and_written(random, wish, planted);
+fn planted_case(random: &mut Random, wish: Wish, planted: Planted, number: u32) -> Broken {
+    let (made, written) = made_and_written(random, wish, planted);
     match written.fault {
-        Some(place) => case(written.bytes, number, place),
-        None => crate::lawful_case(random, written),
+        Some(place) => {
+            let case = case(written.bytes.clone(), number, place);
+            Broken::new(case, &made, written, Some(Fault::Planted))
+        }
+        None => unbroken(random, &made, written),
     }
 }
 
 /// 19: the words lent have no room for the last rows.
-fn too_few_rows(random: &mut Random, wish: Wish) -> Case {
-    let (_, written) = lawful(random, wish);
+fn too_few_rows(random: &mut Random, wish: Wish) -> Broken {
+    let (made, written) = lawful(random, wish);
     let room = random.below(written.rows.len());
     let place = written.rows[room][1] as usize;
-    let mut case = case(written.bytes, 19, place);
+    let mut case = case(written.bytes.clone(), 19, place);
     case.words = WORDS_PER_ROW * room + random.below(WORDS_PER_ROW);
-    case
+    Broken::new(case, &made, written, Some(Fault::Rows(room)))
 }
 
 /// 20: bytes after the last object.
-fn left_over(random: &mut Random, wish: Wish) -> Case {
-    let (_, written) = lawful(random, wish);
+fn left_over(random: &mut Random, wish: Wish) -> Broken {
+    let (made, written) = lawful(random, wish);
     let place = written.bytes.len();
-    let mut bytes = written.bytes;
+    let mut bytes = written.bytes.clone();
     let count = 1 + random.below(5);
     bytes.extend(random.bytes(count));
     set_length(&mut bytes, 0);
-    case(bytes, 20, place)
+    let fault = Some(Fault::LeftOver(count));
+    Broken::new(case(bytes, 20, place), &made, written, fault)
 }
 
 /// 2 to 7, and 1 for a file without a whole header.
-fn bad_header(random: &mut Random, wish: Wish) -> Case {
-    let (_, written) = lawful(random, wish);
-    let mut bytes = written.bytes;
+fn bad_header(random: &mut Random, wish: Wish) -> Broken {
+    let (made, written) = lawful(random, wish);
+    let case = with_bad_header(random, written.bytes.clone());
+    Broken::new(case, &made, written, Some(Fault::Header))
+}
+
+fn with_bad_header(random: &mut Random, mut bytes: Vec<u8>) -> Case {
     match random.below(7) {
         0 => {
             let place = random.below(3);
@@ -115,16 +136,22 @@ fn bad_header(random: &mut Random, wish: Wish) -> Case {
 }
 
 /// 1: the file ends inside a field, or before it.
-fn cut(random: &mut Random, wish: Wish) -> Case {
-    let (_, written) = lawful(random, wish);
+fn cut(random: &mut Random, wish: Wish) -> Broken {
+    let (made, written) = lawful(random, wish);
     let end = 10 + random.below(written.bytes.len() - 10);
-    let holds_end = |field: &&Field| field.start <= end && end < field.data_end;
-    let field = written.fields.iter().find(holds_end);
-    let place = field.expect("every byte belongs to a field").start;
-    let mut bytes = written.bytes;
+    let holds_end = |field: &Field| field.start <= end && end < field.data_end;
+    let field = written.fields.iter().position(holds_end);
+    let field = field.expect("every byte belongs to a field");
+    let place = written.fields[field].start;
+    let mut bytes = written.bytes.clone();
     bytes.truncate(end);
     set_length(&mut bytes, 0);
-    case(bytes, 1, place)
+    Broken::new(
+        case(bytes, 1, place),
+        &made,
+        written,
+        Some(Fault::Cut { field }),
+    )
 }
 
 /// What stands in a field's place, and what it must be refused with.
@@ -147,10 +174,11 @@ pub fn damage(bytes: Vec<u8>, number: u32) -> Option<Damage> {
 }
 
 /// Tries fields until one can be damaged with a known outcome.
-fn bad_field(random: &mut Random, wish: Wish) -> Case {
+fn bad_field(random: &mut Random, wish: Wish) -> Broken {
     let (made, written) = lawful(random, wish);
     for _ in 0..200 {
-        let field = random.pick(&written.fields);
+        let number = random.below(written.fields.len());
+        let field = written.fields[number];
         if let Some(damage) = field_damage(random, &made, &written, field) {
             let end = if damage.with_data {
                 field.data_end
@@ -161,10 +189,15 @@ fn bad_field(random: &mut Random, wish: Wish) -> Case {
             bytes.extend_from_slice(&damage.bytes);
             bytes.extend_from_slice(&written.bytes[end..]);
             set_length(&mut bytes, 0);
-            return case(bytes, damage.number, field.start + damage.offset);
+            let case = case(bytes, damage.number, field.start + damage.offset);
+            let fault = Fault::Field {
+                field: number,
+                bytes: damage.bytes,
+            };
+            return Broken::new(case, &made, written, Some(fault));
         }
     }
-    crate::lawful_case(random, written)
+    unbroken(random, &made, written)
 }
 
 fn seven_in_any_form(random: &mut Random, value: u32) -> Vec<u8> {

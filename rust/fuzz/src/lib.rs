@@ -1,6 +1,7 @@
 //! Random XNB 5 files, lawful and damaged.
 //!
 //! `case(seed)` gives one file; equal seeds give equal files.
+//! `broken::case(seed)` gives one with a fault, and how it was made.
 //! `names::case(seed)` gives a file with one reader name, good or bad.
 //! `retyped::case(seed)` gives one with the places of its texts, and `retyped::retyped` puts other texts there.
 //! `limits::cases()` gives files at every bound of 01 and just past it.
@@ -14,6 +15,7 @@
 
 mod aimed;
 mod blind;
+pub mod broken;
 pub mod driver;
 pub mod enums;
 pub mod limits;

@@ -8,7 +8,7 @@ use corpus::readers::{
 use corpus::values::*;
 use corpus::writer::{write, File, Part, Role, Value, WORDS_PER_ROW};
 
-/// A case with a name to tell it by.
+/// A case with a name.
 pub struct Limit {
     pub name: String,
     pub case: Case,

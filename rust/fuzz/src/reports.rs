@@ -285,7 +285,7 @@ fn damaged_files(random: &mut Random) -> ReportCase {
     }
 }
 
-/// A case with a name to tell it by.
+/// A case with a name.
 pub struct ReportLimit {
     pub name: String,
     pub case: ReportCase,

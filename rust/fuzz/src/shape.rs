@@ -136,6 +136,25 @@ impl Shape {
         }
     }
 
+    /// This type in words, as the reader of this name reads it.
+    pub fn shown(&self, reader_name: &[u8]) -> String {
+        let arguments: Vec<String> = self.arguments.iter().map(|it| it.shown(&[])).collect();
+        match (self.kind, &arguments[..]) {
+            (ENUM, _) => {
+                let name = String::from_utf8_lossy(reader_name);
+                let argument = name.split("[[").nth(1).unwrap_or_default();
+                let end = argument.find([',', ']']).unwrap_or(argument.len());
+                format!("enum {}", &argument[..end])
+            }
+            (ARRAY, [element]) => format!("array of {element}"),
+            (_, []) => self.target_head().to_string(),
+            _ => {
+                let (head, count) = (self.target_head(), arguments.len());
+                format!("{head}`{count}[[{}]]", arguments.join("],["))
+            }
+        }
+    }
+
     /// A head that may be an enum's.
     pub fn enum_head(random: &mut Random) -> &'static str {
         random.pick(&UNLISTED)

@@ -5,7 +5,7 @@ mod known;
 use fuzz::meshes::{case, limits};
 use fuzz::Known;
 use known::{answer, check};
-use second::{padding_told, rewrite};
+use second::{reported_padding, rewrite};
 use std::collections::BTreeMap;
 
 /// How many files are tried; FUZZ_FILES in the environment asks for another number.
@@ -63,7 +63,7 @@ fn generated_files_give_what_is_known_and_every_refusal() {
     }
 }
 
-/// What is rewritten loads to the same rows but for places and lengths, and is as much shorter as the padding told.
+/// What is rewritten loads to the same rows but for places and lengths, and is as much shorter as the reported padding.
 #[test]
 fn rewriting_takes_the_padding_out() {
     let mut shorter = 0;
@@ -80,7 +80,7 @@ fn rewriting_takes_the_padding_out() {
                 continue;
             }
         };
-        let padding = padding_told(loaded);
+        let padding = reported_padding(loaded);
         assert_eq!(length + padding, case.bytes.len(), "seed {seed}");
         assert_eq!(new_words, words, "seed {seed}");
         shorter += u32::from(padding > 0);

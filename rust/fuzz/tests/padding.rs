@@ -1,11 +1,11 @@
-//! Req 06 over generated files: the padding that is told is the sum of the chosen amounts.
+//! Req 06 over generated files: the padding that is reported is the sum of the chosen amounts.
 
 mod known;
 
 use fuzz::padding::{case, limits};
 use fuzz::{Case, Known};
 use known::check;
-use second::{padding_told, rewrite, Loaded, Refusal};
+use second::{reported_padding, rewrite, Loaded, Refusal};
 use std::collections::BTreeMap;
 
 /// How many files are tried; FUZZ_FILES in the environment asks for another number.
@@ -18,30 +18,30 @@ fn files() -> u64 {
 fn check_total(name: &str, case: &Case, answer: Result<Loaded, Refusal>) -> usize {
     let mut words = vec![0; case.words];
     let mut out = vec![0; case.bytes.len()];
-    let told = padding_told(answer);
+    let reported = reported_padding(answer);
     match rewrite(&case.bytes, &[], &mut words, &mut out) {
         Ok(length) => {
-            assert_eq!(told, case.bytes.len() - length, "{name}");
-            assert_eq!(told == 0, out[..length] == case.bytes, "{name}");
+            assert_eq!(reported, case.bytes.len() - length, "{name}");
+            assert_eq!(reported == 0, out[..length] == case.bytes, "{name}");
         }
-        Err(_) => assert_eq!(told, 0, "{name}"),
+        Err(_) => assert_eq!(reported, 0, "{name}"),
     }
-    told
+    reported
 }
 
 #[test]
-fn generated_files_tell_the_sum_of_their_padding() {
+fn generated_files_report_the_sum_of_their_padding() {
     // How often each refusal number occurs, and how often accepted files have no padding, a little and more.
     let mut answers = BTreeMap::new();
     for seed in 0..files() {
         let case = case(seed);
         let name = format!("seed {seed}");
         let answer = check(&name, &case, &[]);
-        let told = check_total(&name, &case, answer);
+        let reported = check_total(&name, &case, answer);
         let what = match answer {
             Err(refusal) => format!("refused {}", refusal.number),
-            Ok(_) if told == 0 => "no padding".to_string(),
-            Ok(_) if told <= 4 => "up to four bytes".to_string(),
+            Ok(_) if reported == 0 => "no padding".to_string(),
+            Ok(_) if reported <= 4 => "up to four bytes".to_string(),
             Ok(_) => "more".to_string(),
         };
         *answers.entry(what).or_insert(0) += 1;
@@ -54,7 +54,7 @@ fn generated_files_tell_the_sum_of_their_padding() {
 }
 
 #[test]
-fn limits_tell_the_sum_of_their_padding() {
+fn limits_report_the_sum_of_their_padding() {
     for limit in limits() {
         let answer = check(&limit.name, &limit.case, &[]);
         check_total(&limit.name, &limit.case, answer);

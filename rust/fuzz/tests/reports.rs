@@ -48,7 +48,7 @@ fn generated_packs_give_what_is_known_and_every_refusal() {
         let case = case(seed);
         let number = check(&format!("seed {seed}"), &case, &mut words);
         *numbers.entry(number).or_insert(0) += 1;
-        // All figures, which tell what the packs hold.
+        // All figures, which say what the packs hold.
         if number == 0 || number == 71 {
             let mut table = vec![0; case.table];
             let answer = add(&case.pack, &case.enums, &mut table, &mut words, &mut seen);

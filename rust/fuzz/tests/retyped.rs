@@ -49,11 +49,11 @@ fn retyped_files_give_the_same_answers() {
     for seed in 0..FILES {
         let case = case(seed);
         let new = retyped(&mut Random::new(!seed), &case.bytes, &case.texts);
-        let told = |file| {
+        let reported = |file| {
             let mut words = vec![1; case.words];
             let answer = second::load(file, &case.enums, &mut words);
             (answer, words)
         };
-        assert_eq!(told(&new), told(&case.bytes), "seed {seed}");
+        assert_eq!(reported(&new), reported(&case.bytes), "seed {seed}");
     }
 }

@@ -150,7 +150,7 @@ pub fn is_value_type(kind: u32) -> bool {
     matches!(kind, 1..=12 | 15 | 16 | 20..=30)
 }
 
-/// The size of a kind that always takes the same number of bytes; an enum's is told by its type.
+/// The size of a kind that always takes the same number of bytes; an enum's is given by its type.
 pub fn fixed_size(kind: u32) -> Option<usize> {
     let size = match kind {
         1 | 2 | 11 => 1,

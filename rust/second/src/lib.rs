@@ -31,7 +31,7 @@ pub mod xml;
 
 pub use branches::broken_branch;
 pub use image::{level_size, longest_chain};
-pub use load::{builder_answer, load, load_in, padding_told, Loaded, NO_ENUMS};
+pub use load::{builder_answer, load, load_in, reported_padding, Loaded, NO_ENUMS};
 pub use lookup::{next, part, signed, text, time};
 pub use printed::{
     printed_rows, printed_rows_with, refusal_line, shortened, INPUT_TOO_LONG, LONGEST_INPUT,

@@ -28,8 +28,8 @@ pub struct Loaded {
     pub padding: usize,
 }
 
-/// The padding that is told of a file: "Refused files report 0."
-pub fn padding_told(answer: Result<Loaded, Refusal>) -> usize {
+/// The padding that is reported of a file: "Refused files report 0."
+pub fn reported_padding(answer: Result<Loaded, Refusal>) -> usize {
     answer.map_or(0, |loaded| loaded.padding)
 }
 

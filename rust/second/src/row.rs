@@ -2,7 +2,7 @@
 
 pub const WORDS_PER_ROW: usize = 7;
 
-/// One value of the file, as the table tells it.
+/// One value of the file, as the table has it.
 #[derive(Clone, Copy, Debug, PartialEq, Eq)]
 pub struct Row {
     pub kind: u32,

@@ -118,8 +118,8 @@ fn change_words(shape: Shape, name: &str, file: &[u8]) -> usize {
             let word = shape.place(ROOM, row, column);
             for other in [words[word] + 1, words[word].wrapping_sub(1), u32::MAX] {
                 let right = std::mem::replace(&mut words[word], other);
-                let told = format!("{shape:?}: {name}: row {row}, word {column}");
-                assert!(broken(&words).is_some(), "{told}");
+                let label = format!("{shape:?}: {name}: row {row}, word {column}");
+                assert!(broken(&words).is_some(), "{label}");
                 words[word] = right;
                 changed += 1;
             }

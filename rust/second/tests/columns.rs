@@ -102,14 +102,14 @@ fn rows_and_columns_hold_the_same_rows() {
             let mut by_rows = vec![GARBAGE; count];
             let mut by_columns = vec![!GARBAGE; count];
             let answer = load(&sample.bytes, &[], &mut by_rows);
-            let told = format!("{} with {count} words", sample.name);
+            let label = format!("{} with {count} words", sample.name);
             let columns_answer = load_in(Shape::Columns, &sample.bytes, &[], &mut by_columns);
-            assert_eq!(columns_answer, answer, "{told}");
+            assert_eq!(columns_answer, answer, "{label}");
             let rows = Table::new(Shape::Rows, &by_rows);
             let columns = Table::new(Shape::Columns, &by_columns);
-            assert_eq!(columns.room(), rows.room(), "{told}");
+            assert_eq!(columns.room(), rows.room(), "{label}");
             for number in 0..rows.room() + 2 {
-                assert_eq!(columns.row(number), rows.row(number), "{told}");
+                assert_eq!(columns.row(number), rows.row(number), "{label}");
             }
         }
     }

@@ -6,7 +6,7 @@ use corpus::lawful::file_a;
 use corpus::readers::{enum_of, list_of};
 use corpus::values::{file, list, object};
 use corpus::writer::write;
-use second::{load, load_in, padding_told, printed_rows_with, rewrite};
+use second::{load, load_in, printed_rows_with, reported_padding, rewrite};
 use second::{Refusal, Shape, NO_ENUMS, WORDS_PER_ROW};
 
 const GARBAGE: u32 = 0xAAAA_AAAA;
@@ -15,11 +15,11 @@ const GARBAGE: u32 = 0xAAAA_AAAA;
 fn refusal(enums: &[u8]) -> Option<(u32, usize)> {
     let mut words = [GARBAGE; WORDS_PER_ROW];
     let answer = load(&write(&file_a()).bytes, enums, &mut words);
-    let told = |Refusal { number, place }| (number, place);
+    let reported = |Refusal { number, place }| (number, place);
     if answer.is_err() {
         assert_eq!(words, [0; WORDS_PER_ROW]);
     }
-    answer.err().map(told)
+    answer.err().map(reported)
 }
 
 #[test]
@@ -33,7 +33,7 @@ fn kept_files_give_their_rows_and_padding() {
         for shape in Shape::BOTH {
             let mut words = vec![GARBAGE; WORDS_PER_ROW * 1024];
             let answer = load_in(shape, &sample.bytes, &sample.enums, &mut words);
-            assert_eq!(padding_told(answer), sample.padding, "{name}");
+            assert_eq!(reported_padding(answer), sample.padding, "{name}");
         }
     }
 }
@@ -131,8 +131,8 @@ fn one_file_under_many_lists() {
     };
     let answer = |file: &[u8], enums: &[u8]| {
         let mut words = [GARBAGE; 8 * WORDS_PER_ROW];
-        let told = |Refusal { number, place }| (number, place);
-        load(file, enums, &mut words).err().map(told)
+        let reported = |Refusal { number, place }| (number, place);
+        load(file, enums, &mut words).err().map(reported)
     };
     for held in 0..=9 {
         let file = boxed(held).bytes;

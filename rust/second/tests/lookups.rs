@@ -173,10 +173,10 @@ fn next_rows_of_tables_that_no_load_left() {
         for (room, row, count, expected) in cases {
             let mut words = vec![u32::MAX; WORDS_PER_ROW * room];
             words[shape.place(room, row, 6)] = count;
-            let told = format!("{shape:?}: row {row} of {room} with count {count}");
-            assert_eq!(next(Table::new(shape, &words), row), expected, "{told}");
+            let label = format!("{shape:?}: row {row} of {room} with count {count}");
+            assert_eq!(next(Table::new(shape, &words), row), expected, "{label}");
             let shorter = Table::new(shape, &words[1..]);
-            assert_eq!(next(shorter, room - 1), None, "{told}");
+            assert_eq!(next(shorter, room - 1), None, "{label}");
         }
         assert_eq!(next(Table::new(shape, &[]), 0), None);
     }

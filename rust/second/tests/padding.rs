@@ -4,12 +4,12 @@ use corpus::folder::kept_files;
 use corpus::lawful::{file_a, file_b, pad_file};
 use corpus::values::{object, padded, text};
 use corpus::writer::write;
-use second::{load, load_in, padding_told, read_seven, rewrite, shortest_seven, Shape};
+use second::{load, load_in, read_seven, reported_padding, rewrite, shortest_seven, Shape};
 use second::{Refusal, WORDS_PER_ROW};
 
-/// The padding that is told of a file, with room for 1,024 rows.
-fn told(file: &[u8]) -> usize {
-    padding_told(load(file, &[], &mut vec![7; WORDS_PER_ROW * 1024]))
+/// The padding that is reported of a file, with room for 1,024 rows.
+fn reported(file: &[u8]) -> usize {
+    reported_padding(load(file, &[], &mut vec![7; WORDS_PER_ROW * 1024]))
 }
 
 /// The number in so many bytes.
@@ -39,27 +39,27 @@ fn a_number_says_its_padding() {
 
 #[test]
 fn files_a_and_b() {
-    assert_eq!(told(&write(&file_a()).bytes), 0);
-    assert_eq!(told(&write(&file_b()).bytes), 0);
+    assert_eq!(reported(&write(&file_a()).bytes), 0);
+    assert_eq!(reported(&write(&file_b()).bytes), 0);
     // P4: B with its text count as 82 00.
     let mut file = file_b();
     file.objects = vec![object(1, padded(2, text("Hi")))];
-    assert_eq!(told(&write(&file).bytes), 1);
+    assert_eq!(reported(&write(&file).bytes), 1);
     // The reader count, a name's length, the shared count, a type id and a text count.
     for width in 1..=5 {
         let mut file = file_b();
         pad_file(width, &mut file);
-        assert_eq!(told(&write(&file).bytes), 5 * (width - 1));
+        assert_eq!(reported(&write(&file).bytes), 5 * (width - 1));
     }
 }
 
 #[test]
-fn kept_files_tell_their_padding() {
+fn kept_files_report_their_padding() {
     for file in kept_files() {
-        assert_eq!(told(&file.bytes), file.padding, "{}", file.name);
+        assert_eq!(reported(&file.bytes), file.padding, "{}", file.name);
     }
     for sample in corpus::samples() {
-        assert_eq!(told(&sample.bytes), sample.padding, "{}", sample.name);
+        assert_eq!(reported(&sample.bytes), sample.padding, "{}", sample.name);
     }
 }
 
@@ -73,14 +73,14 @@ fn the_total_is_what_a_rewrite_takes_away() {
             let answer = load_in(shape, &file, &[], &mut words);
             let mut out = vec![0; file.len()];
             let Ok(length) = rewrite(&file, &[], &mut words, &mut out) else {
-                assert_eq!(padding_told(answer), 0, "{}", sample.name);
+                assert_eq!(reported_padding(answer), 0, "{}", sample.name);
                 continue;
             };
-            let padding = padding_told(answer);
+            let padding = reported_padding(answer);
             assert_eq!(padding, file.len() - length, "{}", sample.name);
             let is_shortest = out[..length] == file;
             assert_eq!(padding == 0, is_shortest, "{}", sample.name);
-            assert_eq!(told(&out[..length]), 0, "{}", sample.name);
+            assert_eq!(reported(&out[..length]), 0, "{}", sample.name);
         }
     }
 }
@@ -95,7 +95,7 @@ fn refused_files_report_0() {
         let answer = load(bytes, &[], &mut vec![7; words]);
         let found = answer.map_err(|Refusal { number, .. }| number);
         assert_eq!(found.map(|_| ()), Err(number));
-        assert_eq!(padding_told(answer), 0, "refusal {number}");
+        assert_eq!(reported_padding(answer), 0, "refusal {number}");
     };
     refused(WORDS_PER_ROW - 1, &bytes, 19);
     let mut longer = bytes.clone();

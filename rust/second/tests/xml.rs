@@ -26,7 +26,7 @@ fn kept_form(answer: Result<usize, Refusal>, out: &[u8]) -> Vec<u8> {
 
 #[test]
 fn kept_files_give_their_exports() {
-    let mut told = 0;
+    let mut reported = 0;
     for file in kept_files() {
         let Some(expected) = &file.export else {
             continue;
@@ -42,9 +42,9 @@ fn kept_files_give_their_exports() {
             loaded.fill(0);
         }
         assert!(words == loaded, "{}", file.name);
-        told += 1;
+        reported += 1;
     }
-    assert!(told >= 16, "only {told}");
+    assert!(reported >= 16, "only {reported}");
 }
 
 /// "Refusals: those of 01", and 32; a longer file than `rows` takes is no refusal of a load.
@@ -106,7 +106,7 @@ fn outputs_that_are_too_small() {
     let files = kept_files();
     let file = files.iter().find(|file| file.name == "ok-texts-entities");
     let file = file.expect("it is kept");
-    let xml = file.export.as_ref().expect("it tells its export");
+    let xml = file.export.as_ref().expect("it has its export");
     let refused = |place| Err(Refusal { number: 21, place });
     for bytes in 0..xml.len() {
         let (answer, out, words) = exported(file, bytes);

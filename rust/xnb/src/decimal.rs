@@ -64,13 +64,13 @@ mod tests {
 
     #[test]
     fn words_make_a_number() {
-        let told = |words| Decimal::of_words(words).to_string();
+        let shown = |words| Decimal::of_words(words).to_string();
         assert_eq!(
-            told([u32::MAX, u32::MAX, u32::MAX, 0]),
+            shown([u32::MAX, u32::MAX, u32::MAX, 0]),
             "79228162514264337593543950335"
         );
-        assert_eq!(told([1, 0, 0, 28 << 16]), "0.0000000000000000000000000001");
-        assert_eq!(told([100, 0, 0, 1 << 31 | 2 << 16]), "-1.00");
-        assert_eq!(told([0, 0, 0, 1 << 31 | 2 << 16]), "0.00");
+        assert_eq!(shown([1, 0, 0, 28 << 16]), "0.0000000000000000000000000001");
+        assert_eq!(shown([100, 0, 0, 1 << 31 | 2 << 16]), "-1.00");
+        assert_eq!(shown([0, 0, 0, 1 << 31 | 2 << 16]), "0.00");
     }
 }

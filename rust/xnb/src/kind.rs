@@ -140,7 +140,7 @@ mod tests {
         assert_eq!(Kind::all().len(), 41);
     }
 
-    /// The sizes of document 01, by kind number; none where a value tells its own size.
+    /// The sizes of document 01, by kind number; none where a value has its own size.
     #[test]
     fn sizes_are_those_of_document_01() {
         let sizes = [

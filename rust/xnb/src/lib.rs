@@ -90,6 +90,7 @@ mod memory;
 pub mod meshes;
 mod numbers;
 pub mod pack;
+mod padding;
 mod page;
 mod picture;
 // Its calls of the archive's entries are the only unsafe code.

@@ -5,7 +5,7 @@ use crate::enums::EnumList;
 use crate::explain::{explain_with, Explanation};
 use crate::raw;
 use crate::refusal::Refused;
-use crate::row::full_words;
+use crate::row::{full_words, LONGEST_FILE};
 use crate::shape::{Shape, Shaped};
 use crate::table::{Columns, Grid, Table};
 
@@ -135,8 +135,8 @@ impl<'e> Loader<'e> {
     /// assert!(Table::load(&file).is_ok());
     /// let refused = Loader::new().load_driver(&file).unwrap_err();
     /// assert_eq!((refused.refusal, refused.place as usize), (Refusal::NoNextPage, last));
-    /// let told = xnb::explain(&file, refused, 1024).unwrap();
-    /// assert_eq!(told.found, "the page without a title of row 5 has no next page");
+    /// let explained = xnb::explain(&file, refused, 1024).unwrap();
+    /// assert_eq!(explained.found, "the page without a title of row 5 has no next page");
     /// # Ok::<(), xnb::Refused>(())
     /// ```
     pub fn load_driver<'f>(self, file: &'f [u8]) -> Result<Table<'f>, Refused> {
@@ -164,14 +164,14 @@ impl<'e> Loader<'e> {
 
     /// The shortest form of a file.
     pub fn shorten(self, file: &[u8]) -> Result<Vec<u8>, Refused> {
-        // It is never longer than the file.
-        let mut out = vec![0; file.len()];
+        // It is never longer than the file, and a longer file than the longest is refused.
+        let mut out = vec![0; file.len().min(LONGEST_FILE)];
         let length = self.rewrite(file, &mut full_words(file), &mut out)?;
         out.truncate(length);
         Ok(out)
     }
 
-    /// What stands at the place of a refusal by this loader, as [`explain`](crate::explain) tells it.
+    /// What stands at the place of a refusal by this loader, as [`explain`](crate::explain) gives it.
     pub fn explain(self, file: &[u8], refused: Refused, room: usize) -> Option<Explanation<'_>> {
         explain_with(self.enums, file, refused, room)
     }

@@ -42,6 +42,12 @@ pub fn seven_length(bytes: &[u8]) -> usize {
     goes_on.count() + 1
 }
 
+/// The number of bytes of a seven-bit number in its shortest form.
+pub fn shortest_length(number: usize) -> usize {
+    let bits = usize::BITS - number.leading_zeros();
+    bits.div_ceil(7).max(1) as usize
+}
+
 /// The seven-bit number at the start of the bytes, and the bytes behind it.
 pub fn seven(bytes: &[u8]) -> (u32, &[u8]) {
     let (number, behind) = bytes.split_at(seven_length(bytes));
@@ -67,5 +73,7 @@ mod tests {
         assert_eq!(seven(&[0x82, 0x01, 7]), (130, &[7][..]));
         assert_eq!(seven(&[0x80, 0x00]), (0, &[][..]));
         assert_eq!(seven(&[0xFF, 0xFF, 0xFF, 0xFF, 0x0F]), (u32::MAX, &[][..]));
+        let lengths = [0, 127, 128, 16_383, 16_384, 0xFFFF_FFFF].map(shortest_length);
+        assert_eq!(lengths, [1, 1, 2, 2, 3, 5]);
     }
 }

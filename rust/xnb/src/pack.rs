@@ -53,7 +53,7 @@ impl PackRefused {
         Err(PackRefused { refusal, place })
     }
 
-    /// The rule in words, as it is told of packs.
+    /// The rule in words, as it is reported of packs.
     pub fn rule(self) -> &'static str {
         match (self.refusal, self.place) {
             (Refusal::PastEnd, _) => "a field runs past the end of the pack",

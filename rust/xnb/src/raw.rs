@@ -1,6 +1,6 @@
 //! The entries of the static library as they answer, over slices.
 //!
-//! The first number of each answer is as `crates/builder/xnb.h` tells it; what the entry writes
+//! The first number of each answer is as `crates/builder/xnb.h` has it; what the entry writes
 //! through its other pointers follows. Those numbers start as all ones, so that one which the
 //! entry did not write shows.
 
@@ -14,6 +14,7 @@ use crate::shape::Shape;
 
 mod entries {
     extern "C" {
+        pub fn xnb_version() -> u32;
         pub fn xnb_load(file: *const u8, file_length: usize) -> u64;
         pub fn xnb_load_rows(
             file: *const u8,
@@ -131,6 +132,12 @@ mod entries {
             padding: *mut u32,
         ) -> u64;
     }
+}
+
+/// The version of the library that is linked: 10,000 times the first number, plus 100 times the second, plus the third.
+pub fn version() -> u32 {
+    // SAFETY: the entry takes nothing, reads nothing and writes nothing.
+    unsafe { entries::xnb_version() }
 }
 
 /// The asset builder's number.

@@ -229,21 +229,21 @@ mod tests {
     }
 
     #[test]
-    fn a_refusal_is_told_in_words() {
-        let told = |refusal, place| Refused { refusal, place }.to_string();
+    fn a_refusal_is_reported_in_words() {
+        let reported = |refusal, place| Refused { refusal, place }.to_string();
         let length = "the header's length is not the file's length, at byte 6";
-        assert_eq!(told(FileLength, 6), length);
+        assert_eq!(reported(FileLength, 6), length);
         let output = "the output is too small for what is written, which takes 65 bytes";
-        assert_eq!(told(OutputTooSmall, 65), output);
-        assert_eq!(told(NoSuchRow, 9), "there is no such row, row 9");
+        assert_eq!(reported(OutputTooSmall, 65), output);
+        assert_eq!(reported(NoSuchRow, 9), "there is no such row, row 9");
         let entry =
             "an entry of the enum list is cut short, or its size or its name breaks a rule, \
             entry 2, counted from 0";
-        assert_eq!(told(EnumEntry, 2), entry);
+        assert_eq!(reported(EnumEntry, 2), entry);
         let head = "a reader's name: bad byte in a head, at byte 48";
-        assert_eq!(told(HeadByte, 48), head);
-        assert_eq!(told(NullText, 3), "a text is null, row 3");
+        assert_eq!(reported(HeadByte, 48), head);
+        assert_eq!(reported(NullText, 3), "a text is null, row 3");
         let room = "the row table has no room for 65,536 rows";
-        assert_eq!(told(NoRowRoom, 0), room);
+        assert_eq!(reported(NoRowRoom, 0), room);
     }
 }

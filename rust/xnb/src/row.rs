@@ -2,6 +2,9 @@
 
 use crate::kind::Kind;
 
+/// No longer file is taken.
+pub(crate) const LONGEST_FILE: usize = 16_777_216;
+
 /// The words of a row in a table; lent words have room for as many rows as they hold whole ones.
 pub const WORDS_PER_ROW: usize = 7;
 /// A table has never room for more rows.

@@ -60,7 +60,7 @@ impl Written {
     }
 }
 
-/// Keeps every whole record of a damaged marked pack, up to 4,096, and tells what is skipped.
+/// Keeps every whole record of a damaged marked pack, up to 4,096, and reports what is skipped.
 ///
 /// A pack of fewer than four bytes is refused, and no other. Kept records, skipped stretches and
 /// the four bytes of the file count make up the damaged pack.

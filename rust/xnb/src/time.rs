@@ -81,7 +81,7 @@ impl Display for TimeSpan {
     }
 }
 
-/// A time of the day in ticks, told in hours, minutes and seconds.
+/// A time of the day in ticks, shown in hours, minutes and seconds.
 struct Clock(u64);
 
 impl Display for Clock {
@@ -93,7 +93,7 @@ impl Display for Clock {
 
 /// A moment, as .NET's `System.DateTime`.
 ///
-/// It is shown as .NET's format `o` does, but a local time without the distance of its zone, which a file does not tell.
+/// It is shown as .NET's format `o` does, but a local time without the distance of its zone, which a file does not say.
 ///
 /// ```
 /// use xnb::{DateTime, Zone};
@@ -240,11 +240,11 @@ mod tests {
     }
 
     #[test]
-    fn the_longest_times_are_told() {
-        let told = |ticks| TimeSpan { ticks }.to_string();
-        assert_eq!(told(i64::MIN), "-10675199.02:48:05.4775808");
-        assert_eq!(told(i64::MAX), "10675199.02:48:05.4775807");
-        assert_eq!(told(0), "00:00:00");
+    fn the_longest_times_are_reported() {
+        let shown = |ticks| TimeSpan { ticks }.to_string();
+        assert_eq!(shown(i64::MIN), "-10675199.02:48:05.4775808");
+        assert_eq!(shown(i64::MAX), "10675199.02:48:05.4775807");
+        assert_eq!(shown(0), "00:00:00");
         assert_eq!(TimeSpan { ticks: -1 }.ticks_of_second(), -1);
     }
 }

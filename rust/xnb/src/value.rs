@@ -97,21 +97,21 @@ pub enum Value<'f> {
     Rectangle(Rectangle),
     /// What a texture says of itself; [`picture`](crate::Grid::picture) has its pixels.
     Texture2D(Texture),
-    /// A font, of which [`font`](crate::Grid::font) tells.
+    /// A font, of which [`font`](crate::Grid::font) has more.
     SpriteFont,
-    /// A page, of which [`page`](crate::Grid::page) tells.
+    /// A page, of which [`page`](crate::Grid::page) has more.
     Page,
     /// The data of one level of a texture.
     ImageLevel(&'f [u8]),
     /// The resource id of a reference, unless it is null; [`resource`](crate::Grid::resource) has its row.
     SharedReference(Option<u32>),
-    /// An index buffer, of which [`index_buffer`](crate::Grid::index_buffer) tells.
+    /// An index buffer, of which [`index_buffer`](crate::Grid::index_buffer) has more.
     IndexBuffer,
-    /// A vertex declaration, of which [`vertex_declaration`](crate::Grid::vertex_declaration) tells.
+    /// A vertex declaration, of which [`vertex_declaration`](crate::Grid::vertex_declaration) has more.
     VertexDeclaration,
-    /// A vertex buffer, of which [`vertex_buffer`](crate::Grid::vertex_buffer) tells.
+    /// A vertex buffer, of which [`vertex_buffer`](crate::Grid::vertex_buffer) has more.
     VertexBuffer,
-    /// A model, of which [`model`](crate::Grid::model) tells.
+    /// A model, of which [`model`](crate::Grid::model) has more.
     Model,
     /// The data of an index buffer or of a vertex buffer.
     DataBytes(&'f [u8]),
@@ -121,7 +121,7 @@ pub enum Value<'f> {
 
 /// The number of an enum, which has 1, 2, 4 or 8 bytes.
 ///
-/// A file does not tell whether the enum's numbers have a sign.
+/// A file does not say whether the enum's numbers have a sign.
 #[derive(Clone, Copy, Debug, PartialEq, Eq, Hash)]
 #[cfg_attr(feature = "serde", derive(serde::Serialize))]
 pub struct EnumValue {
@@ -311,7 +311,7 @@ mod tests {
 
     #[test]
     fn an_enum_is_read_with_and_without_a_sign() {
-        let told = |bytes: &[u8]| {
+        let numbers = |bytes: &[u8]| {
             let number = EnumValue::of(bytes);
             (
                 number.size(),
@@ -320,12 +320,12 @@ mod tests {
                 number.usual(),
             )
         };
-        assert_eq!(told(&[0xFE]), (1, 254, -2, 254));
-        assert_eq!(told(&[0xFE, 0xFF]), (2, 65_534, -2, -2));
+        assert_eq!(numbers(&[0xFE]), (1, 254, -2, 254));
+        assert_eq!(numbers(&[0xFE, 0xFF]), (2, 65_534, -2, -2));
         assert_eq!(
-            told(&[1, 0, 0, 0x80]),
+            numbers(&[1, 0, 0, 0x80]),
             (4, 0x8000_0001, -0x7FFF_FFFF, -0x7FFF_FFFF)
         );
-        assert_eq!(told(&[0xFF; 8]), (8, u64::MAX, -1, -1));
+        assert_eq!(numbers(&[0xFF; 8]), (8, u64::MAX, -1, -1));
     }
 }

@@ -103,7 +103,8 @@ fn declarations() -> BTreeMap<String, Types> {
     let types = |(head, parameters): (&str, &str)| {
         let (answer, name) = head.split_once(' ').expect("an answer and a name");
         let (parameters, _) = parameters.split_once(')').expect("an end");
-        let given = parameters.split(',').map(type_of).collect();
+        let parameters = parameters.split(',').filter(|it| *it != "void");
+        let given = parameters.map(type_of).collect();
         (name.to_string(), (given, answer.to_string()))
     };
     declared.map(types).collect()
@@ -184,8 +185,8 @@ fn compiled() -> PathBuf {
         .current_dir(&folder)
         .output();
     let built = shell.expect("a shell starts");
-    let told = String::from_utf8_lossy(&built.stderr);
-    assert!(built.status.success(), "{command}{told}");
+    let reported = String::from_utf8_lossy(&built.stderr);
+    assert!(built.status.success(), "{command}{reported}");
     folder.join("show")
 }
 
@@ -241,16 +242,21 @@ fn compare_files(program: &Path) {
             Err(refused) => {
                 let (number, place) = (refused.refusal.number(), refused.place);
                 let line = format!("refused {number} at {place}\n");
-                let told = (line.into_bytes(), String::new(), false);
-                assert_eq!(run(program, &[], &file.bytes), told, "{}", file.name);
+                let reported = (line.into_bytes(), String::new(), false);
+                assert_eq!(run(program, &[], &file.bytes), reported, "{}", file.name);
                 continue;
             }
         };
         let lines = padding(&table) + &texts(&table);
-        let told = (lines.clone().into_bytes(), String::new(), true);
-        assert_eq!(run(program, &[], &file.bytes), told, "{}", file.name);
-        let told = (texts(&table).into_bytes(), String::new(), true);
-        assert_eq!(run(program, &["texts"], &file.bytes), told, "{}", file.name);
+        let reported = (lines.clone().into_bytes(), String::new(), true);
+        assert_eq!(run(program, &[], &file.bytes), reported, "{}", file.name);
+        let reported = (texts(&table).into_bytes(), String::new(), true);
+        assert_eq!(
+            run(program, &["texts"], &file.bytes),
+            reported,
+            "{}",
+            file.name
+        );
         let shared = table.loaded().shared;
         if shared < 10 {
             let objects = (lines + &kinds(&table)).into_bytes();
@@ -272,8 +278,13 @@ fn compare_enums(program: &Path) {
             "{} {} {} {}\n",
             answer.packed, answer.readers, answer.shared, answer.padding
         );
-        let told = (line.into_bytes(), String::new(), true);
-        assert_eq!(run(program, &["enums"], &file.bytes), told, "{}", file.name);
+        let reported = (line.into_bytes(), String::new(), true);
+        assert_eq!(
+            run(program, &["enums"], &file.bytes),
+            reported,
+            "{}",
+            file.name
+        );
     }
 }
 
@@ -287,13 +298,18 @@ fn compare_packs(program: &Path) {
         };
         if let Some(file) = pack.files().last() {
             let found = pack.find(file.path.as_bytes()).expect("a path of the pack");
-            let told = (found.to_vec(), String::new(), true);
+            let reported = (found.to_vec(), String::new(), true);
             let words = ["show", file.path];
-            assert_eq!(run(program, &words, &sample.bytes), told, "{}", sample.name);
+            assert_eq!(
+                run(program, &words, &sample.bytes),
+                reported,
+                "{}",
+                sample.name
+            );
         }
     }
     for sample in kept_damaged_packs() {
-        let told = match sample.expected() {
+        let reported = match sample.expected() {
             Ok((new, list)) => {
                 let line = |it: &[u64]| format!("skipped at {}, length {}\n", it[0], it[1]);
                 (new, list.chunks(2).map(line).collect(), true)
@@ -302,7 +318,7 @@ fn compare_packs(program: &Path) {
         };
         assert_eq!(
             run(program, &["save"], &sample.bytes),
-            told,
+            reported,
             "{}",
             sample.name
         );

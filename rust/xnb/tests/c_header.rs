@@ -61,6 +61,11 @@ fn limits_of_the_header_are_those_of_the_library() {
     };
     let version = format!("{:?}", env!("CARGO_PKG_VERSION"));
     assert_eq!(defined("XNB_VERSION"), version);
+    let numbers = env!("CARGO_PKG_VERSION").split('.');
+    let numbers = numbers.map(|it| it.parse::<u32>().expect("a number"));
+    let number = numbers.fold(0, |sum, it| 100 * sum + it);
+    assert_eq!(defined("XNB_VERSION_NUMBER"), number.to_string());
+    assert_eq!(xnb::raw::version(), number, "the library that is linked");
     let limits = [
         ("XNB_LONGEST_FILE", 1 << 24),
         ("XNB_WORDS_PER_ROW", xnb::WORDS_PER_ROW),
@@ -92,8 +97,8 @@ fn compiled(name: &str, compiler: &[&str]) -> PathBuf {
         .arg(&program)
         .output()
         .expect("a compiler");
-    let told = String::from_utf8_lossy(&built.stderr);
-    assert!(built.status.success(), "{told}");
+    let reported = String::from_utf8_lossy(&built.stderr);
+    assert!(built.status.success(), "{reported}");
     program
 }
 
@@ -154,7 +159,7 @@ fn the_example_prints_rows_as_c_and_as_cpp() {
 }
 
 /// What a tool of binutils prints of the archive.
-fn told_by(tool: &str, option: &str) -> String {
+fn printed_by(tool: &str, option: &str) -> String {
     let archive = root().join("target/staticlib/libbuilder.a");
     let output = Command::new(tool).arg(option).arg(archive).output();
     String::from_utf8(output.expect("binutils").stdout).expect("a text")
@@ -162,7 +167,7 @@ fn told_by(tool: &str, option: &str) -> String {
 
 #[test]
 fn the_archive_needs_memcpy_and_memset_and_has_no_data() {
-    let undefined = told_by("nm", "--undefined-only");
+    let undefined = printed_by("nm", "--undefined-only");
     let mut needed: Vec<&str> = undefined
         .lines()
         .filter_map(|it| it.trim().strip_prefix("U "))
@@ -170,7 +175,7 @@ fn the_archive_needs_memcpy_and_memset_and_has_no_data() {
     needed.sort_unstable();
     needed.dedup();
     assert_eq!(needed, ["memcpy", "memset"]);
-    let sections = told_by("objdump", "--section-headers");
+    let sections = printed_by("objdump", "--section-headers");
     let sizes = sections.lines().filter_map(|line| {
         let mut fields = line.split_whitespace().skip(1);
         let (name, size) = (fields.next()?, fields.next()?);

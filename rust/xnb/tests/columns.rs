@@ -24,18 +24,18 @@ fn loaded(shape: Shape, file: &[u8], garbage: u32, words: usize) -> (LoadAnswer,
 /// "Lent the same room, it gives the same answer and holds the same row at each number as 01's table", and words in
 /// excess are zero in both; answers the words by rows.
 fn compare_loads(name: &str, file: &[u8], garbage: u32, words: usize) -> (u64, Vec<u32>) {
-    let told = format!("{name} with {words} words");
+    let label = format!("{name} with {words} words");
     let (answer, by_rows) = loaded(Shape::Rows, file, garbage, words);
     let (columns_answer, columns) = loaded(Shape::Columns, file, !garbage, words);
-    assert_eq!(columns_answer, answer, "{told}");
-    assert!(columns == in_columns(&by_rows), "{told}: other rows");
+    assert_eq!(columns_answer, answer, "{label}");
+    assert!(columns == in_columns(&by_rows), "{label}: other rows");
     let used = if answer.packed >> 32 == 0 {
         answer.packed as usize
     } else {
         0
     };
     let unused = &by_rows[WORDS_PER_ROW * used..];
-    assert!(unused.iter().all(|word| *word == 0), "{told}");
+    assert!(unused.iter().all(|word| *word == 0), "{label}");
     (answer.packed, by_rows)
 }
 
@@ -52,9 +52,9 @@ fn compare_lookups(name: &str, file: &[u8], by_rows: &[u32], rows: impl IntoIter
                 raw::next(shape, words, row),
             )
         };
-        let told = format!("{name}: row {row} of {} words", by_rows.len());
+        let label = format!("{name}: row {row} of {} words", by_rows.len());
         let expected = answers(Shape::Rows, by_rows);
-        assert_eq!(answers(Shape::Columns, &columns), expected, "{told}");
+        assert_eq!(answers(Shape::Columns, &columns), expected, "{label}");
     }
 }
 

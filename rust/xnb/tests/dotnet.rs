@@ -71,7 +71,7 @@ fn units(text: &str) -> String {
 }
 
 /// The value as .NET prints it.
-fn told(value: Value, type_name: &str) -> String {
+fn reported(value: Value, type_name: &str) -> String {
     match value {
         Value::Byte(it) => it.to_string(),
         Value::SByte(it) => it.to_string(),
@@ -123,7 +123,12 @@ fn values_are_what_dotnet_wrote_and_printed() {
             Value::Double(it) if it.is_nan() => assert_eq!(shown, "NaN"),
             Value::Single(it) => assert_eq!(Ok(it), shown.parse(), "{shown}"),
             Value::Double(it) => assert_eq!(Ok(it), shown.parse(), "{shown}"),
-            _ => assert_eq!(told(value, &line.type_name), *shown, "{}", line.type_name),
+            _ => assert_eq!(
+                reported(value, &line.type_name),
+                *shown,
+                "{}",
+                line.type_name
+            ),
         }
     }
     let types =

@@ -48,11 +48,11 @@ fn compare_with(
     let garbage = random.number() as u32;
     let mut linked = Lent::new(garbage, words);
     let mut second_words = vec![!garbage; words];
-    let told = format!("{name} with {words} words");
+    let reported = format!("{name} with {words} words");
     let expected = driver::load(file, enums, &mut second_words);
     let linked_answer = raw::load_driver(file, enums, linked.middle());
-    assert_eq!(linked_answer, answer(expected), "{told}");
-    linked.check(&told, &second_words);
+    assert_eq!(linked_answer, answer(expected), "{reported}");
+    linked.check(&reported, &second_words);
     let number = expected.map_or_else(|refusal| refusal.number, |_| 0);
     *counts.entry(number).or_default() += 1;
     expected.map(|loaded| loaded.rows)
@@ -97,13 +97,13 @@ fn compare(
     }
 }
 
-/// The safe face gives the same refusal, and tells what is meant.
+/// The safe face gives the same refusal, and says what is meant.
 fn check_explained((name, file, enums): (&str, &[u8], &[u8]), expected: Refusal) {
     let loader = Loader::new().with_enum_bytes(enums);
     let refused = loader.load_driver(file).expect_err(name);
     let Refused { refusal, place } = refused;
-    let told = (refusal.number(), place as usize);
-    assert_eq!(told, (expected.number, expected.place), "{name}");
+    let reported = (refusal.number(), place as usize);
+    assert_eq!(reported, (expected.number, expected.place), "{name}");
     let explained = loader.explain(file, refused, xnb::MOST_ROWS).expect(name);
     assert_eq!(
         explained.reader.is_some(),
@@ -197,13 +197,13 @@ fn corpus_files_give_their_answers() {
             continue;
         };
         let loader = Loader::new().with_enum_bytes(&file.enums);
-        let told = match loader.load_driver(&file.bytes) {
+        let reported = match loader.load_driver(&file.bytes) {
             Ok(_) => "passed\n".to_string(),
             Err(Refused { refusal, place }) => {
                 format!("refused {} at {place}\n", refusal.number())
             }
         };
-        assert_eq!(told, driver, "{}", file.name);
+        assert_eq!(reported, driver, "{}", file.name);
         kept += 1;
     }
     println!("{counts:?}");
@@ -212,8 +212,8 @@ fn corpus_files_give_their_answers() {
 
 /// What is found at each refusal of the kept files.
 #[test]
-fn refusals_are_told_in_words() {
-    let told = |name: &str| {
+fn refusals_are_reported_in_words() {
+    let reported = |name: &str| {
         let files = kept_files().into_iter().chain(kept_files_with_enums());
         let file = files.into_iter().find(|it| it.name == name);
         let file = file.unwrap_or_else(|| panic!("{name} is kept"));
@@ -223,24 +223,27 @@ fn refusals_are_told_in_words() {
         explained.expect(name).found
     };
     assert_eq!(
-        told("ok-header-phone-reach"),
+        reported("ok-header-phone-reach"),
         "the platform is m, w is taken"
     );
     assert_eq!(
-        told("ok-padded-reader-count-of-0"),
+        reported("ok-padded-reader-count-of-0"),
         "the reader count is 0 in 2 bytes, 1 would do"
     );
-    assert_eq!(told("ok-kind-34-page"), "no type id names reader 3");
+    assert_eq!(reported("ok-kind-34-page"), "no type id names reader 3");
     assert_eq!(
-        told("ok-driver-equal-readers"),
+        reported("ok-driver-equal-readers"),
         "reader 2 reads Coach.Console.Page, as reader 1 does, whose name stands at byte 12"
     );
-    assert_eq!(told("ok-kind-00-null"), "the first object is of kind Null");
+    assert_eq!(
+        reported("ok-kind-00-null"),
+        "the first object is of kind Null"
+    );
     for name in ["ok-driver-repeated-key", "ok-driver-repeated-key-as-object"] {
-        let told = told(name);
-        assert!(told.starts_with("the key \""), "{told}");
-        assert!(told.contains(" repeats that of row "), "{told}");
+        let reported = reported(name);
+        assert!(reported.starts_with("the key \""), "{reported}");
+        assert!(reported.contains(" repeats that of row "), "{reported}");
     }
-    let told = told("ok-driver-second-page-without-next");
-    assert!(told.ends_with(" has no next page"), "{told}");
+    let reported = reported("ok-driver-second-page-without-next");
+    assert!(reported.ends_with(" has no next page"), "{reported}");
 }

@@ -103,27 +103,27 @@ fn bytes_that_are_cut_are_refused_at_the_entry() {
 }
 
 #[test]
-fn faults_are_told() {
-    let told = |types: &[(&str, u8)]| {
+fn faults_are_reported() {
+    let reported = |types: &[(&str, u8)]| {
         let refused = EnumList::new(types.iter().copied());
         refused.expect_err("a refused list").to_string()
     };
     let expected =
         "entry 1 of the enum list, Coach.Seat: the size is 3; only 1, 2, 4 and 8 are taken";
-    assert_eq!(told(&[("Coach.Door", 1), ("Coach.Seat", 3)]), expected);
+    assert_eq!(reported(&[("Coach.Door", 1), ("Coach.Seat", 3)]), expected);
     let expected = "entry 0 of the enum list: the name is empty";
-    assert_eq!(told(&[("", 1)]), expected);
+    assert_eq!(reported(&[("", 1)]), expected);
     let expected = "entry 0 of the enum list, Coach Door: the name has the byte 20; \
         only letters, digits, ., _ and + are taken";
-    assert_eq!(told(&[("Coach Door", 1)]), expected);
+    assert_eq!(reported(&[("Coach Door", 1)]), expected);
     let expected = "entry 0 of the enum list, System.Byte: a type of this name is known already";
-    assert_eq!(told(&[("System.Byte", 1)]), expected);
+    assert_eq!(reported(&[("System.Byte", 1)]), expected);
     let expected = "entry 2 of the enum list, A: the name is listed before, as entry 0";
-    assert_eq!(told(&[("A", 1), ("B", 1), ("A", 1)]), expected);
+    assert_eq!(reported(&[("A", 1), ("B", 1), ("A", 1)]), expected);
     let long = "x".repeat(300);
     let expected =
         format!("entry 0 of the enum list, {long}: the name has 300 bytes, the limit 255");
-    assert_eq!(told(&[(&long, 1)]), expected);
+    assert_eq!(reported(&[(&long, 1)]), expected);
     let refused = EnumList::from_bytes(*b"\x05Coac").expect_err("a cut list");
     let expected = "entry 0 of the enum list, Coac: the list ends in it";
     assert_eq!(refused.to_string(), expected);
@@ -176,18 +176,23 @@ fn kept_files_give_their_rows_with_their_lists() {
     let (mut lawful, mut refused_lists) = (0, 0);
     for sample in kept_files_with_enums() {
         let loader = Loader::new().with_enum_bytes(&sample.enums);
-        let told = printed(loader, &sample.bytes);
-        assert_eq!(told, sample.rows, "{}", sample.name);
+        let reported = printed(loader, &sample.bytes);
+        assert_eq!(reported, sample.rows, "{}", sample.name);
         let second = printed_rows_with(&sample.enums, &sample.bytes);
-        assert_eq!(told, second, "{}", sample.name);
+        assert_eq!(reported, second, "{}", sample.name);
         match EnumList::from_bytes(sample.enums.clone()) {
             Ok(list) => {
                 let loader = Loader::new().with_enums(&list);
-                assert_eq!(printed(loader, &sample.bytes), told, "{}", sample.name);
+                assert_eq!(printed(loader, &sample.bytes), reported, "{}", sample.name);
                 lawful += 1;
             }
             Err(EnumsRefused { entry, fault, .. }) => {
-                assert_eq!(told, format!("refused 32 at {entry}\n"), "{}", sample.name);
+                assert_eq!(
+                    reported,
+                    format!("refused 32 at {entry}\n"),
+                    "{}",
+                    sample.name
+                );
                 assert!(fault.is_some(), "{}", sample.name);
                 refused_lists += 1;
             }

@@ -19,8 +19,8 @@ fn example(name: &str) -> Command {
 /// What a program prints when it ends well.
 fn printed(command: &mut Command) -> String {
     let output = command.output().expect("the program runs");
-    let told = String::from_utf8_lossy(&output.stderr);
-    assert!(output.status.success(), "{told}");
+    let reported = String::from_utf8_lossy(&output.stderr);
+    assert!(output.status.success(), "{reported}");
     String::from_utf8(output.stdout).expect("UTF-8")
 }
 
@@ -48,12 +48,12 @@ fn values_of_a_file_are_printed() {
 }
 
 #[test]
-fn a_refused_file_is_told() {
+fn a_refused_file_is_reported() {
     let output = example("values").arg(kept("bad-07-length-00.xnb")).output();
     let output = output.expect("the program runs");
     assert!(!output.status.success());
-    let told = String::from_utf8_lossy(&output.stderr);
-    assert!(told.contains("FileLength"), "{told}");
+    let reported = String::from_utf8_lossy(&output.stderr);
+    assert!(reported.contains("FileLength"), "{reported}");
 }
 
 #[test]

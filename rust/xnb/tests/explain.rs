@@ -70,7 +70,7 @@ fn every_refusal_of_a_generated_file_is_explained() {
     assert_eq!(counts.len(), 26, "{counts:?}");
 }
 
-/// Listed enums are followed with their sizes, and entries that are refused are told.
+/// Listed enums are followed with their sizes, and entries that are refused are reported.
 #[test]
 fn every_refusal_of_a_file_with_enums_is_explained() {
     let mut counts: BTreeMap<Refusal, u32> = BTreeMap::new();
@@ -99,8 +99,8 @@ fn every_refusal_of_a_file_with_enums_is_explained() {
 }
 
 #[test]
-fn what_is_found_with_enums_is_told() {
-    let told = [
+fn what_is_found_with_enums_is_reported() {
+    let reported = [
         (
             "bad-01-enums-list-of-2-cut",
             "a value of kind Enum takes 2 bytes, 1 left",
@@ -115,7 +115,7 @@ fn what_is_found_with_enums_is_told() {
         ),
     ];
     let files = kept_files_with_enums();
-    for (name, expected) in told {
+    for (name, expected) in reported {
         let file = files.iter().find(|file| file.name == name);
         let file = file.unwrap_or_else(|| panic!("no sample {name}"));
         let loader = Loader::new().with_enum_bytes(&file.enums);
@@ -127,8 +127,8 @@ fn what_is_found_with_enums_is_told() {
 
 /// Each number, and each of its rules, in the words of a sample.
 #[test]
-fn what_is_found_is_told() {
-    let told = [
+fn what_is_found_is_reported() {
+    let reported = [
         (
             "bad-01-nine-bytes",
             "the header takes 10 bytes, the file has 9",
@@ -319,7 +319,7 @@ fn what_is_found_is_told() {
             "the characters do not rise: U+0061 stands behind U+20AC",
         ),
     ];
-    for (name, expected) in told {
+    for (name, expected) in reported {
         assert_eq!(found(name), expected, "{name}");
     }
 }
@@ -331,7 +331,7 @@ fn refusals() -> impl Iterator<Item = Refusal> {
 
 /// A refusal that the file does not show has no words.
 #[test]
-fn nothing_is_told_of_another_refusal() {
+fn nothing_is_reported_of_another_refusal() {
     let files = kept_files();
     let mut count = 0;
     for file in files.iter().filter(|file| file.name.starts_with("ok-")) {
@@ -346,9 +346,9 @@ fn nothing_is_told_of_another_refusal() {
     assert!(count > 10_000, "{count}");
 }
 
-/// Every lawful file is followed to its end: room for one row less is told at its last value.
+/// Every lawful file is followed to its end: room for one row less is reported at its last value.
 #[test]
-fn a_missing_row_is_told() {
+fn a_missing_row_is_reported() {
     for file in kept_files() {
         let Ok(loaded) = Shape::Rows.load(&file.bytes, &mut vec![0; WORDS_PER_ROW * BUILDER_ROWS])
         else {

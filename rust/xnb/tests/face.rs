@@ -146,7 +146,7 @@ fn words_may_be_lent() {
     assert_eq!(too_few, refused(Refusal::NoRowLeft, last.first as u32));
 }
 
-/// Each column as it is told, in the order of a row's words.
+/// Each column as it is given, in the order of a row's words.
 fn columns_of<'c, W: AsRef<[u32]>>(columns: &'c Columns<W>) -> [&'c [u32]; WORDS_PER_ROW] {
     [
         columns.kinds(),
@@ -217,7 +217,7 @@ fn files_are_shortened() {
 }
 
 #[test]
-fn refusals_are_told() {
+fn refusals_are_reported() {
     let mut file = write(&file_a()).bytes;
     assert_eq!(xnb::count_rows(&file), Ok(1));
     file.pop();

@@ -19,8 +19,8 @@ fn empty_folder(name: &str) -> PathBuf {
 /// What a program prints when it ends well.
 fn printed(command: &mut Command) -> String {
     let output = command.output().expect("the program starts");
-    let told = String::from_utf8_lossy(&output.stderr);
-    assert!(output.status.success(), "{command:?}: {told}");
+    let reported = String::from_utf8_lossy(&output.stderr);
+    assert!(output.status.success(), "{command:?}: {reported}");
     String::from_utf8(output.stdout).expect("a text")
 }
 
@@ -44,7 +44,7 @@ fn files(folder: &Path) -> Vec<String> {
     files
 }
 
-const INSTALLED: [&str; 11] = [
+const INSTALLED: [&str; 12] = [
     "./usr/bin/asset-builder",
     "./usr/include/xnb.h",
     "./usr/lib/libxnb.a",
@@ -53,6 +53,7 @@ const INSTALLED: [&str; 11] = [
     concat!("./usr/lib/libxnb.so.", env!("CARGO_PKG_VERSION")),
     "./usr/lib/pkgconfig/xnb.pc",
     "./usr/share/bash-completion/completions/asset-builder",
+    "./usr/share/doc/xnb/copyright",
     "./usr/share/fish/vendor_completions.d/asset-builder.fish",
     "./usr/share/man/man1/asset-builder.1",
     "./usr/share/zsh/vendor-completions/_asset-builder",

@@ -261,7 +261,7 @@ struct Both<'a, 'f> {
     columns: &'a Columns<'f>,
     number: u32,
     children: Vec<u32>,
-    told: String,
+    reported: String,
 }
 
 impl<'f> Both<'_, 'f> {
@@ -275,7 +275,7 @@ impl<'f> Both<'_, 'f> {
         u32::from_le_bytes(self.bytes(index).try_into().expect("four bytes"))
     }
 
-    /// Checks a model, a buffer or a declaration against its children's rows; tells whether it is one.
+    /// Checks a model, a buffer or a declaration against its children's rows; answers whether it is one.
     fn check(&self, kind: Kind) -> bool {
         match kind {
             Kind::Model => self.check_model(),
@@ -290,30 +290,40 @@ impl<'f> Both<'_, 'f> {
     fn check_model(&self) {
         let model = self.table.model(self.number).expect("a model");
         let fields = fields(&model);
-        assert_eq!(fields.len(), self.children.len(), "{}", self.told);
+        assert_eq!(fields.len(), self.children.len(), "{}", self.reported);
         for (child, field) in self.children.iter().zip(&fields) {
-            assert_eq!(by_row(self.table, *child, field), *field, "{}", self.told);
+            assert_eq!(
+                by_row(self.table, *child, field),
+                *field,
+                "{}",
+                self.reported
+            );
         }
         let model = self.columns.model(self.number).expect("a model");
-        assert_eq!(self::fields(&model), fields, "{}", self.told);
+        assert_eq!(self::fields(&model), fields, "{}", self.reported);
         for part in model.meshes().flat_map(|mesh| mesh.parts()) {
-            check_part(&self.told, self.table, &part);
+            check_part(&self.reported, self.table, &part);
         }
     }
 
     fn check_index_buffer(&self) {
         let buffer = self.table.index_buffer(self.number).expect("a buffer");
         let other = self.columns.index_buffer(self.number).expect("a buffer");
-        assert_eq!(buffer, other, "{}", self.told);
-        assert_eq!([u8::from(buffer.is_16_bit)], self.bytes(0), "{}", self.told);
-        assert_eq!(buffer.data, self.bytes(2), "{}", self.told);
+        assert_eq!(buffer, other, "{}", self.reported);
+        assert_eq!(
+            [u8::from(buffer.is_16_bit)],
+            self.bytes(0),
+            "{}",
+            self.reported
+        );
+        assert_eq!(buffer.data, self.bytes(2), "{}", self.reported);
         let size = if buffer.is_16_bit { 2 } else { 4 };
         let indices = self.word(1) as usize / size;
-        assert_eq!(buffer.indices().len(), indices, "{}", self.told);
+        assert_eq!(buffer.indices().len(), indices, "{}", self.reported);
         let bytes = buffer
             .indices()
             .flat_map(|it| it.to_le_bytes()[..size].to_vec());
-        assert!(bytes.eq(buffer.data.iter().copied()), "{}", self.told);
+        assert!(bytes.eq(buffer.data.iter().copied()), "{}", self.reported);
     }
 
     fn check_vertex_buffer(&self) {
@@ -321,14 +331,22 @@ impl<'f> Both<'_, 'f> {
             self.table.vertex_buffer(self.number).expect("a buffer"),
             self.columns.vertex_buffer(self.number).expect("a buffer"),
         ] {
-            assert_eq!(buffer.vertex_count, self.word(1), "{}", self.told);
-            assert_eq!(buffer.data, self.bytes(2), "{}", self.told);
+            assert_eq!(buffer.vertex_count, self.word(1), "{}", self.reported);
+            assert_eq!(buffer.data, self.bytes(2), "{}", self.reported);
             if buffer.declaration.stride > 0 {
-                assert!(buffer.vertices().flatten().eq(buffer.data), "{}", self.told);
+                assert!(
+                    buffer.vertices().flatten().eq(buffer.data),
+                    "{}",
+                    self.reported
+                );
             }
             let declared = self.table.vertex_declaration(self.children[0]);
             let declared = declared.expect("a declaration");
-            assert_eq!(declared.stride, buffer.declaration.stride, "{}", self.told);
+            assert_eq!(
+                declared.stride, buffer.declaration.stride,
+                "{}",
+                self.reported
+            );
             assert!(declared.elements().eq(buffer.declaration.elements()));
         }
     }
@@ -350,7 +368,7 @@ impl<'f> Both<'_, 'f> {
                 words.extend([element.offset, format, usage, element.usage_index]);
             }
             let expected = (0..self.children.len()).map(|index| self.word(index));
-            assert!(expected.eq(words), "{}", self.told);
+            assert!(expected.eq(words), "{}", self.reported);
         }
     }
 }
@@ -401,7 +419,7 @@ fn iterators_give_what_the_rows_hold() {
                 columns: &columns,
                 number,
                 children: table.children(number).collect(),
-                told: format!("{name}, row {number}"),
+                reported: format!("{name}, row {number}"),
             };
             if both.check(row.kind) {
                 *counts.entry(row.kind).or_default() += 1;
@@ -436,9 +454,9 @@ fn every_refusal_of_a_mesh_is_explained() {
 
 /// Each rule of a mesh, in the words of a sample.
 #[test]
-fn what_is_found_is_told() {
+fn what_is_found_is_reported() {
     let graphics = "Microsoft.Xna.Framework.Graphics";
-    let told = [
+    let reported = [
         (
             "bad-15-index-flag-2",
             "Boolean: the byte is 2; only 0 and 1 are taken".to_string(),
@@ -495,7 +513,7 @@ fn what_is_found_is_told() {
             "declared an effect, which must be null, found System.String".to_string(),
         ),
     ];
-    for (name, expected) in told {
+    for (name, expected) in reported {
         let file = sample(name);
         let refused = Shape::Rows.load(&file, &mut vec![0; WORDS_PER_ROW * 1024]);
         let refused = refused.expect_err("a refused sample");

@@ -52,7 +52,7 @@ fn marked(name: &[u8], refusal: Refusal, place: usize) -> Range<usize> {
     place..place + length
 }
 
-/// The words tell the byte that is found, or the end.
+/// The words name the byte that is found, or the end.
 fn check_words(name: &[u8], refusal: Refusal, place: usize, explanation: &Explanation) {
     let found = match (refusal, name.get(place)) {
         (Refusal::NameHead | Refusal::NestedTooDeep, _) => return,
@@ -67,7 +67,7 @@ fn check_words(name: &[u8], refusal: Refusal, place: usize, explanation: &Explan
 
 /// The table of names: every fault at every position of the grammar.
 #[test]
-fn every_name_of_the_table_is_told_where_it_is_wrong() {
+fn every_name_of_the_table_is_reported_where_it_is_wrong() {
     let names = all();
     assert!(names.len() >= 120, "only {} names", names.len());
     for Judged {
@@ -81,7 +81,7 @@ fn every_name_of_the_table_is_told_where_it_is_wrong() {
 }
 
 #[test]
-fn generated_names_are_told_where_they_are_wrong() {
+fn generated_names_are_reported_where_they_are_wrong() {
     let mut counts: BTreeMap<u32, u32> = BTreeMap::new();
     for seed in 0..NAMES {
         let named = named(seed);

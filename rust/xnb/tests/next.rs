@@ -16,15 +16,15 @@ fn compare(name: &str, table: &TableCase) {
         (Shape::Columns, second::Shape::Columns, &columns),
     ];
     for (shape, seconds, words) in shapes {
-        let told = format!("{name}: {shape:?}");
-        assert_eq!(raw::next(shape, words, *row), *next, "{told}: row {row}");
+        let label = format!("{name}: {shape:?}");
+        assert_eq!(raw::next(shape, words, *row), *next, "{label}: row {row}");
         let known = Some(*next).filter(|next| *next > 0);
-        assert_eq!(shape.next(words, *row), known, "{told}");
+        assert_eq!(shape.next(words, *row), known, "{label}");
         let table = second::Table::new(seconds, words);
         for row in 0..rows + 3 {
             let expected = second::next(table, row as usize).unwrap_or(0);
             let answer = raw::next(shape, words, row) as usize;
-            assert_eq!(answer, expected, "{told}: row {row}");
+            assert_eq!(answer, expected, "{label}: row {row}");
         }
     }
 }

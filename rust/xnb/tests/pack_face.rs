@@ -88,29 +88,29 @@ fn a_pack_of_its_own_words_has_all_the_room() {
 }
 
 #[test]
-fn refusals_are_told() {
+fn refusals_are_reported() {
     let bytes = write_pack(NO_MARK, &files()).bytes;
-    let told = |bytes: &[u8]| Pack::read(bytes).map(|_| ()).unwrap_err().to_string();
+    let reported = |bytes: &[u8]| Pack::read(bytes).map(|_| ()).unwrap_err().to_string();
     let longer = [&bytes[..], b"\0"].concat();
     let left_over = format!(
         "bytes are left over behind the last file, at byte {}",
         bytes.len()
     );
-    assert_eq!(told(&longer), left_over);
+    assert_eq!(reported(&longer), left_over);
     assert_eq!(
-        told(&[]),
+        reported(&[]),
         "a field runs past the end of the pack, at byte 0"
     );
     assert_eq!(
-        told(b"\x01\0\0\0\x01\xFF"),
+        reported(b"\x01\0\0\0\x01\xFF"),
         "a path is not UTF-8, at byte 4"
     );
     let broken = "a seven-bit number has a wrong fifth byte, at byte 4";
-    assert_eq!(told(b"\x01\0\0\0\xFF\xFF\xFF\xFF\xFF"), broken);
+    assert_eq!(reported(b"\x01\0\0\0\xFF\xFF\xFF\xFF\xFF"), broken);
     let empty = "a path is empty or longer than 260 bytes, at byte 4";
-    assert_eq!(told(b"\x01\0\0\0\0"), empty);
+    assert_eq!(reported(b"\x01\0\0\0\0"), empty);
     let many = "the pack claims more than 4,096 files, at byte 0";
-    assert_eq!(told(b"\x01\x10\0\0"), many);
+    assert_eq!(reported(b"\x01\x10\0\0"), many);
 }
 
 #[test]

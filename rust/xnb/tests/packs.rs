@@ -82,9 +82,9 @@ impl Sides {
             Ok(files) => (0, files as u64),
             Err(refusal) => (refusal.number, refusal.place as u64),
         };
-        let told = format!("{name}: read with {words} words");
-        assert_eq!(answer, expected, "{told}");
-        linked.check(&told, &table);
+        let label = format!("{name}: read with {words} words");
+        assert_eq!(answer, expected, "{label}");
+        linked.check(&label, &table);
         *self.counts.reads.entry(answer.0).or_insert(0) += 1;
         (answer.0 == 0).then_some(table)
     }

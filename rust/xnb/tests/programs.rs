@@ -166,7 +166,7 @@ fn the_empty_input_is_refused() {
 }
 
 #[test]
-fn an_output_that_cannot_be_written_is_told() {
+fn an_output_that_cannot_be_written_is_reported() {
     let sample = root().join("corpus/ok-kind-13-string.xnb");
     for program in ["rows", "shorten"] {
         let full = File::options().write(true).open("/dev/full");
@@ -176,7 +176,7 @@ fn an_output_that_cannot_be_written_is_told() {
             .stderr(Stdio::piped())
             .output()
             .expect("a program of target/bin starts");
-        let told = b"standard output could not be written\n";
-        assert_eq!(output.stderr, told, "{program}");
+        let reported = b"standard output could not be written\n";
+        assert_eq!(output.stderr, reported, "{program}");
     }
 }

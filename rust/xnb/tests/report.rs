@@ -89,15 +89,15 @@ impl Sides {
             words,
             report,
         );
-        let told = match expected {
+        let reported = match expected {
             Ok(()) => (0, 0),
             Err(refusal) => (refusal.number, refusal.place as u64),
         };
-        assert_eq!(answer, told, "{name}");
+        assert_eq!(answer, reported, "{name}");
         assert!(words.iter().all(|word| *word == 0), "{name}: the row table");
         linked_table.check(name, &second_table);
         linked_report.check(name, &second_report);
-        *counts.entry(told.0).or_default() += 1;
+        *counts.entry(reported.0).or_default() += 1;
         expected
     }
 
@@ -187,10 +187,10 @@ fn corpus_packs_give_their_reports() {
         let (mut table, mut words) = (vec![7; expected.table], vec![7; expected.words]);
         let answer = report.add_pack(loader, &sample.pack, &mut table, &mut words);
         assert!(words.iter().all(|word| *word == 0), "{}", sample.name);
-        let told = answer.map_err(|refused| (refused.refusal.number(), refused.place));
-        let told = told.map(|()| *report.words());
-        assert_eq!(told, expected.answer, "{}", sample.name);
-        if told.is_err() {
+        let reported = answer.map_err(|refused| (refused.refusal.number(), refused.place));
+        let reported = reported.map(|()| *report.words());
+        assert_eq!(reported, expected.answer, "{}", sample.name);
+        if reported.is_err() {
             assert_eq!(*report.words(), expected.before, "{}", sample.name);
         }
     }

@@ -1,4 +1,4 @@
-//! Req 12: two files that differ inside valid texts alone are told alike, and each of its hypotheses is needed.
+//! Req 12: two files that differ inside valid texts alone are answered alike, and each of its hypotheses is needed.
 
 use fuzz::random::Random;
 use fuzz::retyped::{case, no_text, retyped, TextCase};
@@ -17,9 +17,9 @@ const BAD_VALUE: u64 = 15;
 /// What a load answers, and the words that it leaves.
 type Loaded = (LoadAnswer, Vec<u32>);
 
-/// All that the library tells of a file, but for the bytes that it gives back.
+/// All that the library answers of a file, but for the bytes that it gives back.
 #[derive(Debug, PartialEq)]
-struct Told {
+struct Answers {
     /// By rows and in columns.
     loads: [Loaded; 2],
     /// The asset builder's number, which is for an empty list.
@@ -66,7 +66,7 @@ fn rewrite(file: &[u8], enums: &[u8], words: usize, out: usize) -> (u64, Vec<u32
     (answer, words)
 }
 
-fn told(file: &[u8], enums: &[u8], words: usize) -> Told {
+fn reported(file: &[u8], enums: &[u8], words: usize) -> Answers {
     let loads = SHAPES.map(|shape| load(shape, file, enums, words));
     let mut outs = vec![0, file.len()];
     if let Some(needed) = needed(file, enums, words) {
@@ -84,7 +84,7 @@ fn told(file: &[u8], enums: &[u8], words: usize) -> Told {
             next: raw::next(shape, words, row),
         }));
     }
-    Told {
+    Answers {
         loads,
         builder: enums.is_empty().then(|| raw::load(file)),
         rewrites,
@@ -92,13 +92,13 @@ fn told(file: &[u8], enums: &[u8], words: usize) -> Told {
     }
 }
 
-fn told_of(case: &TextCase, file: &[u8]) -> Told {
-    told(file, &case.enums, case.words)
+fn reported_of(case: &TextCase, file: &[u8]) -> Answers {
+    reported(file, &case.enums, case.words)
 }
 
 /// "Each other row's part has the same bytes except where it encloses such a text."
-fn check_parts(name: &str, case: &TextCase, new: &[u8], told: &Told) {
-    let parts = told.rows.iter().filter(|row| row.part.0 == 0);
+fn check_parts(name: &str, case: &TextCase, new: &[u8], reported: &Answers) {
+    let parts = reported.rows.iter().filter(|row| row.part.0 == 0);
     for (_, first, length) in parts.map(|row| row.part) {
         let part = first..first + length;
         let meets = |text: &&Range<usize>| text.start < part.end && part.start < text.end;
@@ -144,13 +144,13 @@ fn pairs() -> impl Iterator<Item = (String, TextCase, Vec<u8>)> {
 }
 
 #[test]
-fn retyped_files_are_told_alike() {
+fn retyped_files_are_answered_alike() {
     // How many pairs were accepted, and how many refused with each number.
     let mut answers: BTreeMap<u64, u32> = BTreeMap::new();
     let (mut strings, mut enclosing) = (0, 0);
     for (name, case, new) in pairs().take(PAIRS) {
-        let old = told_of(&case, &case.bytes);
-        assert!(told_of(&case, &new) == old, "{name}");
+        let old = reported_of(&case, &case.bytes);
+        assert!(reported_of(&case, &new) == old, "{name}");
         check_parts(&name, &case, &new, &old);
         let packed = old.loads[0].0.packed;
         *answers.entry(packed >> 32).or_default() += 1;
@@ -168,9 +168,9 @@ fn retyped_files_are_told_alike() {
     assert!(answers[&0] > 5_000 && strings > 20_000, "{answers:?}");
 }
 
-/// Under a list that 32 refuses, any two files of any bytes are told alike.
+/// Under a list that 32 refuses, any two files of any bytes are answered alike.
 #[test]
-fn under_a_refused_list_any_two_files_are_told_alike() {
+fn under_a_refused_list_any_two_files_are_answered_alike() {
     let mut random = Random::new(12);
     let refused = (0..).map(case).filter(|case| {
         let (answer, _) = load(Shape::Rows, &case.bytes, &case.enums, 0);
@@ -189,7 +189,7 @@ fn under_a_refused_list_any_two_files_are_told_alike() {
     }
 }
 
-/// What one file tells, and what the other does, a hypothesis being broken: answers, rows in use and rewritten lengths.
+/// What one file gives, and what the other does, a hypothesis being broken: answers, rows in use and rewritten lengths.
 type Outcome = (LoadAnswer, Vec<u32>, Option<usize>);
 
 fn outcome(file: &[u8], enums: &[u8], words: usize) -> Outcome {

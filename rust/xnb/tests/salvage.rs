@@ -80,8 +80,8 @@ fn check_whole(name: &str, pack: &[u8], salvaged: &Salvaged) {
     let list: Vec<u64> = salvaged.skipped.iter().flat_map(words).collect();
     check_partition(name, pack, &salvaged.pack, read.words(), &list);
     assert_eq!(salvaged.records(), read.len(), "{name}");
-    let told = salvaged.kept_bytes() as u64 + salvaged.skipped_bytes() + 4;
-    assert_eq!(told, pack.len() as u64, "{name}");
+    let reported = salvaged.kept_bytes() as u64 + salvaged.skipped_bytes() + 4;
+    assert_eq!(reported, pack.len() as u64, "{name}");
 
     let again = salvage(&salvaged.pack).expect(name);
     assert!(again.pack == salvaged.pack, "{name}: once more");
@@ -222,20 +222,20 @@ fn a_kept_pack_with_just_enough_room() {
 }
 
 #[test]
-fn refusals_are_told() {
+fn refusals_are_reported() {
     let pack = b"\0\0\0\0?\xFD\xFE\x01a\x02\0\0\0hi?";
     let (mut out, mut list) = ([0xEE; 15], [7; 5]);
-    let mut told = |pack: &[u8], bytes, words| {
+    let mut reported = |pack: &[u8], bytes, words| {
         let refused = salvage_into(pack, &mut out[..bytes], &mut list[..words]);
         refused.expect_err("too small").to_string()
     };
     let short = "a field runs past the end of the pack, at byte 0";
-    assert_eq!(told(&pack[..3], 0, 0), short);
+    assert_eq!(reported(&pack[..3], 0, 0), short);
     let small = "the output is too small for the new pack, which takes 14 bytes";
-    assert_eq!(told(pack, 13, 5), small);
-    assert_eq!(told(pack, 13, 0), small);
+    assert_eq!(reported(pack, 13, 5), small);
+    assert_eq!(reported(pack, 13, 0), small);
     let few = "the list is too short for the skipped stretches, which are 2";
-    assert_eq!(told(pack, 14, 3), few);
+    assert_eq!(reported(pack, 14, 3), few);
     assert_eq!((out, list), ([0xEE; 15], [7; 5]), "unchanged");
 
     let (length, stretches) = (14, 2);

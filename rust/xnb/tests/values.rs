@@ -162,7 +162,7 @@ fn places_and_colours_are_as_they_were_written() {
 }
 
 #[test]
-fn values_that_hold_others_tell_how_many() {
+fn values_that_hold_others_report_how_many() {
     fn check<S: Shaped>(table: &Grid<S>) {
         let nullable = table.children(0).nth(1).expect("the second value");
         let expected = [
@@ -284,7 +284,7 @@ fn a_page_names_its_texture_and_the_next() {
 }
 
 #[test]
-fn headers_and_readers_are_told() {
+fn headers_and_readers_are_reported() {
     let names = [
         format!("{STRING}{XNA_TAIL}"),
         dictionary_of(
@@ -321,7 +321,7 @@ fn headers_and_readers_are_told() {
         assert_eq!(table.reader(reader.type_id), Some(reader));
     }
     let targets: Vec<_> = table.readers().map(|reader| reader.target()).collect();
-    let told: Vec<String> = targets.iter().map(|target| target.to_string()).collect();
+    let reported: Vec<String> = targets.iter().map(|target| target.to_string()).collect();
     let dictionary = "System.Collections.Generic.Dictionary`2[[System.String],\
         [System.Collections.Generic.List`1[[System.Nullable`1[[System.Char]]]]]]";
     let texture = "Microsoft.Xna.Framework.Graphics.Texture";
@@ -334,7 +334,7 @@ fn headers_and_readers_are_told() {
         texture,
         "Coach.Console.Page",
     ];
-    assert_eq!(told, expected);
+    assert_eq!(reported, expected);
     let kinds: Vec<_> = targets.iter().map(|target| target.kind).collect();
     let expected = [
         Some(Kind::String),

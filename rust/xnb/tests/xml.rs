@@ -73,10 +73,10 @@ fn compare_export(
         Ok(length) => length as u64,
         Err(refusal) => (u64::from(refusal.number) << 32) + refusal.place as u64,
     };
-    let told = format!("{name}: {words} words, {bytes} bytes");
-    assert_eq!(answer, packed, "{told}");
-    linked_words.check(&told, &second_words);
-    linked_out.check(&told, &out);
+    let reported = format!("{name}: {words} words, {bytes} bytes");
+    assert_eq!(answer, packed, "{reported}");
+    linked_words.check(&reported, &second_words);
+    linked_out.check(&reported, &out);
     count(counts, expected);
     expected
 }
@@ -109,8 +109,8 @@ fn compare_exports(random: &mut Random, counts: &mut Counts, of: Exported, words
             check_way_back(of.name, &xml);
         }
         (Err(refused), Err(refusal)) => {
-            let told = (refused.refusal.number(), refused.place as usize);
-            assert_eq!(told, (refusal.number, refusal.place), "{}", of.name);
+            let reported = (refused.refusal.number(), refused.place as usize);
+            assert_eq!(reported, (refusal.number, refusal.place), "{}", of.name);
         }
         (face, expected) => panic!("{}: {face:?}, {expected:?}", of.name),
     }
@@ -189,11 +189,11 @@ fn corpus_files_give_the_second_programs_answers() {
         let Some(kept) = &file.export else {
             continue;
         };
-        let told = match xnb::xml::export(&file.bytes) {
+        let reported = match xnb::xml::export(&file.bytes) {
             Ok(xml) => xml.into_bytes(),
             Err(refused) => refusal_line(refused.refusal.number(), refused.place.into()),
         };
-        assert_eq!(told, *kept, "{}", file.name);
+        assert_eq!(reported, *kept, "{}", file.name);
     }
     println!("{counts:?}");
 }
@@ -215,11 +215,11 @@ fn compare_import(
     let mut out = vec![byte; bytes];
     let answer = raw::xml::import(xml, linked.middle());
     let expected = second::xml::import(xml, &mut out);
-    let told = match expected {
+    let reported = match expected {
         Ok(length) => (0, length as u64),
         Err(refusal) => (refusal.number, refusal.place as u64),
     };
-    assert_eq!(answer, told, "{name}: {bytes} bytes");
+    assert_eq!(answer, reported, "{name}: {bytes} bytes");
     linked.check(name, &out);
     count(counts, expected);
     expected
@@ -239,8 +239,8 @@ fn compare_imports(random: &mut Random, counts: &mut Counts, (name, xml): (&str,
     match (xnb::xml::import(xml), expected) {
         (Ok(file), Ok(length)) => assert!(file == out[..length], "{name}"),
         (Err(XmlRefused { refusal, place }), Err(expected)) => {
-            let told = (refusal.number(), place as usize);
-            assert_eq!(told, (expected.number, expected.place), "{name}");
+            let reported = (refusal.number(), place as usize);
+            assert_eq!(reported, (expected.number, expected.place), "{name}");
             if refusal == xnb::Refusal::NotExported {
                 check_expected(name, xml, place as usize);
             }
@@ -249,7 +249,7 @@ fn compare_imports(random: &mut Random, counts: &mut Counts, (name, xml): (&str,
     }
 }
 
-/// What is told to be expected at a place goes on as some export does.
+/// What is said to be expected at a place goes on as some export does.
 fn check_expected(name: &str, xml: &[u8], place: usize) {
     let expected = Expected::at(xml, place);
     let ways: Vec<&[u8]> = match expected {
@@ -310,19 +310,19 @@ fn corpus_xml_gives_its_answers() {
     for sample in kept_samples() {
         let (name, xml) = (&sample.name[..], &sample.xml[..]);
         compare_imports(&mut random, &mut counts, (name, xml));
-        let told = match xnb::xml::import(xml) {
+        let reported = match xnb::xml::import(xml) {
             Ok(file) => file,
             Err(refused) => refusal_line(refused.refusal.number(), refused.place),
         };
-        assert_eq!(told, sample.answer, "{name}");
+        assert_eq!(reported, sample.answer, "{name}");
     }
     println!("{counts:?}");
 }
 
 #[test]
-fn what_is_expected_is_told_in_words() {
+fn what_is_expected_is_reported_in_words() {
     let start = "<?xml version=\"1.0\" encoding=\"utf-8\"?><XnaContent><Asset Type=\"string[]\">";
-    let told = |rest: &str| {
+    let reported = |rest: &str| {
         let xml = format!("{start}{rest}");
         let refused = xnb::xml::import(&xml).expect_err("wrong XML");
         assert_eq!(refused.refusal, xnb::Refusal::NotExported, "{rest}");
@@ -330,26 +330,26 @@ fn what_is_expected_is_told_in_words() {
     };
     let between = "<Item> or </Asset></XnaContent>";
     let text = "a character, &amp; &lt; &gt; &quot; or </Item>";
-    assert_eq!(told(""), between);
-    assert_eq!(told("\n<Item>a</Item>"), between);
-    assert_eq!(told("<Item>a</Item> <Item>"), between);
-    assert_eq!(told("<item>"), "Item> or /Asset></XnaContent> behind <");
-    assert_eq!(told("<Item x"), "> behind <Item");
+    assert_eq!(reported(""), between);
+    assert_eq!(reported("\n<Item>a</Item>"), between);
+    assert_eq!(reported("<Item>a</Item> <Item>"), between);
+    assert_eq!(reported("<item>"), "Item> or /Asset></XnaContent> behind <");
+    assert_eq!(reported("<Item x"), "> behind <Item");
     assert_eq!(
-        told("<Item>Doors & steps"),
+        reported("<Item>Doors & steps"),
         "amp; lt; gt; or quot; behind &"
     );
-    assert_eq!(told("<Item>&ampersand;"), "; behind &amp");
-    assert_eq!(told("<Item>&apos;"), "mp; behind &a");
-    assert_eq!(told("<Item>a > b"), text);
-    assert_eq!(told("<Item>a\n"), text);
-    assert_eq!(told("<Item>a</item>"), "Item> behind </");
+    assert_eq!(reported("<Item>&ampersand;"), "; behind &amp");
+    assert_eq!(reported("<Item>&apos;"), "mp; behind &a");
+    assert_eq!(reported("<Item>a > b"), text);
+    assert_eq!(reported("<Item>a\n"), text);
+    assert_eq!(reported("<Item>a</item>"), "Item> behind </");
     assert_eq!(
-        told("<Item>\u{FFFF}"),
+        reported("<Item>\u{FFFF}"),
         "the rest of a character, behind its first 2 bytes"
     );
-    assert_eq!(told("</Asset></XnaContent>\n"), "nothing more");
-    assert_eq!(told("</Asset>"), "</XnaContent> behind </Asset>");
+    assert_eq!(reported("</Asset></XnaContent>\n"), "nothing more");
+    assert_eq!(reported("</Asset>"), "</XnaContent> behind </Asset>");
     let mark = Expected::at(b"\xEF\xBB\xBF<?xml", 0);
     assert_eq!(mark.to_string(), "<?xml version=\"1.0\" enco...");
 }

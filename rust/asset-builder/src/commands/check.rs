@@ -159,7 +159,7 @@ fn packed(refused: Refused) -> u64 {
     (u64::from(refused.refusal.number()) << 32) + u64::from(refused.place)
 }
 
-/// Prints the lines of a file; why one is unread was told when it was met.
+/// Prints the lines of a file; why one is unread was reported when it was met.
 fn print(run: &mut Run, input: &Input, outcome: &Outcome) -> End {
     let paint = run.paint();
     let name = paint.name(&input.shown());

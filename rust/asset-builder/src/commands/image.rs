@@ -192,7 +192,7 @@ impl Image {
         }
     }
 
-    /// Makes the folder of the pictures; or tells why there is no place for so many.
+    /// Makes the folder of the pictures; or says why there is no place for so many.
     fn make_place(&self, output: &Output, asked: &[Asked]) -> Result<(), String> {
         if asked.iter().all(|it| it.level.is_err()) {
             return Ok(());
@@ -286,7 +286,7 @@ impl Look {
         }
     }
 
-    /// As it is told to people.
+    /// As it is shown to people.
     fn words(&self) -> String {
         let (width, height, name) = (self.width, self.height, self.name);
         let made = self.made.map(|made| format!(" ({made})"));
@@ -294,7 +294,7 @@ impl Look {
     }
 }
 
-/// Makes a folder with all above it, or tells why it cannot be.
+/// Makes a folder with all above it, or says why it cannot be.
 fn make_folder(path: &Path) -> Result<(), String> {
     fs::create_dir_all(path).map_err(|error| match error.kind() {
         ErrorKind::AlreadyExists => "it is there already, and it is no folder".to_string(),

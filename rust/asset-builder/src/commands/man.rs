@@ -38,8 +38,9 @@ fn page(command: &Command) -> String {
 /// The commands below a command, and those below them.
 fn commands_lines(command: &Command) -> String {
     let commands = command.get_subcommands();
-    let told = commands.filter(|it| it.get_name() != "help");
-    told.map(|it| command_lines(it) + &commands_lines(it))
+    let shown = commands.filter(|it| it.get_name() != "help");
+    shown
+        .map(|it| command_lines(it) + &commands_lines(it))
         .collect()
 }
 
@@ -57,9 +58,9 @@ fn command_lines(command: &Command) -> String {
     for paragraph in about.split("\n\n") {
         lines += &format!(".PP\n{}\n", plain(paragraph));
     }
-    // Help and version are told once, of the whole.
-    let told = |it: &&Arg| ["help", "version"].contains(&it.get_id().as_str());
-    lines + &argument_lines(command.get_arguments().filter(|it| !told(it)))
+    // Help and version are described once, for the whole.
+    let shown_once = |it: &&Arg| ["help", "version"].contains(&it.get_id().as_str());
+    lines + &argument_lines(command.get_arguments().filter(|it| !shown_once(it)))
 }
 
 /// Each argument and what it is for.

@@ -7,7 +7,8 @@ mod export;
 mod image;
 mod import;
 mod man;
-mod pack;
+pub mod pack;
+mod preview;
 mod ranking;
 mod report;
 mod retype;
@@ -56,6 +57,7 @@ pub enum Command {
     Export(export::Export),
     Import(import::Import),
     Image(image::Image),
+    Preview(preview::Preview),
     Pack(pack::Pack),
     Mark(convert::Mark),
     Unmark(convert::Unmark),
@@ -76,6 +78,7 @@ impl Command {
             Command::Export(command) => command.run(run),
             Command::Import(command) => command.run(run),
             Command::Image(command) => command.run(run),
+            Command::Preview(command) => command.run(run),
             Command::Pack(command) => command.run(run),
             Command::Mark(command) => command.run(run),
             Command::Unmark(command) => command.run(run),

@@ -19,7 +19,7 @@ pub struct Padding {
     pub padded: usize,
 }
 
-/// Accepted files, to be told by their padding.
+/// Accepted files, to be reported by their padding.
 #[derive(Default)]
 pub struct Ranking {
     /// Those that pad, in the order in which they were met.

@@ -37,7 +37,7 @@ mod part;
 mod signals;
 
 pub use part::{unnamed_file, Part};
-pub use signals::watch;
+pub use signals::{end_by, watch};
 
 use crate::names::shown;
 use crate::progress::Progress;
@@ -218,7 +218,7 @@ impl Output {
         }
     }
 
-    /// Tells what came of writing a file, and whether it is written.
+    /// Reports what came of writing a file, and whether it is written.
     fn report(&self, run: &mut Run, written: io::Result<Option<String>>) -> bool {
         match written {
             Ok(remark) => {

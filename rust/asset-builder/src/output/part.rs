@@ -240,7 +240,7 @@ fn new_name_beside<T>(
 fn rename_to_new(name: &Path, place: &Path) -> io::Result<()> {
     let here = rustix::fs::cwd();
     match rustix::fs::renameat_with(here, name, here, place, RenameFlags::NOREPLACE) {
-        // The file system cannot tell; then the test before it must do.
+        // The file system does not know; then the test before it must do.
         Err(rustix::io::Errno::INVAL | rustix::io::Errno::NOSYS) => {
             match fs::symlink_metadata(place) {
                 Ok(_) => Err(ErrorKind::AlreadyExists.into()),

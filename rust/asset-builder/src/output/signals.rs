@@ -14,6 +14,15 @@ use std::thread;
 /// The files that have a name only until they are whole.
 static PARTS: Mutex<BTreeSet<PathBuf>> = Mutex::new(BTreeSet::new());
 
+/// What the first signal does in place of ending the run.
+static AT_END: Mutex<Option<Box<dyn Fn() + Send>>> = Mutex::new(None);
+
+/// From now on the first signal that would end the run does this instead, and the next ends it.
+pub fn end_by(action: impl Fn() + Send + 'static) {
+    let mut at_end = AT_END.lock().unwrap_or_else(PoisonError::into_inner);
+    *at_end = Some(Box::new(action));
+}
+
 /// The names of parts. No signal ends the run while they are held.
 pub struct Parts(MutexGuard<'static, BTreeSet<PathBuf>>);
 
@@ -45,6 +54,11 @@ pub fn watch() -> io::Result<()> {
     let mut signals = Signals::new(ending.iter().filter(|signal| heard(signal)))?;
     thread::spawn(move || {
         for signal in signals.forever() {
+            let action = AT_END.lock().unwrap_or_else(PoisonError::into_inner).take();
+            if let Some(action) = action {
+                action();
+                continue;
+            }
             let Parts(names) = parts();
             for name in names.iter() {
                 // What cannot be removed stays.

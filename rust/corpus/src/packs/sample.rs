@@ -9,7 +9,7 @@
 //! find 78: absent
 //! ```
 //!
-//! `words` tells how many words are lent as a table. A file's line is its number and the four
+//! `words` says how many words are lent as a table. A file's line is its number and the four
 //! words of its entry. Behind `find` stand the bytes of a path, then the start and length of the
 //! data that it leads to.
 //! For a refused pack `refused 31 at 16` stands in place of `files` and of all lines behind it.

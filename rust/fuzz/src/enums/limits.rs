@@ -13,7 +13,7 @@ use corpus::readers::{
 use corpus::values::*;
 use corpus::writer::{write, File, Value, WORDS_PER_ROW};
 
-/// A case with a name to tell it by.
+/// A case with a name.
 pub struct EnumLimit {
     pub name: String,
     pub case: EnumCase,

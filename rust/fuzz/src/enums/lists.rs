@@ -82,7 +82,7 @@ pub fn differing(random: &mut Random, listed: &Listed, enums: &[Listed]) -> Opti
     (!taken).then_some(Listed { name, size })
 }
 
-/// A list whose first unlawful entry has the number that is told, and anything behind it.
+/// A list whose first unlawful entry has the number that is given, and anything behind it.
 pub fn damaged(random: &mut Random, enums: &[Listed]) -> (Vec<u8>, usize) {
     let number = random.below(enums.len());
     let mut bytes = bytes_of(&enums[..number]);

@@ -5,7 +5,7 @@ use super::{PackCase, PackKnown};
 use corpus::packs::sample::FULL_TABLE;
 use corpus::packs::{path_length, set_count, stored, write_pack, Places, Stored, WrittenPack};
 
-/// A case with a name to tell it by.
+/// A case with a name.
 pub struct PackLimit {
     pub name: String,
     pub case: PackCase,

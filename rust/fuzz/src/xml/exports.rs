@@ -278,7 +278,7 @@ impl Maker<'_> {
     }
 }
 
-/// A case with a name to tell it by.
+/// A case with a name.
 pub struct ExportLimit {
     pub name: String,
     pub case: ExportCase,

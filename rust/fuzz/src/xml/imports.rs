@@ -247,7 +247,7 @@ fn damaged(random: &mut Random, texts: &[String]) -> ImportCase {
     ImportCase { xml, known: None }
 }
 
-/// A case with a name to tell it by.
+/// A case with a name.
 pub struct ImportLimit {
     pub name: String,
     pub case: ImportCase,

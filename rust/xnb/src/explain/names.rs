@@ -162,13 +162,13 @@ mod tests {
     use super::*;
 
     /// The refusal's number, the bytes that are marked, and the words.
-    fn told(name: &str) -> (u32, Range<usize>, String) {
+    fn reported(name: &str) -> (u32, Range<usize>, String) {
         let wrong = Name::parse(name.as_bytes()).expect_err("a broken name");
         (wrong.refusal.number(), wrong.bytes, wrong.words)
     }
 
     #[test]
-    fn each_part_that_is_wrong_is_told() {
+    fn each_part_that_is_wrong_is_reported() {
         let eight = "A`1[[".repeat(7);
         let nine = format!("{eight}A`1[[");
         let head = "a head has letters, digits, '.', '_' and '+', found";
@@ -251,7 +251,7 @@ mod tests {
             ),
         ];
         for (name, number, bytes, words) in table {
-            assert_eq!(told(name), (number, bytes, words), "{name}");
+            assert_eq!(reported(name), (number, bytes, words), "{name}");
         }
     }
 

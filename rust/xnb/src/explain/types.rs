@@ -1,4 +1,4 @@
-//! The types that readers' names tell.
+//! The types that readers' names give.
 
 use super::names::{Name, Wrong};
 use crate::enums::size_in;
@@ -274,44 +274,44 @@ mod tests {
         Type::of_reader(&Name::parse(name.as_bytes())?, enums)
     }
 
-    fn told(name: &str) -> Option<String> {
+    fn given(name: &str) -> Option<String> {
         read(name, &[]).ok().map(|it| it.to_string())
     }
 
     #[test]
-    fn names_tell_types() {
+    fn names_give_types() {
         let list = "Microsoft.Xna.Framework.Content.ListReader`1[[System.Nullable`1[[System.Char, \
             mscorlib]], mscorlib, Version=4.0.0.0]]";
         let type_name = "System.Collections.Generic.List`1[[System.Nullable`1[[System.Char]]]]";
-        assert_eq!(told(list).as_deref(), Some(type_name));
+        assert_eq!(given(list).as_deref(), Some(type_name));
         let table = "Microsoft.Xna.Framework.Content.DictionaryReader`2[[System.Byte],\
             [Coach.Console.Page]], tail";
         let type_name =
             "System.Collections.Generic.Dictionary`2[[System.Byte],[Coach.Console.Page]]";
-        assert_eq!(told(table).as_deref(), Some(type_name));
+        assert_eq!(given(table).as_deref(), Some(type_name));
         let array = "Microsoft.Xna.Framework.Content.ArrayReader`1[[System.Int32]]";
-        assert_eq!(told(array).as_deref(), Some("array of System.Int32"));
+        assert_eq!(given(array).as_deref(), Some("array of System.Int32"));
         let door = "Microsoft.Xna.Framework.Content.EnumReader`1[[Coach.Door]]";
-        assert_eq!(told(door).as_deref(), Some("enum Coach.Door"));
+        assert_eq!(given(door).as_deref(), Some("enum Coach.Door"));
         let page = "Coach.Console.PageReader";
-        assert_eq!(told(page).as_deref(), Some("Coach.Console.Page"));
+        assert_eq!(given(page).as_deref(), Some("Coach.Console.Page"));
         let buffer = "Microsoft.Xna.Framework.Content.VertexBufferReader";
         let type_name = "Microsoft.Xna.Framework.Graphics.VertexBuffer";
-        assert_eq!(told(buffer).as_deref(), Some(type_name));
+        assert_eq!(given(buffer).as_deref(), Some(type_name));
         assert!(is_target_name(b"Microsoft.Xna.Framework.Graphics.Model"));
         for other in ["DataBytes", "BoneReference", "ImageLevel", "Effect"] {
             let reader = format!("Microsoft.Xna.Framework.Content.{other}Reader");
-            assert_eq!(told(&reader), None);
+            assert_eq!(given(&reader), None);
             let target = format!("Microsoft.Xna.Framework.Graphics.{other}");
             assert!(!is_target_name(target.as_bytes()));
         }
         let texture = "Microsoft.Xna.Framework.Content.TextureReader";
         let type_name = "Microsoft.Xna.Framework.Graphics.Texture";
-        assert_eq!(told(texture).as_deref(), Some(type_name));
-        assert_eq!(told("Microsoft.Xna.Framework.Content.PlaneReader"), None);
-        assert_eq!(told("Reader"), None);
+        assert_eq!(given(texture).as_deref(), Some(type_name));
+        assert_eq!(given("Microsoft.Xna.Framework.Content.PlaneReader"), None);
+        assert_eq!(given("Reader"), None);
         assert_eq!(
-            told("Microsoft.Xna.Framework.Content.ListReader`1[[A"),
+            given("Microsoft.Xna.Framework.Content.ListReader`1[[A"),
             None
         );
     }
@@ -335,7 +335,7 @@ mod tests {
     }
     /// The head that is complained of stands between guillemets, and `%` is what the names of readers begin with.
     #[test]
-    fn a_wrong_head_is_told() {
+    fn a_wrong_head_is_reported() {
         let reader = "no reader of this name is known";
         let argument = "no type of this name is known, and no enum of it is listed";
         let nullable = "a nullable holds a value type other than Nullable";
@@ -377,8 +377,8 @@ mod tests {
             let end = marked.find('»').expect("a mark") - '«'.len_utf8();
             let name = marked.replace(['«', '»'], "");
             let wrong = read(&name, b"\x0ACoach.Door\x02").expect_err("a wrong head");
-            let told = (wrong.refusal, wrong.bytes, wrong.words);
-            assert_eq!(told, (Refusal::NameHead, start..end, words), "{marked}");
+            let reported = (wrong.refusal, wrong.bytes, wrong.words);
+            assert_eq!(reported, (Refusal::NameHead, start..end, words), "{marked}");
         }
     }
 }

@@ -22,7 +22,7 @@ pub fn take_fixed<'f>(cursor: &mut Cursor<'f>, kind: Kind) -> Step<'f, ()> {
     })
 }
 
-/// An enum, whose size its type tells.
+/// An enum, whose size its type gives.
 pub fn take_enum<'f>(cursor: &mut Cursor<'f>, size: usize) -> Step<'f, ()> {
     let kind = Kind::Enum;
     cursor.take(size, format_args!("a value of kind {kind}"))?;

@@ -59,6 +59,23 @@ codes! {
     }
 }
 
+impl ElementFormat {
+    /// The number of its bytes.
+    pub fn bytes(self) -> usize {
+        match self {
+            ElementFormat::Single => 4,
+            ElementFormat::Vector2 => 8,
+            ElementFormat::Vector3 => 12,
+            ElementFormat::Vector4 => 16,
+            ElementFormat::Color | ElementFormat::Byte4 => 4,
+            ElementFormat::Short2 | ElementFormat::NormalizedShort2 => 4,
+            ElementFormat::Short4 | ElementFormat::NormalizedShort4 => 8,
+            ElementFormat::HalfVector2 => 4,
+            ElementFormat::HalfVector4 => 8,
+        }
+    }
+}
+
 codes! {
     /// What an element of a vertex is for, by its code in document 000.
     ElementUsage {

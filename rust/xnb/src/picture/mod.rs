@@ -5,6 +5,7 @@ mod format;
 mod pixels;
 
 pub use format::SurfaceFormat;
+pub(crate) use pixels::half;
 
 use crate::fields::Fields;
 use crate::kind::Kind;
@@ -127,7 +128,7 @@ impl<'t, 'f> Picture<'t, 'f> {
 impl Level<'_> {
     /// The pixels as red, green, blue and alpha of a byte each, line by line from the upper left one on.
     ///
-    /// [`SurfaceFormat::made`] tells what is done to a format that has not just these.
+    /// [`SurfaceFormat::made`] says what is done to a format that has not just these.
     pub fn rgba8(&self) -> Vec<u8> {
         let size = (self.width as usize, self.height as usize);
         match self.format {

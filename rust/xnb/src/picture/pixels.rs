@@ -98,7 +98,7 @@ fn grey(light: u8) -> Pixel {
 }
 
 /// A number of two bytes: a sign, five bits of exponent and ten of fraction.
-fn half(bits: u16) -> f32 {
+pub fn half(bits: u16) -> f32 {
     let (exponent, fraction) = (bits >> 10 & 0x1F, f32::from(bits & 0x3FF));
     let size = match exponent {
         0 => fraction * (-24_f32).exp2(),

@@ -21,13 +21,11 @@ use crate::calls::unpacked;
 use crate::loader::Loader;
 use crate::raw;
 use crate::refusal::{Refusal, Refused};
-use crate::row::full_words;
+use crate::row::{full_words, LONGEST_FILE};
 use std::fmt::{self, Display, Formatter};
 
 /// A list never has more texts: a table has a row for each, and one for the list.
 pub const MOST_TEXTS: usize = 65_535;
-/// No file is longer.
-const LONGEST_FILE: usize = 16_777_216;
 /// How many bytes more than its XML a file has at most: that of no text.
 const LONGER_THAN_XML: usize = 39;
 
@@ -48,7 +46,7 @@ impl Loader<'_> {
     pub fn export_xml(self, file: &[u8]) -> Result<String, Refused> {
         let mut words = full_words(file);
         // Mostly enough; XML with many entities takes more.
-        let mut out = vec![0; 2 * file.len()];
+        let mut out = vec![0; 2 * file.len().min(LONGEST_FILE)];
         let mut answer = self.export_xml_into(file, &mut words, &mut out);
         if let Err(Refused {
             refusal: Refusal::OutputTooSmall,
@@ -130,7 +128,7 @@ pub struct XmlRefused {
 }
 
 impl XmlRefused {
-    /// The rule in words, as it is told of XML.
+    /// The rule in words, as it is reported of XML.
     pub fn rule(self) -> &'static str {
         match self.refusal {
             Refusal::TooLarge => {

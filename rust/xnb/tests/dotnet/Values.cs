@@ -125,7 +125,7 @@ static class Values
         foreach (var ticks in moments.Concat(days.Select(it => (ulong)it.Ticks)))
             foreach (var kind in new[] { DateTimeKind.Unspecified, DateTimeKind.Utc, DateTimeKind.Local })
             {
-                // The form o of a local time tells this machine's zone, which is no part of the value.
+                // The form o of a local time has this machine's zone, which is no part of the value.
                 var moment = new DateTime((long)ticks, kind);
                 var shown = kind == DateTimeKind.Local ? DateTime.SpecifyKind(moment, DateTimeKind.Unspecified) : moment;
                 var parts = string.Format(Plain, " {0} {1} {2} {3}", kind, moment.Year, moment.Month, moment.Day);

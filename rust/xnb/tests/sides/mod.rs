@@ -3,7 +3,7 @@
 use crate::lent::Lent;
 use fuzz::random::Random;
 use fuzz::tables::in_columns;
-use second::{broken_branch, padding_told, Refusal, Table, WORDS_PER_ROW};
+use second::{broken_branch, reported_padding, Refusal, Table, WORDS_PER_ROW};
 use std::fmt::{self, Display, Formatter};
 use xnb::raw::{self, LoadAnswer};
 use xnb::Shape;
@@ -197,7 +197,7 @@ impl Sides {
             packed,
             readers: expected.map_or(0, |it| it.readers) as u32,
             shared: expected.map_or(0, |it| it.shared) as u32,
-            padding: padding_told(expected) as u32,
+            padding: reported_padding(expected) as u32,
         };
         assert_eq!(answer, expected_answer, "{name}: load with {words} words");
         linked.check(name, &second);
@@ -234,10 +234,10 @@ impl Sides {
         let mut second_out = vec![garbage; out];
         let answer = raw::rewrite(file, &self.enums, linked.middle(), linked_out.middle());
         let expected = second::rewrite(file, &self.enums, &mut second, &mut second_out);
-        let told = format!("{name}: rewrite with {words} words to {out} bytes");
-        assert_eq!(answer, packed(expected), "{told}");
-        linked.check(&told, &second);
-        linked_out.check(&told, &second_out);
+        let label = format!("{name}: rewrite with {words} words to {out} bytes");
+        assert_eq!(answer, packed(expected), "{label}");
+        linked.check(&label, &second);
+        linked_out.check(&label, &second_out);
         self.counts.count(Rewrite, &expected);
         match expected {
             Ok(length) => Some(length),
@@ -253,33 +253,33 @@ pub fn lookups(sides: &mut Sides, name: &str, file: &[u8], words: &[u32], rows: 
     let table = seconds_table(shape, words);
     for &row in rows {
         let number = row as usize;
-        let told = format!("{name}: row {row} of {} words", words.len());
+        let label = format!("{name}: row {row} of {} words", words.len());
 
         let part = second::part(file, table, number);
         let answer = raw::part(shape, file, words, row);
-        assert_eq!(answer, span(file, part), "part, {told}");
+        assert_eq!(answer, span(file, part), "part, {label}");
         sides.counts.count(Part, &part);
 
         let text = second::text(file, table, number);
         let answer = raw::text(shape, file, words, row);
-        assert_eq!(answer, span(file, text), "text, {told}");
+        assert_eq!(answer, span(file, text), "text, {label}");
         sides.counts.count(Text, &text);
 
         let signed = second::signed(file, table, number);
         let expected = (number_of(&signed) as u32, signed.unwrap_or(0));
         let answer = raw::signed(shape, file, words, row);
-        assert_eq!(answer, expected, "signed, {told}");
+        assert_eq!(answer, expected, "signed, {label}");
         sides.counts.count(Signed, &signed);
 
         let time = second::time(file, table, number);
         let (seconds, ticks) = time.map_or((0, 0), |it| (it.seconds, it.ticks));
         let expected = (number_of(&time) as u32, seconds, ticks);
         let answer = raw::time(shape, file, words, row);
-        assert_eq!(answer, expected, "time, {told}");
+        assert_eq!(answer, expected, "time, {label}");
         sides.counts.count(Time, &time);
 
         let next = second::next(table, number).unwrap_or(0);
-        assert_eq!(raw::next(shape, words, row) as usize, next, "next, {told}");
+        assert_eq!(raw::next(shape, words, row) as usize, next, "next, {label}");
     }
 }
 

@@ -48,22 +48,22 @@ struct PackForm {
 }
 
 /// A pack that was read.
-struct Opened<'p> {
+pub struct Opened<'p> {
     pack: xnb::Pack<'p>,
-    marked: bool,
-    files: Vec<Stored>,
+    pub marked: bool,
+    pub files: Vec<Stored>,
 }
 
 /// A file of a pack: its path, which is a copy since the pack may change, and where its data begins.
 #[derive(Serialize)]
-struct Stored {
-    path: String,
+pub struct Stored {
+    pub path: String,
     first: u64,
     length: u64,
 }
 
 /// Why there is no pack.
-enum Unopened<'p> {
+pub enum Unopened<'p> {
     Refused(Box<Told<'p>>),
     /// Another program has changed it while it was read.
     Changed,
@@ -72,35 +72,40 @@ enum Unopened<'p> {
 impl PackForm {
     /// Reads a pack of either form, or of the one that is asked for.
     fn open<'p>(&self, bytes: &'p Bytes) -> Result<Opened<'p>, Unopened<'p>> {
-        let refused = |refused, marked| {
-            let told = Told::of_pack(bytes, refused, marked);
-            Unopened::Refused(Box::new(told))
-        };
-        let plain = match self.marked {
-            true => None,
-            false => Some(xnb::Pack::read(bytes)),
-        };
-        let (pack, marked) = match (plain, xnb::Pack::read_marked(bytes)) {
-            (Some(Ok(pack)), _) => (pack, false),
-            (_, Ok(pack)) => (pack, true),
-            // The refusal of the form that the first record has.
-            (Some(Err(plain)), Err(_)) if bytes.get(4..6) != Some(&MARK) => {
-                return Err(refused(plain, false));
-            }
-            (_, Err(marked)) => return Err(refused(marked, true)),
-        };
-        let files = stored(&pack).ok_or(Unopened::Changed)?;
-        Ok(Opened {
-            pack,
-            marked,
-            files,
-        })
+        open(bytes, self.marked)
     }
+}
+
+/// Reads a pack of either form, or of the marked one only.
+pub fn open(bytes: &[u8], marked_only: bool) -> Result<Opened<'_>, Unopened<'_>> {
+    let refused = |refused, marked| {
+        let told = Told::of_pack(bytes, refused, marked);
+        Unopened::Refused(Box::new(told))
+    };
+    let plain = match marked_only {
+        true => None,
+        false => Some(xnb::Pack::read(bytes)),
+    };
+    let (pack, marked) = match (plain, xnb::Pack::read_marked(bytes)) {
+        (Some(Ok(pack)), _) => (pack, false),
+        (_, Ok(pack)) => (pack, true),
+        // The refusal of the form that the first record has.
+        (Some(Err(plain)), Err(_)) if bytes.get(4..6) != Some(&MARK) => {
+            return Err(refused(plain, false));
+        }
+        (_, Err(marked)) => return Err(refused(marked, true)),
+    };
+    let files = stored(&pack).ok_or(Unopened::Changed)?;
+    Ok(Opened {
+        pack,
+        marked,
+        files,
+    })
 }
 
 impl<'p> Opened<'p> {
     /// The data of a file.
-    fn data(&self, file: &Stored) -> &'p [u8] {
+    pub fn data(&self, file: &Stored) -> &'p [u8] {
         &self.pack.bytes()[file.first as usize..][..file.length as usize]
     }
 }

@@ -198,7 +198,7 @@ mod tests {
     }
 
     #[test]
-    fn another_form_is_told() {
+    fn another_form_is_reported() {
         let line = Line::of(Written::from(&Season::default()));
         let line = line.replace("\"schema\":1", "\"schema\":2");
         let written: Written = serde_json::from_str(&line).expect("JSON of ours");
@@ -207,8 +207,8 @@ mod tests {
     }
 
     #[test]
-    fn numbers_that_no_report_has_are_told() {
-        let told = |line: &str| {
+    fn numbers_that_no_report_has_are_reported() {
+        let reported = |line: &str| {
             let written: Written = serde_json::from_str(line).expect("JSON of ours");
             Season::try_from(written).expect_err("a wrong number")
         };
@@ -218,12 +218,12 @@ mod tests {
             let wrong =
                 format!(r#""refusals":[{{"number":{number},"rule":"","files":1}}],"rows":[],"#);
             let why = format!("no file is refused with {number}");
-            assert_eq!(told(&format!("{start}{wrong}{end}")), why);
+            assert_eq!(reported(&format!("{start}{wrong}{end}")), why);
         }
         for kind in [14, 31, 43, 64, u32::MAX] {
             let wrong = format!(r#""refusals":[],"rows":[{{"kind":{kind},"name":"","rows":1}}],"#);
             let why = format!("no row is of kind {kind}");
-            assert_eq!(told(&format!("{start}{wrong}{end}")), why);
+            assert_eq!(reported(&format!("{start}{wrong}{end}")), why);
         }
     }
 }
