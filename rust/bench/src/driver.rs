@@ -1,18 +1,13 @@
-//! Loads for the driver's own screen beside plain loads and the second program.
+//! Loads for the driver's own screen.
 
 use crate::inputs::{input, Input};
-use crate::measure::beside;
+use crate::tasks::Lent;
 use corpus::readers::{dictionary_of, PAGE, STRING};
 use corpus::values::*;
 use corpus::writer::Value;
+use second::NO_ENUMS;
 use std::hint::black_box;
-use xnb::{Loader, Shape, WORDS_PER_ROW};
-
-/// What is lent to a task: a file and words for its rows.
-struct Lent {
-    file: Vec<u8>,
-    words: Vec<u32>,
-}
+use xnb::Loader;
 
 fn page_to(title: Value, next: u32) -> Value {
     page(title, rectangle([0; 4]), reference(0), reference(next))
@@ -41,7 +36,7 @@ fn keys(name: &str, count: usize, key: fn(usize) -> String) -> Input {
     input("keys", format!("{count} keys, {name}"), file)
 }
 
-fn inputs() -> Vec<Input> {
+pub fn inputs() -> Vec<Input> {
     let mut all = vec![ring_of_pages(10), ring_of_pages(256)];
     for count in [100, 1_000, 30_000] {
         all.push(keys("rising", count, |number| format!("Key {number:06}")));
@@ -55,40 +50,14 @@ fn inputs() -> Vec<Input> {
     all
 }
 
-fn driver(lent: &mut Lent) {
+pub fn load(lent: &mut Lent) {
     let (file, words) = (black_box(&lent.file), black_box(&mut lent.words));
-    black_box(xnb::raw::load_driver(file, &[], words));
+    let answer = Loader::new().load_driver_into(file, &mut words[..]);
+    assert!(black_box(answer).is_ok());
 }
 
-fn plain(lent: &mut Lent) {
+pub fn second_load(lent: &mut Lent) {
     let (file, words) = (black_box(&lent.file), black_box(&mut lent.words));
-    let loaded = Loader::new().load_words(Shape::Rows, file, words);
-    black_box(loaded).expect("lawful");
-}
-
-fn second(lent: &mut Lent) {
-    let (file, words) = (black_box(&lent.file), black_box(&mut lent.words));
-    black_box(second::driver::load(file, &[], words)).expect("lawful");
-}
-
-pub fn measure() {
-    println!(
-        "\nxnb_load_driver\n\n| group | input | bytes | rows | time | second | xnb_load_rows |"
-    );
-    println!("|---|---|---|---|---|---|---|");
-    for input in inputs() {
-        let mut lent = Lent {
-            words: vec![0; WORDS_PER_ROW * input.rows],
-            file: input.bytes,
-        };
-        Loader::new().load_driver(&lent.file).expect("it passes");
-        let beside_second = beside(&mut lent, driver, second);
-        let beside_plain = beside(&mut lent, driver, plain);
-        let (group, name, rows) = (input.group, input.name, input.rows);
-        let (bytes, micros) = (lent.file.len(), beside_second.seconds * 1e6);
-        let (second, plain) = (beside_second.ratio, beside_plain.ratio);
-        println!(
-            "| {group} | {name} | {bytes} | {rows} | {micros:.2} µs | {second:.3} | {plain:.3} |"
-        );
-    }
+    let answer = second::driver::load(file, NO_ENUMS, words);
+    lent.judge(answer);
 }

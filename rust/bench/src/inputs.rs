@@ -14,6 +14,7 @@ pub struct Input {
     /// The list of enum types that is lent with it.
     pub enums: Vec<u8>,
     pub rows: usize,
+    pub is_refused: bool,
 }
 
 pub fn input(group: &'static str, name: impl Into<String>, file: File) -> Input {
@@ -24,6 +25,7 @@ pub fn input(group: &'static str, name: impl Into<String>, file: File) -> Input 
         bytes: written.bytes,
         enums: Vec::new(),
         rows: written.rows.len(),
+        is_refused: false,
     }
 }
 
@@ -32,20 +34,45 @@ fn alone<N: AsRef<str>>(readers: &[N], raw: Value) -> File {
     file(readers, object(1, raw), vec![])
 }
 
-/// A file with one text of about a megabyte that repeats these characters.
-pub fn long_text(name: &str, characters: &str) -> Input {
-    let text = text(&characters.repeat((1 << 20) / characters.len()));
-    input("texts", name, alone(&[STRING], text))
+/// What long texts repeat.
+const TEXTS: [(&str, &str); 5] = [
+    ("of ASCII", "The quick brown fox jumps. "),
+    (", two of 25 not ASCII", "Straße der Übungen, lang "),
+    ("of two bytes each", "äöüß"),
+    ("of three bytes each", "€日本語"),
+    ("of four bytes each", "😀🦀"),
+];
+
+/// Files with one text of at most so many bytes each.
+pub fn texts(size: &str, bytes: usize) -> Vec<Input> {
+    let long_text = |(name, characters): (&str, &str)| {
+        let text = text(&characters.repeat(bytes / characters.len()));
+        let space = if name.starts_with(',') { "" } else { " " };
+        let name = format!("{size}{space}{name}");
+        input("texts", name, alone(&[STRING], text))
+    };
+    TEXTS.map(long_text).into()
 }
 
 pub fn long_texts() -> Vec<Input> {
-    vec![
-        long_text("1 MB of ASCII", "The quick brown fox jumps. "),
-        long_text("1 MB, two of 25 not ASCII", "Straße der Übungen, lang "),
-        long_text("1 MB of two bytes each", "äöüß"),
-        long_text("1 MB of three bytes each", "€日本語"),
-        long_text("1 MB of four bytes each", "😀🦀"),
-    ]
+    texts("1 MB", 1 << 20)
+}
+
+/// Texts, images, reader lists, and files of many values with about so many rows.
+pub fn all(rows: usize) -> Vec<Input> {
+    let mut all = long_texts();
+    all.extend(images());
+    all.extend(many_values(rows));
+    all.extend(reader_lists());
+    all
+}
+
+/// Files of about 1,000 and of about 60,000 rows, and such with padded numbers.
+pub fn short_and_long() -> Vec<Input> {
+    let mut inputs = all(1000);
+    inputs.extend(many_values(60_000));
+    inputs.extend([1000, 60_000].map(padded_objects));
+    inputs
 }
 
 pub fn images() -> Vec<Input> {
@@ -205,14 +232,16 @@ pub fn enums() -> Vec<Input> {
             ..input
         }
     };
-    let listed = |count: usize| {
-        let types = (0..count).map(|it| entry(format!("Coach.Screen.Mode{it:04}").as_bytes(), 1));
-        let name = format!("null, {count} enum types listed");
-        Input {
-            enums: types.flatten().collect(),
-            ..input("enums", name, corpus::lawful::file_a())
-        }
-    };
-    let lists = [0, 1, 10, 100, 1000].map(listed);
+    let lists = [0, 1, 10, 100, 1000].map(enum_list);
     lists.into_iter().chain([1000, 60_000].map(doors)).collect()
+}
+
+/// A null under a list of so many enum types.
+pub fn enum_list(count: usize) -> Input {
+    let types = (0..count).map(|it| entry(format!("Coach.Screen.Mode{it:04}").as_bytes(), 1));
+    let name = format!("null, {count} enum types listed");
+    Input {
+        enums: types.flatten().collect(),
+        ..input("enums", name, corpus::lawful::file_a())
+    }
 }

@@ -1,77 +1,66 @@
-//! Marked packs beside memcpy and the second program, medians of seven rounds.
+//! Conversions of a pack of 1,000 files of 64 KB between its two forms.
 
-use crate::measure::beside_in;
+use crate::inputs::Input;
+use crate::tasks::Lent;
 use corpus::packs::marked::MARKED;
 use corpus::packs::{stored, write_pack, Stored, NO_MARK};
 use std::hint::black_box;
 
-/// What is lent to a task: a pack and an output.
-struct Lent {
-    pack: Vec<u8>,
-    out: Vec<u8>,
+const FILES: usize = 1000;
+const BYTES: usize = 64_000;
+
+/// The pack in one of its forms; its data holds no mark.
+fn pack(mark: &[u8]) -> Vec<Input> {
+    let file = |number: usize| stored(format!("Levels\\Door{number:06}"), vec![b'd'; BYTES]);
+    let files: Vec<Stored> = (0..FILES).map(file).collect();
+    vec![Input {
+        group: "packs",
+        name: "1,000 files of 64 KB".to_string(),
+        bytes: write_pack(mark, &files).bytes,
+        enums: vec![],
+        rows: FILES,
+        is_refused: false,
+    }]
 }
 
-type Task = fn(&mut Lent);
-
-const ROUNDS: usize = 7;
-
-/// A pack of so many files of one size, whose data holds no mark.
-fn pack(mark: &[u8], files: usize, size: usize) -> Vec<u8> {
-    let file = |number: usize| stored(format!("Levels\\Door{number:06}"), vec![b'd'; size]);
-    let files: Vec<Stored> = (0..files).map(file).collect();
-    write_pack(mark, &files).bytes
+pub fn plain() -> Vec<Input> {
+    pack(NO_MARK)
 }
 
-fn copy(lent: &mut Lent) {
-    let length = lent.pack.len();
-    black_box(&mut lent.out)[..length].copy_from_slice(black_box(&lent.pack));
+pub fn marked() -> Vec<Input> {
+    pack(MARKED.mark)
 }
 
-/// Prints a line: the library's time, and its ratio to memcpy and to the second program.
-fn line(name: &str, pack: Vec<u8>, ours: Task, second: Task) {
-    let mut lent = Lent {
-        // All buffers are touched before.
-        out: vec![1; pack.len() + 2 * 4096],
-        pack,
-    };
-    let beside_copy = beside_in(ROUNDS, &mut lent, ours, copy);
-    let beside_second = beside_in(ROUNDS, &mut lent, ours, second);
-    let (bytes, millis) = (lent.pack.len(), beside_copy.seconds * 1e3);
-    let (copied, second) = (beside_copy.ratio, beside_second.ratio);
-    println!("| {name} | {bytes} | {millis:.3} ms | {copied:.3} | {second:.3} |");
+/// A pack with room for its marks; all bytes are touched before.
+pub fn lend(input: Input) -> Lent {
+    let out = vec![1; input.bytes.len() + 2 * FILES];
+    Lent {
+        out,
+        ..Lent::new(input, 0)
+    }
 }
 
-fn heading(title: &str) {
-    println!("\n{title}\n\n| input | bytes | time | memcpy | second |");
-    println!("|---|---|---|---|---|");
+pub fn copy(lent: &mut Lent) {
+    let length = lent.file.len();
+    black_box(&mut lent.out)[..length].copy_from_slice(black_box(&lent.file));
 }
 
-/// Conversions of a pack of 1,000 files of 64 KB.
-pub fn convert() {
-    heading("xnb_pack_mark, xnb_pack_unmark");
-    let name = "1,000 files of 64 KB";
-    line(
-        &format!("mark, {name}"),
-        pack(NO_MARK, 1000, 64_000),
-        |lent| {
-            let length = xnb::marks::mark_into(black_box(&lent.pack), black_box(&mut lent.out));
-            black_box(length).expect("lawful");
-        },
-        |lent| {
-            let length = second::marks::mark(black_box(&lent.pack), black_box(&mut lent.out));
-            black_box(length).expect("lawful");
-        },
-    );
-    line(
-        &format!("unmark, {name}"),
-        pack(MARKED.mark, 1000, 64_000),
-        |lent| {
-            let length = xnb::marks::unmark_into(black_box(&lent.pack), black_box(&mut lent.out));
-            black_box(length).expect("lawful");
-        },
-        |lent| {
-            let length = second::marks::unmark(black_box(&lent.pack), black_box(&mut lent.out));
-            black_box(length).expect("lawful");
-        },
-    );
+pub fn mark(lent: &mut Lent) {
+    let answer = xnb::marks::mark_into(black_box(&lent.file), black_box(&mut lent.out));
+    lent.judge(answer);
+}
+
+pub fn second_mark(lent: &mut Lent) {
+    let answer = second::marks::mark(black_box(&lent.file), black_box(&mut lent.out));
+    lent.judge(answer);
+}
+
+pub fn unmark(lent: &mut Lent) {
+    let answer = xnb::marks::unmark_into(black_box(&lent.file), black_box(&mut lent.out));
+    lent.judge(answer);
+}
+
+pub fn second_unmark(lent: &mut Lent) {
+    let answer = second::marks::unmark(black_box(&lent.file), black_box(&mut lent.out));
+    lent.judge(answer);
 }

@@ -2,7 +2,7 @@
 
 use std::time::{Duration, Instant};
 
-const ROUNDS: usize = 101;
+pub const ROUNDS: usize = 101;
 /// How long one task runs in one round at least, if other programs do not stop it.
 const ROUND: Duration = Duration::from_micros(300);
 

@@ -1,7 +1,6 @@
-//! Loads of models beside the second loader.
+//! Models.
 
 use crate::inputs::{input, Input};
-use crate::{copy, load_rows, second_load, table, Task};
 use corpus::meshes::{
     index_buffer, model, plain_bone, plain_mesh, plain_part, vertex_buffer, Element, Model,
     MESH_READERS,
@@ -9,13 +8,7 @@ use corpus::meshes::{
 use corpus::values::{file, null, object};
 use corpus::writer::Value;
 
-pub fn measure() {
-    let others: [(&str, Task); 2] = [("second", second_load), ("memcpy", copy)];
-    let title = "xnb_load_rows over models";
-    table(title, inputs(), |it| it.rows, load_rows, &others);
-}
-
-fn inputs() -> Vec<Input> {
+pub fn inputs() -> Vec<Input> {
     vec![
         gauge(10_000, 1000, 60),
         gauge(10_000, 7000, 60),

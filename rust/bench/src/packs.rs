@@ -1,72 +1,50 @@
-//! Packs of 4,096 files: reading them, and looking up in them, beside the second program.
+//! Packs of 4,096 files: reading them, and looking up in them.
 
-use crate::measure::beside;
+use crate::inputs::Input;
+use crate::tasks::Lent;
 use corpus::packs::{stored, write_pack, Stored, NO_MARK};
 use std::hint::black_box;
 
 const FILES: usize = 4096;
 
-/// What is lent to a task: a pack, its table and a path.
-struct Lent {
-    pack: Vec<u8>,
-    table: Vec<u64>,
-    path: Vec<u8>,
-}
-
-/// 4,096 files with paths of 23 bytes and data of one size.
-fn pack(size: usize) -> Vec<u8> {
+/// So many files with paths of 23 bytes and data of one size.
+fn pack(files: usize, size: usize) -> Vec<u8> {
     let file = |number: usize| {
         let path = format!("Levels\\Coach\\Door{number:06}");
         stored(path, vec![0; size])
     };
-    let files: Vec<Stored> = (0..FILES).map(file).collect();
+    let files: Vec<Stored> = (0..files).map(file).collect();
     write_pack(NO_MARK, &files).bytes
 }
 
-/// Reading; the data is skipped, so its size must not matter.
-pub fn read() {
-    let ours = |lent: &mut Lent| {
-        let files = xnb::pack::read(black_box(&lent.pack), black_box(&mut lent.table));
-        black_box(files).expect("lawful");
+/// A pack of so many files; the data is skipped, so its size must not matter.
+pub fn pack_of(files: usize, size: usize) -> Input {
+    let (kib, rest) = (size / 1024, size % 1024);
+    let data = if rest == 0 {
+        format!("{kib} KiB")
+    } else {
+        format!("{size} bytes")
     };
-    let second = |lent: &mut Lent| {
-        let files = second::pack::read(black_box(&lent.pack), black_box(&mut lent.table));
-        black_box(files).expect("lawful");
-    };
-    println!("\nxnb_pack_read\n\n| data of each file | bytes | files | time | second |");
-    println!("|---|---|---|---|---|");
-    for (name, size) in [("16 bytes", 16), ("4 KiB", 4 << 10), ("64 KiB", 64 << 10)] {
-        let mut lent = Lent {
-            pack: pack(size),
-            table: vec![0; 4 * FILES],
-            path: vec![],
-        };
-        let measured = beside(&mut lent, ours, second);
-        let (bytes, micros) = (lent.pack.len(), measured.seconds * 1e6);
-        let ratio = measured.ratio;
-        println!("| {name} | {bytes} | {FILES} | {micros:.2} µs | {ratio:.3} |");
+    Input {
+        group: "packs",
+        name: format!("{files} files with data of {data}"),
+        bytes: pack(files, size),
+        enums: vec![],
+        rows: files,
+        is_refused: false,
     }
 }
 
-/// Looking up the last path, and paths that are absent.
-pub fn find() {
-    let ours = |lent: &mut Lent| {
-        let (pack, table) = (black_box(&lent.pack), black_box(&lent.table));
-        black_box(xnb::pack::find(pack, table, black_box(&lent.path)));
-    };
-    let second = |lent: &mut Lent| {
-        let (pack, table) = (black_box(&lent.pack), black_box(&lent.table));
-        black_box(second::pack::find(pack, table, black_box(&lent.path)));
-    };
-    println!("\nxnb_pack_find\n\n| path | files | time | second |");
-    println!("|---|---|---|---|");
-    let mut lent = Lent {
-        pack: pack(16),
-        table: vec![0; 4 * FILES],
-        path: vec![],
-    };
-    second::pack::read(&lent.pack, &mut lent.table).expect("lawful");
-    for (name, path) in [
+/// 4,096 files each.
+pub fn inputs() -> Vec<Input> {
+    [16, 4 << 10, 64 << 10]
+        .map(|size| pack_of(FILES, size))
+        .into()
+}
+
+/// Paths to be looked up in the first of these packs; they are lent in the place of a list of enum types.
+pub fn lookups() -> Vec<Input> {
+    let paths = [
         ("the first", "levels\\coach\\door000000"),
         ("the last, in other case", "LEVELS\\COACH\\DOOR004095"),
         (
@@ -78,10 +56,28 @@ pub fn find() {
             "xevels\\Coach\\Door000000",
         ),
         ("absent, of another length", "Levels\\Coach\\Door"),
-    ] {
-        lent.path = path.into();
-        let measured = beside(&mut lent, ours, second);
-        let (micros, ratio) = (measured.seconds * 1e6, measured.ratio);
-        println!("| {name} | {FILES} | {micros:.2} µs | {ratio:.3} |");
-    }
+    ];
+    let lookup = |(name, path): (&str, &str)| Input {
+        name: name.to_string(),
+        enums: path.into(),
+        ..pack_of(FILES, 16)
+    };
+    paths.map(lookup).into()
+}
+
+/// A pack with its table.
+pub fn lend_table(input: Input) -> Lent {
+    let mut lent = Lent::just(input);
+    second::pack::read(&lent.file, &mut lent.table).expect("lawful");
+    lent
+}
+
+pub fn find(lent: &mut Lent) {
+    let (pack, table) = (black_box(&lent.file), black_box(&lent.table));
+    black_box(xnb::pack::find(pack, table, black_box(&lent.enums)));
+}
+
+pub fn second_find(lent: &mut Lent) {
+    let (pack, table) = (black_box(&lent.file), black_box(&lent.table));
+    black_box(second::pack::find(pack, table, black_box(&lent.enums)));
 }

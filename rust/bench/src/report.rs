@@ -1,20 +1,13 @@
-//! Reports over packs beside the second program.
+//! Reports over packs.
 
-use crate::measure::beside;
+use crate::inputs::Input;
+use crate::tasks::Lent;
 use corpus::packs::{stored, write_pack, Stored, NO_MARK};
 use corpus::readers::{list_of, STRING, TEXTURE2D};
 use corpus::values::*;
 use corpus::writer::write;
 use std::hint::black_box;
 use xnb::report::{REPORT_WORDS, ROW_WORDS};
-
-/// What is lent to a task: a pack, a pack table, a row table and a report.
-struct Lent {
-    pack: Vec<u8>,
-    table: Vec<u64>,
-    words: Vec<u32>,
-    report: [u64; REPORT_WORDS],
-}
 
 /// A pack of so many files with the same data.
 fn pack(files: usize, data: &[u8]) -> Vec<u8> {
@@ -39,8 +32,8 @@ fn a_list(rows: usize) -> Vec<u8> {
     write(&file(&[list_of("System.Byte")], bytes, vec![])).bytes
 }
 
-fn inputs() -> [(&'static str, Vec<u8>); 6] {
-    [
+pub fn inputs() -> Vec<Input> {
+    let packs = [
         (
             "4,096 files that are no XNB files, 4 KiB",
             pack(4096, &[7; 4096]),
@@ -50,46 +43,38 @@ fn inputs() -> [(&'static str, Vec<u8>); 6] {
         ("50 pictures of 512 by 512", pack(50, &a_picture())),
         ("1,000 lists of 1,000 rows", pack(1_000, &a_list(1_000))),
         ("20 lists of 65,536 rows", pack(20, &a_list(65_536))),
-    ]
+    ];
+    let input = |(name, bytes): (&str, Vec<u8>)| Input {
+        group: "reports",
+        name: name.to_string(),
+        bytes,
+        enums: vec![],
+        rows: 4096,
+        is_refused: false,
+    };
+    packs.map(input).into()
 }
 
-fn ours(lent: &mut Lent) {
-    let Lent {
-        pack,
-        table,
-        words,
-        report,
-    } = lent;
-    let (table, words) = (black_box(table), black_box(words));
-    let answer = xnb::raw::report::add(black_box(pack), &[], table, words, black_box(report));
-    assert_eq!(black_box(answer), (0, 0));
-}
-
-fn second(lent: &mut Lent) {
-    let Lent {
-        pack,
-        table,
-        words,
-        report,
-    } = lent;
-    let (table, words) = (black_box(table), black_box(words));
-    let answer = second::report::add(black_box(pack), &[], table, words, black_box(report));
-    black_box(answer).expect("lawful");
-}
-
-pub fn measure() {
-    println!("\nxnb_report_add\n\n| pack | bytes | time | second |");
-    println!("|---|---|---|---|");
-    for (name, pack) in inputs() {
-        let mut lent = Lent {
-            pack,
-            table: vec![0; 4 * 4096],
-            words: vec![0; ROW_WORDS],
-            report: [0; REPORT_WORDS],
-        };
-        let measured = beside(&mut lent, ours, second);
-        let (bytes, millis) = (lent.pack.len(), measured.seconds * 1e3);
-        let ratio = measured.ratio;
-        println!("| {name} | {bytes} | {millis:.3} ms | {ratio:.3} |");
+/// A pack with words for the most files and the most rows.
+pub fn lend(input: Input) -> Lent {
+    Lent {
+        words: vec![0; ROW_WORDS],
+        ..Lent::just(input)
     }
+}
+
+pub fn add(lent: &mut Lent) {
+    let (table, words) = (black_box(&mut lent.table), black_box(&mut lent.words));
+    let mut report = [0; REPORT_WORDS];
+    let answer = xnb::raw::report::add(black_box(&lent.file), &[], table, words, &mut report);
+    assert_eq!(black_box(answer), (0, 0));
+    black_box(report);
+}
+
+pub fn second_add(lent: &mut Lent) {
+    let (table, words) = (black_box(&mut lent.table), black_box(&mut lent.words));
+    let mut report = [0; REPORT_WORDS];
+    let answer = second::report::add(black_box(&lent.file), &[], table, words, &mut report);
+    lent.judge(answer);
+    black_box(report);
 }

@@ -1,21 +1,13 @@
-//! Text lists to and from XML beside the second program and memcpy.
+//! Text lists to and from XML.
 
-use crate::measure::beside;
+use crate::inputs::Input;
+use crate::tasks::Lent;
+use second::NO_ENUMS;
 use std::hint::black_box;
-use xnb::{Loader, WORDS_PER_ROW};
-
-/// What is lent to a task: a file, its XML, words for its rows and an output for either.
-struct Lent {
-    file: Vec<u8>,
-    xml: Vec<u8>,
-    words: Vec<u32>,
-    out: Vec<u8>,
-}
-
-type Task = fn(&mut Lent);
+use xnb::Loader;
 
 /// Lists of so many texts that repeat some characters so often.
-const INPUTS: [(&str, usize, &str, usize); 6] = [
+const LISTS: [(&str, usize, &str, usize); 6] = [
     ("1 text of 1 MB, ASCII", 1, "The quick brown fox. ", 50_000),
     ("1 text of 1 MB, two bytes a character", 1, "äöüß", 131_072),
     (
@@ -34,57 +26,62 @@ const INPUTS: [(&str, usize, &str, usize); 6] = [
     ),
 ];
 
-fn export(lent: &mut Lent) {
-    let (file, words) = (black_box(&lent.file), black_box(&mut lent.words));
-    let written = Loader::new().export_xml_into(file, words, black_box(&mut lent.out));
-    black_box(written).expect("room enough");
-}
-
-fn second_export(lent: &mut Lent) {
-    let (file, words) = (black_box(&lent.file), black_box(&mut lent.words));
-    let written = second::xml::export(file, &[], words, black_box(&mut lent.out));
-    black_box(written).expect("room enough");
-}
-
-fn import(lent: &mut Lent) {
-    let written = xnb::xml::import_into(black_box(&lent.xml), black_box(&mut lent.out));
-    black_box(written).expect("room enough");
-}
-
-fn second_import(lent: &mut Lent) {
-    let written = second::xml::import(black_box(&lent.xml), black_box(&mut lent.out));
-    black_box(written).expect("room enough");
-}
-
-/// Copies as many bytes as the XML has, which is the longer of both.
-fn copy(lent: &mut Lent) {
-    let length = lent.xml.len();
-    black_box(&mut lent.out[..length]).copy_from_slice(black_box(&lent.xml));
-}
-
-/// Exports and imports of each list.
-pub fn measure() {
-    table("xnb_export_xml", export, second_export);
-    table("xnb_import_xml", import, second_import);
-}
-
-fn table(title: &str, ours: Task, second: Task) {
-    println!("\n{title}\n\n| input | bytes of the file | bytes of XML | time | second | memcpy of the XML |");
-    println!("|---|---|---|---|---|---|");
-    for (name, count, characters, times) in INPUTS {
+/// The lists as files or as XML.
+fn inputs(bytes_of: fn(&[String]) -> Vec<u8>) -> Vec<Input> {
+    let input = |(name, count, characters, times): (&str, usize, &str, usize)| {
         let texts = vec![characters.repeat(times); count];
-        let (file, xml) = (fuzz::xml::file_of(&texts), fuzz::xml::xml_of(&texts));
-        let mut lent = Lent {
-            words: vec![0; WORDS_PER_ROW * (count + 1)],
-            out: vec![0; xml.len().max(file.len())],
-            file,
-            xml,
-        };
-        let beside_second = beside(&mut lent, ours, second);
-        let beside_copy = beside(&mut lent, ours, copy);
-        let (file, xml) = (lent.file.len(), lent.xml.len());
-        let micros = beside_second.seconds * 1e6;
-        let (second, copied) = (beside_second.ratio, beside_copy.ratio);
-        println!("| {name} | {file} | {xml} | {micros:.2} µs | {second:.3} | {copied:.3} |");
+        Input {
+            group: "XML",
+            name: name.to_string(),
+            bytes: bytes_of(&texts),
+            enums: vec![],
+            rows: count + 1,
+            is_refused: false,
+        }
+    };
+    LISTS.map(input).into()
+}
+
+pub fn files() -> Vec<Input> {
+    inputs(fuzz::xml::file_of)
+}
+
+pub fn xml_files() -> Vec<Input> {
+    inputs(fuzz::xml::xml_of)
+}
+
+/// A list with room for its other form: XML has at most six bytes for one of a text, and 13 bytes for each text.
+pub fn lend(input: Input) -> Lent {
+    let room = 6 * input.bytes.len() + 13 * input.rows + 200;
+    Lent {
+        out: vec![0; room],
+        ..Lent::just(input)
     }
+}
+
+pub fn export(lent: &mut Lent) {
+    let (file, words) = (black_box(&lent.file), black_box(&mut lent.words));
+    let answer = Loader::new().export_xml_into(file, words, black_box(&mut lent.out));
+    lent.judge(answer);
+}
+
+pub fn second_export(lent: &mut Lent) {
+    let (file, words) = (black_box(&lent.file), black_box(&mut lent.words));
+    let answer = second::xml::export(file, NO_ENUMS, words, black_box(&mut lent.out));
+    lent.judge(answer);
+}
+
+pub fn import(lent: &mut Lent) {
+    let answer = xnb::xml::import_into(black_box(&lent.file), black_box(&mut lent.out));
+    lent.judge(answer);
+}
+
+pub fn second_import(lent: &mut Lent) {
+    let answer = second::xml::import(black_box(&lent.file), black_box(&mut lent.out));
+    lent.judge(answer);
+}
+
+pub fn copy(lent: &mut Lent) {
+    let length = lent.file.len();
+    black_box(&mut lent.out)[..length].copy_from_slice(black_box(&lent.file));
 }
