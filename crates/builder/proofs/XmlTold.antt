@@ -9,7 +9,7 @@ use Rattle.xml_export.specs.Contract as export
 use Rattle.xml_import.specs.declared.Importing.the-variants as importing
 use Rattle.xml_import.specs.Puts as import
 use Rattle.builder.specs.Packed.{code, rewritePacked}
-use Rattle.builder.specs.Packs.{writtenTold}
+use Rattle.pack_told.specs.Told.{writtenTold}
 
 pub not-exported : (x : Rewritten) {number place c : ℕ} → exporting.Refused number place ≡ export.answerOf x → c ≡ code number place → c ≡ rewritePacked x
 unfolding rewritePacked

@@ -1,5 +1,4 @@
 pub mod Packed
 pub mod Places
 pub mod Told
-pub mod Packs
 pub mod Reports

@@ -2,7 +2,7 @@
 mod bare;
 pub mod by_columns;
 mod driver_entry;
-mod pack;
+pub mod pack;
 mod report;
 mod version;
 mod xml;

@@ -7,7 +7,7 @@ ghost use Rattle.reading.specs.Output.{outputOf};
 ghost use Rattle.xml_reading.specs.Answers.{importOf};
 ghost use Rattle.xml_export.specs.Under.{exported, outputLeft, wordsLeft};
 ghost use Rattle.builder.specs.Packed.{rewritePacked};
-ghost use Rattle.builder.specs.Packs.{writtenTold};
+ghost use Rattle.pack_told.specs.Told.{writtenTold};
 
 // Writes the texts of a file as XML into the output, under a list of enum types: a refusal is packed, else the answer is the length of the XML.
 #[no_mangle]

@@ -65,6 +65,13 @@ pub fn part_bytes<'a>(file: &'a [u8], words: &[u32], row: RowNumber) -> &'a [u8]
     bytes_of(file, part(file, words, row))
 }
 
+// The bytes of the part that a row names, none on a refusal, in a table of a shape.
+pub fn part_bytes_of<'a>(file: &'a [u8], words: &[u32], grid: Grid, row: RowNumber) -> &'a [u8]
+    ensures { λ r. ⌜ now r ≡ spanned (now (file .entry)) (partOf grid (now (file .entry)) (now (words .entry)) (row .0)) ⌝ }
+{
+    bytes_of(file, part_of(file, words, grid, row))
+}
+
 // The count of a text in its part, behind the type id.
 fn count_at(bytes: &[u8]) -> Number
     ensures { λ r. ⌜ told r ≡ countAt (now (bytes .entry)) ⌝ }
@@ -123,6 +130,13 @@ pub fn text_bytes<'a>(file: &'a [u8], words: &[u32], row: RowNumber) -> &'a [u8]
     ensures { λ r. ⌜ now r ≡ spanned (now (file .entry)) (rowsText (now (file .entry)) (now (words .entry)) (row .0)) ⌝ }
 {
     bytes_of(file, text(file, words, row))
+}
+
+// The bytes of a text, none on a refusal, in a table of a shape.
+pub fn text_bytes_of<'a>(file: &'a [u8], words: &[u32], grid: Grid, row: RowNumber) -> &'a [u8]
+    ensures { λ r. ⌜ now r ≡ spanned (now (file .entry)) (textOf grid (now (file .entry)) (now (words .entry)) (row .0)) ⌝ }
+{
+    bytes_of(file, text_of(file, words, grid, row))
 }
 
 // A refusal's number and the row number; or a signed number.

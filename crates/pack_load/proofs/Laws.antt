@@ -1,6 +1,6 @@
 -- What a lookup and the loader say of a file of a pack. Assumes nothing.
 use mathlib.Core.Path.{_≡_, refl}
-use mathlib.Core.List.{List, []}
+use mathlib.Core.List.{List}
 use Prim.Native.Nat.{ℕ, _+_, _-_}
 use native.Mathlib.Omega.{arith}
 use lib.ListN.{length, take, drop}
@@ -19,14 +19,14 @@ use Rattle.pack_load.specs.declared.Opened.{Opened}
 use Rattle.pack_load.specs.declared.Opened.the-variants.{Absent, Refused, Loaded}
 
 -- what is told of a file of a pack, and what the words hold
-pub record Told (file : List ℕ) (words : ℕ) (x : Found) (r : Opened) (exit : List ℕ) : Type 0 where
-  pub answers : r ≡ opening file words x
-  pub leaves : exit ≡ leaving file words x
+pub record Told (enums file : List ℕ) (words : ℕ) (x : Found) (r : Opened) (exit : List ℕ) : Type 0 where
+  pub answers : r ≡ opening enums file words x
+  pub leaves : exit ≡ leaving enums file words x
 
-pub told-absent : (file entry : List ℕ) (x : Found) → lookup.Absent ≡ foundAs x → Told file (length entry) x Absent (cleared entry 0)
+pub told-absent : (enums file entry : List ℕ) (x : Found) → lookup.Absent ≡ foundAs x → Told enums file (length entry) x Absent (cleared entry 0)
 unfolding cleared
-told-absent file entry absent q = let z : length entry - 0 ≡ length entry = omega arith in record { answers = refl; leaves = rw z }
-told-absent file entry (found first count) q = differ cc
+told-absent enums file entry absent q = let z : length entry - 0 ≡ length entry = omega arith in record { answers = refl; leaves = rw z }
+told-absent enums file entry (found first count) q = differ cc
 
 -- the loader's answer, by its cases
 pub as-refused : (bytes : List ℕ) (x : Load) {number place : ℕ} → load.Refused number place ≡ answerOf bytes x → Refused number place ≡ loadedAs bytes x
@@ -49,10 +49,10 @@ as-loaded bytes (accepted r d s) {rows} {readers} {shared} {padding} q =
 abbrev pub part : (file : List ℕ) (first count : ℕ) → List ℕ
 part file first count = take (first + count - first) (drop first file)
 
-pub told-found : (file : List ℕ) (words : ℕ) (x : Found) {first count : ℕ} (r : Opened) (exit : List ℕ) → lookup.At first count ≡ foundAs x
-    → r ≡ loadedAs (part file first count) (loadUnder [] (part file first count) words) → exit ≡ tableOf (loadUnder [] (part file first count) words) words → Told file words x r exit
-told-found file words absent r exit q a l = differ cc
-told-found file words (found f n) {first} {count} r exit q a l =
+pub told-found : (enums file : List ℕ) (words : ℕ) (x : Found) {first count : ℕ} (r : Opened) (exit : List ℕ) → lookup.At first count ≡ foundAs x
+    → r ≡ loadedAs (part file first count) (loadUnder enums (part file first count) words) → exit ≡ tableOf (loadUnder enums (part file first count) words) words → Told enums file words x r exit
+told-found enums file words absent r exit q a l = differ cc
+told-found enums file words (found f n) {first} {count} r exit q a l =
     let p : first ≡ f = cc in
     let s : count ≡ n = cc in
     let e : f + n - f ≡ n = omega arith in

@@ -1,5 +1,5 @@
 -- What loading a file of a pack answers (Req 01): "The XNB loader takes the data as a part of the pack". Assumes nothing.
-use mathlib.Core.List.{List, []}
+use mathlib.Core.List.{List}
 use Prim.Native.Nat.{ℕ}
 use lib.ListN.{length, replicate, take, drop}
 use Rattle.reading.specs.File.{Load, refusal, accepted, tableOf}
@@ -14,18 +14,18 @@ abbrev pub loadedAs : (bytes : List ℕ) → Load → code.Opened
 loadedAs bytes (refusal number place) = Refused number place
 loadedAs bytes (accepted rows readers shared) = Loaded (length rows) readers shared (filePadding bytes readers rows)
 
--- absent, or what the loader answers for the data that a lookup names
-abbrev pub opening : (file : List ℕ) (words : ℕ) → Found → code.Opened
-opening file words absent = Absent
-opening file words (found first count) = loadedAs (take count (drop first file)) (loadUnder [] (take count (drop first file)) words)
+-- absent, or what the loader answers for the data that a lookup names, under a list of enum types
+abbrev pub opening : (enums file : List ℕ) (words : ℕ) → Found → code.Opened
+opening enums file words absent = Absent
+opening enums file words (found first count) = loadedAs (take count (drop first file)) (loadUnder enums (take count (drop first file)) words)
 
-abbrev pub openedOf : (file table path : List ℕ) (words : ℕ) → code.Opened
-openedOf file table path words = opening file words (findOf file table path)
+abbrev pub openedOf : (enums file table path : List ℕ) (words : ℕ) → code.Opened
+openedOf enums file table path words = opening enums file words (findOf file table path)
 
 -- what the words then hold: zeros where nothing is found, else what the loader leaves for the data
-abbrev pub leaving : (file : List ℕ) (words : ℕ) → Found → List ℕ
-leaving file words absent = replicate words 0
-leaving file words (found first count) = tableOf (loadUnder [] (take count (drop first file)) words) words
+abbrev pub leaving : (enums file : List ℕ) (words : ℕ) → Found → List ℕ
+leaving enums file words absent = replicate words 0
+leaving enums file words (found first count) = tableOf (loadUnder enums (take count (drop first file)) words) words
 
-abbrev pub rowsOf : (file table path : List ℕ) (words : ℕ) → List ℕ
-rowsOf file table path words = leaving file words (findOf file table path)
+abbrev pub rowsOf : (enums file table path : List ℕ) (words : ℕ) → List ℕ
+rowsOf enums file table path words = leaving enums file words (findOf file table path)

@@ -21,10 +21,18 @@ pub enum Opened {
     },
 }
 
-// Loads the data of the first file of a path into the words, by a table of any words, with no enum types listed; only zeros where there is none.
-pub fn load_found(pack: &[u8], table: &[u64], path: &[u8], words: &mut [u32]) -> Opened
-    ensures { λ r. ⌜ r ≡ openedOf (now (pack .entry)) (now (table .entry)) (now (path .entry)) (length (now (words .entry))) ⌝ }
-    ensures { λ _. ⌜ now (words .exit) ≡ rowsOf (now (pack .entry)) (now (table .entry)) (now (path .entry)) (length (now (words .entry))) ⌝ }
+// Loads the data of the first file of a path into the words, by a table of any words and under a list of enum types;
+// only zeros where there is none.
+pub fn load_found(
+    pack: &[u8],
+    table: &[u64],
+    path: &[u8],
+    enums: &[u8],
+    words: &mut [u32],
+) -> Opened
+    ensures { λ r. ⌜ r ≡ openedOf (now (enums .entry)) (now (pack .entry)) (now (table .entry)) (now (path .entry)) (length (now (words .entry))) ⌝ }
+    ensures { λ _. ⌜ now (words .exit) ≡ rowsOf (now (enums .entry)) (now (pack .entry)) (now (table .entry)) (now (path .entry))
+        (length (now (words .entry))) ⌝ }
 {
     match pack_lookup::find(pack, table, path) {
         Found::Absent => {
@@ -33,7 +41,7 @@ pub fn load_found(pack: &[u8], table: &[u64], path: &[u8], words: &mut [u32]) ->
         }
         Found::At { first, count } => {
             let end = first + count;
-            match load::load(&pack[first..end], b"", words) {
+            match load::load(&pack[first..end], enums, words) {
                 Loading::Refused { number, place } => Opened::Refused { number, place },
                 Loading::Loaded {
                     rows,

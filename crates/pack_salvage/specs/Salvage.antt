@@ -5,17 +5,18 @@ use mathlib.Core.List.{List, [], _∷_, _++_}
 use Prim.Native.Nat.{ℕ, zero, suc, _+_, _*_, _/_, _≤_}
 use native.Mathlib.Omega.{arith}
 use lib.Dec.{leb}
-use lib.ListN.{length, drop}
+use lib.ListN.{length, drop, length-append, length-drop}
 use lib.Seq.{drop-append-seam}
 use borrow.Author.Tests.{le-leb}
 use Rattle.layout.specs.Number.{little}
+use Rattle.reading.specs.Little.{length-little}
 use Rattle.reading.specs.Reads.{Small, small-drop, small-left}
 use Rattle.pack_layout.specs.Pack.{Stored, marked, recordBytes, recordsBytes, packBytes, PackLays}
 use Rattle.pack_reading.specs.Pack.{roomOf, packOf, accepted}
 use Rattle.pack_reading.specs.Theorems.{files-are}
-use Rattle.pack_salvage.specs.Scan.{Piece, kept, skipped, Scanned, piecesBytes, makes-up, keptOf, allKept, kept-lawful, keeps-all, kept-all}
+use Rattle.pack_salvage.specs.Scan.{Piece, kept, skipped, Scanned, piecesBytes, makes-up, keptOf, allKept, kept-lawful, kept-no-longer, keeps-all, kept-all}
 use Rattle.pack_salvage.specs.Scanning.{scan, scan-is, is-scanned}
-use Rattle.pack_salvage.specs.Stretches.{Stretch, stretches, words}
+use Rattle.pack_salvage.specs.Stretches.{Stretch, stretches, words, stretches-at-most}
 
 -- Req 11: "From byte 4"; "after 4,096 records"
 abbrev pub piecesOf : (file : List ℕ) → List Piece
@@ -81,6 +82,25 @@ pack-written file small =
 pub written-accepted : (file : List ℕ) (room : ℕ) → Small file → length (keptOf (piecesOf file)) ≤ roomOf room → packOf marked (newPack file) room ≡ accepted (keptOf (piecesOf file))
 written-accepted file room small h =
     files-are marked (newPack file) room (record { files = keptOf (piecesOf file); lays = pack-written file small; room = h })
+
+-- the new pack has no more bytes than the pack, so that as many are always room enough
+pub no-longer : (file : List ℕ) (ps : List Piece) → 4 ≤ length file → Scanned 4096 (drop 4 file) ps → length (packBytes marked (keptOf ps)) ≤ length file
+unfolding packBytes
+no-longer file ps h s =
+    let fs = keptOf ps in
+    omega (
+      arith,
+      h,
+      kept-no-longer ps,
+      ap length (makes-up s),
+      length-drop 4 file,
+      length-little 4 (length fs),
+      length-append (little 4 (length fs)) (recordsBytes marked fs),
+    )
+
+-- there are at most 4,097 stretches: one before each of 4,096 records, and one behind them
+pub few-stretches : {bs : List ℕ} (ps : List Piece) → Scanned 4096 bs ps → length (stretches 4 ps) ≤ 4097
+few-stretches ps s = omega (arith, stretches-at-most 4 ps, kept-lawful s .1)
 
 no-stretch : (at : ℕ) (fs : List Stored) → stretches at (allKept fs) ≡ []
 unfolding stretches allKept

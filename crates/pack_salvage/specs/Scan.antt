@@ -3,7 +3,7 @@ use mathlib.Core.Path.{_≡_, refl, sym, ap, _∙_}
 use mathlib.Core.List.{List, [], _∷_, _++_}
 use Prim.Native.Nat.{ℕ, zero, suc, _≤_}
 use native.Mathlib.Omega.{arith}
-use lib.ListN.{length}
+use lib.ListN.{length, length-append}
 use Rattle.pack_layout.specs.Pack.{Stored, Lawful, marked, recordBytes, recordsBytes, Each}
 
 -- a record that is kept, or a byte that is skipped
@@ -79,6 +79,14 @@ kept-lawful at-end = (tt, omega arith)
 kept-lawful {bs = bs} no-more = rw (none-kept bs) (tt, omega arith)
 kept-lawful (keeps w s) = let r = kept-lawful s in ((w .lawful, r .0), omega (arith, r .1))
 kept-lawful (goes-on none s) = kept-lawful s
+
+-- and has no more bytes than all pieces have
+pub kept-no-longer : (ps : List Piece) → length (recordsBytes marked (keptOf ps)) ≤ length (piecesBytes ps)
+unfolding keptOf recordsBytes piecesBytes
+kept-no-longer [] = omega arith
+kept-no-longer (kept f ∷ ps) =
+    omega (arith, kept-no-longer ps, length-append (recordBytes marked f) (recordsBytes marked (keptOf ps)), length-append (recordBytes marked f) (piecesBytes ps))
+kept-no-longer (skipped b ∷ ps) = omega (arith, kept-no-longer ps)
 
 -- files one after the other are all kept
 pub keeps-all : (left : ℕ) (fs : List Stored) → Each Lawful fs → length fs ≤ left → Scanned left (recordsBytes marked fs) (allKept fs)

@@ -1,5 +1,5 @@
 -- The skipped stretches of a scan (Req 11): in file order, joined where they touch, none empty, and of the skipped bytes alone. Assumes nothing.
-use mathlib.Core.Path.{_≡_, refl, subst}
+use mathlib.Core.Path.{_≡_, refl, ap, subst}
 use mathlib.Core.Bool.{Bool, true, false, cond}
 use mathlib.Core.List.{List, [], _∷_}
 use mathlib.Core.Logic.{_⊎_, inl, inr, _↔_}
@@ -10,7 +10,7 @@ use lib.Dec.{eqb}
 use lib.ListN.{length}
 use borrow.Author.Tests.{eqb-true, eqb-false}
 use Rattle.pack_layout.specs.Pack.{marked, recordBytes}
-use Rattle.pack_salvage.specs.Scan.{Piece, kept, skipped}
+use Rattle.pack_salvage.specs.Scan.{Piece, kept, skipped, keptOf}
 
 -- where a stretch starts, and how many bytes it has
 abbrev pub Stretch : Type 0
@@ -68,6 +68,44 @@ stretches-apart at [] = tt
 stretches-apart at (kept f ∷ ps) =
     apart-later at (at + length (recordBytes marked f)) (stretches (at + length (recordBytes marked f)) ps) (omega arith) (stretches-apart (at + length (recordBytes marked f)) ps)
 stretches-apart at (skipped b ∷ ps) = joined-apart at (stretches (suc at) ps) (stretches-apart (suc at) ps)
+
+-- so none of them is empty
+pub none-empty : (at : ℕ) (s : Stretch) (l : List Stretch) → Apart at (s ∷ l) → 1 ≤ s .1
+unfolding Apart
+none-empty at s l w = omega (arith, w .1)
+
+-- ---- There is one stretch more than kept records at most
+
+-- where the first byte is skipped, the first stretch starts with it and is one more
+abbrev Few : (at : ℕ) (most : ℕ) → List Stretch → Type 0
+Few at most l = (length l ≤ most) ⊎ ((n : ℕ) × (rest : List Stretch) × (l ≡ (at, n) ∷ rest) × (length rest ≤ most))
+
+few-at-most : (at most : ℕ) (l : List Stretch) → Few at most l → length l ≤ suc most
+few-at-most at most l (inl h) = omega (arith, h)
+few-at-most at most l (inr w) = omega (arith, w .3, ap length (w .2))
+
+joined-few : (at most : ℕ) (l : List Stretch) → Few (suc at) most l → Few at most (joined at l)
+unfolding joined
+joined-few at most [] w = inr (1, [], refl, omega arith)
+joined-few at most (s ∷ l) (inl h) = go (eqb (s .0) (suc at)) where
+  go : (t : Bool) → Few at most (cond t ((at, suc (s .1)) ∷ l) ((at, 1) ∷ s ∷ l))
+  go true = inr (suc (s .1), l, refl, omega (arith, h))
+  go false = inr (1, s ∷ l, refl, h)
+joined-few at most (s ∷ l) (inr w) = go (eqb (s .0) (suc at)) refl where
+  go : (t : Bool) → eqb (s .0) (suc at) ≡ t → Few at most (cond t ((at, suc (s .1)) ∷ l) ((at, 1) ∷ s ∷ l))
+  go true q = inr (suc (s .1), l, refl, omega (arith, w .3, ap length (w .2)))
+  go false q =
+      let e : s ≡ (suc at, w .0) = cc (w .2) in
+      absurd (eqb-false (s .0) (suc at) q (ap (λ (x : Stretch). x .0) e))
+
+stretches-few : (at : ℕ) (ps : List Piece) → Few at (length (keptOf ps)) (stretches at ps)
+unfolding stretches keptOf
+stretches-few at [] = inl (omega arith)
+stretches-few at (kept f ∷ ps) = inl (few-at-most (at + length (recordBytes marked f)) (length (keptOf ps)) (stretches (at + length (recordBytes marked f)) ps) (stretches-few (at + length (recordBytes marked f)) ps))
+stretches-few at (skipped b ∷ ps) = joined-few at (length (keptOf ps)) (stretches (suc at) ps) (stretches-few (suc at) ps)
+
+pub stretches-at-most : (at : ℕ) (ps : List Piece) → length (stretches at ps) ≤ suc (length (keptOf ps))
+stretches-at-most at ps = few-at-most at (length (keptOf ps)) (stretches at ps) (stretches-few at ps)
 
 -- ---- The stretches cover the skipped bytes and no others
 

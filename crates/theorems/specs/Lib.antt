@@ -4,9 +4,13 @@ pub mod Rewriting
 pub mod Padding
 pub mod Columns
 pub mod Branches
+pub mod Bytes
 pub mod Packs
 pub mod Marks
 pub mod Salvage
 pub mod Fitted
 pub mod Standing
 pub mod Laws
+pub mod PackLaws
+pub mod MarkLaws
+pub mod SalvageLaws

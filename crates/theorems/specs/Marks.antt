@@ -2,9 +2,11 @@
 use mathlib.Core.Path.{_≡_}
 use mathlib.Core.Bool.{Bool, not}
 use mathlib.Core.List.{List, _++_}
+use mathlib.Core.Logic.{_⊎_}
 use Prim.Native.Nat.{ℕ, _<_, _≤_}
 use lib.ListN.{length, take, drop}
 use Rattle.pack_layout.specs.Pack.{Stored, packBytes, PackLays}
+use Rattle.pack_layout.specs.Numbers.{PackNumber}
 use Rattle.pack_reading.specs.Theorems.{Fitting}
 use Rattle.pack_reading.specs.Lookup.{Content, missing, content}
 use Rattle.pack_records.specs.Records.{markOf}
@@ -13,6 +15,7 @@ use Rattle.pack_lookup.specs.declared.Found.the-variants.{Absent, At}
 use Rattle.marks.specs.declared.Converting.{Converting}
 use Rattle.marks.specs.declared.Converting.the-variants.{Refused, Converted}
 use Rattle.theorems.specs.declared.converted.Both.{Both}
+use Rattle.theorems.specs.Packs.{Gives}
 
 -- the form of the pack given
 abbrev pub Given : (marked : Bool) (pack : List ℕ) (words : ℕ) → Type 0
@@ -33,6 +36,8 @@ pub record Converts (marked : Bool) (pack out end : List ℕ) (r : Converting) :
   pub refuses : ((fs : List Stored) → PackLays (markOf (not marked)) fs pack → ⊥) → (number : ℕ) × (place : ℕ) × (r ≡ Refused number place)
   -- a refused conversion leaves its output unchanged; "A conversion lends no table", and so is never refused with 31
   pub unchanged : (number place : ℕ) → r ≡ Refused number place → (end ≡ out) × (number ≡ 31 → ⊥)
+  -- a refusal is 21, or its number is one of a pack's of the other form and its place is in the pack
+  pub inside : (number place : ℕ) → r ≡ Refused number place → (number ≡ 21) ⊎ (PackNumber (not marked) number × (place ≤ length pack))
   -- what was written is a pack of the form `marked`, and lies in the output
   pub written : (n : ℕ) → r ≡ Converted n → (fs : List Stored) × PackLays (markOf (not marked)) fs pack × (n ≤ length end) × PackLays (markOf marked) fs (take n end)
 
@@ -49,6 +54,11 @@ dataAt pack (At a n) = content (take n (drop a pack))
 
 -- For a path that is looked up in the pack and in the converted one: the numbers of bytes and of words lent, the output as it is left, and the two answers.
 pub record Same (marked : Bool) (pack : List ℕ) (out words : ℕ) (path end : List ℕ) (r : Both) : Type 0 where
+  -- the first answer is a lookup's in the pack given
+  pub in-given : Gives (not marked) pack words path (r .given)
+  -- where the output has room, the second is a lookup's in the new pack
+  pub in-new : (f : Given marked pack words) → length (inForm marked (f .files)) ≤ out
+      → Gives marked (take (length (inForm marked (f .files))) end) words path (r .new)
   -- "lookups give equal data under both"
   pub same : (f : Given marked pack words) → length (inForm marked (f .files)) ≤ out
       → dataAt pack (r .given) ≡ dataAt (take (length (inForm marked (f .files))) end) (r .new)

@@ -1,5 +1,6 @@
 -- What is demanded of the padding that a load tells (02, Req 06), beside what a rewrite of the same file saves: the contract of `load_and_rewrite`. Assumes nothing.
 use mathlib.Core.Path.{_≡_}
+use mathlib.Core.Bool.{Bool}
 use mathlib.Core.List.{List}
 use mathlib.Core.Logic.{_↔_}
 use Prim.Native.Nat.{ℕ, _-_, _≤_}
@@ -7,6 +8,8 @@ use lib.ListN.{length}
 use Rattle.layout.specs.File.{FileLays}
 use Rattle.layout.specs.Named.{named}
 use Rattle.theorems.specs.Fits.{Fitting}
+use Rattle.theorems.specs.Exact.{Exact}
+use Rattle.theorems.specs.Rewriting as R
 use Rattle.load.specs.declared.Loading.the-variants.{Refused, Loaded}
 use Rattle.rewrite.specs.declared.Rewriting.the-variants.{Rewritten}
 use Rattle.rewrite.specs.declared.Rewriting.the-variants as rewriting
@@ -16,8 +19,13 @@ use Rattle.theorems.specs.declared.padded.Saved.{Saved}
 abbrev pub Shortest : (enums file : List ℕ) (words : ℕ) → Type 0
 Shortest enums file words = (f : Fitting enums file words) (bs : List ℕ) → FileLays (named (f .es)) (f .tree) bs → length file ≤ length bs
 
--- For the lent list of enum types, a file, the number of words lent to the load and to the rewrite, and both answers.
-pub record Saves (enums file : List ℕ) (words : ℕ) (r : Saved) : Type 0 where
+-- For a load by rows or in columns: the lent list of enum types, a file, the number of words lent to the load and to the rewrite, the words as the rewrite leaves them, the output as it was lent and as it is left, and both answers.
+pub record Saves (columns : Bool) (enums file : List ℕ) (words : ℕ) (left out end : List ℕ) (r : Saved) : Type 0 where
+  -- the first answer is a load's, and so are the words that it leaves to the rewrite
+  pub between : List ℕ
+  pub loads : Exact columns enums file words between (r .loaded)
+  -- the second is a rewrite's
+  pub rewrites : R.Exact enums file words left out end (r .rewritten)
   -- "It is proved equal to the file's length less the rewritten file's length."
   pub total : (rows readers shared padding n : ℕ) → r .loaded ≡ Loaded rows readers shared padding → r .rewritten ≡ Rewritten n → (n ≤ length file) × (padding ≡ length file - n)
   -- where the output is too small for the rewritten file, its length is the place of 21

@@ -42,6 +42,8 @@ pub record Salvages (pack out list end left : List ℕ) (r : Salvaging) : Type 0
   pub makes-up : (ps : List Piece) → Scan pack ps → take 4 pack ++ piecesBytes ps ≡ pack
   -- the stretches are in file order, none is empty and no two touch; a place lies in one of them exactly if its byte is skipped
   pub stretched : (ps : List Piece) → Scan pack ps → Apart 4 (skipsOf ps) × ((place : ℕ) → Covered place (skipsOf ps) ↔ SkippedAt place 4 ps)
+  -- so much room is always enough: the new pack never has more bytes than the pack, and there are never more than 4,097 stretches
+  pub bounded : (ps : List Piece) → Scan pack ps → (length (newOf ps) ≤ length pack) × (length (skipsOf ps) ≤ 4097)
   -- "21 for output", with the bytes needed
   pub too-small : (ps : List Piece) → Scan pack ps → length out < length (newOf ps) → r ≡ Refused 21 (length (newOf ps))
   -- "52 with the stretches needed for a list too short"

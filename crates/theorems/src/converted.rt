@@ -1,12 +1,15 @@
 // What is demanded of converting packs, as contracts: each function calls the code, and is here for what it ensures (specs/Marks.antt).
 use marks::Converting;
 use pack_lookup::Found;
+ghost use mathlib.Core.Path.{_≡_};
 ghost use lib.ListN.{length};
+ghost use Rattle.marks.specs.Converting.{converted, answerOf};
 ghost use Rattle.theorems.specs.Marks.{Converts, Back, Same};
 
-// A pack that is converted to the form `marked`.
+// A pack that is converted to the form `marked`: the demand, and the answer of the code, which fixes a refusal.
 pub fn convert_exact(pack: &[u8], out: &mut [u8], marked: bool) -> Converting
     ensures { λ r. ⌜ Converts marked (now (pack .entry)) (now (out .entry)) (now (out .exit)) r ⌝ }
+    ensures { λ r. ⌜ r ≡ answerOf (converted marked (now (pack .entry)) (length (now (out .entry)))) ⌝ }
 {
     marks::convert(pack, out, marked)
 }

@@ -1,6 +1,6 @@
 // What is demanded of loading and rewriting, as contracts: each function calls the code, and is here for what it ensures
 // (specs/Exact.antt and specs/Rewriting.antt, from top to bottom; of padding, padded.rt and specs/Padding.antt;
-// of columns, columned.rt and specs/Columns.antt; of a row and all below it, branched.rt and specs/Branches.antt;
+// of columns, columned.rt and specs/Columns.antt, spanned.rt and specs/Bytes.antt; of a row and all below it, branched.rt and specs/Branches.antt;
 // of packs, packed.rt and specs/Packs.antt, converted.rt and specs/Marks.antt, salvaged.rt and specs/Salvage.antt).
 mod branched;
 mod columned;
@@ -8,6 +8,7 @@ mod converted;
 mod packed;
 mod padded;
 mod salvaged;
+mod spanned;
 
 use load::Loading;
 use rewrite::Rewriting;

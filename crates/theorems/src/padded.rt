@@ -18,7 +18,8 @@ fn load_and_rewrite(
     columns: bool,
     out: &mut [u8],
 ) -> Saved
-    ensures { λ r. ⌜ Saves (now (enums .entry)) (now (file .entry)) (length (now (words .entry))) r ⌝ }
+    ensures { λ r. ⌜ Saves columns (now (enums .entry)) (now (file .entry)) (length (now (words .entry))) (now (words .exit))
+        (now (out .entry)) (now (out .exit)) r ⌝ }
 {
     let loaded = load::load_in(file, enums, words, columns);
     let rewritten = rewrite::rewrite(file, enums, words, out);

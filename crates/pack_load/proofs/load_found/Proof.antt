@@ -1,6 +1,5 @@
 use mathlib.Core.Path.{sym, _∙_}
 use native.Mathlib.Omega.{arith}
-use mathlib.Core.List.{[]}
 use lib.ListN.{length}
 use Rattle.load.specs.Under.{loadUnder}
 use Rattle.pack_reading.specs.Lookup.{findOf}
@@ -24,7 +23,7 @@ enum-known-first c = search needs
 
 add-end : tie.Need-add-end
 add-end c =
-    let a = c .before .before .before .before .before .before .before .before .args in
+    let a = c .before .before .before .before .before .before .before .before .before .args in
     omega (arith, data-inside (a .pack .now) (a .table .now) (a .path .now) (sym (c .before .first .given .1) ∙ c .before .before .before .find .ensures))
 
 sub-load : tie.Need-sub-load
@@ -35,11 +34,8 @@ part-load-start c = search needs
 
 part-load-end : tie.Need-part-load-end
 part-load-end c =
-    let a = c .before .before .before .before .before .before .before .before .args in
+    let a = c .before .before .before .before .before .before .before .before .before .args in
     data-inside (a .pack .now) (a .table .now) (a .path .now) (sym (c .before .first .given .1) ∙ c .before .before .before .find .ensures)
-
-slice-aggregate-load : tie.Need-slice-aggregate-load
-slice-aggregate-load c = search needs
 
 load-requires : tie.Need-load-requires
 load-requires c κs = search needs
@@ -55,8 +51,8 @@ same-length c = search needs
 
 returns : tie.Need-returns
 returns c =
-    let a = c .before .before .before .before .before .before .before .before .before .before .before .args in
-    let t = told-absent (a .pack .now) (a .words .now) (findOf (a .pack .now) (a .table .now) (a .path .now)) (sym (c .before .before .before .before .enum-told .given .1) ∙ c .before .before .before .before .before .before .find .ensures) in
+    let a = c .before .before .before .before .before .before .before .before .before .before .before .before .args in
+    let t = told-absent (a .enums .now) (a .pack .now) (a .words .now) (findOf (a .pack .now) (a .table .now) (a .path .now)) (sym (c .before .before .before .before .enum-told .given .1) ∙ c .before .before .before .before .before .before .find .ensures) in
     (t .answers, c .before .before .clear .ensures ∙ t .leaves)
 
 same-length-2 : tie.Need-same-length-2
@@ -66,9 +62,9 @@ returns-2 : tie.Need-returns-2
 returns-2 c =
     let a = c .before .before .before .before .before .before .before .before .before .before .before .before .before .before .before .before .before .args in
     let x = findOf (a .pack .now) (a .table .now) (a .path .now) in
-    let bytes = part (a .pack .now) (c .before .before .before .before .before .before .before .before .before .before .first .given .0 .0) (c .before .before .before .before .before .before .before .before .before .before .first .given .0 .1 .0) in
-    let y = loadUnder [] bytes (length (a .words .now)) in
-    let t = told-found (a .pack .now) (length (a .words .now)) x _ _ (sym (c .before .before .before .before .before .before .before .before .before .before .first .given .1) ∙ c .before .before .before .before .before .before .before .before .before .before .before .before .find .ensures) (as-refused bytes y (sym (c .before .number .given .1) ∙ c .before .before .before .before .before .load .ensures .0)) (c .before .before .before .before .before .load .ensures .1) in
+    let bytes = part (a .pack .now) (c .before .before .before .before .before .before .before .before .before .first .given .0 .0) (c .before .before .before .before .before .before .before .before .before .first .given .0 .1 .0) in
+    let y = loadUnder (a .enums .now) bytes (length (a .words .now)) in
+    let t = told-found (a .enums .now) (a .pack .now) (length (a .words .now)) x _ _ (sym (c .before .before .before .before .before .before .before .before .before .first .given .1) ∙ c .before .before .before .before .before .before .before .before .before .before .before .find .ensures) (as-refused bytes y (sym (c .before .number .given .1) ∙ c .before .before .before .before .before .load .ensures .0)) (c .before .before .before .before .before .load .ensures .1) in
     (t .answers, t .leaves)
 
 same-length-3 : tie.Need-same-length-3
@@ -78,9 +74,9 @@ returns-3 : tie.Need-returns-3
 returns-3 c =
     let a = c .before .before .before .before .before .before .before .before .before .before .before .before .before .before .before .before .before .args in
     let x = findOf (a .pack .now) (a .table .now) (a .path .now) in
-    let bytes = part (a .pack .now) (c .before .before .before .before .before .before .before .before .before .before .first .given .0 .0) (c .before .before .before .before .before .before .before .before .before .before .first .given .0 .1 .0) in
-    let y = loadUnder [] bytes (length (a .words .now)) in
-    let t = told-found (a .pack .now) (length (a .words .now)) x _ _ (sym (c .before .before .before .before .before .before .before .before .before .before .first .given .1) ∙ c .before .before .before .before .before .before .before .before .before .before .before .before .find .ensures) (as-loaded bytes y (sym (c .before .rows .given .1) ∙ c .before .before .before .before .before .load .ensures .0)) (c .before .before .before .before .before .load .ensures .1) in
+    let bytes = part (a .pack .now) (c .before .before .before .before .before .before .before .before .before .first .given .0 .0) (c .before .before .before .before .before .before .before .before .before .first .given .0 .1 .0) in
+    let y = loadUnder (a .enums .now) bytes (length (a .words .now)) in
+    let t = told-found (a .enums .now) (a .pack .now) (length (a .words .now)) x _ _ (sym (c .before .before .before .before .before .before .before .before .before .first .given .1) ∙ c .before .before .before .before .before .before .before .before .before .before .before .find .ensures) (as-loaded bytes y (sym (c .before .rows .given .1) ∙ c .before .before .before .before .before .load .ensures .0)) (c .before .before .before .before .before .load .ensures .1) in
     (t .answers, t .leaves)
 
 pub load-found-spec : {M : Type 1} → statement M
@@ -95,7 +91,6 @@ load-found-spec =
     sub-load
     part-load-start
     part-load-end
-    slice-aggregate-load
     load-requires
     enum-known-number
     enum-known-rows

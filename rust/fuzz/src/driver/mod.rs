@@ -8,7 +8,7 @@ mod maker;
 
 pub use limits::limits;
 
-use crate::enums::{bytes_of, damaged, some_enums, EnumCase};
+use crate::enums::{bytes_of, damaged, some_enums, EnumCase, Listed};
 use crate::random::Random;
 use crate::{blind, some_words, Case, Known};
 use corpus::writer::{set_length, write, Field, Role, Written, WORDS_PER_ROW};
@@ -31,20 +31,36 @@ pub fn offends(seed: u64, number: u32) -> bool {
     broken >> (number - 41) & 1 == 1
 }
 
-/// The case of a seed; what is known is the answer of the driver's loader.
-pub fn case(seed: u64) -> EnumCase {
-    let mut random = Random::new(seed);
-    let enums = some_enums(&mut random);
-    let made = make(&mut random, &enums, |number| offends(seed, number));
+/// A file that breaks the rules of a seed and is not damaged besides, with the fields and rows that were written.
+pub fn undamaged(seed: u64) -> (EnumCase, Written) {
+    let (case, written, _) = of_seed(&mut Random::new(seed), seed);
+    (case, written)
+}
+
+fn of_seed(random: &mut Random, seed: u64) -> (EnumCase, Written, Vec<Listed>) {
+    let enums = some_enums(random);
+    let made = make(random, &enums, |number| offends(seed, number));
     let written = write(&made.file);
-    let words = some_words(&mut random, written.rows.len());
+    let words = some_words(random, written.rows.len());
     let known = known(&made, &written, |number| offends(seed, number));
     let case = Case {
         bytes: written.bytes.clone(),
         words,
         known: Some(known),
     };
-    let enums_lent = bytes_of(&enums);
+    let lent = bytes_of(&enums);
+    (EnumCase { case, enums: lent }, written, enums)
+}
+
+/// The case of a seed; what is known is the answer of the driver's loader.
+pub fn case(seed: u64) -> EnumCase {
+    let mut random = Random::new(seed);
+    let (made, written, enums) = of_seed(&mut random, seed);
+    let EnumCase {
+        case,
+        enums: enums_lent,
+    } = made;
+    let words = case.words;
     match random.below(12) {
         0 => with_a_load_fault(&mut random, case, &written, enums_lent),
         1 => {

@@ -23,19 +23,19 @@ enum-known-n : tie.Need-enum-known-n
 enum-known-n c = search needs
 
 slice-reshare-prefix-read : tie.Need-slice-reshare-prefix-read
-slice-reshare-prefix-read c = omega (arith, c .before .before .before .before .before .convert-exact .ensures .written _ (c .before .n .given .1) .2)
+slice-reshare-prefix-read c = omega (arith, c .before .before .before .before .before .convert-exact .ensures .0 .written _ (c .before .n .given .1) .2)
 
 slice-aggregate-read : tie.Need-slice-aggregate-read
-slice-aggregate-read c = sym (length-take-le _ _ (c .before .before .before .before .before .before .convert-exact .ensures .written _ (c .before .before .n .given .1) .2))
+slice-aggregate-read c = sym (length-take-le _ _ (c .before .before .before .before .before .before .convert-exact .ensures .0 .written _ (c .before .before .n .given .1) .2))
 
 read-requires-2 : tie.Need-read-requires-2
 read-requires-2 c κs = search needs
 
 slice-reshare-prefix-find : tie.Need-slice-reshare-prefix-find
-slice-reshare-prefix-find c = omega (arith, c .before .before .before .before .before .before .before .before .before .before .convert-exact .ensures .written _ (c .before .before .before .before .before .before .n .given .1) .2)
+slice-reshare-prefix-find c = omega (arith, c .before .before .before .before .before .before .before .before .before .before .convert-exact .ensures .0 .written _ (c .before .before .before .before .before .before .n .given .1) .2)
 
 slice-aggregate-find : tie.Need-slice-aggregate-find
-slice-aggregate-find c = sym (length-take-le _ _ (c .before .before .before .before .before .before .before .before .before .before .before .convert-exact .ensures .written _ (c .before .before .before .before .before .before .before .n .given .1) .2))
+slice-aggregate-find c = sym (length-take-le _ _ (c .before .before .before .before .before .before .before .before .before .before .before .convert-exact .ensures .0 .written _ (c .before .before .before .before .before .before .before .n .given .1) .2))
 
 find-requires-2 : tie.Need-find-requires-2
 find-requires-2 c κs = search needs
@@ -47,7 +47,9 @@ same-length-2 : tie.Need-same-length-2
 same-length-2 c = search needs
 
 returns : tie.Need-returns
-returns c = not-same (c .before .before .before .before .convert-exact .ensures) (c .enum-told .given .1)
+returns c =
+    let a = c .before .before .before .before .before .before .before .before .before .before .before .before .before .before .before .before .args in
+    not-same (c .before .before .before .before .convert-exact .ensures .0) (a .path .now) (c .before .before .before .before .before .before .before .before .before .before .read .ensures .1) (c .before .before .before .before .before .before .find .ensures) (c .enum-told .given .1)
 
 same-length-3 : tie.Need-same-length-3
 same-length-3 c = search needs
@@ -59,7 +61,7 @@ returns-2 : tie.Need-returns-2
 returns-2 c =
     let a = c .before .before .before .before .before .before .before .before .before .before .before .before .before .before .before .before .before .before .before .before .before .before .before .before .before .args in
     let l : length (c .before .before .before .before .before .before .before .before .before .before .before .before .before .before .before .before .before .before .before .read .last .1 .0) ≡ length (a .table .now) = search needs in
-    same-data (c .before .before .before .before .before .before .before .before .before .before .before .before .before .convert-exact .ensures) (a .path .now) (c .before .before .before .before .before .before .before .before .before .n .given .1) (c .before .before .before .before .before .before .before .before .before .before .before .before .before .before .before .before .before .before .before .read .ensures .1) (c .before .before .before .before .before .before .before .before .before .before .before .before .before .before .before .find .ensures) (rw l at (c .before .before .before .before .before .read2 .ensures .1)) (c .find2 .ensures)
+    same-data (c .before .before .before .before .before .before .before .before .before .before .before .before .before .convert-exact .ensures .0) (a .path .now) (c .before .before .before .before .before .before .before .before .before .before .before .before .before .before .before .before .before .before .before .read .ensures .1) (c .before .before .before .before .before .before .before .before .before .before .before .before .before .before .before .find .ensures) (c .before .before .before .before .before .before .before .before .before .n .given .1) (rw l at (c .before .before .before .before .before .read2 .ensures .1)) (c .find2 .ensures)
 
 pub find-both-spec : {M : Type 1} → statement M
 find-both-spec =

@@ -1,4 +1,4 @@
-use Rattle.theorems.proofs.Files.{find-exact}
+use Rattle.theorems.specs.PackLaws.{find-exact}
 use borrow.Author.Needs.{needs}
 use Rattle.theorems.proofs.packed.find_exact.Statement.{statement}
 use Rattle.theorems.proofs.packed.find_exact.Tie as tie

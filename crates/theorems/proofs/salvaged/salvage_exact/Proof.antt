@@ -1,6 +1,6 @@
 use native.Mathlib.Omega.{arith}
 use Rattle.reading.specs.Reads.{small-by-index}
-use Rattle.theorems.proofs.Salvage.{salvage-exact}
+use Rattle.theorems.specs.SalvageLaws.{salvage-exact}
 use borrow.Author.Needs.{needs}
 use Rattle.theorems.proofs.salvaged.salvage_exact.Statement.{statement}
 use Rattle.theorems.proofs.salvaged.salvage_exact.Tie as tie

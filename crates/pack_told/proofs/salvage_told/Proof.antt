@@ -1,9 +1,9 @@
 use mathlib.Core.Path.{sym, _∙_}
 use Rattle.pack_salvage.specs.Salvage.{salvageFor}
-use Rattle.builder.proofs.Packs.{not-salvaged, all-salvaged}
+use Rattle.pack_told.proofs.Laws.{not-salvaged, all-salvaged}
 use borrow.Author.Needs.{needs}
-use Rattle.builder.proofs.pack.xnb_pack_salvage.Statement.{statement}
-use Rattle.builder.proofs.pack.xnb_pack_salvage.Tie as tie
+use Rattle.pack_told.proofs.salvage_told.Statement.{statement}
+use Rattle.pack_told.proofs.salvage_told.Tie as tie
 
 salvage-requires : tie.Need-salvage-requires
 salvage-requires c κs = search needs
@@ -32,8 +32,8 @@ same-length-4 c = search needs
 returns-2 : tie.Need-returns-2
 returns-2 c = (all-salvaged (salvageFor (c .before .before .before .before .before .before .before .before .before .before .before .before .before .args .pack .now) (c .before .before .before .before .before .before .before .before .before .before .before .before .before .args .out .now) (c .before .before .before .before .before .before .before .before .before .before .before .before .before .args .list .now)) (sym (c .before .size .given .1) ∙ c .before .before .before .before .before .before .before .salvage .ensures .0), c .before .before .before .before .before .before .before .salvage .ensures .1)
 
-pub xnb-pack-salvage-spec : {M : Type 1} → statement M
-xnb-pack-salvage-spec =
+pub salvage-told-spec : {M : Type 1} → statement M
+salvage-told-spec =
     tie.close
     (tie.spec
     salvage-requires

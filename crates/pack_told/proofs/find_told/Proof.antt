@@ -1,9 +1,9 @@
 use mathlib.Core.Path.{sym, _∙_}
 use Rattle.pack_reading.specs.Lookup.{findOf}
-use Rattle.builder.proofs.Packs.{none-found, one-found}
+use Rattle.pack_told.proofs.Laws.{none-found, one-found}
 use borrow.Author.Needs.{needs}
-use Rattle.builder.proofs.pack.xnb_pack_find.Statement.{statement}
-use Rattle.builder.proofs.pack.xnb_pack_find.Tie as tie
+use Rattle.pack_told.proofs.find_told.Statement.{statement}
+use Rattle.pack_told.proofs.find_told.Tie as tie
 
 find-requires : tie.Need-find-requires
 find-requires c κs = search needs
@@ -24,6 +24,6 @@ returns-2 c =
     let a = c .before .before .before .before .before .before .before .args in
     one-found (findOf (a .pack .now) (a .table .now) (a .path .now)) (sym (c .before .start .given .1) ∙ c .before .before .before .find .ensures)
 
-pub xnb-pack-find-spec : {M : Type 1} → statement M
-xnb-pack-find-spec =
+pub find-told-spec : {M : Type 1} → statement M
+find-told-spec =
     tie.close (tie.spec find-requires enum-told enum-known-start returns returns-2)

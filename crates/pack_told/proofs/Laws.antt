@@ -17,7 +17,7 @@ use Rattle.pack_salvage.specs.Salvage.{Salvaged, salvaged}
 use Rattle.pack_salvage.specs.Salvage as salvage
 use Rattle.salvage.specs.declared.Salvaging.the-variants as salvaging
 use Rattle.salvage.specs.Salvaging as salvages
-use Rattle.builder.specs.Packs.{packTold, writtenTold, salvageTold, foundTold}
+use Rattle.pack_told.specs.Told.{packTold, writtenTold, salvageTold, foundTold}
 
 pub pack-refused : (x : Pack) {number place : ℕ} → Refused number place ≡ answerOf x → _≡_ {A = ℕ × ℕ} (number, place) (packTold x)
 unfolding packTold

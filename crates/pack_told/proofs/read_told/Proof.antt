@@ -2,10 +2,10 @@ use mathlib.Core.Path.{sym, _∙_}
 use lib.ListN.{length}
 use Rattle.pack_records.specs.Records.{markOf}
 use Rattle.pack_reading.specs.Pack.{packOf}
-use Rattle.builder.proofs.Packs.{pack-refused, pack-read}
+use Rattle.pack_told.proofs.Laws.{pack-refused, pack-read}
 use borrow.Author.Needs.{needs}
-use Rattle.builder.proofs.pack.read_pack.Statement.{statement}
-use Rattle.builder.proofs.pack.read_pack.Tie as tie
+use Rattle.pack_told.proofs.read_told.Statement.{statement}
+use Rattle.pack_told.proofs.read_told.Tie as tie
 
 read-requires : tie.Need-read-requires
 read-requires c κs = search needs
@@ -32,8 +32,8 @@ returns-2 c =
     let a = c .before .before .before .before .before .before .before .before .before .args in
     (pack-read (packOf (markOf (a .marked)) (a .pack .now) (length (a .table .now))) (sym (c .before .files .given .1) ∙ c .before .before .before .before .before .read .ensures .0), c .before .before .before .before .before .read .ensures .1)
 
-pub read-pack-spec : {M : Type 1} → statement M
-read-pack-spec =
+pub read-told-spec : {M : Type 1} → statement M
+read-told-spec =
     tie.close
     (tie.spec
     read-requires

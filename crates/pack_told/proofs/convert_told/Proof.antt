@@ -1,10 +1,10 @@
 use mathlib.Core.Path.{sym, _∙_}
 use lib.ListN.{length}
 use Rattle.marks.specs.Converting.{converted}
-use Rattle.builder.proofs.Packs.{not-written, all-written}
+use Rattle.pack_told.proofs.Laws.{not-written, all-written}
 use borrow.Author.Needs.{needs}
-use Rattle.builder.proofs.pack.convert_pack.Statement.{statement}
-use Rattle.builder.proofs.pack.convert_pack.Tie as tie
+use Rattle.pack_told.proofs.convert_told.Statement.{statement}
+use Rattle.pack_told.proofs.convert_told.Tie as tie
 
 convert-requires : tie.Need-convert-requires
 convert-requires c κs = search needs
@@ -31,8 +31,8 @@ returns-2 c =
     let a = c .before .before .before .before .before .before .before .before .before .args in
     (all-written (converted (a .marked) (a .pack .now) (length (a .out .now))) (sym (c .before .size .given .1) ∙ c .before .before .before .before .before .convert .ensures .0), c .before .before .before .before .before .convert .ensures .1)
 
-pub convert-pack-spec : {M : Type 1} → statement M
-convert-pack-spec =
+pub convert-told-spec : {M : Type 1} → statement M
+convert-told-spec =
     tie.close
     (tie.spec
     convert-requires

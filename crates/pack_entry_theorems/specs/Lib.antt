@@ -1,0 +1,2 @@
+-- What is demanded of the numbers that the entries over packs answer and write.
+pub mod Numbers
