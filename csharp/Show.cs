@@ -1,7 +1,7 @@
 // Prints the rows of XNB files, or why they are refused.
 //
 //     mcs -out:show.exe csharp/Show.cs csharp/Xnb.cs
-//     mono show.exe corpus/ok-kind-13-string.xnb
+//     mono show.exe corpus/kinds/ok-kind-13-string.xnb
 using System;
 using System.IO;
 using System.Text;

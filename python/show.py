@@ -1,6 +1,6 @@
 """Prints the rows of XNB files, or why they are refused.
 
-    python3 python/show.py corpus/ok-kind-13-string.xnb
+    python3 python/show.py corpus/kinds/ok-kind-13-string.xnb
 """
 
 import sys

@@ -5,8 +5,7 @@
 //! a path that tries to be markup.
 
 use corpus::meshes::{
-    data, declaration, model, number, plain_bone, plain_mesh, plain_part, Bone, Element, Mesh,
-    Model,
+    data, declaration, model, number, plain_mesh, plain_part, Bone, Element, Mesh, Model,
 };
 use corpus::readers::*;
 use corpus::values::*;
@@ -303,7 +302,6 @@ fn gauge() -> Vec<u8> {
         transform,
         parent,
         children: below,
-        ..plain_bone(1.0, 0)
     };
     let mesh = |name: &str, bone: u32, numbers: [u32; 4]| {
         let mut part = plain_part(1, 2, 0);

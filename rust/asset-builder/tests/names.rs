@@ -35,13 +35,17 @@ fn reported(name: &[u8]) -> String {
 #[test]
 fn each_part_that_is_wrong_is_marked() {
     let hyphen = "\
-corpus/bad-34-hyphen-in-head.xnb: refused 34 at 95: bad byte in a head
+corpus/names/bad-34-hyphen-in-head.xnb: refused 34 at 95: bad byte in a head
   Microsoft.Xna.Framework.Content.List-Reader`1[[System.Char]]
                                       ^
   reader 2: a head has letters, digits, '.', '_' and '+', found '-' (2D)
 ";
     let root = corpus::folder::root();
-    let ran = run_in(&root, &["check", "corpus/bad-34-hyphen-in-head.xnb"], &[]);
+    let ran = run_in(
+        &root,
+        &["check", "corpus/names/bad-34-hyphen-in-head.xnb"],
+        &[],
+    );
     assert!(ran.out.starts_with(hyphen), "{}", ran.out);
     let table = [
         (

@@ -4,9 +4,12 @@ mod common;
 
 use common::{names, run_in, sample, scratch, Ran, COMMAND};
 use corpus::folder::folder;
-use corpus::readers::{enum_of, list_of, PAGE, STRING, TEXTURE2D};
+use corpus::meshes::{data as mesh_data, declaration, gauge_file, number, Element};
+use corpus::readers::{
+    enum_of, list_of, CHAR, PAGE, RECTANGLE, SPRITE_FONT, STRING, TEXTURE2D, VECTOR3, VERTEX_BUFFER,
+};
 use corpus::values::*;
-use corpus::writer::write;
+use corpus::writer::{write, Part, Role};
 use serde_json::Value as Json;
 use sha2::{Digest, Sha256};
 use std::collections::BTreeSet;
@@ -482,6 +485,114 @@ fn pages_and_their_rings_are_shown() {
     assert!(page.contains("40 by 20 at 8, 9"));
 }
 
+/// A font of two glyphs of two by two pixels, side by side in its texture.
+#[test]
+fn a_font_has_its_glyphs_and_a_line() {
+    let numbers: Vec<u8> = (1..=8).flat_map(|number| [number, 0, 0, 255]).collect();
+    let size = number_field(Role::LevelSize, numbers.len() as u32);
+    let level = value(35, vec![size, Part::Data(numbers)]);
+    let rectangles = |all: [[i32; 4]; 2]| bound_object(3, list(all.map(rectangle).to_vec()));
+    let font = font(Font {
+        texture: bound_object(2, texture_of(0, 4, 2, vec![level])),
+        glyphs: rectangles([[0, 0, 2, 2], [2, 0, 2, 2]]),
+        cropping: rectangles([[0, 0, 2, 2]; 2]),
+        characters: bound_object(4, list(vec![character('a'), character('b')])),
+        line_spacing: int32(3),
+        spacing: single(1.0),
+        kerning: bound_object(5, list(vec![vector3([0.0, 2.0, 0.0]); 2])),
+        default_character: nothing(),
+    });
+    let readers = [
+        SPRITE_FONT.to_string(),
+        TEXTURE2D.to_string(),
+        list_of("Microsoft.Xna.Framework.Rectangle"),
+        list_of("System.Char"),
+        list_of("Microsoft.Xna.Framework.Vector3"),
+        RECTANGLE.to_string(),
+        CHAR.to_string(),
+        VECTOR3.to_string(),
+    ];
+    let bytes = write(&file(&readers, object(1, font), vec![])).bytes;
+    let top = scratch("preview-font");
+    let (page, ran) = page(&top, &["-"], &bytes);
+    assert_eq!(ran.status, Some(0), "{page}");
+    let reds = |element| -> Vec<u8> { pixels(element).chunks(4).map(|it| it[0]).collect() };
+    let shown: Vec<Vec<u8>> = between(&page, "<img", ">").into_iter().map(reds).collect();
+    // The line "ab" with a clear column between its letters, then the letters.
+    let line = vec![1, 2, 0, 3, 4, 5, 6, 0, 7, 8];
+    assert_eq!(shown, [line, vec![1, 2, 5, 6], vec![3, 4, 7, 8]]);
+    assert!(page.contains("<figcaption>“ab” set in the font</figcaption>"));
+    assert!(page.contains("<bdi>“b”</bdi> U+0062"));
+}
+
+#[test]
+fn a_model_is_told_in_words_and_drawn() {
+    let top = scratch("preview-model");
+    let (shown, _) = page(&top, &["-"], &write(&gauge_file(0)).bytes);
+    for words in [
+        "3 bones, 2 meshes</h3>",
+        "<li>Bone 1, <bdi>“hub”</bdi>: below none, 2 children, the root</li>",
+        "<li>Mesh 1, <bdi>“dial”</bdi>: on bone 2, 2 parts, around 1.0, 2.0, 3.0 with radius 4.0",
+        "<li>Part 1: 3 vertices from vertex 0 on, 1 triangle from index 0 on; vertex buffer shared 1, index buffer shared 2</li>",
+        "6 indices of 16 bits",
+    ] {
+        assert!(shown.contains(words), "{words}");
+    }
+    // Three points from the front: left, right and below between them.
+    let places = [[-1.0_f32, 1.0, 5.0], [1.0, 1.0, 5.0], [0.0, -1.0, 5.0]];
+    let bytes: Vec<u8> = places
+        .iter()
+        .flatten()
+        .flat_map(|it| it.to_le_bytes())
+        .collect();
+    let position = Element {
+        offset: 0,
+        format: 2,
+        usage: 0,
+        usage_index: 0,
+    };
+    let fields = [
+        declaration(12, &[position]),
+        number(Role::VertexCount(12), 3),
+        mesh_data(&bytes),
+    ];
+    let buffer = value(39, fields.map(Part::Child).to_vec());
+    let bytes = write(&file(&[VERTEX_BUFFER], object(1, buffer), vec![])).bytes;
+    let (shown, _) = page(&top, &["-"], &bytes);
+    let circles = between(&shown, "<circle ", "/>");
+    let expected = ["20\" cy=\"20", "460\" cy=\"20", "240\" cy=\"460"];
+    assert_eq!(circles, expected.map(|it| format!("cx=\"{it}\" r=\"2.5\"")));
+    assert!(shown.contains("3 vertices of 12 bytes each: Position 0 as Vector3 at 0"));
+}
+
+/// Files behind a long page are in the index, and say that they are not shown.
+#[test]
+fn a_long_page_is_cut_between_files() {
+    let top = scratch("preview-many");
+    let long = write(&file(
+        &[STRING],
+        object(1, text(&"y".repeat(1 << 20))),
+        vec![],
+    ))
+    .bytes;
+    let mut pack = 30_u32.to_le_bytes().to_vec();
+    for _ in 0..30 {
+        pack.extend_from_slice(b"\x01y");
+        pack.extend_from_slice(&(long.len() as u32).to_le_bytes());
+        pack.extend_from_slice(&long);
+    }
+    fs::write(top.join("season.pak"), pack).expect("a pack");
+    let (shown, ran) = page(&top, &["season.pak"], &[]);
+    assert_eq!(ran.out, "page.html: 30 files: 30 taken, 0 refused\n");
+    let cut = shown
+        .matches("Cut here: the page is longer than 33,554,432 bytes already.")
+        .count();
+    assert!((3..10).contains(&cut), "{cut}");
+    assert_eq!(shown.matches("class=\"data\"").count(), 30 - cut);
+    assert_eq!(sections(&shown).len(), 30);
+    assert!(shown.len() < 36 << 20, "{}", shown.len());
+}
+
 #[test]
 fn a_pack_has_an_index_with_sizes_and_refusals() {
     let top = scratch("preview-pack");
@@ -590,6 +701,22 @@ fn what_is_long_is_cut_and_told() {
     let (shown, _) = page(&top, &["-"], &large);
     assert!(shown.contains("Levels of more than 1,048,576 pixels are not shown here"));
     assert!(!shown.contains("data:image/png"));
+    // Seven textures of a million pixels: six are shown.
+    let readers = [
+        list_of("Microsoft.Xna.Framework.Graphics.Texture2D"),
+        TEXTURE2D.to_string(),
+    ];
+    let one = || bound_object(2, texture(12, 1_024, 1_024, 1));
+    let many = list((0..7).map(|_| one()).collect());
+    let many = write(&file(&readers, object(1, many), vec![])).bytes;
+    let (shown, _) = page(&top, &["-"], &many);
+    assert_eq!(shown.matches("data:image/png").count(), 6);
+    assert_eq!(
+        shown
+            .matches("nor more than 6,291,456 of all pictures")
+            .count(),
+        1
+    );
 }
 
 /// A server that is ended when it goes.

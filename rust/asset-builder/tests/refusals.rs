@@ -116,8 +116,9 @@ fn room_that_is_too_small_is_reported() {
         &sample("ok-kind-33-font.xnb"),
     );
     assert!(
-        ran.out
-            .contains("room for 7 rows, this value needs one more"),
+        ran.out.contains(
+            "room for 7 rows, this value needs one more; --rows N gives more, up to 65536\n"
+        ),
         "{}",
         ran.out
     );

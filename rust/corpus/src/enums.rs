@@ -5,7 +5,7 @@ use crate::literal;
 use crate::readers::{
     array_of, dictionary_of, dictionary_target, list_of, list_target, nullable_of, nullable_target,
 };
-use crate::sample::{accepted, refused_bytes, Sample};
+use crate::sample::{accepted, in_topic, refused_bytes, Sample};
 use crate::values::*;
 use crate::writer::{write, Value};
 
@@ -74,11 +74,14 @@ pub fn enum_of_size(size: u8) -> Value {
 
 /// Every sample that is loaded with a list.
 pub fn samples() -> Vec<Sample> {
-    let mut samples = literal::samples_of(include_str!("../literal/enums.txt"));
-    samples.extend(SIZES.into_iter().flat_map(in_each_place));
+    let mut samples: Vec<Sample> = SIZES.into_iter().flat_map(in_each_place).collect();
     samples.extend(TARGET_NAMES.iter().map(|name| target_name(name)));
     samples.push(longest_name());
-    samples
+    let typed = literal::samples_of("enums", include_str!("../literal/enums.txt"));
+    typed
+        .into_iter()
+        .chain(in_topic("enums", samples))
+        .collect()
 }
 
 const DOOR: &str = "Coach.Door";

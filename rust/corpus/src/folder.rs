@@ -1,19 +1,128 @@
-//! The samples as they are kept in the repository.
+//! The samples as files: those that the repository keeps, and a folder of all of them for programs that are run.
+//!
+//! The repository keeps a folder for each topic. What a literal text has byte by byte is no file besides, unless a page
+//! or an example names it; what the writer made is kept, so that a change of the writer is seen.
 
+use crate::packs::folder::files as pack_files;
 use crate::sample::Sample;
+use crate::{enums, reports, samples, xml};
+use std::collections::BTreeSet;
+use std::hash::{DefaultHasher, Hash, Hasher};
 use std::path::{Path, PathBuf};
+use std::sync::OnceLock;
 
 /// The repository's root.
 pub fn root() -> PathBuf {
     Path::new(env!("CARGO_MANIFEST_DIR")).join("../..")
 }
 
-/// The corpus folder.
-pub fn folder() -> PathBuf {
+/// The folder of the topics.
+pub fn topics() -> PathBuf {
     root().join("corpus")
 }
 
-/// Every file of the corpus folder that is loaded with an empty list, with what `rows` must print for it and its padding.
+/// A file of a sample.
+#[derive(Hash)]
+pub struct SampleFile {
+    pub topic: &'static str,
+    pub name: String,
+    pub bytes: Vec<u8>,
+    /// Whether a literal text has it.
+    pub typed: bool,
+}
+
+/// Every file of every sample, those that are tried by the second loader alone only if asked for.
+pub fn all_files(further: bool) -> Vec<SampleFile> {
+    let mut files = Vec::new();
+    let mut add = |topic, typed, of_sample: Vec<(String, Vec<u8>)>| {
+        files.extend(of_sample.into_iter().map(|(name, bytes)| SampleFile {
+            topic,
+            name,
+            bytes,
+            typed,
+        }));
+    };
+    for sample in samples().into_iter().chain(enums::samples()) {
+        if sample.kept || further {
+            add(sample.topic, sample.typed, sample.files());
+        }
+    }
+    for (topic, name, bytes) in pack_files() {
+        add(topic, false, vec![(name, bytes)]);
+    }
+    for sample in xml::samples() {
+        add("imports", true, sample.files().into());
+    }
+    for sample in reports::samples() {
+        add("reports", true, sample.files().into());
+    }
+    files
+}
+
+/// Every file that the repository keeps.
+pub fn kept() -> Vec<SampleFile> {
+    let named = named_files();
+    let mut files = all_files(false);
+    files.retain(|file| {
+        let stem = file.name.split('.').next().expect("a name");
+        !file.typed || named.contains(&format!("{}/{stem}", file.topic))
+    });
+    files
+}
+
+/// The topic and the name of each sample that a page or an example names as `corpus/TOPIC/NAME`.
+fn named_files() -> BTreeSet<String> {
+    let mut pages = vec![
+        root().join("README.md"),
+        root().join("rust/NOTES.md"),
+        root().join("rust/xnb/examples/c/rows.c"),
+    ];
+    for entry in std::fs::read_dir(root().join("docs")).expect("the documents are there") {
+        let path = entry.expect("a document").path();
+        if path.extension().is_some_and(|it| it == "md") {
+            pages.push(path);
+        }
+    }
+    let mut named = BTreeSet::new();
+    for page in pages {
+        let text = std::fs::read_to_string(page).expect("a page");
+        for behind in text.split("corpus/").skip(1) {
+            let name = behind.split(|it: char| !(it.is_ascii_alphanumeric() || "-/".contains(it)));
+            named.insert(name.take(1).collect());
+        }
+    }
+    named
+}
+
+/// A folder with every file of every sample, beside each other, below rust/target.
+///
+/// It is written once for all tests: its name tells what is in it.
+pub fn folder() -> PathBuf {
+    static FOLDER: OnceLock<PathBuf> = OnceLock::new();
+    FOLDER.get_or_init(write_folder).clone()
+}
+
+fn write_folder() -> PathBuf {
+    let files = all_files(false);
+    let mut hasher = DefaultHasher::new();
+    files.hash(&mut hasher);
+    let target = root().join("rust/target");
+    let folder = target.join(format!("samples-{:016x}", hasher.finish()));
+    if !folder.is_dir() {
+        let unfinished = target.join(format!("samples-{}", std::process::id()));
+        std::fs::create_dir_all(&unfinished).expect("a folder");
+        for file in files {
+            std::fs::write(unfinished.join(file.name), file.bytes).expect("a sample");
+        }
+        // Another test may have written it meanwhile.
+        if std::fs::rename(&unfinished, &folder).is_err() {
+            std::fs::remove_dir_all(&unfinished).expect("a folder of this process");
+        }
+    }
+    folder.canonicalize().expect("the folder of samples")
+}
+
+/// Every sample that is loaded with an empty list, with what `rows` must print for it and its padding.
 pub fn kept_files() -> Vec<Sample> {
     let mut files = all_kept_files();
     files.retain(|file| file.enums.is_empty());
@@ -21,7 +130,7 @@ pub fn kept_files() -> Vec<Sample> {
     files
 }
 
-/// Every file that is loaded with a list of enums, with that list.
+/// Every sample that is loaded with a list of enums, with that list.
 pub fn kept_files_with_enums() -> Vec<Sample> {
     let mut files = all_kept_files();
     files.retain(|file| !file.enums.is_empty());
@@ -29,23 +138,18 @@ pub fn kept_files_with_enums() -> Vec<Sample> {
     files
 }
 
+/// The samples of the literal texts, and the files that the repository keeps of the others.
 fn all_kept_files() -> Vec<Sample> {
-    let mut files = Vec::new();
-    for entry in std::fs::read_dir(folder()).expect("the corpus is there") {
-        let path = entry.expect("a file").path();
-        if path.extension().is_some_and(|it| it == "xnb") {
-            let stem = path.file_stem().expect("a name");
-            files.push(Sample {
-                name: stem.to_string_lossy().into_owned(),
-                bytes: std::fs::read(&path).expect("a sample"),
-                enums: std::fs::read(path.with_extension("enums")).unwrap_or_default(),
-                rows: std::fs::read_to_string(path.with_extension("rows")).expect("its rows"),
-                padding: kept_padding(&path.with_extension("padding")),
-                export: std::fs::read(path.with_extension("export")).ok(),
-                driver: std::fs::read_to_string(path.with_extension("driver")).ok(),
-                kept: true,
-            });
-        }
+    let mut files: Vec<Sample> = samples().into_iter().chain(enums::samples()).collect();
+    files.retain(|sample| sample.kept);
+    for sample in files.iter_mut().filter(|sample| !sample.typed) {
+        let path = topics().join(sample.topic).join(&sample.name);
+        let read = |extension| std::fs::read(path.with_extension(extension));
+        sample.bytes = read("xnb").expect("a sample: run corpus/make");
+        sample.enums = read("enums").unwrap_or_default();
+        let rows = read("rows").expect("its rows");
+        sample.rows = String::from_utf8(rows).expect("text");
+        sample.padding = kept_padding(&path.with_extension("padding"));
     }
     files.sort_by(|one, other| one.name.cmp(&other.name));
     files

@@ -8,7 +8,7 @@ use crate::readers::{
     SYSTEM_TAIL, TEXTURE, TEXTURE2D, TIME_SPAN, UINT16, UINT32, UINT64, VECTOR2, VECTOR3, VECTOR4,
     XNA_TAIL,
 };
-use crate::sample::{accepted, Sample};
+use crate::sample::{accepted, in_topic, Sample};
 use crate::values::*;
 use crate::writer::{File, Value};
 
@@ -19,17 +19,20 @@ const GRAPHICS_TEXTURE2D: &str = "Microsoft.Xna.Framework.Graphics.Texture2D";
 const GRAPHICS_FONT: &str = "Microsoft.Xna.Framework.Graphics.SpriteFont";
 
 pub fn samples() -> Vec<Sample> {
-    let mut samples = texts();
-    samples.extend(containers());
-    samples.extend(textures());
-    samples.extend(fonts());
-    samples.extend(pages());
-    samples.extend(depths());
-    samples.extend(branches());
-    samples.extend(number_forms());
-    samples.extend(reader_lists());
-    samples.extend(limits());
-    samples
+    let topics = [
+        ("values", texts()),
+        ("arguments", containers()),
+        ("textures", textures()),
+        ("kinds", fonts()),
+        ("kinds", pages()),
+        ("branches", depths()),
+        ("branches", branches()),
+        ("numbers", number_forms()),
+        ("names", reader_lists()),
+        ("limits", limits()),
+    ];
+    let of_topic = |(topic, samples)| in_topic(topic, samples);
+    topics.into_iter().flat_map(of_topic).collect()
 }
 
 /// File A of 01: no reader, a null primary object.

@@ -10,30 +10,34 @@
 //! latter in bytes; a line behind `export` is the refusal of the export. A line behind `driver` is what the driver's
 //! profile says of the file, `passed` or a refusal.
 
-use crate::sample::Sample;
+use crate::sample::{in_topic, Sample};
 
-const TEXTS: &[&str] = &[
-    include_str!("../literal/header.txt"),
-    include_str!("../literal/numbers.txt"),
-    include_str!("../literal/padding.txt"),
-    include_str!("../literal/names.txt"),
-    include_str!("../literal/kinds.txt"),
-    include_str!("../literal/arguments.txt"),
-    include_str!("../literal/values.txt"),
-    include_str!("../literal/textures.txt"),
-    include_str!("../literal/meshes.txt"),
-    include_str!("../literal/exports.txt"),
-    include_str!("../literal/driver.txt"),
-    include_str!("../literal/retyped.txt"),
+/// The texts, by topic.
+const TEXTS: &[(&str, &str)] = &[
+    ("header", include_str!("../literal/header.txt")),
+    ("numbers", include_str!("../literal/numbers.txt")),
+    ("padding", include_str!("../literal/padding.txt")),
+    ("names", include_str!("../literal/names.txt")),
+    ("kinds", include_str!("../literal/kinds.txt")),
+    ("arguments", include_str!("../literal/arguments.txt")),
+    ("values", include_str!("../literal/values.txt")),
+    ("textures", include_str!("../literal/textures.txt")),
+    ("meshes", include_str!("../literal/meshes.txt")),
+    ("orders", include_str!("../literal/orders.txt")),
+    ("exports", include_str!("../literal/exports.txt")),
+    ("driver", include_str!("../literal/driver.txt")),
+    ("retyped", include_str!("../literal/retyped.txt")),
 ];
 
 pub fn samples() -> Vec<Sample> {
-    TEXTS.iter().flat_map(|text| samples_of(text)).collect()
+    let samples = |(topic, text): &(&'static str, &str)| samples_of(topic, text);
+    TEXTS.iter().flat_map(samples).collect()
 }
 
 /// The samples of a text.
-pub fn samples_of(text: &str) -> Vec<Sample> {
-    text.split("\n\n").filter_map(sample).collect()
+pub fn samples_of(topic: &'static str, text: &str) -> Vec<Sample> {
+    let samples = text.split("\n\n").filter_map(sample).collect();
+    in_topic(topic, samples).collect()
 }
 
 /// The name and the other lines of a block, unless the block is a comment.
@@ -73,6 +77,8 @@ fn sample(block: &str) -> Option<Sample> {
     assert!(!rows.is_empty(), "{name} has no expected rows");
     Some(Sample {
         name,
+        topic: "",
+        typed: true,
         bytes,
         enums,
         rows,

@@ -1,8 +1,9 @@
-//! Writes the files of the kept samples into the folder that is named, and the packs.
+//! Writes the files that the repository keeps into the folder that is named, a folder for each topic.
 //!
-//! With `all` behind the folder it writes every sample.
+//! With `all` behind the folder it writes every file of every sample.
 //! With `names` it writes the names of the table instead, as `reader_names` has them: data/FILE and stdout.
 
+use corpus::folder::{all_files, kept};
 use std::path::Path;
 use std::process::ExitCode;
 
@@ -29,23 +30,13 @@ fn main() -> ExitCode {
 }
 
 fn write_samples(folder: &Path, all: bool) -> std::io::Result<usize> {
-    std::fs::create_dir_all(folder)?;
-    let mut samples = corpus::samples();
-    samples.extend(corpus::enums::samples());
-    samples.retain(|sample| all || sample.kept);
-    for sample in &samples {
-        for (name, bytes) in sample.files() {
-            std::fs::write(folder.join(name), bytes)?;
-        }
+    let files = if all { all_files(true) } else { kept() };
+    for file in &files {
+        let topic = folder.join(file.topic);
+        std::fs::create_dir_all(&topic)?;
+        std::fs::write(topic.join(&file.name), &file.bytes)?;
     }
-    let (imports, reports) = (corpus::xml::samples(), corpus::reports::samples());
-    let files = imports.iter().flat_map(|sample| sample.files());
-    let files = files.chain(reports.iter().flat_map(|sample| sample.files()));
-    for (name, bytes) in files {
-        std::fs::write(folder.join(name), bytes)?;
-    }
-    let packs = corpus::packs::folder::write_packs(folder)?;
-    Ok(samples.len() + imports.len() + reports.len() + packs)
+    Ok(files.len())
 }
 
 fn write_names(folder: &Path) -> std::io::Result<usize> {

@@ -1,6 +1,6 @@
 //! Packs to be counted by Req 14, written out in `literal/reports.txt`, with the report that each must leave.
 //!
-//! A sample is kept as NAME.counted, the pack, and NAME.report, lines as these:
+//! As files a sample is NAME.counted, the pack, and NAME.report, lines as these:
 //!
 //! ```text
 //! enums 0A436F6163682E446F6F7201
@@ -17,7 +17,6 @@
 //! is lent (else 0). The other lines are the figures that are left, where they are not 0, or one line as
 //! `refused 71 at 0`.
 
-use crate::folder::folder;
 use crate::literal::{block_lines, line_bytes};
 use crate::packs::sample::FULL_TABLE;
 use crate::writer::WORDS_PER_ROW;
@@ -50,7 +49,7 @@ pub struct Expected {
 }
 
 impl ReportSample {
-    /// The files that keep the sample, by name.
+    /// The files of the sample, by name.
     pub fn files(&self) -> [(String, Vec<u8>); 2] {
         [
             (format!("{}.counted", self.name), self.pack.clone()),
@@ -134,22 +133,9 @@ fn sample(block: &str) -> Option<ReportSample> {
     Some(ReportSample { name, pack, lines })
 }
 
-/// Every pack of the corpus folder that is to be counted, with its lines.
+/// Every pack that is to be counted, with its lines.
 pub fn kept_samples() -> Vec<ReportSample> {
-    let mut samples = Vec::new();
-    for entry in std::fs::read_dir(folder()).expect("the corpus is there") {
-        let path = entry.expect("a file").path();
-        if path.extension().is_some_and(|it| it == "counted") {
-            let stem = path.file_stem().expect("a name");
-            let lines = std::fs::read_to_string(path.with_extension("report"));
-            samples.push(ReportSample {
-                name: stem.to_string_lossy().into_owned(),
-                pack: std::fs::read(&path).expect("a sample"),
-                lines: lines.expect("its lines"),
-            });
-        }
-    }
-    samples.sort_by(|one, other| one.name.cmp(&other.name));
+    let samples = samples();
     assert!(samples.len() >= 8, "only {} samples", samples.len());
     samples
 }

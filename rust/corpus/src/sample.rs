@@ -2,8 +2,13 @@
 
 use crate::writer::{write, File, Written};
 
+#[derive(Clone)]
 pub struct Sample {
     pub name: String,
+    /// The folder that keeps it: the literal text that it stands in, or what it shows.
+    pub topic: &'static str,
+    /// Whether it is written out byte by byte in a literal text.
+    pub typed: bool,
     pub bytes: Vec<u8>,
     /// The lent list of enums, as bytes.
     pub enums: Vec<u8>,
@@ -15,8 +20,14 @@ pub struct Sample {
     pub export: Option<Vec<u8>>,
     /// What the driver's profile must say of it, where the sample has it: `passed`, or a refusal's line.
     pub driver: Option<String>,
-    /// Whether the sample is kept in the repository as files; every sample is used in tests.
+    /// Whether tests go through the sample in every way; `further` ones are tried by the second loader alone.
     pub kept: bool,
+}
+
+/// Puts samples into a topic.
+pub fn in_topic(topic: &'static str, samples: Vec<Sample>) -> impl Iterator<Item = Sample> {
+    let of_topic = move |sample| Sample { topic, ..sample };
+    samples.into_iter().map(of_topic)
 }
 
 impl Sample {
@@ -33,7 +44,7 @@ impl Sample {
         Sample { enums, ..self }
     }
 
-    /// The files that keep the sample, by name.
+    /// The files of the sample, by name.
     ///
     /// NAME.enums stands beside the others unless the list is empty, NAME.padding unless the padding is 0,
     /// and NAME.export and NAME.driver where the sample has its export and the driver's answer.
@@ -64,6 +75,8 @@ pub fn accepted(name: &str, file: File) -> Sample {
     let written = write(&file);
     Sample {
         name: format!("ok-{name}"),
+        topic: "",
+        typed: false,
         rows: row_lines(&written),
         padding: written.padding,
         bytes: written.bytes,
@@ -85,6 +98,8 @@ pub fn refused(name: &str, number: u32, file: File) -> Sample {
 pub fn refused_bytes(name: &str, number: u32, place: usize, bytes: Vec<u8>) -> Sample {
     Sample {
         name: format!("bad-{number:02}-{name}"),
+        topic: "",
+        typed: false,
         rows: refusal_line(number, place),
         padding: 0,
         bytes,

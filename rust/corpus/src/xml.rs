@@ -1,10 +1,9 @@
 //! XML to be imported by Req 13, written out in `literal/imports.txt`, with the file or the refusal that each must give.
 //!
-//! A sample is kept as NAME.xml, and its answer as NAME.import: the bytes of the file, or a line as `refused 64 at 38`.
+//! As files a sample is NAME.xml, and its answer NAME.import: the bytes of the file, or a line as `refused 64 at 38`.
 //! In its block, lines behind `xml` stand in the XML as they are, lines behind `xml-bytes` in bytes; a line behind `=`
 //! is the refusal, and the others are the file's bytes.
 
-use crate::folder::folder;
 use crate::literal::{block_lines, line_bytes, xml_bytes};
 
 pub struct XmlSample {
@@ -15,7 +14,7 @@ pub struct XmlSample {
 }
 
 impl XmlSample {
-    /// The files that keep the sample, by name.
+    /// The files of the sample, by name.
     pub fn files(&self) -> [(String, Vec<u8>); 2] {
         [
             (format!("{}.xml", self.name), self.xml.clone()),
@@ -47,21 +46,9 @@ fn sample(block: &str) -> Option<XmlSample> {
     Some(XmlSample { name, xml, answer })
 }
 
-/// Every XML of the corpus folder, with its answer.
+/// Every XML, with its answer.
 pub fn kept_samples() -> Vec<XmlSample> {
-    let mut samples = Vec::new();
-    for entry in std::fs::read_dir(folder()).expect("the corpus is there") {
-        let path = entry.expect("a file").path();
-        if path.extension().is_some_and(|it| it == "xml") {
-            let stem = path.file_stem().expect("a name");
-            samples.push(XmlSample {
-                name: stem.to_string_lossy().into_owned(),
-                xml: std::fs::read(&path).expect("a sample"),
-                answer: std::fs::read(path.with_extension("import")).expect("its answer"),
-            });
-        }
-    }
-    samples.sort_by(|one, other| one.name.cmp(&other.name));
+    let samples = samples();
     assert!(samples.len() >= 15, "only {} samples", samples.len());
     samples
 }

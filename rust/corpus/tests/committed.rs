@@ -1,6 +1,6 @@
 //! The files kept in the repository are those that the program writes, and they show every case.
 
-use corpus::folder::folder;
+use corpus::folder;
 use corpus::{enums, samples, Sample};
 use std::collections::BTreeSet;
 
@@ -16,24 +16,46 @@ fn kept() -> Vec<Sample> {
 
 #[test]
 fn kept_files_are_up_to_date() {
-    let mut expected = BTreeSet::new();
-    for sample in kept() {
-        for (name, bytes) in sample.files() {
-            let kept = std::fs::read(folder().join(&name)).unwrap_or_default();
-            assert_eq!(kept, bytes, "{name}: run corpus/make");
-            expected.insert(name);
-        }
+    let mut expected = BTreeSet::from(["make".to_string(), "values/dotnet-values.txt".to_string()]);
+    for file in folder::kept() {
+        let name = format!("{}/{}", file.topic, file.name);
+        let kept = std::fs::read(folder::topics().join(&name));
+        let kept = kept.unwrap_or_else(|_| b"missing".to_vec());
+        assert!(kept == file.bytes, "{name}: run corpus/make");
+        assert!(expected.insert(name), "two samples have one name");
     }
     let mut found = BTreeSet::new();
-    for entry in std::fs::read_dir(folder()).expect("the corpus is there") {
-        let name = entry.expect("a file").file_name();
-        let name = name.to_string_lossy().into_owned();
-        let extension = name.rsplit('.').next().unwrap_or(&name);
-        if ["xnb", "rows", "enums", "padding", "export", "driver"].contains(&extension) {
-            found.insert(name);
+    for entry in std::fs::read_dir(folder::topics()).expect("the corpus is there") {
+        let entry = entry.expect("a topic");
+        let topic = entry.file_name().to_string_lossy().into_owned();
+        match std::fs::read_dir(entry.path()) {
+            Ok(files) => found.extend(files.map(|file| {
+                let name = file.expect("a file").file_name();
+                format!("{topic}/{}", name.to_string_lossy())
+            })),
+            Err(_) => {
+                found.insert(topic);
+            }
         }
     }
     assert_eq!(found, expected);
+}
+
+/// What a literal text has is a file besides only where a page names it.
+#[test]
+fn few_typed_samples_are_files() {
+    let typed = folder::kept().iter().filter(|file| file.typed).count();
+    let all = folder::all_files(false);
+    let of_texts = all.iter().filter(|file| file.typed).count();
+    assert!(typed < 100 && of_texts > 1000, "{typed} of {of_texts}");
+}
+
+/// Tests run programs in the folder of all samples, where their files lie beside each other.
+#[test]
+fn files_of_all_samples_have_names_of_their_own() {
+    let files = folder::all_files(true);
+    let names: BTreeSet<&str> = files.iter().map(|file| file.name.as_str()).collect();
+    assert_eq!(names.len(), files.len());
 }
 
 #[test]

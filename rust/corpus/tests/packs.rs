@@ -1,34 +1,7 @@
-//! The packs kept in the repository are those that the program writes, and they show every refusal.
+//! The samples of packs show every refusal.
 
-use corpus::folder::folder;
-use corpus::packs::folder::files;
 use corpus::packs::{marked, samples, PackSample};
 use std::collections::BTreeSet;
-
-#[test]
-fn kept_packs_are_up_to_date() {
-    let mut expected = BTreeSet::new();
-    let mut extensions = BTreeSet::new();
-    for (name, bytes) in files() {
-        let kept = std::fs::read(folder().join(&name)).unwrap_or_default();
-        assert_eq!(kept, bytes, "{name}: run corpus/make");
-        extensions.insert(extension(&name));
-        assert!(expected.insert(name), "two samples have one name");
-    }
-    let mut found = BTreeSet::new();
-    for entry in std::fs::read_dir(folder()).expect("the corpus is there") {
-        let name = entry.expect("a file").file_name();
-        let name = name.to_string_lossy().into_owned();
-        if extensions.contains(&extension(&name)) {
-            found.insert(name);
-        }
-    }
-    assert_eq!(found, expected);
-}
-
-fn extension(name: &str) -> String {
-    name.rsplit('.').next().unwrap_or(name).to_string()
-}
 
 #[test]
 fn every_refusal_of_a_pack_stands_in_a_sample() {

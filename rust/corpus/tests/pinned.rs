@@ -474,6 +474,68 @@ const LIMITS: &[(&str, &[&str])] = &[
             "bad-01-ten-bytes",
         ],
     ),
+    (
+        "the header in table order: every pair of its refusals",
+        &[
+            "bad-02-before-3",
+            "bad-02-before-4",
+            "bad-02-before-5",
+            "bad-02-before-6",
+            "bad-02-before-7",
+            "bad-03-before-4",
+            "bad-03-before-5",
+            "bad-03-before-6",
+            "bad-03-before-7",
+            "bad-04-before-5",
+            "bad-04-before-6",
+            "bad-04-before-7",
+            "bad-05-before-6",
+            "bad-05-before-7",
+            "bad-06-before-7",
+        ],
+    ),
+    (
+        "a reader's name in full before its version",
+        &[
+            "bad-11-version-missing",
+            "bad-11-version-cut",
+            "bad-11-version-wrong",
+        ],
+    ),
+    (
+        "type id: 13, then 14",
+        &[
+            "bad-13-object-reader-in-a-list-of-text",
+            "bad-13-texture-reader-in-a-list-of-text",
+            "bad-14-number-where-text-is-declared",
+        ],
+    ),
+    (
+        "at a value's start: 18, 19, then its bytes",
+        &[
+            "bad-18-before-19",
+            "bad-18-before-19-and-1",
+            "bad-19-thirty-two-deep",
+        ],
+    ),
+    (
+        "20 after the last object, 17 last, in row order",
+        &[
+            "bad-20-before-17",
+            "bad-13-before-17",
+            "bad-17-first-of-two",
+        ],
+    ),
+    (
+        "an effect is null or names a null resource",
+        &[
+            "ok-part-references-in-order",
+            "bad-17-effect-of-a-vertex-buffer",
+            "bad-17-effect-of-int32",
+            "bad-17-index-buffer-before-effect",
+            "bad-16-effect-4-of-3",
+        ],
+    ),
     ("64 readers", &["ok-64-readers", "bad-09-65-readers"]),
     (
         "256 shared objects",
@@ -796,6 +858,9 @@ const LIMITS: &[(&str, &[&str])] = &[
     (
         "depth 32",
         &[
+            "ok-thirty-two-deep",
+            "bad-18-thirty-three-deep",
+            "bad-18-raw-thirty-three-deep",
             "ok-depth-32-null",
             "ok-depth-32-level",
             "ok-depth-32-reference",

@@ -1,27 +1,8 @@
-//! Req 13: the XML kept in the repository is that of the texts, and every refusal stands in a sample.
+//! Text lists as XML: every refusal stands in a sample.
 
-use corpus::folder::{folder, kept_files};
-use corpus::xml::{kept_samples, samples};
+use corpus::folder::kept_files;
+use corpus::xml::kept_samples;
 use std::collections::BTreeSet;
-
-#[test]
-fn kept_xml_is_up_to_date() {
-    let mut expected = BTreeSet::new();
-    for (name, bytes) in samples().iter().flat_map(|sample| sample.files()) {
-        let kept = std::fs::read(folder().join(&name)).unwrap_or_else(|_| b"missing".to_vec());
-        assert_eq!(kept, bytes, "{name}: run corpus/make");
-        assert!(expected.insert(name), "two samples have one name");
-    }
-    let mut found = BTreeSet::new();
-    for entry in std::fs::read_dir(folder()).expect("the corpus is there") {
-        let name = entry.expect("a file").file_name();
-        let name = name.to_string_lossy().into_owned();
-        if name.ends_with(".xml") || name.ends_with(".import") {
-            found.insert(name);
-        }
-    }
-    assert_eq!(found, expected);
-}
 
 /// The numbers of the refusals in some answers, 0 for an answer that is none.
 fn numbers(answers: impl Iterator<Item = Vec<u8>>) -> BTreeSet<u32> {

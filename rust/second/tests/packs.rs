@@ -21,6 +21,18 @@ fn kept_packs_give_their_answers() {
     }
 }
 
+/// Tables of any length and paths of any length, typed with their answers.
+#[test]
+fn typed_lookups_give_their_answers() {
+    let samples = corpus::packs::lookups::samples();
+    assert!(samples.len() >= 11, "only {} lookups", samples.len());
+    for sample in samples {
+        let found = find(&sample.pack, &sample.table, &sample.path);
+        let answer = found.map(|data| span(&sample.pack, data));
+        assert_eq!(answer, sample.answer, "{}", sample.name);
+    }
+}
+
 #[test]
 fn the_words_of_a_small_pack() {
     let pack = b"\x02\0\0\0\x03One\x02\0\0\0hi\x82\0\xC3\x84\0\0\0\0";

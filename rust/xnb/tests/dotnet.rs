@@ -1,8 +1,8 @@
 //! Values held to .NET, whose BinaryWriter wrote them and which printed them.
 //!
-//! `corpus/dotnet-values.txt` keeps what `dotnet/Values.cs` printed; `dotnet/make` writes it anew by Debian's mono.
+//! `corpus/values/dotnet-values.txt` keeps what `dotnet/Values.cs` printed; `dotnet/make` writes it anew by Debian's mono.
 
-use corpus::folder::folder;
+use corpus::folder::topics;
 use corpus::values::{file, fixed, object};
 use corpus::writer::write;
 use std::process::Command;
@@ -17,7 +17,7 @@ struct Line {
 }
 
 fn kept_path() -> std::path::PathBuf {
-    folder().join("dotnet-values.txt")
+    topics().join("values/dotnet-values.txt")
 }
 
 fn kept_lines() -> Vec<Line> {

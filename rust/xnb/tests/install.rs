@@ -77,7 +77,7 @@ fn check_library(folder: &Path) {
         needed.contains("NEEDED               libxnb.so.0\n"),
         "{needed}"
     );
-    let file = fs::File::open(root().join("corpus/ok-kind-13-string.xnb")).expect("a file");
+    let file = fs::File::open(root().join("corpus/kinds/ok-kind-13-string.xnb")).expect("a file");
     let shown = printed(
         Command::new(&program)
             .env("LD_LIBRARY_PATH", &lib)
@@ -91,7 +91,7 @@ fn check_library(folder: &Path) {
 /// The installed command on a kept file.
 fn check_command(folder: &Path) {
     let command = folder.join("usr/bin/asset-builder");
-    let file = root().join("corpus/ok-kind-13-string.xnb");
+    let file = root().join("corpus/kinds/ok-kind-13-string.xnb");
     let shown = printed(Command::new(command).arg("tree").arg(file));
     assert_eq!(shown, "primary: String \"Hi\"\n");
 }

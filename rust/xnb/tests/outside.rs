@@ -100,7 +100,7 @@ fn the_lines_of_the_pages_print_texts() {
             let path = std::env::args_os().nth(1).expect(\"a path\");\n{lines}    Ok(())\n}}\n"
         );
         let outside = Outside::new("lines", &main);
-        let file = root().join("corpus/ok-kind-13-string.xnb");
+        let file = root().join("corpus/kinds/ok-kind-13-string.xnb");
         let file = file.canonicalize().expect("a file");
         let archive = root().join("target/staticlib");
         let archive = archive.canonicalize().expect("the archive's folder");

@@ -227,6 +227,21 @@ fn corpus_packs_give_their_answers() {
     }
 }
 
+/// Tables of any length and paths of any length, typed with their answers.
+#[test]
+fn typed_lookups_give_their_answers() {
+    let mut sides = Sides::new(3);
+    for sample in corpus::packs::lookups::samples() {
+        let expected = match sample.answer {
+            Some((first, length)) => (1, first, length),
+            None => (0, 0, 0),
+        };
+        let answer = raw::find(&sample.pack, &sample.table, &sample.path);
+        assert_eq!(answer, expected, "{}", sample.name);
+        sides.find(&sample.name, &sample.pack, &sample.table, &[sample.path]);
+    }
+}
+
 #[test]
 fn empty_slices_are_taken() {
     assert_eq!(raw::read(&[], &mut []), (1, 0));

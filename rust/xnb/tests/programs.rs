@@ -1,4 +1,4 @@
-//! The proved programs `rows` and `shorten` against what the second loader prints.
+//! The proved programs `rows` and `shorten` against what the second loader prints, and `sevens` on typed inputs.
 //!
 //! A refusal of `rows` goes to standard output, one of `shorten` to standard error.
 
@@ -167,7 +167,7 @@ fn the_empty_input_is_refused() {
 
 #[test]
 fn an_output_that_cannot_be_written_is_reported() {
-    let sample = root().join("corpus/ok-kind-13-string.xnb");
+    let sample = root().join("corpus/kinds/ok-kind-13-string.xnb");
     for program in ["rows", "shorten"] {
         let full = File::options().write(true).open("/dev/full");
         let output = Command::new(root().join("target/bin").join(program))
@@ -178,5 +178,220 @@ fn an_output_that_cannot_be_written_is_reported() {
             .expect("a program of target/bin starts");
         let reported = b"standard output could not be written\n";
         assert_eq!(output.stderr, reported, "{program}");
+    }
+}
+
+/// Numbers that end, are cut or are broken at the input's end: the input, and what `sevens` prints for it.
+const SEVENS: [(&[u8], &str); 12] = [
+    (
+        b"",
+        "number at 0\nstep 1: no byte, value 0, refused 1 at 0\n",
+    ),
+    (
+        b"\x7F",
+        "number at 0\n\
+         step 1: byte 7f, value 127, ends, padding 0\n\
+         number at 1\n\
+         step 1: no byte, value 0, refused 1 at 1\n",
+    ),
+    (
+        b"\xFF\x7F",
+        "number at 0\n\
+         step 1: byte ff, value 127, hands on\n\
+         step 2: byte 7f, value 16383, ends, padding 0\n\
+         number at 2\n\
+         step 1: no byte, value 0, refused 1 at 2\n",
+    ),
+    (
+        b"\xFF\xFF\x7F",
+        "number at 0\n\
+         step 1: byte ff, value 127, hands on\n\
+         step 2: byte ff, value 16383, hands on\n\
+         step 3: byte 7f, value 2097151, ends, padding 0\n\
+         number at 3\n\
+         step 1: no byte, value 0, refused 1 at 3\n",
+    ),
+    (
+        b"\xFF\xFF\xFF\x7F",
+        "number at 0\n\
+         step 1: byte ff, value 127, hands on\n\
+         step 2: byte ff, value 16383, hands on\n\
+         step 3: byte ff, value 2097151, hands on\n\
+         step 4: byte 7f, value 268435455, ends, padding 0\n\
+         number at 4\n\
+         step 1: no byte, value 0, refused 1 at 4\n",
+    ),
+    (
+        b"\xFF\xFF\xFF\xFF\x0F",
+        "number at 0\n\
+         step 1: byte ff, value 127, hands on\n\
+         step 2: byte ff, value 16383, hands on\n\
+         step 3: byte ff, value 2097151, hands on\n\
+         step 4: byte ff, value 268435455, hands on\n\
+         step 5: byte 0f, value 4294967295, ends, padding 0\n\
+         number at 5\n\
+         step 1: no byte, value 0, refused 1 at 5\n",
+    ),
+    (
+        b"\x80\x80\x80\x80\x00",
+        "number at 0\n\
+         step 1: byte 80, value 0, hands on\n\
+         step 2: byte 80, value 0, hands on\n\
+         step 3: byte 80, value 0, hands on\n\
+         step 4: byte 80, value 0, hands on\n\
+         step 5: byte 00, value 0, ends, padding 4\n\
+         number at 5\n\
+         step 1: no byte, value 0, refused 1 at 5\n",
+    ),
+    (
+        b"\x80\x80\x80\x80\x10",
+        "number at 0\n\
+         step 1: byte 80, value 0, hands on\n\
+         step 2: byte 80, value 0, hands on\n\
+         step 3: byte 80, value 0, hands on\n\
+         step 4: byte 80, value 0, hands on\n\
+         step 5: byte 10, value 0, refused 8 at 0\n\
+         number at 1\n\
+         step 1: byte 80, value 0, hands on\n\
+         step 2: byte 80, value 0, hands on\n\
+         step 3: byte 80, value 0, hands on\n\
+         step 4: byte 10, value 33554432, ends, padding 0\n\
+         number at 5\n\
+         step 1: no byte, value 0, refused 1 at 5\n",
+    ),
+    (
+        b"\x81",
+        "number at 0\n\
+         step 1: byte 81, value 1, hands on\n\
+         step 2: no byte, value 1, refused 1 at 0\n\
+         number at 1\n\
+         step 1: no byte, value 0, refused 1 at 1\n",
+    ),
+    (
+        b"\x81\x80",
+        "number at 0\n\
+         step 1: byte 81, value 1, hands on\n\
+         step 2: byte 80, value 1, hands on\n\
+         step 3: no byte, value 1, refused 1 at 0\n\
+         number at 1\n\
+         step 1: byte 80, value 0, hands on\n\
+         step 2: no byte, value 0, refused 1 at 1\n\
+         number at 2\n\
+         step 1: no byte, value 0, refused 1 at 2\n",
+    ),
+    (
+        b"\x00\x81\x80\x80",
+        "number at 0\n\
+         step 1: byte 00, value 0, ends, padding 0\n\
+         number at 1\n\
+         step 1: byte 81, value 1, hands on\n\
+         step 2: byte 80, value 1, hands on\n\
+         step 3: byte 80, value 1, hands on\n\
+         step 4: no byte, value 1, refused 1 at 1\n\
+         number at 2\n\
+         step 1: byte 80, value 0, hands on\n\
+         step 2: byte 80, value 0, hands on\n\
+         step 3: no byte, value 0, refused 1 at 2\n\
+         number at 3\n\
+         step 1: byte 80, value 0, hands on\n\
+         step 2: no byte, value 0, refused 1 at 3\n\
+         number at 4\n\
+         step 1: no byte, value 0, refused 1 at 4\n",
+    ),
+    (
+        b"\x82\x80\x80\x80",
+        "number at 0\n\
+         step 1: byte 82, value 2, hands on\n\
+         step 2: byte 80, value 2, hands on\n\
+         step 3: byte 80, value 2, hands on\n\
+         step 4: byte 80, value 2, hands on\n\
+         step 5: no byte, value 2, refused 1 at 0\n\
+         number at 1\n\
+         step 1: byte 80, value 0, hands on\n\
+         step 2: byte 80, value 0, hands on\n\
+         step 3: byte 80, value 0, hands on\n\
+         step 4: no byte, value 0, refused 1 at 1\n\
+         number at 2\n\
+         step 1: byte 80, value 0, hands on\n\
+         step 2: byte 80, value 0, hands on\n\
+         step 3: no byte, value 0, refused 1 at 2\n\
+         number at 3\n\
+         step 1: byte 80, value 0, hands on\n\
+         step 2: no byte, value 0, refused 1 at 3\n\
+         number at 4\n\
+         step 1: no byte, value 0, refused 1 at 4\n",
+    ),
+];
+
+#[test]
+fn numbers_that_end_where_the_input_ends() {
+    for (input, printed) in SEVENS {
+        let (out, err) = run("sevens", input);
+        assert_eq!(String::from_utf8_lossy(&out), printed, "{input:02X?}");
+        assert_eq!(err, b"", "{input:02X?}");
+    }
+}
+
+/// The bytes that `sevens` has room for.
+const SEVENS_ROOM: usize = 65_536;
+
+/// The last lines for numbers that end with the last byte that `sevens` has room for: the number's bytes and the lines.
+const AT_THE_ROOMS_END: [(&[u8], &str); 4] = [
+    (
+        b"\x7F",
+        "number at 65535\n\
+         step 1: byte 7f, value 127, ends, padding 0\n\
+         number at 65536\n\
+         step 1: no byte, value 0, refused 1 at 65536\n",
+    ),
+    (
+        b"\xFF\xFF\xFF\xFF\x0F",
+        "number at 65531\n\
+         step 1: byte ff, value 127, hands on\n\
+         step 2: byte ff, value 16383, hands on\n\
+         step 3: byte ff, value 2097151, hands on\n\
+         step 4: byte ff, value 268435455, hands on\n\
+         step 5: byte 0f, value 4294967295, ends, padding 0\n\
+         number at 65536\n\
+         step 1: no byte, value 0, refused 1 at 65536\n",
+    ),
+    (
+        b"\x80\x80\x80\x80\x10",
+        "number at 65531\n\
+         step 1: byte 80, value 0, hands on\n\
+         step 2: byte 80, value 0, hands on\n\
+         step 3: byte 80, value 0, hands on\n\
+         step 4: byte 80, value 0, hands on\n\
+         step 5: byte 10, value 0, refused 8 at 65531\n\
+         number at 65532\n\
+         step 1: byte 80, value 0, hands on\n\
+         step 2: byte 80, value 0, hands on\n\
+         step 3: byte 80, value 0, hands on\n\
+         step 4: byte 10, value 33554432, ends, padding 0\n\
+         number at 65536\n\
+         step 1: no byte, value 0, refused 1 at 65536\n",
+    ),
+    (
+        b"\x81\x80",
+        "number at 65534\n\
+         step 1: byte 81, value 1, hands on\n\
+         step 2: byte 80, value 1, hands on\n\
+         step 3: no byte, value 1, refused 1 at 65534\n\
+         number at 65535\n\
+         step 1: byte 80, value 0, hands on\n\
+         step 2: no byte, value 0, refused 1 at 65535\n\
+         number at 65536\n\
+         step 1: no byte, value 0, refused 1 at 65536\n",
+    ),
+];
+
+#[test]
+fn numbers_that_end_where_the_room_of_sevens_ends() {
+    for (number, last) in AT_THE_ROOMS_END {
+        let mut input = vec![0; SEVENS_ROOM - number.len()];
+        input.extend_from_slice(number);
+        let (out, err) = run("sevens", &input);
+        assert!(out.ends_with(last.as_bytes()), "{number:02X?}");
+        assert_eq!(err, b"", "{number:02X?}");
     }
 }

@@ -125,7 +125,7 @@ fn write_page(
             )?;
         }
         writeln!(out, "<rect class=\"frame\" {place}/>")?;
-        write_title(out, page, screen, face)?;
+        write_title(out, shown, page, screen, face)?;
     }
     write!(
         out,
@@ -160,6 +160,7 @@ fn write_page(
 /// Writes the title in the file's font if that has all of it, else in the browser's.
 fn write_title(
     out: &mut dyn Write,
+    shown: &Shown,
     page: &Page,
     screen: Screen,
     face: Option<&Face>,
@@ -170,7 +171,8 @@ fn write_title(
     let (title, _) = start_of(title, LONGEST_TITLE);
     let (x, y) = (i64::from(page.area.x), i64::from(page.area.y));
     let set = face.filter(|face| face.has_all(title));
-    if let Some(line) = set.and_then(|face| line(&face.font, &face.texture, title)) {
+    let set = set.and_then(|face| line(&face.font, &face.texture, title));
+    if let Some(line) = set.filter(|it| shown.takes(it.width, it.height)) {
         write!(
             out,
             "<image x=\"{}\" y=\"{}\" width=\"{}\" height=\"{}\" href=\"",
@@ -183,7 +185,7 @@ fn write_title(
         return writeln!(out, "\"/>");
     }
     let size = (screen.height() as f64 / 12.0).max(screen.width() as f64 / 26.0);
-    let title = shown_text(title, '"');
+    let title = shown_text(title, '”');
     writeln!(
         out,
         "<text x=\"{}\" y=\"{}\" font-size=\"{size:.2}\">{}</text>",

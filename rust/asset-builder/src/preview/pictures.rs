@@ -2,12 +2,12 @@
 
 use super::canvas::{line, Canvas};
 use super::markup::{counted, grouped, quoted, safe, write_cut, write_png_address};
-use super::section::Shown;
+use super::section::{self, Shown};
 use std::io::{self, Write};
 use xnb::{Font, Kind, Level, Table};
 
 /// A larger level is not shown.
-pub const MOST_PIXELS: usize = 1 << 20;
+const MOST_PIXELS: usize = 1 << 20;
 const MOST_TEXTURES: usize = 64;
 const MOST_FONTS: usize = 16;
 const MOST_GLYPHS: usize = 512;
@@ -75,16 +75,18 @@ fn write_texture(out: &mut dyn Write, shown: &Shown, row: u32) -> io::Result<()>
         texture.format,
         counted(texture.levels, "level", "levels")
     );
-    let mut is_first = true;
+    let (mut is_first, mut is_cut) = (true, false);
     for (number, level) in picture.levels().enumerate() {
-        if !is_small(&level) {
+        // Pages show the first level that is small enough.
+        let is_for_pages = is_small(&level) && std::mem::take(&mut is_first);
+        if !is_small(&level) || !shown.takes(level.width, level.height) {
+            is_cut = true;
             continue;
         }
-        let id = match is_first {
+        let id = match is_for_pages {
             true => format!(" id=\"{}\"", picture_id(shown.section, row)),
             false => String::new(),
         };
-        is_first = false;
         let (width, height) = (level.width, level.height);
         let scale = (LEAST_SIDE / width.max(height)).max(1);
         write!(
@@ -113,14 +115,15 @@ fn write_texture(out: &mut dyn Write, shown: &Shown, row: u32) -> io::Result<()>
         }
         writeln!(out, "</figcaption></figure>")?;
     }
-    if is_first || !picture.level(0).is_some_and(|level| is_small(&level)) {
+    if is_cut {
         writeln!(
             out,
-            "<p class=\"cut\">{}: {}. Levels of more than {} pixels are not shown here; <code>asset-builder image</code> \
-            writes them.</p>",
+            "<p class=\"cut\">{}: {}. Levels of more than {} pixels are not shown here, nor more than {} of all pictures of a \
+            file; <code>asset-builder image</code> writes them.</p>",
             shown.link(row, "Texture"),
             safe(&about),
-            grouped(MOST_PIXELS)
+            grouped(MOST_PIXELS),
+            grouped(section::MOST_PIXELS)
         )?;
     }
     Ok(())
@@ -196,7 +199,8 @@ fn write_font(out: &mut dyn Write, shown: &Shown, row: u32, titles: &[&str]) -> 
         );
     };
     let sample = face.sample(titles);
-    if let Some(line) = line(&face.font, &face.texture, &sample) {
+    let line = line(&face.font, &face.texture, &sample);
+    if let Some(line) = line.filter(|it| shown.takes(it.width, it.height)) {
         write!(
             out,
             "<figure><div class=\"sample\"><img width=\"{}\" height=\"{}\" alt=\"{} set in the font\" src=\"",
@@ -220,7 +224,8 @@ fn write_font(out: &mut dyn Write, shown: &Shown, row: u32, titles: &[&str]) -> 
         let name = quoted(&character.to_string());
         let code = u32::from(character);
         write!(out, "<li>")?;
-        if let Some(part) = face.texture.part(glyph.bounds) {
+        let part = face.texture.part(glyph.bounds);
+        if let Some(part) = part.filter(|it| shown.takes(it.width, it.height)) {
             let scale = (24 / part.height.max(1)).max(1);
             write!(
                 out,

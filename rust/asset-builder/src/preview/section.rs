@@ -8,6 +8,7 @@ use crate::input::LONGEST_FILE;
 use crate::names::plain_lines;
 use crate::refusal::Told;
 use std::borrow::Cow;
+use std::cell::Cell;
 use std::io::{self, Write};
 use xnb::{Platform, Profile, Refused, Table};
 
@@ -16,9 +17,21 @@ pub struct Shown<'t, 'f> {
     pub table: &'t Table<'f>,
     /// The number of its section.
     pub section: usize,
+    /// How many pixels its pictures may still have.
+    pixels: Cell<usize>,
 }
 
+/// The pictures of a file have no more pixels together.
+pub const MOST_PIXELS: usize = 6 << 20;
+
 impl Shown<'_, '_> {
+    /// Whether a picture of this size is shown; it then counts.
+    pub fn takes(&self, width: u32, height: u32) -> bool {
+        let left = self.pixels.get();
+        let left = left.checked_sub(width as usize * height as usize);
+        left.inspect(|left| self.pixels.set(*left)).is_some()
+    }
+
     /// A word that leads to a row of the tree.
     pub fn link(&self, row: u32, word: &str) -> String {
         format!(
@@ -57,7 +70,11 @@ impl Maker<'_> {
             Ok(table) => {
                 write_facts(out, table)?;
                 self.write_driver(out, file, surveyed)?;
-                let shown = Shown { table, section };
+                let shown = Shown {
+                    table,
+                    section,
+                    pixels: Cell::new(MOST_PIXELS),
+                };
                 let pages = pages::pages(&shown);
                 writeln!(out, "<div class=\"visuals\">")?;
                 pages::write_pages(out, &shown, &pages)?;

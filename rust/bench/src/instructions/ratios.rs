@@ -18,7 +18,7 @@ fn path() -> PathBuf {
     PathBuf::from(env!("CARGO_MANIFEST_DIR")).join("ratios.txt")
 }
 
-/// A ratio in four digits.
+/// A ratio in three digits.
 pub fn told(ratio: f64) -> String {
     let digits = match ratio {
         0.0..0.01 => 5,

@@ -6,17 +6,20 @@ mod objects;
 mod start;
 mod values;
 
-use crate::sample::{refused, Sample};
+use crate::sample::{in_topic, refused, Sample};
 use crate::values::{file, value};
 use crate::writer::{Part, Role, Value};
 
 pub fn samples() -> Vec<Sample> {
-    let mut samples = cut::samples();
-    samples.extend(start::samples());
-    samples.extend(names::samples());
-    samples.extend(objects::samples());
-    samples.extend(values::samples());
-    samples
+    let topics = [
+        ("cut", cut::samples()),
+        ("header", start::samples()),
+        ("names", names::samples()),
+        ("objects", objects::samples()),
+        ("values", values::samples()),
+    ];
+    let of_topic = |(topic, samples)| in_topic(topic, samples);
+    topics.into_iter().flat_map(of_topic).collect()
 }
 
 /// A file of one object that must be refused at the place marked in it.

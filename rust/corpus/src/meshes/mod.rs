@@ -5,7 +5,7 @@ mod samples;
 
 pub use samples::{gauge_file, MESH_READERS};
 
-use crate::sample::Sample;
+use crate::sample::{in_topic, Sample};
 use crate::values::{boolean, matrix, reference, single, uint32, value, vector3};
 use crate::writer::{Part, Role, Value};
 
@@ -13,7 +13,7 @@ use crate::writer::{Part, Role, Value};
 pub fn samples() -> Vec<Sample> {
     let mut samples = samples::samples();
     samples.extend(broken::samples());
-    samples
+    in_topic("meshes", samples).collect()
 }
 
 /// A raw value of kind 6 in a field of this role.

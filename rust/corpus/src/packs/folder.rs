@@ -3,88 +3,71 @@
 use super::marked::{self, MARKED};
 use super::salvage::{self, SalvageSample};
 use super::{Form, PackSample, PLAIN};
-use crate::folder::folder;
-use std::path::Path;
+use crate::folder::topics;
 
-/// Every pack of the corpus folder, with its answers.
+/// Every kept pack, with its answers.
 pub fn kept_packs() -> Vec<PackSample> {
-    let packs = kept(PLAIN);
+    let packs = kept(PLAIN, super::samples());
     assert!(packs.len() >= 40, "only {} packs", packs.len());
     packs
 }
 
-/// Every marked pack of the corpus folder, with its answers.
+/// Every kept marked pack, with its answers.
 pub fn kept_marked_packs() -> Vec<PackSample> {
-    let packs = kept(MARKED);
+    let packs = kept(MARKED, marked::samples());
     assert!(packs.len() >= 20, "only {} marked packs", packs.len());
     packs
 }
 
-/// Every damaged pack of the corpus folder, with what its salvage keeps and skips.
+/// Every kept damaged pack, with what its salvage keeps and skips.
 pub fn kept_damaged_packs() -> Vec<SalvageSample> {
-    let of_files = |(name, bytes, answers)| SalvageSample {
-        name,
-        bytes,
-        answers,
-    };
-    let packs: Vec<SalvageSample> = kept_files("damaged", "salvage").map(of_files).collect();
+    let mut packs = salvage::samples();
+    for sample in &mut packs {
+        (sample.bytes, sample.answers) = kept_file("salvage", &sample.name, "damaged", "salvage");
+    }
+    packs.sort_by(|one, other| one.name.cmp(&other.name));
     assert!(packs.len() >= 15, "only {} damaged packs", packs.len());
     packs
 }
 
-/// Every pack of a form.
-fn kept(form: Form) -> Vec<PackSample> {
-    let of_files = |(name, bytes, answers)| PackSample {
-        name,
-        bytes,
-        answers,
-    };
-    kept_files(form.extension, "files").map(of_files).collect()
-}
-
-/// The name, the bytes and the answers of every file with this extension, by name.
-fn kept_files(extension: &str, answers: &str) -> impl Iterator<Item = (String, Vec<u8>, String)> {
-    let mut files = Vec::new();
-    for entry in std::fs::read_dir(folder()).expect("the corpus is there") {
-        let path = entry.expect("a file").path();
-        if path.extension().is_some_and(|it| it == extension) {
-            let stem = path.file_stem().expect("a name");
-            let name = stem.to_string_lossy().into_owned();
-            let bytes = std::fs::read(&path).expect("a sample");
-            let answers = std::fs::read_to_string(path.with_extension(answers));
-            files.push((name, bytes, answers.expect("its answers")));
-        }
+/// The samples of a form, with the bytes and the answers that are kept.
+fn kept(form: Form, mut samples: Vec<PackSample>) -> Vec<PackSample> {
+    for sample in &mut samples {
+        (sample.bytes, sample.answers) =
+            kept_file(form.topic, &sample.name, form.extension, "files");
     }
-    files.sort();
-    files.into_iter()
+    samples.sort_by(|one, other| one.name.cmp(&other.name));
+    samples
 }
 
-/// Every file of the samples: its name and its bytes.
-pub fn files() -> Vec<(String, Vec<u8>)> {
+/// The bytes and the answers of a sample that is kept.
+fn kept_file(topic: &str, name: &str, extension: &str, answers: &str) -> (Vec<u8>, String) {
+    let path = topics().join(topic).join(name);
+    let bytes = std::fs::read(path.with_extension(extension)).expect("a sample: run corpus/make");
+    let answers = std::fs::read_to_string(path.with_extension(answers));
+    (bytes, answers.expect("its answers"))
+}
+
+/// Every file of the samples: its topic, its name and its bytes.
+pub fn files() -> Vec<(&'static str, String, Vec<u8>)> {
     let mut files = files_of(PLAIN, super::samples());
     files.extend(files_of(MARKED, marked::samples()));
     for sample in salvage::samples() {
-        files.push((format!("{}.damaged", sample.name), sample.bytes));
-        files.push((format!("{}.salvage", sample.name), sample.answers.into()));
+        let answers = sample.answers.into_bytes();
+        files.push(("salvage", format!("{}.damaged", sample.name), sample.bytes));
+        files.push(("salvage", format!("{}.salvage", sample.name), answers));
     }
     files
 }
 
 /// A pack and its answers for each sample.
-fn files_of(form: Form, samples: Vec<PackSample>) -> Vec<(String, Vec<u8>)> {
+fn files_of(form: Form, samples: Vec<PackSample>) -> Vec<(&'static str, String, Vec<u8>)> {
     let mut files = Vec::new();
     for sample in samples {
-        files.push((format!("{}.{}", sample.name, form.extension), sample.bytes));
-        files.push((format!("{}.files", sample.name), sample.answers.into()));
+        let pack = format!("{}.{}", sample.name, form.extension);
+        files.push((form.topic, pack, sample.bytes));
+        let answers = sample.answers.into_bytes();
+        files.push((form.topic, format!("{}.files", sample.name), answers));
     }
     files
-}
-
-/// Writes every file of the samples into a folder, and answers how many samples there are.
-pub fn write_packs(folder: &Path) -> std::io::Result<usize> {
-    let files = files();
-    for (name, bytes) in &files {
-        std::fs::write(folder.join(name), bytes)?;
-    }
-    Ok(files.len() / 2)
 }

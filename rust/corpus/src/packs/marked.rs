@@ -8,6 +8,7 @@ use super::{stored, write_pack, Form, WrittenPack};
 pub const MARKED: Form = Form {
     mark: &[0xFD, 0xFE],
     name: "marked",
+    topic: "marked",
     extension: "marked",
 };
 

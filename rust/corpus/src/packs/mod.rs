@@ -1,6 +1,7 @@
 //! Packs of files, written from descriptions in code, with the table that a reader must give.
 
 pub mod folder;
+pub mod lookups;
 pub mod marked;
 pub mod salvage;
 pub mod sample;
@@ -19,6 +20,8 @@ pub const NO_MARK: &[u8] = &[];
 pub struct Form {
     pub mark: &'static [u8],
     pub name: &'static str,
+    /// The folder that keeps them.
+    pub topic: &'static str,
     /// What the names of its files end in.
     pub extension: &'static str,
 }
@@ -27,6 +30,7 @@ pub struct Form {
 pub const PLAIN: Form = Form {
     mark: NO_MARK,
     name: "pack",
+    topic: "packs",
     extension: "pak",
 };
 

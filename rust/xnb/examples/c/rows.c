@@ -1,7 +1,7 @@
 /* Prints the rows of an XNB file from standard input, or why it is refused; as C and as C++.
 
        cc -I crates/builder rust/xnb/examples/c/rows.c target/staticlib/libbuilder.a -o rows
-       ./rows < corpus/ok-kind-13-string.xnb */
+       ./rows < corpus/kinds/ok-kind-13-string.xnb */
 #include "xnb.h"
 
 #include <stdio.h>

@@ -12,7 +12,12 @@ use std::net::{Ipv4Addr, SocketAddrV4, TcpListener};
 use std::path::{Path, PathBuf};
 use std::sync::atomic::{AtomicBool, AtomicU64, Ordering};
 use std::sync::Arc;
+use std::time::Duration;
 use tiny_http::{Header, Method, Request, Response, Server};
+
+/// How often a page is tried again, and after what time.
+const TRIES: usize = 5;
+const PAUSE: Duration = Duration::from_millis(60);
 
 /// Serves the page until a signal ends it.
 pub fn serve(run: &mut Run, maker: Maker, inputs: &FilesAndPacks, port: u16) -> End {
@@ -136,6 +141,10 @@ impl Served<'_> {
             ("Cross-Origin-Resource-Policy", "same-origin"),
         ];
         let mut response = Response::from_data(body).with_status_code(status);
+        if status == 503 {
+            let again = Header::from_bytes("Refresh", "1");
+            response.add_header(again.expect("a header of ours is one"));
+        }
         for (name, value) in headers {
             let header = Header::from_bytes(name, value);
             response.add_header(header.expect("a header of ours is one"));
@@ -192,7 +201,16 @@ impl Served<'_> {
                 return Ok(page.clone());
             }
         }
-        let page = page_now(self.maker, self.inputs, changes)?;
+        let mut made = page_now(self.maker, self.inputs, changes);
+        for _ in 0..TRIES {
+            if made.is_ok() {
+                break;
+            }
+            // Whoever writes a file may be at it still.
+            std::thread::sleep(PAUSE);
+            made = page_now(self.maker, self.inputs, changes);
+        }
+        let page = made?;
         self.page = Some((changes, page.clone()));
         Ok(page)
     }
