@@ -161,12 +161,20 @@ fn listed(
     }
 }
 
-// The same with no readers, with at most 8, and with at most 64: no more codes are cleared than so many readers need.
+// The same with no readers, with one, with at most 8, and with at most 64: no more codes are cleared than so many readers need.
 fn none_listed(file: &[u8], enums: &[u8], words: &mut [u32], grid: Grid, at: usize) -> Loading
     requires { ⌜ Behind (now file) (now words) grid at × (enough (now file) at (codesFor 0) ≡ true) ⌝ }
     ensures { λ r. ⌜ ListsLoad grid (enumsOf (now (enums .entry))) (now (file .entry)) at (now (words .entry)) (now (words .exit)) r ⌝ }
 {
     let mut codes = [0u32; 12];
+    listed(file, enums, &mut codes, words, grid, at)
+}
+
+fn one_listed(file: &[u8], enums: &[u8], words: &mut [u32], grid: Grid, at: usize) -> Loading
+    requires { ⌜ Behind (now file) (now words) grid at × (enough (now file) at (codesFor 1) ≡ true) ⌝ }
+    ensures { λ r. ⌜ ListsLoad grid (enumsOf (now (enums .entry))) (now (file .entry)) at (now (words .entry)) (now (words .exit)) r ⌝ }
+{
+    let mut codes = [0u32; 199];
     listed(file, enums, &mut codes, words, grid, at)
 }
 
@@ -196,6 +204,9 @@ fn lists(file: &[u8], enums: &[u8], words: &mut [u32], grid: Grid, at: usize) ->
         Number::Read(n, _) => {
             if n == 0 {
                 return none_listed(file, enums, words, grid, at);
+            }
+            if n == 1 {
+                return one_listed(file, enums, words, grid, at);
             }
             if n <= 8 {
                 return few_listed(file, enums, words, grid, at);

@@ -1,17 +1,18 @@
 -- Whether a reference is among the rows of the words, row by row, and what becomes of rows with none. Assumes nothing.
-use mathlib.Core.Path.{_≡_, refl}
-use mathlib.Core.Bool.{Bool, true, false, cond}
+use mathlib.Core.Path.{_≡_, refl, _∙_}
+use mathlib.Core.Bool.{Bool, true, false, cond, _||_}
 use mathlib.Core.List.{List}
 use Prim.Native.Nat.{ℕ, zero, suc, _+_, _-_, _≤_, _<_}
 use native.Mathlib.Omega.{arith}
+use native.Mathlib.Decide.{decLt}
 use lib.Dec.{eqb}
 use lib.ListN.{getD, drop}
-use borrow.Author.Tests.{eq-eqb, ne-eqb}
-use Rattle.laws.specs.Small.{differ}
+use borrow.Author.Tests.{eq-eqb, ne-eqb, eqb-false}
+use Rattle.laws.specs.Small.{differ, neither}
 use Rattle.ids.specs.declared.Grid.{Grid}
 use Rattle.ids.specs.Position.{cellOf}
 use Rattle.resources.specs.declared.Settled.the-variants.{Fine}
-use Rattle.resources.specs.Total.{fitted, suited, rowSettled, onward, rowsSettled, anyReference, rootsOf, settleOf}
+use Rattle.resources.specs.Total.{fitted, suited, rowSettled, onward, rowsSettled, NoneAmong, anyReference, rootsOf, settleOf}
 
 module _ (g : Grid) (w : List ℕ) where
   module _ (used i : ℕ) where
@@ -35,6 +36,25 @@ module _ (g : Grid) (w : List ℕ) where
     any-end h =
         let m : used - i ≡ 0 = omega arith in
         rw m
+
+  -- one row more that is no reference, where b says whether one before it is
+  pub none-more : (i j : ℕ) (b : Bool) → (b ≡ false → NoneAmong g w i j) → (b || eqb (getD w (cellOf g (i + j) 0) 0) 36) ≡ false → NoneAmong g w i (j + 1)
+  none-more i j b f e k h = go (decLt k j) where
+    q : (b ≡ false) × (eqb (getD w (cellOf g (i + j) 0) 0) 36 ≡ false)
+    q = neither b (eqb (getD w (cellOf g (i + j) 0) 0) 36) e
+
+    go : Dec (k < j) → getD w (cellOf g (i + k) 0) 0 ≡ 36 → ⊥
+    go (yes l) = f (q .0) k l
+    go (no l) =
+        let z : k ≡ j = omega arith in
+        rw z (eqb-false (getD w (cellOf g (i + j) 0) 0) 36 (q .1))
+
+  -- rows that are no references are passed
+  pub any-past : (used i n : ℕ) → i + n ≤ used → NoneAmong g w i n → anyReference g w (used - i) i ≡ anyReference g w (used - (i + n)) (i + n)
+  any-past used i zero h f = let z : i + 0 ≡ i = omega arith in rw z
+  any-past used i (suc n) h f =
+      let z : i + suc n ≡ i + n + 1 = omega arith in
+      any-past used i n (omega arith) (λ k l. f k (omega arith)) ∙ any-turn used (i + n) (omega arith) refl (f n (omega arith)) ∙ rw z
 
   -- rows with no reference are fine and stay as they are, whatever the shared objects are
   pub none-settled : (shared : List ℕ) (left i : ℕ) → anyReference g w left i ≡ false → rowsSettled g shared left i w ≡ (Fine, w)

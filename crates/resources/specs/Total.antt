@@ -1,7 +1,8 @@
 -- What the last pass answers and leaves, for every input, by the words alone; rows that the words do not have read as 0. Assumes nothing.
+use mathlib.Core.Path.{_≡_}
 use mathlib.Core.Bool.{Bool, true, false, cond}
 use mathlib.Core.List.{List, []}
-use Prim.Native.Nat.{ℕ, zero, suc, _+_, _-_}
+use Prim.Native.Nat.{ℕ, zero, suc, _+_, _-_, _<_}
 use lib.Dec.{eqb}
 use lib.ListN.{getD, take, drop, set}
 use Rattle.reading.specs.Drafts.{resource}
@@ -49,6 +50,10 @@ module _ (g : Grid) where
   unfoldable pub anyReference : List ℕ → (left i : ℕ) → Bool
   anyReference w zero i = false
   anyReference w (suc left) i = cond (eqb (getD w (cellOf g i 0) 0) 36) true (anyReference w left (i + 1))
+
+  -- no row of n from row i on is a reference
+  abbrev pub NoneAmong : List ℕ → (i n : ℕ) → Type 0
+  NoneAmong w i n = (k : ℕ) → k < n → getD w (cellOf g (i + k) 0) 0 ≡ 36 → ⊥
 
   -- the first `used` rows, where the roots among them are the primary and then the shared objects
   abbrev pub settleOf : List ℕ → (used : ℕ) → Settled × List ℕ

@@ -4,15 +4,18 @@ use ids::Grid;
 use ids::Position;
 use ids::ResourceId;
 use ids::RowNumber;
+use ids::WIDTH;
 use words::word_of;
 ghost use mathlib.Core.Path.{_≡_};
-ghost use Prim.Native.Nat.{_-_, _≤_};
-ghost use lib.ListN.{getD, drop, set};
+ghost use mathlib.Core.Bool.{false};
+ghost use Prim.Native.Nat.{_+_, _*_, _-_, _≤_};
+ghost use lib.ListN.{length, getD, drop, set};
+ghost use Rattle.layout.specs.Rows.{width};
 ghost use Rattle.reading.specs.Drafts.{resource};
 ghost use Rattle.reading.specs.Resource.{suit, suits};
 ghost use Rattle.resources.specs.Settled.{SettlesDrafts};
 ghost use Rattle.resources.specs.Roots.{padded, NotesRow};
-ghost use Rattle.resources.specs.Total.{anyReference, nullCleared, rootsOf, rowSettled, rowsSettled, settleFrom, settleOf};
+ghost use Rattle.resources.specs.Total.{NoneAmong, anyReference, nullCleared, rootsOf, rowSettled, rowsSettled, settleFrom, settleOf};
 
 // Every reference names a resource that suits it, or the first byte of the first that does not.
 pub enum Settled {
@@ -166,11 +169,64 @@ fn judge_all(words: &mut [u32], grid: Grid, used: u32) -> Settled
     Settled::Fine
 }
 
+// Whether a reference is seen among eight rows.
+fn any_of_eight(words: &[u32], grid: Grid, from: u32) -> bool
+    requires { ⌜ (from + 8 ≤ grid .room) × (width * grid .room ≤ length (now words)) ⌝ }
+    ensures { λ r. ⌜ (r ≡ false → NoneAmong grid (now (words .entry)) from 8) ⌝ }
+{
+    let mut found = false;
+    let mut j = 0;
+    while j < 8 {
+        let row = from + j;
+        let at = RowNumber(row).cell(grid, 0);
+        found = found | (words[at] == 36);
+        j += 1;
+    }
+    found
+}
+
+// Past the rows that eight at a time have no reference.
+fn past_eights(words: &[u32], grid: Grid, used: u32) -> u32
+    requires { ⌜ (used ≤ grid .room) × (width * grid .room ≤ length (now words)) ⌝ }
+    ensures { λ r. ⌜ anyReference grid (now (words .entry)) (used - r) r ≡ anyReference grid (now (words .entry)) used 0 ⌝ }
+{
+    let mut i = 0;
+    while 8 <= used - i {
+        if any_of_eight(words, grid, i) {
+            return i;
+        }
+        i += 8;
+    }
+    i
+}
+
+// Past rows without a reference, as far as they are seen at once.
+// In a table by rows the kinds are seven words apart, which the compiler sees where the shape is known.
+fn past_many(words: &[u32], grid: Grid, used: u32) -> u32
+    ensures { λ r. ⌜ anyReference grid (now (words .entry)) (used - r) r ≡ anyReference grid (now (words .entry)) used 0 ⌝ }
+{
+    if used > grid.room {
+        return 0;
+    }
+    let all = WIDTH as usize * grid.room as usize;
+    if words.len() < all {
+        return 0;
+    }
+    if grid.columns {
+        return past_eights(words, grid, used);
+    }
+    let by_rows = Grid {
+        room: grid.room,
+        columns: false,
+    };
+    past_eights(words, by_rows, used)
+}
+
 // Whether a reference is among the first `used` rows.
 fn any_reference(words: &[u32], grid: Grid, used: u32) -> bool
     ensures { λ r. ⌜ r ≡ anyReference grid (now (words .entry)) used 0 ⌝ }
 {
-    let mut i = 0;
+    let mut i = past_many(words, grid, used);
     while i < used {
         if word_of(words, grid, RowNumber(i), 0) == 36 {
             return true;

@@ -9,3 +9,6 @@ pub mod Strings
 pub mod Imports
 pub mod Marks
 pub mod Runs
+pub mod Taken
+pub mod Nearest
+pub mod Usual

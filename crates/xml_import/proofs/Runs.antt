@@ -248,6 +248,20 @@ later-byte (four g f) (suc (suc (suc (suc k)))) h l = absurd (omega arith)
 abbrev pub Apart : (xml : List ℕ) (i : ℕ) → Type 0
 Apart xml i = i < length xml → (getD xml i 0 < 0x80) ⊎ (0xC0 ≤ getD xml i 0)
 
+-- where the item's end does not stand, the text does not end
+pub not-ended : (l : List ℕ) {n : ℕ} → literal itemEnd l ≡ fails n → (rest : List ℕ) → until character itemEnd l ≡ takes [] rest → ⊥
+unfolding oneOf shifted before
+not-ended l {n} f rest e = go (character l) refl (sym (until-step itemEnd (character-matches plain-matches) character-some l) ∙ e) where
+  by : (k : ℕ) (t : List ℕ) (m : Match (List (List ℕ))) → shifted k (before t m) ≡ takes [] rest → ⊥
+  by k t (fails j) e = differ cc
+  by k t (takes us r) e = let z : _≡_ {A = List (List ℕ)} (t ∷ us) [] = cc in differ cc
+
+  go : (m : Match (List ℕ)) → character l ≡ m → oneOf l (literal itemEnd l) (character l) (λ v. until character itemEnd v) ≡ takes [] rest → ⊥
+  go (fails j) q e =
+      let z : oneOf l (fails n) (fails j) (λ v. until character itemEnd v) ≡ takes [] rest = rw (f, q) at e in
+      differ cc
+  go (takes t r) q e = by (length l - length r) t (until character itemEnd r) (rw (f, q) at e)
+
 module _ (xml : List ℕ) (i n : ℕ) (h : i + suc n ≤ length xml) (q : AllUnmarked xml i (suc n)) where
   here-unmarked : Unmarked (getD xml i 0)
   here-unmarked = let z : i + 0 ≡ i = omega arith in rw z at (q 0 (omega arith))
@@ -270,19 +284,9 @@ module _ (xml : List ℕ) (i n : ℕ) (h : i + suc n ≤ length xml) (q : AllUnm
 
   -- so some character is taken
   not-empty : (rest : List ℕ) → until character itemEnd (drop i xml) ≡ takes [] rest → ⊥
-  unfolding oneOf shifted before
-  not-empty rest e = go (character (drop i xml)) refl (sym (until-step itemEnd (character-matches plain-matches) character-some (drop i xml)) ∙ e) where
-    by : (k : ℕ) (t : List ℕ) (m : Match (List (List ℕ))) → shifted k (before t m) ≡ takes [] rest → ⊥
-    by k t (fails j) e = differ cc
-    by k t (takes us r) e = let z : _≡_ {A = List (List ℕ)} (t ∷ us) [] = cc in differ cc
+  not-empty rest e = not-ended (drop i xml) no-end-here rest e
 
-    go : (m : Match (List ℕ)) → character (drop i xml) ≡ m → oneOf (drop i xml) (literal itemEnd (drop i xml)) (character (drop i xml)) (λ l. until character itemEnd l) ≡ takes [] rest → ⊥
-    go (fails j) q e =
-        let z : oneOf (drop i xml) (fails (common itemEnd (drop i xml))) (fails j) (λ l. until character itemEnd l) ≡ takes [] rest = rw (no-end-here, q) at e in
-        differ cc
-    go (takes t l) q e = by (length (drop i xml) - length l) t (until character itemEnd l) (rw (no-end-here, q) at e)
-
-told-character : (l t more : List ℕ) → character l ≡ takes t more → (form : List ℕ) × Character t form × (l ≡ form ++ more)
+pub told-character : (l t more : List ℕ) → character l ≡ takes t more → (form : List ℕ) × Character t form × (l ≡ form ++ more)
 told-character l t more e = go (character l) (character-matches plain-matches .tells l) e where
   go : (o : Match (List ℕ)) → Told Character l o → o ≡ takes t more → (form : List ℕ) × Character t form × (l ≡ form ++ more)
   go o (failed x) q = differ cc
@@ -353,11 +357,6 @@ runs-none h = record { forward = omega arith; inside = h; stands = λ k. stands-
 
 pub stands-runs : {xml : List ℕ} {from to : ℕ} → Stands xml from to → Runs xml from to
 stands-runs s = record { forward = s .forward; inside = s .inside; stands = λ k. s }
-
--- a run of a text that is taken, or was taken before
-pub run-read : (known : Bool) {xml : List ℕ} {at i size run : ℕ} → Reading xml at i size → (known ≡ true → Known xml at) → Runs xml i run → (known ≡ false → Stands xml i run) → Reading xml at run (size + (run - i))
-run-read true r k u s = run-on r (u .stands (known-on r (k refl)))
-run-read false r k u s = run-on r (s refl)
 
 -- ---- A text is put
 

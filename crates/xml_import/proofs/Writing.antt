@@ -66,15 +66,15 @@ module _ {xml out₀ : List ℕ} {at to size : ℕ} {out : List ℕ} {i j : ℕ}
   size-is = p .ready .sized ∙ ap length (sym (text-joined (p .ready)) ∙ p .text-is) ∙ length-append (p .pre) (joined (p .left))
 
   -- a character that is next
-  record Next : Type 0 where
-    t : List ℕ
-    others : List (List ℕ)
-    more : List ℕ
-    is : p .left ≡ t ∷ others
-    first : character (drop i xml) ≡ takes t more
-    then-them : until character itemEnd more ≡ takes others (p .ready .rest)
+  pub record Next : Type 0 where
+    pub t : List ℕ
+    pub others : List (List ℕ)
+    pub more : List ℕ
+    pub is : p .left ≡ t ∷ others
+    pub first : character (drop i xml) ≡ takes t more
+    pub then-them : until character itemEnd more ≡ takes others (p .ready .rest)
 
-  next-character : j < to + size → Next
+  pub next-character : j < to + size → Next
   unfolding joined
   next-character h = go (p .left) refl where
     go : (left : List (List ℕ)) → p .left ≡ left → Next
@@ -109,7 +109,7 @@ module _ {xml out₀ : List ℕ} {at to size : ℕ} {out : List ℕ} {i j : ℕ}
     pub turns : {out′ : List ℕ} → length out′ ≡ length out → ((base done : List ℕ) → Wrote base done out j → j + n ≤ length base → Wrote base (done ++ t) out′ (j + n))
         → Putting xml out₀ at to size out′ next (j + n)
 
-  turned : j < to + size → (t : List ℕ) (k next : ℕ) → k ≡ length t → TakesAt (character (drop i xml)) t xml i next → Turned t k next
+  pub turned : j < to + size → (t : List ℕ) (k next : ℕ) → k ≡ length t → TakesAt (character (drop i xml)) t xml i next → Turned t k next
   unfolding joined
   turned h t many next q k =
       let n = next-character h in

@@ -1,7 +1,8 @@
 -- What matching answers in code, by places in the XML. Assumes nothing.
 use mathlib.Core.Path.{_≡_}
-use mathlib.Core.Bool.{Bool, not, _&&_}
+use mathlib.Core.Bool.{Bool, not, _&&_, cond}
 use mathlib.Core.List.{List, [], _∷_}
+use mathlib.Core.Logic.{_⊎_}
 use Prim.Native.Nat.{ℕ, _+_, _-_, _≤_, _<_}
 use lib.Dec.{leb, eqb}
 use lib.ListN.{length, take, drop, getD}
@@ -96,15 +97,37 @@ pub record Unmarked (b : ℕ) : Type 0 where
   pub no-and : b ≡ 0x26 → ⊥
   pub no-less : b ≡ 0x3C → ⊥
 
+-- a byte that starts one of them
+unfoldable pub Marked : ℕ → Type 0
+Marked b = (b ≡ 0x26) ⊎ (b ≡ 0x3C)
+
 -- n bytes from a place on
 abbrev pub AllUnmarked : (xml : List ℕ) (i n : ℕ) → Type 0
 AllUnmarked xml i n = (k : ℕ) → k < n → Unmarked (getD xml (i + k) 0)
+
+-- how many of n bytes stand before the first that is marked
+pub record Before (xml : List ℕ) (i n r : ℕ) : Type 0 where
+  pub within : r ≤ n
+  pub unmarked : AllUnmarked xml i r
+  pub marked : r < n → Marked (getD xml (i + r) 0)
 
 -- those from one place to a later one
 pub record Passed (xml : List ℕ) (from i : ℕ) : Type 0 where
   pub forward : from ≤ i
   pub inside : i ≤ length xml
   pub unmarked : AllUnmarked xml from (i - from)
+
+-- and no more of them
+pub record Stops (xml : List ℕ) (from i : ℕ) : Type 0 where
+  pub passed : Passed xml from i
+  pub marked : i < length xml → Marked (getD xml i 0)
+
+-- an entity by the byte behind its `&`: its character, and how many bytes it has
+unfoldable pub entityByte : ℕ → ℕ
+entityByte b = cond (eqb b 0x61) 0x26 (cond (eqb b 0x71) 0x22 (cond (eqb b 0x6C) 0x3C 0x3E))
+
+unfoldable pub entitySize : ℕ → ℕ
+entitySize b = cond (eqb b 0x61) 5 (cond (eqb b 0x71) 6 4)
 
 -- the text of an item, of which so many bytes are taken, and the item's end
 unfoldable pub TextAt : (xml : List ℕ) (at : ℕ) → Texted → Type 0

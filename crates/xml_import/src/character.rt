@@ -1,6 +1,7 @@
 // A character as it stands in the XML, and literals.
 ghost use mathlib.Core.Path.{_≡_};
-ghost use Prim.Native.Nat.{_≤_, _<_, max};
+ghost use mathlib.Core.Bool.{true, cond};
+ghost use Prim.Native.Nat.{_+_, _≤_, _<_, max, min};
 ghost use lib.ListN.{length, drop, getD};
 ghost use mathlib.Core.List.{[], _∷_};
 ghost use Rattle.names.specs.Parse.{common};
@@ -15,6 +16,26 @@ pub fn larger(a: usize, b: usize) -> usize
         return b;
     }
     a
+}
+
+// The smaller of two.
+pub(crate) fn smaller(a: u8, b: u8) -> u8
+    ensures { λ r. ⌜ r ≡ min a b ⌝ }
+{
+    if a < b {
+        return a;
+    }
+    b
+}
+
+// A place that counts, else one behind all.
+pub(crate) fn place_if(counts: bool, place: u8, behind: u8) -> u8
+    ensures { λ r. ⌜ r ≡ cond counts place behind ⌝ }
+{
+    if counts {
+        return place;
+    }
+    behind
 }
 
 // How many bytes of a literal stand in the XML from `at` on, up to the first that does not.
@@ -35,6 +56,21 @@ pub(crate) fn agree(xml: &[u8], at: usize, literal: &[u8]) -> usize
     i
 }
 
+// Whether a literal stands in the XML from `at` on, which has room for it.
+pub(crate) fn spelled(xml: &[u8], at: usize, literal: &[u8]) -> bool
+    requires { ⌜ at + length (now literal) ≤ length (now xml) ⌝ }
+    ensures { λ r. ⌜ (r ≡ true → length (now (literal .entry)) ≡ common (now (literal .entry)) (drop at (now (xml .entry)))) ⌝ }
+{
+    let mut i = 0;
+    while i < literal.len() {
+        if literal[i] != xml[at + i] {
+            return false;
+        }
+        i += 1;
+    }
+    true
+}
+
 // How many bytes of an item's end stand in the XML from `at` on.
 pub(crate) fn end_at(xml: &[u8], at: usize) -> usize
     requires { ⌜ at < length (now xml) ⌝ }
@@ -42,6 +78,12 @@ pub(crate) fn end_at(xml: &[u8], at: usize) -> usize
 {
     if xml[at] != 0x3C {
         return 0;
+    }
+    if xml.len() - at < 7 {
+        return agree(xml, at, b"</Item>");
+    }
+    if spelled(xml, at, b"</Item>") {
+        return 7;
     }
     agree(xml, at, b"</Item>")
 }
@@ -103,14 +145,17 @@ fn top_at(xml: &[u8], at: usize) -> Matched
     }
 }
 
-// Whether a byte is an ASCII character that stands as it is.
-fn ordinary(b: u8) -> bool
+// Whether a byte is an ASCII character that stands as it is; letters are told by two tests.
+pub(crate) fn ordinary(b: u8) -> bool
     ensures { λ r. ⌜ r ≡ standsAlone b ⌝ }
 {
-    if b < 0x20 {
-        return false;
+    if 0x3E < b {
+        if 0x7F < b {
+            return false;
+        }
+        return true;
     }
-    if 0x7F < b {
+    if b < 0x20 {
         return false;
     }
     if b == 0x22 {
@@ -187,8 +232,8 @@ pub enum Piece {
     Plain(usize),
 }
 
-// One of the four entities.
-fn entity_at(xml: &[u8], at: usize) -> Piece
+// One of the four entities, or where none stands.
+fn other_entity(xml: &[u8], at: usize) -> Piece
     requires { ⌜ (at < length (now xml)) × (getD (now xml) at 0 ≡ 0x26) ⌝ }
     ensures { λ r. ⌜ PieceAt (now (xml .entry)) at r ⌝ }
 {
@@ -209,6 +254,41 @@ fn entity_at(xml: &[u8], at: usize) -> Piece
         return Piece::Entity(0x22, at + 6);
     }
     Piece::Fails(at + larger(a, larger(l, larger(g, q))))
+}
+
+// The same: the byte behind `&` says which of the four it can be.
+pub(crate) fn entity_at(xml: &[u8], at: usize) -> Piece
+    requires { ⌜ (at < length (now xml)) × (getD (now xml) at 0 ≡ 0x26) ⌝ }
+    ensures { λ r. ⌜ PieceAt (now (xml .entry)) at r ⌝ }
+{
+    if xml.len() - at < 6 {
+        return other_entity(xml, at);
+    }
+    let b = xml[at + 1];
+    if b == 0x61 {
+        if spelled(xml, at, b"&amp;") {
+            return Piece::Entity(0x26, at + 5);
+        }
+        return other_entity(xml, at);
+    }
+    if b == 0x6C {
+        if spelled(xml, at, b"&lt;") {
+            return Piece::Entity(0x3C, at + 4);
+        }
+        return other_entity(xml, at);
+    }
+    if b == 0x67 {
+        if spelled(xml, at, b"&gt;") {
+            return Piece::Entity(0x3E, at + 4);
+        }
+        return other_entity(xml, at);
+    }
+    if b == 0x71 {
+        if spelled(xml, at, b"&quot;") {
+            return Piece::Entity(0x22, at + 6);
+        }
+    }
+    other_entity(xml, at)
 }
 
 // A character, as it stands in the XML.

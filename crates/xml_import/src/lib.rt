@@ -1,10 +1,10 @@
 // Importing XML as a file (Req 13): the texts of the XML's items, in a file with an Array of String.
 mod character;
+mod known;
 mod standing;
 
 use character::Piece;
 ghost use mathlib.Core.Path.{_≡_};
-ghost use mathlib.Core.Bool.{true};
 ghost use Prim.Native.Nat.{_+_, _^_, _≤_, _<_};
 ghost use lib.ListN.{length};
 ghost use Rattle.layout.specs.Number.{little};
@@ -21,26 +21,18 @@ pub enum Texted {
     Ends(usize, usize),
 }
 
-// The text of an item from `at` on, and the item's end; one that is known to have been taken before is only measured.
-fn text_at(xml: &[u8], at: usize, known: bool) -> Texted
-    requires { ⌜ (at ≤ length (now xml)) × (known ≡ true → Known (now xml) at) ⌝ }
+// The text of an item from `at` on, and the item's end.
+fn text_at(xml: &[u8], at: usize) -> Texted
+    requires { ⌜ at ≤ length (now xml) ⌝ }
     ensures { λ r. ⌜ TextAt (now (xml .entry)) at r ⌝ }
 {
     let mut i = at;
     let mut size = 0;
     while i < xml.len() {
-        let run = standing::standing(xml, i, known);
-        if i < run {
-            size += run - i;
-            i = run;
-        } else {
-            let n = character::end_at(xml, i);
-            if n == 7 {
-                return Texted::Ends(size, i + 7);
-            }
-            match character::character_at(xml, i) {
+        if xml[i] == 0x26 {
+            match character::entity_at(xml, i) {
                 Piece::Fails(place) => {
-                    return Texted::Fails(character::larger(i + n, place));
+                    return Texted::Fails(place);
                 }
                 Piece::Entity(_, next) => {
                     size += 1;
@@ -51,6 +43,55 @@ fn text_at(xml: &[u8], at: usize, known: bool) -> Texted
                     i = next;
                 }
             }
+        } else {
+            let run = standing::standing(xml, i);
+            if i < run {
+                size += run - i;
+                i = run;
+            } else {
+                let n = character::end_at(xml, i);
+                if n == 7 {
+                    return Texted::Ends(size, i + 7);
+                }
+                match character::character_at(xml, i) {
+                    Piece::Fails(place) => {
+                        return Texted::Fails(character::larger(i + n, place));
+                    }
+                    Piece::Entity(_, next) => {
+                        size += 1;
+                        i = next;
+                    }
+                    Piece::Plain(next) => {
+                        size += next - i;
+                        i = next;
+                    }
+                }
+            }
+        }
+    }
+    Texted::Fails(i)
+}
+
+// The same for a text that was taken before: it is only measured.
+fn known_at(xml: &[u8], at: usize) -> Texted
+    requires { ⌜ (at ≤ length (now xml)) × Known (now xml) at ⌝ }
+    ensures { λ r. ⌜ TextAt (now (xml .entry)) at r ⌝ }
+{
+    let mut i = at;
+    let mut size = 0;
+    while i < xml.len() {
+        let b = xml[i];
+        if b == 0x3C {
+            return Texted::Ends(size, i + 7);
+        }
+        if b == 0x26 {
+            let second = xml[i + 1];
+            i += known::entity_size(second);
+            size += 1;
+        } else {
+            let run = known::unmarked_run(xml, i);
+            size += run - i;
+            i = run;
         }
     }
     Texted::Fails(i)
@@ -106,7 +147,7 @@ fn measure(xml: &[u8]) -> Measured
         if s != 6 {
             return Measured::Other(i + character::larger(e, s));
         }
-        match text_at(xml, i + 6, false) {
+        match text_at(xml, i + 6) {
             Texted::Fails(place) => {
                 return Measured::Other(character::larger(i + e, place));
             }
@@ -165,30 +206,17 @@ fn put_text(xml: &[u8], out: &mut [u8], at: usize, to: usize, size: usize)
     let mut i = at;
     let mut j = to;
     while j < end {
-        let run = standing::standing(xml, i, true);
-        if i < run {
+        if xml[i] == 0x26 {
+            let second = xml[i + 1];
+            out[j] = known::entity_byte(second);
+            i += known::entity_size(second);
+            j += 1;
+        } else {
+            let run = known::unmarked_run(xml, i);
             let k = run - i;
             fill::copy(out, j, xml, i, k);
             j += k;
             i = run;
-        } else {
-            match character::character_at(xml, i) {
-                Piece::Fails(_) => {
-                    return;
-                }
-                Piece::Entity(b, next) => {
-                    let one = [b];
-                    fill::copy(out, j, &one, 0, 1);
-                    j += 1;
-                    i = next;
-                }
-                Piece::Plain(next) => {
-                    let n = next - i;
-                    fill::copy(out, j, xml, i, n);
-                    j += n;
-                    i = next;
-                }
-            }
         }
     }
 }
@@ -217,7 +245,7 @@ fn put_strings(xml: &[u8], out: &mut [u8], count: usize)
     let mut k = 0;
     while k < count {
         let at = i + 6;
-        match text_at(xml, at, true) {
+        match known_at(xml, at) {
             Texted::Fails(_) => {
                 return;
             }

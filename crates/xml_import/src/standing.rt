@@ -1,9 +1,11 @@
 // Runs of characters that stand as they are.
+use crate::character;
 ghost use mathlib.Core.Path.{_≡_};
-ghost use mathlib.Core.Bool.{true, false};
-ghost use Prim.Native.Nat.{_+_, _≤_};
+ghost use mathlib.Core.Bool.{false};
+ghost use Prim.Native.Nat.{_+_, _≤_, _<_};
 ghost use lib.ListN.{length};
-ghost use Rattle.xml_import.specs.Places.{Stands, Runs, Unmarked, AllUnmarked, Passed};
+ghost use Rattle.xml_escape.specs.Quiet.{Quiet, AllQuiet, Ran};
+ghost use Rattle.xml_import.specs.Places.{Stands};
 
 // Where a piece of the XML from `from` on ends that is judged at once: at most 1,024 bytes further, where a character starts.
 fn cut(xml: &[u8], from: usize) -> usize
@@ -40,100 +42,80 @@ fn utf8_run(xml: &[u8], from: usize) -> usize
     from
 }
 
-// Whether a byte may start an entity or the end of an item.
-fn marked(b: u8) -> bool
-    ensures { λ r. ⌜ (r ≡ false → Unmarked b) ⌝ }
+// Whether a byte is no ASCII character that stands as it is, in one expression: blocks of it are fast.
+fn odd(b: u8) -> bool
+    ensures { λ r. ⌜ (r ≡ false → Quiet 0x7F b) ⌝ }
 {
-    (b == 0x26) | (b == 0x3C)
+    (b < 0x20) | (b == 0x22) | (b == 0x26) | (b == 0x3C) | (b == 0x3E) | (0x7F < b)
 }
 
-// Whether none of the n bytes from i on does.
-fn unmarked_block(xml: &[u8], i: usize, n: usize) -> bool
-    requires { ⌜ i + n ≤ length (now xml) ⌝ }
-    ensures { λ r. ⌜ (r ≡ true → AllUnmarked (now (xml .entry)) i n) ⌝ }
+// How many of the 32 bytes from i on stand before the first such.
+fn first_odd(xml: &[u8], i: usize) -> usize
+    requires { ⌜ i + 32 ≤ length (now xml) ⌝ }
+    ensures { λ r. ⌜ (r ≤ 32) × AllQuiet 0x7F (now (xml .entry)) i r ⌝ }
 {
-    let mut j = 0;
-    let mut other = false;
-    while j < n {
-        other = other | marked(xml[i + j]);
+    let mut j = 0u8;
+    let mut first = 32u8;
+    while j < 32 {
+        let here = character::place_if(odd(xml[i + j as usize]), j, 32);
+        first = character::smaller(first, here);
         j += 1;
     }
-    if other {
-        return false;
-    }
-    true
+    first as usize
 }
 
-// Past the blocks of 32 such bytes from `from` on.
-fn unmarked_blocks(xml: &[u8], from: usize) -> usize
-    requires { ⌜ from ≤ length (now xml) ⌝ }
-    ensures { λ r. ⌜ Passed (now (xml .entry)) from r ⌝ }
+// How many of the 8 bytes from i on stand before the first such, one by one.
+fn usual_start(xml: &[u8], i: usize) -> usize
+    requires { ⌜ i + 8 ≤ length (now xml) ⌝ }
+    ensures { λ r. ⌜ (r ≤ 8) × AllQuiet 0x7F (now (xml .entry)) i r ⌝ }
 {
-    let mut i = from;
-    while 32 <= xml.len() - i {
-        if unmarked_block(xml, i, 32) {
-            i += 32;
-        } else {
-            return i;
+    let mut k = 0;
+    while k < 8 {
+        if !character::ordinary(xml[i + k]) {
+            return k;
         }
+        k += 1;
     }
-    i
+    k
 }
 
-// Past such bytes from `from` on, to the first that may be another.
-fn unmarked_run(xml: &[u8], from: usize) -> usize
+// Past a run of ASCII from `from` on: 32 bytes at once, then blocks.
+fn usual_rest(xml: &[u8], from: usize) -> usize
     requires { ⌜ from ≤ length (now xml) ⌝ }
-    ensures { λ r. ⌜ Passed (now (xml .entry)) from r ⌝ }
+    ensures { λ r. ⌜ Ran 0x7F (now (xml .entry)) from r ⌝ }
 {
-    let mut i = unmarked_blocks(xml, from);
-    while i < xml.len() {
-        if marked(xml[i]) {
-            return i;
-        }
-        i += 1;
-    }
-    i
-}
-
-// Past a run of bytes from `from` on that ends where a character may start.
-fn whole_run(xml: &[u8], from: usize) -> usize
-    requires { ⌜ from ≤ length (now xml) ⌝ }
-    ensures { λ r. ⌜ Runs (now (xml .entry)) from r ⌝ }
-{
-    let end = unmarked_run(xml, from);
-    if xml.len() <= end {
-        return end;
-    }
-    if xml[end] < 0x80 {
-        return end;
-    }
-    if 0xC0 <= xml[end] {
-        return end;
-    }
-    from
-}
-
-// Past characters that stand as they are, from `from` on; `from` itself where none is found so. A text that was taken before is not judged again.
-pub(crate) fn standing(xml: &[u8], from: usize, known: bool) -> usize
-    requires { ⌜ from ≤ length (now xml) ⌝ }
-    ensures { λ r. ⌜ Runs (now (xml .entry)) from r ⌝ }
-    ensures { λ r. ⌜ (known ≡ false → Stands (now (xml .entry)) from r) ⌝ }
-{
-    if xml.len() <= from {
-        return from;
-    }
-    let b = xml[from];
-    if b == 0x26 {
-        return from;
-    }
-    if b == 0x3C {
-        return from;
-    }
-    if known {
-        return whole_run(xml, from);
-    }
-    if b < 0x80 {
+    if xml.len() - from < 32 {
         return xml_escape::quiet_run(xml, from, 0x7F);
+    }
+    let n = first_odd(xml, from);
+    if n < 32 {
+        return from + n;
+    }
+    xml_escape::quiet_run(xml, from + 32, 0x7F)
+}
+
+// The same: eight bytes one by one, then the rest.
+fn usual_run(xml: &[u8], from: usize) -> usize
+    requires { ⌜ from ≤ length (now xml) ⌝ }
+    ensures { λ r. ⌜ Ran 0x7F (now (xml .entry)) from r ⌝ }
+{
+    if xml.len() - from < 8 {
+        return xml_escape::quiet_run(xml, from, 0x7F);
+    }
+    let n = usual_start(xml, from);
+    if n < 8 {
+        return from + n;
+    }
+    usual_rest(xml, from + 8)
+}
+
+// Past characters that stand as they are, from `from` on; `from` itself where none is found so.
+pub(crate) fn standing(xml: &[u8], from: usize) -> usize
+    requires { ⌜ from < length (now xml) ⌝ }
+    ensures { λ r. ⌜ Stands (now (xml .entry)) from r ⌝ }
+{
+    if xml[from] < 0x80 {
+        return usual_run(xml, from);
     }
     utf8_run(xml, from)
 }

@@ -1,8 +1,9 @@
-//! crates.txt: each crate stands behind those that it uses, and docs/CRATES.md says what crates.txt says.
+//! crates.txt: each crate stands behind those that it uses and names no other, and docs/CRATES.md says what crates.txt says.
 
 use corpus::folder::root;
 use std::collections::BTreeSet;
 use std::fs;
+use std::path::Path;
 
 /// A line of crates.txt that says something.
 enum Line<'t> {
@@ -53,6 +54,68 @@ fn each_crate_stands_behind_those_that_it_uses() {
                 );
             }
             assert!(above.insert(name), "{name} has two lines");
+        }
+    }
+}
+
+/// Crates that a line has to name though no source of that crate does: they declare a type that it reaches through another.
+const REACHED: [(&str, &str); 5] = [
+    ("theorems", "ticks"),
+    ("printing", "libc"),
+    ("sevens", "libc"),
+    ("rows", "libc"),
+    ("shorten", "libc"),
+];
+
+/// The Rattle sources and the proofs below a folder, one after the other; must-fail edits are not among them.
+fn sources(folder: &Path, text: &mut String) {
+    for entry in fs::read_dir(folder).expect("a folder of a crate") {
+        let path = entry.expect("an entry").path();
+        if path.is_dir() {
+            if !path.ends_with("must-fail") {
+                sources(&path, text);
+            }
+        } else if path
+            .extension()
+            .is_some_and(|it| it == "rt" || it == "antt")
+        {
+            *text += &fs::read_to_string(&path).expect("a source");
+            text.push('\n');
+        }
+    }
+}
+
+/// The crates that a text names: `Rattle.name` in specifications, `name::` or `use name` in code.
+fn named(text: &str) -> BTreeSet<&str> {
+    let joined = |c: char| c.is_ascii_alphanumeric() || "_:·".contains(c);
+    let in_words = text.split(|c| !joined(c)).filter_map(|word| {
+        let of_specifications = word.strip_prefix("Rattle·").map(|it| it.split('·').next());
+        let of_code = word.split_once("::").map(|(first, _)| first);
+        of_specifications.flatten().or(of_code)
+    });
+    let used = text
+        .lines()
+        .filter_map(|line| line.trim().strip_prefix("use "));
+    in_words
+        .chain(used.map(|it| it.trim_end_matches(';')))
+        .collect()
+}
+
+#[test]
+fn each_line_lists_what_its_crate_uses_and_nothing_else() {
+    let text = crates_txt();
+    for line in lines(&text) {
+        let Line::Crate { name, uses } = line else {
+            continue;
+        };
+        let mut source = String::new();
+        sources(&root().join("crates").join(name), &mut source);
+        let named = named(&source);
+        for used in uses {
+            assert!(
+                named.contains(used) || REACHED.contains(&(name, used)),
+                "{name} lists {used}, which it does not use"
+            );
         }
     }
 }

@@ -31,10 +31,10 @@ same-length c = search needs
 returns : tie.Need-returns
 returns c = search needs
 
-few-listed-requires : tie.Need-few-listed-requires
-few-listed-requires c κs =
+one-listed-requires : tie.Need-one-listed-requires
+one-listed-requires c κs =
     let p = c .before .before .before .before .before .before .before .before .before .before .pre in
-    (p, suffice _ _ 8 (p .short) (sym (c .before .before .before .before .before .before .reader-count .ensures) ∙ ap told (c .before .before .before .before .n .given .1)) (c .before .if2 .taken))
+    (p, suffice _ _ 1 (p .short) (sym (c .before .before .before .before .before .before .reader-count .ensures) ∙ ap told (c .before .before .before .before .n .given .1)) (omega (arith, c .before .if2 .taken)))
 
 same-length-2 : tie.Need-same-length-2
 same-length-2 c = search needs
@@ -42,11 +42,10 @@ same-length-2 c = search needs
 returns-2 : tie.Need-returns-2
 returns-2 c = search needs
 
-many-listed-requires : tie.Need-many-listed-requires
-many-listed-requires c κs =
-    let p = c .before .before .before .before .before .before .before .before .before .before .pre in
-    let e = sym (c .before .before .before .before .before .before .reader-count .ensures) ∙ ap told (c .before .before .before .before .n .given .1) in
-    (p, suffice _ _ 64 (p .short) e (at-most _ 64 _ e))
+few-listed-requires : tie.Need-few-listed-requires
+few-listed-requires c κs =
+    let p = c .before .before .before .before .before .before .before .before .before .before .before .pre in
+    (p, suffice _ _ 8 (p .short) (sym (c .before .before .before .before .before .before .before .reader-count .ensures) ∙ ap told (c .before .before .before .before .before .n .given .1)) (c .before .if3 .taken))
 
 same-length-3 : tie.Need-same-length-3
 same-length-3 c = search needs
@@ -54,11 +53,23 @@ same-length-3 c = search needs
 returns-3 : tie.Need-returns-3
 returns-3 c = search needs
 
+many-listed-requires : tie.Need-many-listed-requires
+many-listed-requires c κs =
+    let p = c .before .before .before .before .before .before .before .before .before .before .before .pre in
+    let e = sym (c .before .before .before .before .before .before .before .reader-count .ensures) ∙ ap told (c .before .before .before .before .before .n .given .1) in
+    (p, suffice _ _ 64 (p .short) e (at-most _ 64 _ e))
+
 same-length-4 : tie.Need-same-length-4
 same-length-4 c = search needs
 
 returns-4 : tie.Need-returns-4
 returns-4 c = search needs
+
+same-length-5 : tie.Need-same-length-5
+same-length-5 c = search needs
+
+returns-5 : tie.Need-returns-5
+returns-5 c = search needs
 
 pub lists-spec : {M : Type 1} → statement M
 lists-spec =
@@ -71,11 +82,14 @@ lists-spec =
     none-listed-requires-2
     same-length
     returns
-    few-listed-requires
+    one-listed-requires
     same-length-2
     returns-2
-    many-listed-requires
+    few-listed-requires
     same-length-3
     returns-3
+    many-listed-requires
     same-length-4
-    returns-4)
+    returns-4
+    same-length-5
+    returns-5)

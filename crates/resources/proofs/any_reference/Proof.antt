@@ -14,11 +14,11 @@ Inv-loop words grid used i₀ i = anyReference grid words (used - i) i ≡ anyRe
 abbrev μ-loop : tie.MeasureT-loop
 μ-loop words grid used i₀ i = used - i
 
+past-many-requires : tie.Need-past-many-requires Inv-loop μ-loop
+past-many-requires c κs = search needs
+
 loop-holds : tie.Need-loop-holds Inv-loop μ-loop
-loop-holds c =
-    let used = c .before .args .used in
-    let z : used - 0 ≡ used = omega arith in
-    rw z
+loop-holds c = c .past-many .ensures
 
 word-of-requires : tie.Need-word-of-requires Inv-loop μ-loop
 word-of-requires c κs = search needs
@@ -48,6 +48,7 @@ any-reference-spec =
     (tie.spec
     Inv-loop
     μ-loop
+    past-many-requires
     loop-holds
     word-of-requires
     returns

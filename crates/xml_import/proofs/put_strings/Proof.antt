@@ -18,23 +18,23 @@ loop-holds c = start (c .before .before .pre)
 add-at : tie.Need-add-at Inv-loop μ-loop
 add-at c = omega (arith, next-item (c .before .loop .inv) (c .loop-test .taken) .at-text)
 
-text-at-requires : tie.Need-text-at-requires Inv-loop μ-loop
-text-at-requires c κs = let v = next-item (c .before .loop .inv) (c .loop-test .taken) in (v .at-text, λ e. known-next (c .before .loop .inv) (c .loop-test .taken))
+known-at-requires : tie.Need-known-at-requires Inv-loop μ-loop
+known-at-requires c κs = let v = next-item (c .before .loop .inv) (c .loop-test .taken) in (v .at-text, known-next (c .before .loop .inv) (c .loop-test .taken))
 
 enum-told : tie.Need-enum-told Inv-loop μ-loop
 enum-told c = search needs
 
 same-length : tie.Need-same-length Inv-loop μ-loop
-same-length c = absurd (no-failure (c .before .before .before .before .loop .inv) (c .before .before .before .loop-test .taken) (c .before .before .text-at .ensures) (c .enum-told .given .1))
+same-length c = absurd (no-failure (c .before .before .before .before .loop .inv) (c .before .before .before .loop-test .taken) (c .before .before .known-at .ensures) (c .enum-told .given .1))
 
 returns : tie.Need-returns Inv-loop μ-loop
-returns c = absurd (no-failure (c .before .before .before .before .loop .inv) (c .before .before .before .loop-test .taken) (c .before .before .text-at .ensures) (c .enum-told .given .1))
+returns c = absurd (no-failure (c .before .before .before .before .loop .inv) (c .before .before .before .loop-test .taken) (c .before .before .known-at .ensures) (c .enum-told .given .1))
 
 enum-known-size : tie.Need-enum-known-size Inv-loop μ-loop
 enum-known-size c = search needs
 
 put-string-requires : tie.Need-put-string-requires Inv-loop μ-loop
-put-string-requires c κs = let v = turn (c .before .before .before .before .before .before .loop .inv) (c .before .before .before .before .before .loop-test .taken) (c .before .before .before .before .text-at .ensures) (c .before .before .size .given .1) in (v .ready, v .small, v .room)
+put-string-requires c κs = let v = turn (c .before .before .before .before .before .before .loop .inv) (c .before .before .before .before .before .loop-test .taken) (c .before .before .before .before .known-at .ensures) (c .before .before .size .given .1) in (v .ready, v .small, v .room)
 
 add-k : tie.Need-add-k Inv-loop μ-loop
 add-k c = search needs
@@ -43,7 +43,7 @@ loop-less : tie.Need-loop-less Inv-loop μ-loop
 loop-less c = search needs
 
 loop-again : tie.Need-loop-again Inv-loop μ-loop
-loop-again c = let v = turn (c .before .before .before .before .before .before .before .before .before .loop .inv) (c .before .before .before .before .before .before .before .before .loop-test .taken) (c .before .before .before .before .before .before .before .text-at .ensures) (c .before .before .before .before .before .size .given .1) in v .turns (search needs) (c .before .before .put-string .ensures)
+loop-again c = let v = turn (c .before .before .before .before .before .before .before .before .before .loop .inv) (c .before .before .before .before .before .before .before .before .loop-test .taken) (c .before .before .before .before .before .before .before .known-at .ensures) (c .before .before .before .before .before .size .given .1) in v .turns (search needs) (c .before .before .put-string .ensures)
 
 same-length-2 : tie.Need-same-length-2 Inv-loop μ-loop
 same-length-2 c = c .before .loop .inv .same-size
@@ -59,7 +59,7 @@ put-strings-spec =
     μ-loop
     loop-holds
     add-at
-    text-at-requires
+    known-at-requires
     enum-told
     same-length
     returns

@@ -4,87 +4,127 @@ use Prim.Native.Nat.{_-_}
 use native.Mathlib.Omega.{arith}
 use lib.ListN.{length}
 use Rattle.xml_import.proofs.Texts.{Reading, start, ends, end-inside, wrong, entity-on, plain-on, stops}
-use Rattle.xml_import.proofs.Runs.{run-read}
+use Rattle.xml_import.proofs.Runs.{run-on}
+use Rattle.xml_import.proofs.Taken.{amp-wrong, amp-entity, amp-plain}
 use Rattle.xml_import.proofs.text_at.Statement.{statement}
 use Rattle.xml_import.proofs.text_at.Tie as tie
 
 abbrev Inv-loop : tie.InvT-loop
-Inv-loop xml at known i₀ size₀ i size = Reading xml at i size
+Inv-loop xml at i₀ size₀ i size = Reading xml at i size
 
 abbrev μ-loop : tie.MeasureT-loop
-μ-loop xml at known i₀ size₀ i size = length xml - i
+μ-loop xml at i₀ size₀ i size = length xml - i
 
 loop-holds : tie.Need-loop-holds Inv-loop μ-loop
-loop-holds c = start (c .before .pre .0)
+loop-holds c = start (c .before .pre)
 
-standing-requires : tie.Need-standing-requires Inv-loop μ-loop
-standing-requires c κs = c .before .loop .inv .goes .inside
+shared-slice-read-if1 : tie.Need-shared-slice-read-if1 Inv-loop μ-loop
+shared-slice-read-if1 c = search needs
 
-sub-size : tie.Need-sub-size Inv-loop μ-loop
-sub-size c = omega (arith, c .if1 .taken)
-
-add-size : tie.Need-add-size Inv-loop μ-loop
-add-size c = let v = run-read (c .before .before .before .before .before .args .known) (c .before .before .before .loop .inv) (c .before .before .before .before .before .pre .1) (c .before .standing .ensures .0) (c .before .standing .ensures .1) in omega (arith, v .bound, c .before .standing .ensures .0 .inside)
-
-loop-less : tie.Need-loop-less Inv-loop μ-loop
-loop-less c = omega (arith, c .if1 .taken, c .before .standing .ensures .0 .inside)
-
-loop-again : tie.Need-loop-again Inv-loop μ-loop
-loop-again c = run-read (c .before .before .before .before .before .args .known) (c .before .before .before .loop .inv) (c .before .before .before .before .before .pre .1) (c .before .standing .ensures .0) (c .before .standing .ensures .1)
-
-end-at-requires : tie.Need-end-at-requires Inv-loop μ-loop
-end-at-requires c κs = search needs
-
-add-t15 : tie.Need-add-t15 Inv-loop μ-loop
-add-t15 c = omega (arith, end-inside (c .before .before .before .before .before .loop .inv) (c .before .end-at .ensures))
-
-returns : tie.Need-returns Inv-loop μ-loop
-returns c = ends (c .before .before .before .before .before .loop .inv) (c .before .end-at .ensures) (c .if2 .taken)
-
-character-at-requires : tie.Need-character-at-requires Inv-loop μ-loop
-character-at-requires c κs = search needs
+entity-at-requires : tie.Need-entity-at-requires Inv-loop μ-loop
+entity-at-requires c κs = ((c .before .before .loop-test) .taken, (c .if1) .taken)
 
 enum-known-place : tie.Need-enum-known-place Inv-loop μ-loop
 enum-known-place c = search needs
 
-add-larger : tie.Need-add-larger Inv-loop μ-loop
-add-larger c = omega (arith, end-inside (c .before .before .before .before .before .before .before .before .before .loop .inv) (c .before .before .before .before .before .end-at .ensures))
-
-larger-requires : tie.Need-larger-requires Inv-loop μ-loop
-larger-requires c κs = search needs
-
-returns-2 : tie.Need-returns-2 Inv-loop μ-loop
-returns-2 c = wrong (c .before .before .before .before .before .before .before .before .before .before .loop .inv) (c .before .before .before .before .before .before .end-at .ensures) (c .before .before .before .before .before .if2 .left) (c .before .before .before .before .character-at .ensures) (c .before .before .place .given .1) (c .larger .ensures)
+returns : tie.Need-returns Inv-loop μ-loop
+returns c = amp-wrong ((c .before .before .before .before .before .before .before .loop) .inv) ((c .before .before .before .before .before .before .loop-test) .taken) ((c .before .before .before .before .if1) .taken) ((c .before .before .before .entity-at) .ensures) ((c .before .place) .given .1)
 
 enum-known-next : tie.Need-enum-known-next Inv-loop μ-loop
 enum-known-next c = search needs
 
-add-size-2 : tie.Need-add-size-2 Inv-loop μ-loop
-add-size-2 c = let v = entity-on (c .before .before .before .before .before .before .before .before .before .loop .inv) (c .before .before .before .before .before .end-at .ensures) (c .before .before .before .before .if2 .left) (c .before .before .before .character-at .ensures) (c .before .next .given .1) in omega (arith, v .0 .bound, v .2)
+add-size : tie.Need-add-size Inv-loop μ-loop
+add-size c = let v = amp-entity ((c .before .before .before .before .before .before .before .loop) .inv) ((c .before .before .before .before .before .before .loop-test) .taken) ((c .before .before .before .before .if1) .taken) ((c .before .before .before .entity-at) .ensures) ((c .before .next) .given .1) in omega (arith, v .0 .bound, v .2)
 
-loop-less-2 : tie.Need-loop-less-2 Inv-loop μ-loop
-loop-less-2 c = let v = entity-on (c .before .before .before .before .before .before .before .before .before .loop .inv) (c .before .before .before .before .before .end-at .ensures) (c .before .before .before .before .if2 .left) (c .before .before .before .character-at .ensures) (c .before .next .given .1) in omega (arith, v .1, v .2)
+loop-less : tie.Need-loop-less Inv-loop μ-loop
+loop-less c = let v = amp-entity ((c .before .before .before .before .before .before .before .loop) .inv) ((c .before .before .before .before .before .before .loop-test) .taken) ((c .before .before .before .before .if1) .taken) ((c .before .before .before .entity-at) .ensures) ((c .before .next) .given .1) in omega (arith, v .1, v .2)
 
-loop-again-2 : tie.Need-loop-again-2 Inv-loop μ-loop
-loop-again-2 c = (entity-on (c .before .before .before .before .before .before .before .before .before .loop .inv) (c .before .before .before .before .before .end-at .ensures) (c .before .before .before .before .if2 .left) (c .before .before .before .character-at .ensures) (c .before .next .given .1)) .0
+loop-again : tie.Need-loop-again Inv-loop μ-loop
+loop-again c = amp-entity ((c .before .before .before .before .before .before .before .loop) .inv) ((c .before .before .before .before .before .before .loop-test) .taken) ((c .before .before .before .before .if1) .taken) ((c .before .before .before .entity-at) .ensures) ((c .before .next) .given .1) .0
 
 enum-known-next-2 : tie.Need-enum-known-next-2 Inv-loop μ-loop
 enum-known-next-2 c = search needs
 
+sub-size : tie.Need-sub-size Inv-loop μ-loop
+sub-size c = let v = amp-plain ((c .before .before .before .before .before .before .before .loop) .inv) ((c .before .before .before .before .before .before .loop-test) .taken) ((c .before .before .before .before .if1) .taken) ((c .before .before .before .entity-at) .ensures) ((c .before .next2) .given .1) in omega (arith, v .1)
+
+add-size-2 : tie.Need-add-size-2 Inv-loop μ-loop
+add-size-2 c = let v = amp-plain ((c .before .before .before .before .before .before .before .loop) .inv) ((c .before .before .before .before .before .before .loop-test) .taken) ((c .before .before .before .before .if1) .taken) ((c .before .before .before .entity-at) .ensures) ((c .before .next2) .given .1) in omega (arith, v .0 .bound, v .2)
+
+loop-less-2 : tie.Need-loop-less-2 Inv-loop μ-loop
+loop-less-2 c = let v = amp-plain ((c .before .before .before .before .before .before .before .loop) .inv) ((c .before .before .before .before .before .before .loop-test) .taken) ((c .before .before .before .before .if1) .taken) ((c .before .before .before .entity-at) .ensures) ((c .before .next2) .given .1) in omega (arith, v .1, v .2)
+
+loop-again-2 : tie.Need-loop-again-2 Inv-loop μ-loop
+loop-again-2 c = amp-plain ((c .before .before .before .before .before .before .before .loop) .inv) ((c .before .before .before .before .before .before .loop-test) .taken) ((c .before .before .before .before .if1) .taken) ((c .before .before .before .entity-at) .ensures) ((c .before .next2) .given .1) .0
+
+standing-requires : tie.Need-standing-requires Inv-loop μ-loop
+standing-requires c κs = (c .before .before .loop-test) .taken
+
 sub-size-2 : tie.Need-sub-size-2 Inv-loop μ-loop
-sub-size-2 c = let v = plain-on (c .before .before .before .before .before .before .before .before .before .loop .inv) (c .before .before .before .before .before .end-at .ensures) (c .before .before .before .before .if2 .left) (c .before .before .before .character-at .ensures) (c .before .next2 .given .1) in omega (arith, v .1)
+sub-size-2 c = omega (arith, (c .if2) .taken)
 
 add-size-3 : tie.Need-add-size-3 Inv-loop μ-loop
-add-size-3 c = let v = plain-on (c .before .before .before .before .before .before .before .before .before .loop .inv) (c .before .before .before .before .before .end-at .ensures) (c .before .before .before .before .if2 .left) (c .before .before .before .character-at .ensures) (c .before .next2 .given .1) in omega (arith, v .0 .bound, v .2)
+add-size-3 c = let v = run-on ((c .before .before .before .before .before .loop) .inv) ((c .before .standing) .ensures) in omega (arith, v .bound, (c .before .standing) .ensures .inside)
 
 loop-less-3 : tie.Need-loop-less-3 Inv-loop μ-loop
-loop-less-3 c = let v = plain-on (c .before .before .before .before .before .before .before .before .before .loop .inv) (c .before .before .before .before .before .end-at .ensures) (c .before .before .before .before .if2 .left) (c .before .before .before .character-at .ensures) (c .before .next2 .given .1) in omega (arith, v .1, v .2)
+loop-less-3 c = omega (arith, (c .if2) .taken, (c .before .standing) .ensures .inside)
 
 loop-again-3 : tie.Need-loop-again-3 Inv-loop μ-loop
-loop-again-3 c = (plain-on (c .before .before .before .before .before .before .before .before .before .loop .inv) (c .before .before .before .before .before .end-at .ensures) (c .before .before .before .before .if2 .left) (c .before .before .before .character-at .ensures) (c .before .next2 .given .1)) .0
+loop-again-3 c = run-on ((c .before .before .before .before .before .loop) .inv) ((c .before .standing) .ensures)
+
+end-at-requires : tie.Need-end-at-requires Inv-loop μ-loop
+end-at-requires c κs = (c .before .before .before .before .loop-test) .taken
+
+add-t22 : tie.Need-add-t22 Inv-loop μ-loop
+add-t22 c = omega (arith, end-inside ((c .before .before .before .before .before .before .before .loop) .inv) ((c .before .end-at) .ensures))
+
+returns-2 : tie.Need-returns-2 Inv-loop μ-loop
+returns-2 c = ends ((c .before .before .before .before .before .before .before .loop) .inv) ((c .before .end-at) .ensures) ((c .if3) .taken)
+
+character-at-requires : tie.Need-character-at-requires Inv-loop μ-loop
+character-at-requires c κs = (c .before .before .before .before .before .before .loop-test) .taken
+
+enum-known-place-2 : tie.Need-enum-known-place-2 Inv-loop μ-loop
+enum-known-place-2 c = search needs
+
+add-larger : tie.Need-add-larger Inv-loop μ-loop
+add-larger c = omega (arith, end-inside ((c .before .before .before .before .before .before .before .before .before .before .before .loop) .inv) ((c .before .before .before .before .before .end-at) .ensures))
+
+larger-requires : tie.Need-larger-requires Inv-loop μ-loop
+larger-requires c κs = search needs
 
 returns-3 : tie.Need-returns-3 Inv-loop μ-loop
-returns-3 c = stops (c .before .loop .inv) (c .loop-test .left)
+returns-3 c = wrong ((c .before .before .before .before .before .before .before .before .before .before .before .before .loop) .inv) ((c .before .before .before .before .before .before .end-at) .ensures) ((c .before .before .before .before .before .if3) .left) ((c .before .before .before .before .character-at) .ensures) ((c .before .before .place2) .given .1) ((c .larger) .ensures)
+
+enum-known-next-3 : tie.Need-enum-known-next-3 Inv-loop μ-loop
+enum-known-next-3 c = search needs
+
+add-size-4 : tie.Need-add-size-4 Inv-loop μ-loop
+add-size-4 c = let v = entity-on ((c .before .before .before .before .before .before .before .before .before .before .before .loop) .inv) ((c .before .before .before .before .before .end-at) .ensures) ((c .before .before .before .before .if3) .left) ((c .before .before .before .character-at) .ensures) ((c .before .next3) .given .1) in omega (arith, v .0 .bound, v .2)
+
+loop-less-4 : tie.Need-loop-less-4 Inv-loop μ-loop
+loop-less-4 c = let v = entity-on ((c .before .before .before .before .before .before .before .before .before .before .before .loop) .inv) ((c .before .before .before .before .before .end-at) .ensures) ((c .before .before .before .before .if3) .left) ((c .before .before .before .character-at) .ensures) ((c .before .next3) .given .1) in omega (arith, v .1, v .2)
+
+loop-again-4 : tie.Need-loop-again-4 Inv-loop μ-loop
+loop-again-4 c = entity-on ((c .before .before .before .before .before .before .before .before .before .before .before .loop) .inv) ((c .before .before .before .before .before .end-at) .ensures) ((c .before .before .before .before .if3) .left) ((c .before .before .before .character-at) .ensures) ((c .before .next3) .given .1) .0
+
+enum-known-next-4 : tie.Need-enum-known-next-4 Inv-loop μ-loop
+enum-known-next-4 c = search needs
+
+sub-size-3 : tie.Need-sub-size-3 Inv-loop μ-loop
+sub-size-3 c = let v = plain-on ((c .before .before .before .before .before .before .before .before .before .before .before .loop) .inv) ((c .before .before .before .before .before .end-at) .ensures) ((c .before .before .before .before .if3) .left) ((c .before .before .before .character-at) .ensures) ((c .before .next4) .given .1) in omega (arith, v .1)
+
+add-size-5 : tie.Need-add-size-5 Inv-loop μ-loop
+add-size-5 c = let v = plain-on ((c .before .before .before .before .before .before .before .before .before .before .before .loop) .inv) ((c .before .before .before .before .before .end-at) .ensures) ((c .before .before .before .before .if3) .left) ((c .before .before .before .character-at) .ensures) ((c .before .next4) .given .1) in omega (arith, v .0 .bound, v .2)
+
+loop-less-5 : tie.Need-loop-less-5 Inv-loop μ-loop
+loop-less-5 c = let v = plain-on ((c .before .before .before .before .before .before .before .before .before .before .before .loop) .inv) ((c .before .before .before .before .before .end-at) .ensures) ((c .before .before .before .before .if3) .left) ((c .before .before .before .character-at) .ensures) ((c .before .next4) .given .1) in omega (arith, v .1, v .2)
+
+loop-again-5 : tie.Need-loop-again-5 Inv-loop μ-loop
+loop-again-5 c = plain-on ((c .before .before .before .before .before .before .before .before .before .before .before .loop) .inv) ((c .before .before .before .before .before .end-at) .ensures) ((c .before .before .before .before .if3) .left) ((c .before .before .before .character-at) .ensures) ((c .before .next4) .given .1) .0
+
+returns-4 : tie.Need-returns-4 Inv-loop μ-loop
+returns-4 c = stops ((c .before .loop) .inv) ((c .loop-test) .left)
 
 pub text-at-spec : {M : Type 1} → statement M
 text-at-spec =
@@ -93,26 +133,39 @@ text-at-spec =
     Inv-loop
     μ-loop
     loop-holds
-    standing-requires
-    sub-size
+    shared-slice-read-if1
+    entity-at-requires
+    enum-known-place
+    returns
+    enum-known-next
     add-size
     loop-less
     loop-again
-    end-at-requires
-    add-t15
-    returns
-    character-at-requires
-    enum-known-place
-    add-larger
-    larger-requires
-    returns-2
-    enum-known-next
+    enum-known-next-2
+    sub-size
     add-size-2
     loop-less-2
     loop-again-2
-    enum-known-next-2
+    standing-requires
     sub-size-2
     add-size-3
     loop-less-3
     loop-again-3
-    returns-3)
+    end-at-requires
+    add-t22
+    returns-2
+    character-at-requires
+    enum-known-place-2
+    add-larger
+    larger-requires
+    returns-3
+    enum-known-next-3
+    add-size-4
+    loop-less-4
+    loop-again-4
+    enum-known-next-4
+    sub-size-3
+    add-size-5
+    loop-less-5
+    loop-again-5
+    returns-4)

@@ -3,9 +3,9 @@ use Prim.Native.Nat.{_-_}
 use native.Mathlib.Omega.{arith}
 use lib.ListN.{length}
 use Rattle.xml_import.specs.Places.{Passed}
-use Rattle.xml_import.proofs.Marks.{passed-more, one-unmarked}
-use Rattle.xml_import.proofs.standing.unmarked_run.Statement.{statement}
-use Rattle.xml_import.proofs.standing.unmarked_run.Tie as tie
+use Rattle.xml_import.proofs.Marks.{passed-more, one-unmarked, stops-at}
+use Rattle.xml_import.proofs.known.unmarked_far.Statement.{statement}
+use Rattle.xml_import.proofs.known.unmarked_far.Tie as tie
 
 abbrev Inv-loop : tie.InvT-loop
 Inv-loop xml from i₀ i = Passed xml from i
@@ -26,7 +26,7 @@ marked-requires : tie.Need-marked-requires Inv-loop μ-loop
 marked-requires c κs = search needs
 
 returns : tie.Need-returns Inv-loop μ-loop
-returns c = c .before .before .before .before .loop .inv
+returns c = stops-at (c .before .before .before .before .loop .inv) (λ h. c .before .marked .ensures .1 (c .if1 .taken))
 
 add-i : tie.Need-add-i Inv-loop μ-loop
 add-i c = search needs
@@ -35,13 +35,13 @@ loop-less : tie.Need-loop-less Inv-loop μ-loop
 loop-less c = search needs
 
 loop-again : tie.Need-loop-again Inv-loop μ-loop
-loop-again c = passed-more (c .before .before .before .before .loop .inv) 1 (omega arith) (one-unmarked (c .before .before .before .before .before .before .before .args .xml .now) (c .before .before .before .before .loop .i) (c .before .marked .ensures (c .if1 .left)))
+loop-again c = passed-more (c .before .before .before .before .loop .inv) 1 (omega arith) (one-unmarked (c .before .before .before .before .before .before .before .args .xml .now) (c .before .before .before .before .loop .i) (c .before .marked .ensures .0 (c .if1 .left)))
 
 returns-2 : tie.Need-returns-2 Inv-loop μ-loop
-returns-2 c = c .before .loop .inv
+returns-2 c = stops-at (c .before .loop .inv) (λ h. absurd (omega (arith, c .loop-test .left)))
 
-pub unmarked-run-spec : {M : Type 1} → statement M
-unmarked-run-spec =
+pub unmarked-far-spec : {M : Type 1} → statement M
+unmarked-far-spec =
     tie.close
     (tie.spec
     Inv-loop

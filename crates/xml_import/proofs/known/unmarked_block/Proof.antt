@@ -5,8 +5,8 @@ use Prim.Native.Nat.{_-_, _≤_}
 use native.Mathlib.Omega.{arith}
 use Rattle.xml_import.specs.Places.{AllUnmarked}
 use Rattle.xml_import.proofs.Marks.{block-step}
-use Rattle.xml_import.proofs.standing.unmarked_block.Statement.{statement}
-use Rattle.xml_import.proofs.standing.unmarked_block.Tie as tie
+use Rattle.xml_import.proofs.known.unmarked_block.Statement.{statement}
+use Rattle.xml_import.proofs.known.unmarked_block.Tie as tie
 
 abbrev Inv-loop : tie.InvT-loop
 Inv-loop xml i n j₀ other₀ j other = (j ≤ n) × (other ≡ false → AllUnmarked xml i j)
@@ -36,7 +36,7 @@ loop-again : tie.Need-loop-again Inv-loop μ-loop
 loop-again c =
     let a = c .before .before .before .before .before .args in
     let m = c .before .before .before .loop in
-    (search needs, block-step (a .xml .now) (a .i) (m .j) (m .other) _ (m .inv .1) (c .marked .ensures))
+    (search needs, block-step (a .xml .now) (a .i) (m .j) (m .other) _ (m .inv .1) (c .marked .ensures .0))
 
 returns : tie.Need-returns Inv-loop μ-loop
 returns c = λ e. absurd (false≢true e)

@@ -4,8 +4,8 @@ use native.Mathlib.Omega.{arith}
 use lib.ListN.{length}
 use Rattle.xml_import.specs.Places.{Passed}
 use Rattle.xml_import.proofs.Marks.{passed-none, passed-more}
-use Rattle.xml_import.proofs.standing.unmarked_blocks.Statement.{statement}
-use Rattle.xml_import.proofs.standing.unmarked_blocks.Tie as tie
+use Rattle.xml_import.proofs.known.unmarked_blocks.Statement.{statement}
+use Rattle.xml_import.proofs.known.unmarked_blocks.Tie as tie
 
 abbrev Inv-loop : tie.InvT-loop
 Inv-loop xml from i₀ i = Passed xml from i
