@@ -727,8 +727,9 @@ struct Served {
 
 impl Served {
     fn start(folder: &Path, words: &[&str]) -> Served {
-        let mut child = Command::new(COMMAND)
-            .args(["preview"])
+        // Where the tests run in the background, SIGINT may be ignored: the command starts as at a terminal.
+        let mut child = Command::new("env")
+            .args(["--default-signal=INT", COMMAND, "preview"])
             .args(words)
             .arg("--serve")
             .current_dir(folder)
@@ -849,7 +850,15 @@ fn a_page_is_served_to_this_machine_and_made_anew() {
         .args(["-INT", &served.child.id().to_string()])
         .status();
     assert!(interrupted.expect("kill runs").success());
-    assert_eq!(served.child.wait().expect("it ends").code(), Some(0));
+    let start = Instant::now();
+    let ended = loop {
+        if let Some(status) = served.child.try_wait().expect("its status") {
+            break status;
+        }
+        assert!(start.elapsed() < Duration::from_secs(20), "it goes on");
+        std::thread::sleep(Duration::from_millis(20));
+    };
+    assert_eq!(ended.code(), Some(0));
     assert_eq!(names(&top), Vec::<String>::new());
 }
 

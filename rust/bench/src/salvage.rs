@@ -1,6 +1,7 @@
 //! Salvage of damaged packs.
 
 use crate::inputs::Input;
+use crate::marks;
 use crate::tasks::Lent;
 use corpus::packs::marked::MARKED;
 use corpus::packs::{stored, write_pack, Stored};
@@ -51,7 +52,7 @@ fn repeated(bytes: &[u8], length: usize) -> Vec<u8> {
     bytes.iter().copied().cycle().take(length).collect()
 }
 
-/// Each kind of damage at each length.
+/// Each kind of damage at each length, and an undamaged pack of files of 64 KB.
 pub fn inputs() -> Vec<Input> {
     let of_length = |(name, make): (&str, Make), length: usize| Input {
         group: "packs",
@@ -63,7 +64,7 @@ pub fn inputs() -> Vec<Input> {
     };
     let damages = DAMAGES.into_iter();
     let inputs = damages.flat_map(|damage| LENGTHS.map(|length| of_length(damage, length)));
-    inputs.collect()
+    inputs.chain(marks::marked()).collect()
 }
 
 /// A pack with a list for all stretches; all bytes are touched before.

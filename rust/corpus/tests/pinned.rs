@@ -1,4 +1,4 @@
-//! Every entry of the tables of 000 and 01 and every limit of 01 has a sample in the folder; `meshes.rs` has Req 05's.
+//! Every entry of the tables of 000 and 01 and every limit of 01 has a sample; `meshes.rs` has Req 05's.
 //!
 //! The tables here are typed from the documents; the files are found by what stands in them.
 //! The limit of 16,777,216 bytes has no file; `second/tests/examples.rs` and `fuzz::limits` make those.
