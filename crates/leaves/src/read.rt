@@ -8,9 +8,20 @@ ghost use Rattle.answers.specs.Told.{told};
 ghost use Rattle.layout.specs.Slot.{level};
 ghost use Rattle.numbers.specs.Padded.{padOf, beside, toldPadded};
 ghost use Rattle.reading.specs.Seven.{sevenAt};
+ghost use Rattle.reading.specs.Utf8.{utf8s};
 ghost use Rattle.reading.specs.Fixed.{sized};
 ghost use Rattle.reading.specs.Heads.{textAt, leafAt};
 ghost use Rattle.leaves.specs.Text.{ownSize, textBytes};
+
+// Whether bytes are UTF-8: a short text has no blocks to look for.
+fn is_text(s: &[u8]) -> bool
+    ensures { λ r. ⌜ r ≡ utf8s (now (s .entry)) ⌝ }
+{
+    if s.len() < 64 {
+        return text::is_short_utf8(s);
+    }
+    text::is_utf8(s)
+}
 
 // A text's bytes from `start` on, which its count at `at` says; the count has this padding.
 fn text_bytes(file: &[u8], at: usize, start: usize, count: u64, padding: u32) -> Padded
@@ -22,7 +33,7 @@ fn text_bytes(file: &[u8], at: usize, start: usize, count: u64, padding: u32) ->
         return Padded::Refused(1, at);
     }
     let end = start + n;
-    if text::is_utf8(&file[start..end]) {
+    if is_text(&file[start..end]) {
         return Padded::Read(count, end, padding);
     }
     Padded::Refused(15, at)

@@ -4,8 +4,13 @@ use ids::Grid;
 use ids::RowNumber;
 use ids::WIDTH;
 ghost use mathlib.Core.Path.{_≡_};
-ghost use Prim.Native.Nat.{_+_, _-_};
+ghost use mathlib.Core.Bool.{cond};
+ghost use Prim.Native.Nat.{_+_, _-_, _*_, _≤_, _<_};
+ghost use lib.ListN.{length};
+ghost use Rattle.layout.specs.Rows.{width};
+ghost use Rattle.ids.specs.Position.{cellOf};
 ghost use Rattle.table.specs.Written.{putRow};
+ghost use Rattle.table.specs.Runs.{putRun, hasRows};
 ghost use Rattle.table.specs.Cleared.{columnsCleared, clearedBehind};
 ghost use Rattle.table.specs.Leaf.{rowOf, valueRow, leafAnswer, leafWords};
 ghost use Rattle.places.specs.Word.{inWord};
@@ -45,20 +50,18 @@ pub enum Walk {
     Refused { number: u32, place: usize },
 }
 
-// Puts a row into its cells, if the words have them.
-fn put_cells(words: &mut [u32], grid: Grid, row: RowNumber, r: RowWords)
+// Puts a row into its cells.
+fn store_cells(words: &mut [u32], grid: Grid, row: RowNumber, r: RowWords)
+    requires { ⌜ cellOf grid (row .0) 6 < length (now words) ⌝ }
     ensures { λ _. ⌜ now (words .exit) ≡ putRow grid (now (words .entry)) (row .0) (rowOf r) ⌝ }
 {
-    let seventh = row.cell(grid, 6);
-    if words.len() <= seventh {
-        return;
-    }
     let first = row.cell(grid, 0);
     let second = row.cell(grid, 1);
     let third = row.cell(grid, 2);
     let fourth = row.cell(grid, 3);
     let fifth = row.cell(grid, 4);
     let sixth = row.cell(grid, 5);
+    let seventh = row.cell(grid, 6);
     words[first] = r.kind;
     words[second] = r.first;
     words[third] = r.bytes;
@@ -66,6 +69,15 @@ fn put_cells(words: &mut [u32], grid: Grid, row: RowNumber, r: RowWords)
     words[fifth] = r.parent;
     words[sixth] = r.detail;
     words[seventh] = r.branch;
+}
+
+// Puts a row into its cells, if the words have them.
+fn put_cells(words: &mut [u32], grid: Grid, row: RowNumber, r: RowWords)
+    ensures { λ _. ⌜ now (words .exit) ≡ putRow grid (now (words .entry)) (row .0) (rowOf r) ⌝ }
+{
+    if row.cell(grid, 6) < words.len() {
+        store_cells(words, grid, row, r);
+    }
 }
 
 // Puts a row into the words, if they have it. In a table by rows the cells are neighbours, which the compiler sees where the shape is known.
@@ -157,6 +169,76 @@ pub fn row_words(h: Head, kind: u32, children: u32, branch: u32, next: usize) ->
         detail: h.detail,
         branch,
     }
+}
+
+// Puts the rows of n values of one kind and size that follow each other, where the table has them.
+fn store_run(
+    words: &mut [u32],
+    grid: Grid,
+    used: u32,
+    n: u32,
+    kind: u32,
+    first: usize,
+    size: usize,
+    parent: u32,
+)
+    requires { ⌜ (used + n ≤ grid .room) × (width * grid .room ≤ length (now words)) ⌝ }
+    ensures { λ _. ⌜ now (words .exit) ≡ putRun grid used kind first size parent (now (words .entry)) n ⌝ }
+{
+    let bytes = word(size);
+    let mut at = word(first);
+    let mut i = 0;
+    while i < n {
+        let r = RowWords {
+            kind,
+            first: at,
+            bytes,
+            children: 0,
+            parent,
+            detail: 0,
+            branch: 1,
+        };
+        let row = used + i;
+        store_cells(words, grid, RowNumber(row), r);
+        at = sum(at, bytes);
+        i += 1;
+    }
+}
+
+// Puts the rows of n values of one kind and size that follow each other, if the table has them; whether it has.
+pub fn put_run(
+    words: &mut [u32],
+    grid: Grid,
+    used: u32,
+    n: u32,
+    kind: u32,
+    first: usize,
+    size: usize,
+    parent: u32,
+) -> bool
+    ensures { λ r. ⌜ r ≡ hasRows grid (length (now (words .entry))) used n ⌝ }
+    ensures { λ r. ⌜ now (words .exit) ≡ cond r (putRun grid used kind first size parent (now (words .entry)) n) (now (words .entry)) ⌝ }
+{
+    if grid.room < used {
+        return false;
+    }
+    if grid.room - used < n {
+        return false;
+    }
+    let all = WIDTH as usize * grid.room as usize;
+    if words.len() < all {
+        return false;
+    }
+    if grid.columns {
+        store_run(words, grid, used, n, kind, first, size, parent);
+        return true;
+    }
+    let by_rows = Grid {
+        room: grid.room,
+        columns: false,
+    };
+    store_run(words, by_rows, used, n, kind, first, size, parent);
+    true
 }
 
 // A value without children, once its bytes are read; `mark` is the kind that a reference wants, else 0.

@@ -12,3 +12,4 @@ pub mod Runs
 pub mod Taken
 pub mod Nearest
 pub mod Usual
+pub mod Wholes

@@ -31,9 +31,10 @@ use Rattle.xml_escape.specs.Wrote.{Wrote, wrote-copy}
 use Rattle.xml_import.specs.declared.Texted.{Texted}
 use Rattle.xml_import.specs.declared.Texted.the-variants as texted
 use Rattle.xml_import.specs.Places.{FailsAt, TakesAt, Known, TextAt, character, text}
-use Rattle.xml_import.specs.Puts.{taken, textIn, Ready, TextPut, stringBytes, StringPut, Fits, StringsPut}
+use Rattle.xml_import.specs.Puts.{taken, textIn, Ready, Whole, TextPut, stringBytes, StringPut, Fits, StringsPut}
 use Rattle.xml_import.proofs.Whole.{item, texts, short-last}
 use Rattle.xml_import.proofs.Writing.{text-joined}
+use Rattle.xml_import.proofs.Wholes.{whole-text}
 
 -- ---- A String
 
@@ -196,6 +197,10 @@ module _ {xml out₀ : List ℕ} {count : ℕ} {out : List ℕ} {i to k : ℕ} (
   pub record Turned (size next : ℕ) : Type 0 where
     pub ready : Ready xml (i + 6) size
     pub small : size < 2 ^ 32
+    pub after : i + 6 ≤ next
+    pub fits-word : size + 7 ≤ next - (i + 6)
+    pub inside-next : next ≤ length xml
+    pub whole-if : next - (i + 6) ≡ size + 7 → Whole xml (i + 6) size
     pub room : to + 1 + length (shortest size) + size ≤ length out
     pub turns : {out′ : List ℕ} {to′ : ℕ} → length out′ ≡ length out → StringPut xml (i + 6) to size out out′ to′ → Stringing xml out₀ count out′ next to′ (k + 1)
 
@@ -231,8 +236,13 @@ module _ {xml out₀ : List ℕ} {count : ℕ} {out : List ℕ} {i to k : ℕ} (
       let b = built-length (s .fits .ts) in
       let in-text : textIn xml (i + 6) ≡ n .t = ap taken (n .text-is) in
       let new-bytes : short (textTrees (s .put ++ n .t ∷ [])) ≡ short (textTrees (s .put)) ++ stringBytes (n .t) = short-snoc (s .put) (n .t) in
+      let is-ready : Ready xml (i + 6) size = record { inside = n .at-text; us = f .0; rest = n .more; takes-them = f .1; sized = sz ∙ ap length (f .2) } in
       record {
-        ready = record { inside = n .at-text; us = f .0; rest = n .more; takes-them = f .1; sized = sz ∙ ap length (f .2) };
+        ready = is-ready;
+        after = omega (arith, u .2 .1);
+        fits-word = u .3;
+        inside-next = u .2 .2;
+        whole-if = λ e. whole-text is-ready same-rest (omega (arith, u .2 .1)) (u .2 .2) e;
         small = omega (arith, s .fits .short-file);
         room = omega (arith, s .fits .room, s .same-size, s .place);
         turns = λ {out′} {to′} l p. record {

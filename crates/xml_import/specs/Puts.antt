@@ -1,8 +1,9 @@
 -- What is put into the output, and when. Assumes nothing.
 use mathlib.Core.Path.{_≡_}
+use mathlib.Core.Bool.{Bool, true}
 use mathlib.Core.List.{List, [], _∷_, _++_}
 use Prim.Native.Nat.{ℕ, _+_, _≤_}
-use lib.ListN.{length, drop}
+use lib.ListN.{length, take, drop}
 use Rattle.layout.specs.Number.{little}
 use Rattle.layout.specs.Text.{ascii}
 use Rattle.fill.specs.Fill.{copied}
@@ -47,6 +48,13 @@ pub record Ready (xml : List ℕ) (at size : ℕ) : Type 0 where
   pub rest : List ℕ
   pub takes-them : until character itemEnd (drop at xml) ≡ takes us rest
   pub sized : size ≡ length (joined us)
+
+-- the text stands in the XML as it is
+abbrev pub Whole : (xml : List ℕ) (at size : ℕ) → Type 0
+Whole xml at size = (at + size ≤ length xml) × (take size (drop at xml) ≡ textIn xml at)
+
+abbrev pub WholeIf : Bool → (xml : List ℕ) (at size : ℕ) → Type 0
+WholeIf plain xml at size = plain ≡ true → Whole xml at size
 
 unfoldable pub TextPut : (xml : List ℕ) (at to size : ℕ) → (entry exit : List ℕ) → Type 0
 TextPut xml at to size entry exit = (base done : List ℕ) → Wrote base done entry to → to + size ≤ length base → Wrote base (done ++ textIn xml at) exit (to + size)

@@ -13,7 +13,7 @@ ghost use Rattle.reading.specs.Output.{outputOf};
 ghost use Rattle.numbers.specs.Shortest.{shortest};
 ghost use Rattle.xml_reading.specs.Answers.{importOf};
 ghost use Rattle.xml_import.specs.Places.{Known, TextAt, Measures};
-ghost use Rattle.xml_import.specs.Puts.{frontPut, Ready, TextPut, StringPut, Fits, StringsPut, answerOf};
+ghost use Rattle.xml_import.specs.Puts.{frontPut, Ready, WholeIf, TextPut, StringPut, Fits, StringsPut, answerOf};
 
 // Where the text of an item fails, or how many bytes it has and where the item ends.
 pub enum Texted {
@@ -221,9 +221,21 @@ fn put_text(xml: &[u8], out: &mut [u8], at: usize, to: usize, size: usize)
     }
 }
 
+// The same, at once where the text stands as it is.
+fn put_taken(xml: &[u8], out: &mut [u8], at: usize, to: usize, size: usize, plain: bool)
+    requires { ⌜ Ready (now xml) at size × (to + size ≤ length (now out)) × WholeIf plain (now xml) at size ⌝ }
+    ensures { λ _. ⌜ TextPut (now (xml .entry)) at to size (now (out .entry)) (now (out .exit)) ⌝ }
+{
+    if plain {
+        fill::copy(out, to, xml, at, size);
+        return;
+    }
+    put_text(xml, out, at, to, size);
+}
+
 // The same as a String: its type id, its length and the text; answers where it ends.
-fn put_string(xml: &[u8], out: &mut [u8], at: usize, to: usize, size: usize) -> usize
-    requires { ⌜ Ready (now xml) at size × (size < 2 ^ 32) × (to + 1 + length (shortest size) + size ≤ length (now out)) ⌝ }
+fn put_string(xml: &[u8], out: &mut [u8], at: usize, to: usize, size: usize, plain: bool) -> usize
+    requires { ⌜ Ready (now xml) at size × (size < 2 ^ 32) × (to + 1 + length (shortest size) + size ≤ length (now out)) × WholeIf plain (now xml) at size ⌝ }
     ensures { λ r. ⌜ StringPut (now (xml .entry)) at to size (now (out .entry)) (now (out .exit)) r ⌝ }
 {
     let id = [2u8];
@@ -231,7 +243,7 @@ fn put_string(xml: &[u8], out: &mut [u8], at: usize, to: usize, size: usize) -> 
     let next = to + 1;
     numbers::shortest::write_shortest(out, next, size as u32);
     let start = next + length_size(size);
-    put_text(xml, out, at, start, size);
+    put_taken(xml, out, at, start, size, plain);
     start + size
 }
 
@@ -250,7 +262,8 @@ fn put_strings(xml: &[u8], out: &mut [u8], count: usize)
                 return;
             }
             Texted::Ends(size, next) => {
-                to = put_string(xml, out, at, to, size);
+                let plain = next - at == size + 7;
+                to = put_string(xml, out, at, to, size, plain);
                 i = next;
             }
         }

@@ -2,6 +2,7 @@
 use borrow.Author.Needs.{needs}
 use Prim.Native.Nat.{_-_}
 use native.Mathlib.Omega.{arith}
+use borrow.Author.Tests.{eqb-true}
 use Rattle.xml_import.proofs.Strings.{Stringing, start, next-item, known-next, no-failure, turn, ended}
 use Rattle.xml_import.proofs.put_strings.Statement.{statement}
 use Rattle.xml_import.proofs.put_strings.Tie as tie
@@ -33,8 +34,14 @@ returns c = absurd (no-failure (c .before .before .before .before .loop .inv) (c
 enum-known-size : tie.Need-enum-known-size Inv-loop μ-loop
 enum-known-size c = search needs
 
+sub-plain : tie.Need-sub-plain Inv-loop μ-loop
+sub-plain c = let v = turn ((c .before .before .before .before .before .loop) .inv) ((c .before .before .before .before .loop-test) .taken) ((c .before .before .before .known-at) .ensures) ((c .before .size) .given .1) in v .after
+
+add-plain : tie.Need-add-plain Inv-loop μ-loop
+add-plain c = let v = turn ((c .before .before .before .before .before .loop) .inv) ((c .before .before .before .before .loop-test) .taken) ((c .before .before .before .known-at) .ensures) ((c .before .size) .given .1) in omega (arith, v .fits-word, v .inside-next)
+
 put-string-requires : tie.Need-put-string-requires Inv-loop μ-loop
-put-string-requires c κs = let v = turn (c .before .before .before .before .before .before .loop .inv) (c .before .before .before .before .before .loop-test .taken) (c .before .before .before .before .known-at .ensures) (c .before .before .size .given .1) in (v .ready, v .small, v .room)
+put-string-requires c κs = let v = turn (c .before .before .before .before .before .before .loop .inv) (c .before .before .before .before .before .loop-test .taken) (c .before .before .before .before .known-at .ensures) (c .before .before .size .given .1) in (v .ready, v .small, v .room, λ e. v .whole-if (eqb-true _ _ e))
 
 add-k : tie.Need-add-k Inv-loop μ-loop
 add-k c = search needs
@@ -64,6 +71,8 @@ put-strings-spec =
     same-length
     returns
     enum-known-size
+    sub-plain
+    add-plain
     put-string-requires
     add-k
     loop-less

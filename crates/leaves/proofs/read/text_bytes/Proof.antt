@@ -31,32 +31,32 @@ add-end : tie.Need-add-end
 add-end c =
     omega (arith, inside c)
 
-sub-is-utf8 : tie.Need-sub-is-utf8
-sub-is-utf8 c = search needs
+sub-is-text : tie.Need-sub-is-text
+sub-is-text c = search needs
 
-part-is-utf8-start : tie.Need-part-is-utf8-start
-part-is-utf8-start c = search needs
+part-is-text-start : tie.Need-part-is-text-start
+part-is-text-start c = search needs
 
-part-is-utf8-end : tie.Need-part-is-utf8-end
-part-is-utf8-end c =
+part-is-text-end : tie.Need-part-is-text-end
+part-is-text-end c =
     omega (arith, inside c)
 
-is-utf8-requires : tie.Need-is-utf8-requires
-is-utf8-requires c κs = search needs
+is-text-requires : tie.Need-is-text-requires
+is-text-requires c κs = search needs
 
 returns-2 : tie.Need-returns-2
 returns-2 c =
     let at = c .before .before .before in
     let a = at .before .before .before .args in
     let e : a .start + a .count - a .start ≡ a .count = omega arith in
-    text-there (a .file .now) (a .at) (a .count) (a .start) (a .padding) (there at) (sym (rw e at (c .before .is-utf8 .ensures)) ∙ c .if2 .taken)
+    text-there (a .file .now) (a .at) (a .count) (a .start) (a .padding) (there at) (sym (rw e at (c .before .is-text .ensures)) ∙ c .if2 .taken)
 
 returns-3 : tie.Need-returns-3
 returns-3 c =
     let at = c .before .before .before in
     let a = at .before .before .before .args in
     let e : a .start + a .count - a .start ≡ a .count = omega arith in
-    text-broken (a .file .now) (a .at) (a .count) (a .start) (a .padding) (there at) (sym (rw e at (c .before .is-utf8 .ensures)) ∙ c .if2 .left)
+    text-broken (a .file .now) (a .at) (a .count) (a .start) (a .padding) (there at) (sym (rw e at (c .before .is-text .ensures)) ∙ c .if2 .left)
 
 pub text-bytes-spec : {M : Type 1} → statement M
 text-bytes-spec =
@@ -65,9 +65,9 @@ text-bytes-spec =
     has-bytes-requires
     returns
     add-end
-    sub-is-utf8
-    part-is-utf8-start
-    part-is-utf8-end
-    is-utf8-requires
+    sub-is-text
+    part-is-text-start
+    part-is-text-end
+    is-text-requires
     returns-2
     returns-3)

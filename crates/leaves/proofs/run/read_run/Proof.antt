@@ -1,90 +1,60 @@
-use mathlib.Core.Path.{_≡_, refl, sym, _∙_}
-use Prim.Native.Nat.{_-_}
-use native.Mathlib.Omega.{arith}
 use borrow.Author.Needs.{needs}
-use lib.ListN.{length}
-use Rattle.leaves.specs.Run.{runSlots, runFrom, runOf, run-turn, run-end}
 use Rattle.leaves.proofs.run.read_run.Statement.{statement}
 use Rattle.leaves.proofs.run.read_run.Tie as tie
 
-abbrev Inv-loop : tie.InvT-loop
-Inv-loop file words₀ grid shared run at used depth parent n next₀ row₀ padding₀ i₀ words next row padding i =
-    (n ≡ length (runSlots run))
-    × (length words ≡ length words₀)
-    × (runFrom grid file shared run depth parent (n - i) i next row padding words ≡ runOf grid file shared run depth parent at used words₀)
+enum-known-run : tie.Need-enum-known-run
+enum-known-run c = search needs
 
-abbrev μ-loop : tie.MeasureT-loop
-μ-loop file words₀ grid shared run at used depth parent n next₀ row₀ padding₀ i₀ words next row padding i = n - i
+read-one-requires : tie.Need-read-one-requires
+read-one-requires c κs = search needs
 
-turns-requires : tie.Need-turns-requires Inv-loop μ-loop
-turns-requires c κs = search needs
-
-loop-holds : tie.Need-loop-holds Inv-loop μ-loop
-loop-holds c =
-    let z : c .turns .result - 0 ≡ length (runSlots (c .before .before .before .args .run)) = omega (arith, c .turns .ensures) in
-    (c .turns .ensures, refl, rw z)
-
-turn-requires : tie.Need-turn-requires Inv-loop μ-loop
-turn-requires c κs = omega (arith, c .before .loop .inv .0, c .loop-test .taken)
-
-read-plain-requires : tie.Need-read-plain-requires Inv-loop μ-loop
-read-plain-requires c κs = search needs
-
-enum-known-reached : tie.Need-enum-known-reached Inv-loop μ-loop
-enum-known-reached c = search needs
-
-enum-known-number : tie.Need-enum-known-number Inv-loop μ-loop
-enum-known-number c = search needs
-
-sum-requires : tie.Need-sum-requires Inv-loop μ-loop
-sum-requires c κs = search needs
-
-same-length : tie.Need-same-length Inv-loop μ-loop
+same-length : tie.Need-same-length
 same-length c = search needs
 
-returns : tie.Need-returns Inv-loop μ-loop
-returns c =
-    let a = c .before .before .before .before .before .before .before .before .before .before .before .before .before .args in
-    let e = run-turn (a .grid) (a .file .now) (a .shared) (a .run) (a .depth) (a .parent) _ _ _ _ _ _ _ _ _ (c .before .before .before .before .before .before .before .before .loop-test .taken) (c .before .before .before .before .before .before .before .turn .ensures) (sym (c .before .number .given .1) ∙ c .before .before .before .before .before .read-plain .ensures .0) (c .before .before .before .before .before .read-plain .ensures .1) in
-    rw (sym (c .before .before .before .before .before .before .before .before .before .loop .inv .2) ∙ e) (refl, refl)
+returns : tie.Need-returns
+returns c = rw (c .before .before .before .before .before .before .run .given .1, c .before .before .before .before .if1 .taken) (c .before .before .read-one .ensures)
 
-add-i : tie.Need-add-i Inv-loop μ-loop
-add-i c = search needs
+read-same-requires : tie.Need-read-same-requires
+read-same-requires c κs = search needs
 
-loop-less : tie.Need-loop-less Inv-loop μ-loop
-loop-less c = search needs
-
-loop-again : tie.Need-loop-again Inv-loop μ-loop
-loop-again c =
-    let a = c .before .before .before .before .before .before .before .before .before .before .before .before .before .before .args in
-    let e = run-turn (a .grid) (a .file .now) (a .shared) (a .run) (a .depth) (a .parent) _ _ _ _ _ _ _ _ _ (c .before .before .before .before .before .before .before .before .before .loop-test .taken) (c .before .before .before .before .before .before .before .before .turn .ensures) (sym (c .before .before .reached .given .1) ∙ c .before .before .before .before .before .before .read-plain .ensures .0) (c .before .before .before .before .before .before .read-plain .ensures .1) in
-    (c .before .before .before .before .before .before .before .before .before .before .loop .inv .0, search needs, rw (c .sum .ensures) (sym e ∙ c .before .before .before .before .before .before .before .before .before .before .loop .inv .2))
-
-same-length-2 : tie.Need-same-length-2 Inv-loop μ-loop
+same-length-2 : tie.Need-same-length-2
 same-length-2 c = search needs
 
-returns-2 : tie.Need-returns-2 Inv-loop μ-loop
-returns-2 c =
-    let a = c .before .before .before .before .before .args in
-    rw (sym (c .before .loop .inv .2) ∙ run-end (a .grid) (a .file .now) (a .shared) (a .run) (a .depth) (a .parent) _ _ _ _ _ _ (c .loop-test .left)) (refl, refl)
+returns-2 : tie.Need-returns-2
+returns-2 c = rw (c .before .before .before .before .before .before .before .run .given .1) (c .before .before .read-same .ensures)
+
+read-same-requires-2 : tie.Need-read-same-requires-2
+read-same-requires-2 c κs = search needs
+
+read-each-requires : tie.Need-read-each-requires
+read-each-requires c κs = search needs
+
+same-length-3 : tie.Need-same-length-3
+same-length-3 c = search needs
+
+returns-3 : tie.Need-returns-3
+returns-3 c = rw (c .before .before .before .before .before .before .before .run .given .1, c .before .before .before .before .if2 .left) (c .before .before .read-same2 .ensures)
+
+same-length-4 : tie.Need-same-length-4
+same-length-4 c = search needs
+
+returns-4 : tie.Need-returns-4
+returns-4 c = search needs
 
 pub read-run-spec : {M : Type 1} → statement M
 read-run-spec =
     tie.close
     (tie.spec
-    Inv-loop
-    μ-loop
-    turns-requires
-    loop-holds
-    turn-requires
-    read-plain-requires
-    enum-known-reached
-    sum-requires
-    enum-known-number
+    enum-known-run
+    read-one-requires
     same-length
     returns
-    add-i
-    loop-less
-    loop-again
+    read-same-requires
     same-length-2
-    returns-2)
+    returns-2
+    read-same-requires-2
+    read-each-requires
+    same-length-3
+    returns-3
+    same-length-4
+    returns-4)
