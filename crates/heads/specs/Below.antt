@@ -32,10 +32,10 @@ use Rattle.reading.specs.Seven.{sevenAt}
 use Rattle.reading.specs.Utf8.{utf8s, charAt}
 use Rattle.reading.specs.Fixed.{fixedAt}
 use Rattle.reading.specs.Heads.{whole, ownAt, fixedHeadAt, textAt}
-use Rattle.types.specs.Word.{enum-kind}
-use Rattle.types.specs.Code.{codeKind, codeSize, Lawful, Stands}
-use Rattle.types.specs.Place.{placeAfter}
-use Rattle.types.specs.Laws.{size-is, fixed-has-size, nullable-argument, array-argument, list-argument, dictionary-key, dictionary-value}
+use Rattle.targets.specs.Word.{enum-kind}
+use Rattle.targets.specs.Code.{codeKind, codeSize, Lawful, Stands}
+use Rattle.targets.specs.Place.{placeAfter}
+use Rattle.targets.specs.Laws.{size-is, fixed-has-size, nullable-argument, array-argument, list-argument, dictionary-key, dictionary-value}
 use Rattle.heads.specs.Opens.{Opens, Stopping, Leafy, of-fixed, of-enum, of-char, of-string}
 
 pub alone-refused : (file codes : List ℕ) (x : Answer Opening) {n p : ℕ} → refused n p ≡ mute x → Opens file codes x (Refused n p)

@@ -6,7 +6,7 @@ use Rattle.layout.specs.Slot as L
 use Rattle.layout.specs.Slot.{pairs}
 use Rattle.layout.specs.Target.{Target, dictionary}
 use Rattle.reading.specs.Heads.{headAt}
-use Rattle.types.specs.Code.{Stands}
+use Rattle.targets.specs.Code.{Stands}
 use Rattle.heads.specs.declared.slot.Slot.{Slot}
 use Rattle.heads.specs.declared.nest.Below.{Below}
 use Rattle.heads.specs.declared.open.Opened.{Opened}

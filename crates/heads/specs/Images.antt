@@ -30,8 +30,8 @@ use Rattle.heads.specs.declared.open.Opened.{Opened}
 use Rattle.heads.specs.declared.open.Opened.the-variants.{Refused, Head}
 use Rattle.leaves.specs.Like.{alike-same}
 use Rattle.names.specs.Kind.{enumKind}
-use Rattle.types.specs.Word.{enum-kind}
-use Rattle.types.specs.Code.{codeKind}
+use Rattle.targets.specs.Word.{enum-kind}
+use Rattle.targets.specs.Code.{codeKind}
 use Rattle.heads.specs.Slots.{bytesOf, bytes-below, sized-small}
 use Rattle.heads.specs.Opens.{Opens, Leafy, of-fixed, of-enum, of-char, of-string, rangedAt, levelsAt, heightAt, widthAt}
 

@@ -19,7 +19,7 @@ use Rattle.reading.specs.Heads.{textAt}
 use Rattle.numbers.specs.Padded.{padOf, beside}
 use Rattle.places.specs.Places.{countPlaces}
 use Rattle.places.specs.Padding.{padding, with-count, without-count}
-use Rattle.types.specs.Place.{kindAt, placeAfter}
+use Rattle.targets.specs.Place.{kindAt, placeAfter}
 use Rattle.leaves.specs.Text.{ownSize}
 use Rattle.heads.specs.declared.slot.Slot.{Slot}
 use Rattle.heads.specs.declared.slot.Slot.the-variants.{Simple, Raw, Object}

@@ -14,10 +14,10 @@ use Rattle.layout.specs.EnumList.{EnumSize}
 use Rattle.layout.specs.Slot.{raw, object, slotOf, rawOrObject}
 use Rattle.layout.specs.Slot as L
 use Rattle.names.specs.Kind.{enumKind}
-use Rattle.types.specs.Word.{fixed-small, enum-kind}
-use Rattle.types.specs.Code.{Stands, Lawful as LawfulTarget, codeKind}
-use Rattle.types.specs.Place.{kindAt}
-use Rattle.types.specs.Laws.{kind-is, kind-of-code, fixed-has-size}
+use Rattle.targets.specs.Word.{fixed-small, enum-kind}
+use Rattle.targets.specs.Code.{Stands, Lawful as LawfulTarget, codeKind}
+use Rattle.targets.specs.Place.{kindAt}
+use Rattle.targets.specs.Laws.{kind-is, kind-of-code, fixed-has-size}
 use Rattle.leaves.specs.declared.plain.Plain.{Plain}
 use Rattle.leaves.specs.declared.plain.Plain.the-variants.{Fixed, Enum, Char}
 use Rattle.leaves.specs.Plain.{plainSlot, Lawful}

@@ -13,7 +13,7 @@ use Rattle.numbers.specs.Padded.{padOf, beside}
 use Rattle.reading.specs.Utf8.{charAt}
 use Rattle.reading.specs.Fixed.{fixedAt, sized}
 use Rattle.reading.specs.Heads.{textAt}
-use Rattle.types.specs.Place.{kindAt, placeAfter}
+use Rattle.targets.specs.Place.{kindAt, placeAfter}
 use Rattle.leaves.specs.declared.run.Run.the-variants.{Same, Turns, Levels}
 use Rattle.leaves.specs.Text.{ownSize}
 use Rattle.heads.specs.declared.slot.Slot.{Slot}

@@ -11,7 +11,7 @@ ghost use Prim.Native.Nat.{ℕ, _≤_, max};
 ghost use Rattle.answers.specs.Told.{told};
 ghost use Rattle.numbers.specs.Padded.{beside, toldPadded};
 ghost use Rattle.layout.specs.Target.{Target, nullable, list, texture2D};
-ghost use Rattle.types.specs.Code.{codeKind};
+ghost use Rattle.targets.specs.Code.{codeKind};
 ghost use Rattle.layout.specs.Image.{digits};
 ghost use Rattle.reading.specs.Answer.{Answer};
 ghost use Rattle.reading.specs.Little.{littleAt};
@@ -218,14 +218,14 @@ pub fn open(file: &[u8], codes: &[u32], t: usize, at: usize) -> Opened
     if codes.len() <= t {
         return Opened::Refused(13, at);
     }
-    let kind = types::kind_at(codes, t);
+    let kind = targets::kind_at(codes, t);
     let first = t + 1;
     match kind {
         14 => Opened::Refused(13, at),
         16 => nullable_head(file, codes, first, at),
         17 => list_head(file, codes, first, at),
         18 => list_head(file, codes, first, at),
-        19 => dictionary_head(file, codes, first, types::after(codes, first), at),
+        19 => dictionary_head(file, codes, first, targets::after(codes, first), at),
         31 => Opened::Refused(13, at),
         32 => image_head(file, at),
         33 => Opened::Head(at, Below::Nested(Nest::Font)),

@@ -1,7 +1,7 @@
 // How a value stands below another: without need of the reader list, raw, or as an object; types are places in an array of codes.
 use leaves::plain::Plain;
 ghost use mathlib.Core.Path.{_≡_};
-ghost use Rattle.types.specs.Place.{kindAt};
+ghost use Rattle.targets.specs.Place.{kindAt};
 ghost use Rattle.heads.specs.Slots.{bytesOf, rowKind, plainOf, rawOf, slotBy};
 
 pub enum Slot {
@@ -27,7 +27,7 @@ pub fn bytes_of(kind: u32) -> usize
 pub fn row_kind(codes: &[u32], a: usize) -> u32
     ensures { λ r. ⌜ r ≡ rowKind (kindAt (now (codes .entry)) a) ⌝ }
 {
-    let kind = types::kind_at(codes, a);
+    let kind = targets::kind_at(codes, a);
     if 60 <= kind {
         return 15;
     }
@@ -49,7 +49,7 @@ fn plain_of(kind: u32) -> Plain
 pub fn slot_of(codes: &[u32], a: usize) -> Slot
     ensures { λ r. ⌜ r ≡ slotBy (kindAt (now (codes .entry)) a) a ⌝ }
 {
-    let kind = types::kind_at(codes, a);
+    let kind = targets::kind_at(codes, a);
     if kind == 14 {
         return Slot::Object(a);
     }
@@ -69,7 +69,7 @@ pub fn slot_of(codes: &[u32], a: usize) -> Slot
 pub fn raw_of(codes: &[u32], a: usize) -> Slot
     ensures { λ r. ⌜ r ≡ rawOf (kindAt (now (codes .entry)) a) a ⌝ }
 {
-    let kind = types::kind_at(codes, a);
+    let kind = targets::kind_at(codes, a);
     if kind == 12 {
         return Slot::Simple(Plain::Char);
     }

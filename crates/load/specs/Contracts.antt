@@ -24,7 +24,7 @@ use Rattle.heads.specs.declared.nest.Below.{Below}
 use Rattle.heads.specs.declared.nest.Below.the-variants.{Nested}
 use Rattle.heads.specs.Slots.{SlotIs}
 use Rattle.heads.specs.Nests.{NestIs}
-use Rattle.types.specs.Code.{Stands}
+use Rattle.targets.specs.Code.{Stands}
 use Rattle.objects.specs.Start.{Has, positionAt}
 use Rattle.load.specs.declared.Loading.{Loading}
 use Rattle.load.specs.declared.walk.Stepped.{Stepped}

@@ -37,7 +37,7 @@ use Rattle.answers.specs.declared.Number.the-variants.{Read as Header-read, Ref
 use Rattle.header.specs.Header.{toHeader, headerOf}
 use Rattle.heads.specs.declared.nest.Nest.the-variants.{Each}
 use Rattle.heads.specs.declared.slot.Slot.the-variants.{Object}
-use Rattle.types.specs.Code.{preludeSize}
+use Rattle.targets.specs.Code.{preludeSize}
 use Rattle.heads.specs.Nests.{Prelude, prelude, NestIs, begins, object-at}
 use Rattle.resources.specs.declared.Settled.{Settled}
 use Rattle.resources.specs.declared.Settled.the-variants.{Fine, Wrong}

@@ -34,8 +34,8 @@ use Rattle.places.specs.Places.{numbered}
 use Rattle.places.specs.Padding.{no-rows, id-alone, pad-few}
 use Rattle.table.specs.Loop.{Got, refusing}
 use Rattle.leaves.specs.Plain.{headOf}
-use Rattle.types.specs.Code.{Lawful, Stands}
-use Rattle.types.specs.Place.{kindAt}
+use Rattle.targets.specs.Code.{Lawful, Stands}
+use Rattle.targets.specs.Place.{kindAt}
 use Rattle.heads.specs.declared.nest.Nest.{Nest}
 use Rattle.heads.specs.declared.nest.Below.{Below}
 use Rattle.heads.specs.declared.nest.Nest.the-variants.{Font}

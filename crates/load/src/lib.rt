@@ -18,7 +18,7 @@ ghost use lib.ListN.{length, take};
 ghost use Rattle.layout.specs.Rows.{width};
 ghost use Rattle.reading.specs.File.{tableOf};
 ghost use Rattle.names.specs.Entries.{enumsOf};
-ghost use Rattle.types.specs.Code.{preludeSize};
+ghost use Rattle.targets.specs.Code.{preludeSize};
 ghost use Rattle.readers.specs.Left.{codesFor, enough};
 ghost use Rattle.columns.specs.Columns.{columnsTableOf, tableIn};
 ghost use Rattle.leaves.specs.Plain.{Begin};

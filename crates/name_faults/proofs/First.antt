@@ -19,8 +19,8 @@ use Rattle.names.specs.Parse.{Read, broken, name, nameOf}
 use Rattle.names.specs.Laws.{read-is-text}
 use Rattle.names.specs.Fault.{Fault}
 use Rattle.names.specs.Faults.{faults}
-use Rattle.types.specs.Complaint.{readerFaults, leftmost}
-use Rattle.types.specs.Complaints.{unknown-placed}
+use Rattle.targets.specs.Complaint.{readerFaults, leftmost}
+use Rattle.targets.specs.Complaints.{unknown-placed}
 use Rattle.reading.specs.Answer.{Answer, refused, read, bind, check, within, within-true, several}
 use Rattle.reading.specs.Reads.{Small, Spans, some, some-reads}
 use Rattle.reading.specs.Seven.{sevenAt, seven-reads}

@@ -11,7 +11,7 @@ use Rattle.layout.specs.Kind.{lookup, targets, readers}
 use Rattle.layout.specs.EnumList.{EnumEntry}
 use Rattle.layout.specs.Named.{plain, typeOf, enumOf}
 use Rattle.names.specs.Heading.{longTail, long}
-use Rattle.types.specs.Complaint.{isKnown, fitting, unless, typeFaults, readerFaults}
+use Rattle.targets.specs.Complaint.{isKnown, fitting, unless, typeFaults, readerFaults}
 use Rattle.name_faults.specs.Names.{From}
 
 -- each place is behind the former, from a place up to another

@@ -10,7 +10,7 @@ use Rattle.layout.specs.File.{Entries}
 use Rattle.layout.specs.EnumList.{EnumEntry, writeEnums, Enums}
 use Rattle.layout.specs.Named.{unknown, readerOf, named}
 use Rattle.names.specs.Fault.{Fault}
-use Rattle.types.specs.Complaint.{readerFaults}
+use Rattle.targets.specs.Complaint.{readerFaults}
 use Rattle.load.specs.declared.Loading.{Loading}
 use Rattle.load.specs.declared.Loading.the-variants.{Refused}
 

@@ -23,8 +23,8 @@ use Rattle.reading.specs.Walk.{Taken, Outcome, point, sequence, rawAt, walk}
 use Rattle.reading.specs.Sound.{walks-sound}
 use Rattle.reading.specs.Bounds.{sequence-bounds}
 use Rattle.reading.specs.Drafts.{Draft, drafted, bare}
-use Rattle.types.specs.Code.{codeKind, Lawful}
-use Rattle.types.specs.Laws.{of-kind, kind-of-code, fixed-has-size}
+use Rattle.targets.specs.Code.{codeKind, Lawful}
+use Rattle.targets.specs.Laws.{of-kind, kind-of-code, fixed-has-size}
 use Rattle.fonts.specs.FontWords.{fontWords}
 use Rattle.fonts.specs.Bridge.{font-judged, other-kind}
 use Rattle.table.specs.declared.Head.{Head}

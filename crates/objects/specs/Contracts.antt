@@ -5,7 +5,7 @@ use lib.ListN.{length}
 use Rattle.layout.specs.Target.{Target}
 use Rattle.layout.specs.Slot as L
 use Rattle.layout.specs.Slot.{object}
-use Rattle.types.specs.Code.{Stands}
+use Rattle.targets.specs.Code.{Stands}
 use Rattle.readers.specs.declared.Readers.{Readers}
 use Rattle.readers.specs.Listed.{Listed}
 use Rattle.heads.specs.declared.slot.Slot.{Slot}

@@ -25,9 +25,9 @@ use Rattle.ids.specs.Position.{positionOf, typeId}
 use Rattle.ids.specs.declared.Position.the-variants.{Null as Null-position, At}
 use Rattle.reading.specs.Rules.{missing, found, invoked, reader, serves, serves-complete, serves-sound}
 use Rattle.reading.specs.Walk.{Outcome, done, sequence, rawAt, byReader, objectAt, valueAt, walk}
-use Rattle.types.specs.Code.{codeKind, Stands}
-use Rattle.types.specs.Place.{kindAt, fitsAt}
-use Rattle.types.specs.Laws.{kind-is, fits-then, then-fits, of-kind}
+use Rattle.targets.specs.Code.{codeKind, Stands}
+use Rattle.targets.specs.Place.{kindAt, fitsAt}
+use Rattle.targets.specs.Laws.{kind-is, fits-then, then-fits, of-kind}
 use Rattle.readers.specs.declared.Readers.{Readers}
 use Rattle.readers.specs.Listed.{Listed}
 use Rattle.leaves.specs.Plain.{plainSlot, Lawful}

@@ -9,7 +9,7 @@ use Rattle.ids.specs.Position.{positionOf, typeId}
 use Rattle.reading.specs.Answer.{Answer, refused, read}
 use Rattle.reading.specs.Seven.{sevenAt}
 use Rattle.numbers.specs.Padded.{padOf}
-use Rattle.types.specs.Place.{kindAt, fitsAt}
+use Rattle.targets.specs.Place.{kindAt, fitsAt}
 use Rattle.heads.specs.declared.slot.Slot.{Slot}
 use Rattle.heads.specs.declared.slot.Slot.the-variants.{Simple, Object}
 use Rattle.heads.specs.declared.slot.Slot.the-variants.{Raw as RawSlot}

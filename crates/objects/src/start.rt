@@ -64,14 +64,14 @@ fn reader_for(
     if 64 <= i {
         return Identified::Refused(13);
     }
-    let kind = types::kind_at(codes, target);
+    let kind = targets::kind_at(codes, target);
     if kind == 14 {
         return Identified::Refused(13);
     }
     if kind == 31 {
         return Identified::Refused(13);
     }
-    if types::fits(file, codes, declared, target) {
+    if targets::fits(file, codes, declared, target) {
         return Identified::Reader(target);
     }
     Identified::Refused(14)

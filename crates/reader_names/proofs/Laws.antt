@@ -14,9 +14,9 @@ use Rattle.names.specs.Contract.{refused, placed}
 use Rattle.names.specs.Entries.{entriesIn, entriesOf, lawfully, enumsOf}
 use Rattle.names.proofs.Laws.{cons-at, rest}
 use Rattle.io.specs.Counts.{Counts}
-use Rattle.types.specs.declared.Resolved.{Resolved}
-use Rattle.types.specs.Contract.{told, resolution, Resolves}
-use Rattle.types.specs.Meaning.{refused-is, refusal-bounds}
+use Rattle.targets.specs.declared.Resolved.{Resolved}
+use Rattle.targets.specs.Contract.{told, resolution, Resolves}
+use Rattle.targets.specs.Meaning.{refused-is, refusal-bounds}
 use Rattle.reader_names.specs.Lines.{number, refusal, inLine, lineSize, refusals, all, Judges}
 
 -- an empty name

@@ -8,7 +8,7 @@ use lib.ListN.{length, take, drop}
 use lib.Seq.{sets}
 use Rattle.names.specs.Parse.{span, nameOf}
 use Rattle.names.specs.Contract.{Answer, coded, refused, no-room}
-use Rattle.types.specs.Contract.{resolution}
+use Rattle.targets.specs.Contract.{resolution}
 
 -- an answer in one number: 0 for a known target; else 65536 for each of the refusal's number, and its place.
 -- 01: "count, name length or file too large, or empty name" is 9

@@ -4,7 +4,7 @@ ghost use Prim.Native.Nat.{_≤_};
 ghost use lib.ListN.{length};
 ghost use Rattle.io.specs.Counts.{Counts};
 ghost use Rattle.reader_names.specs.Lines.{refusal, lineSize, Judges};
-use types::Resolved;
+use targets::Resolved;
 
 // A name's refusal in one number: 65536 for each of its number, and its place; or 0.
 fn judge(name: &[u8]) -> u32
@@ -17,7 +17,7 @@ fn judge(name: &[u8]) -> u32
         return 65536 * 9;
     }
     let mut codes = [0u32; 187];
-    match types::resolve(name, 0, b"", &mut codes, 0) {
+    match targets::resolve(name, 0, b"", &mut codes, 0) {
         Resolved::Target(_) => 0,
         Resolved::Broken(number, place) => 65536 * number + place as u32,
         Resolved::Unknown(place) => 65536 * 11 + place as u32,

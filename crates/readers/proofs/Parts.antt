@@ -10,10 +10,10 @@ use lib.Seq.{length-take-le}
 use borrow.Author.Tests.{leb-true, le-leb, lt-leb, eq-eqb, ne-eqb}
 use Rattle.laws.specs.Small.{differ}
 use Rattle.names.specs.Contract.{refused as told-refused, no-room}
-use Rattle.types.specs.declared.Resolved.{Resolved}
-use Rattle.types.specs.Contract.{Resolves, told as resolved}
-use Rattle.types.specs.Short.{codes-are-few}
-use Rattle.types.specs.Meaning.{HasTarget, no-room-is}
+use Rattle.targets.specs.declared.Resolved.{Resolved}
+use Rattle.targets.specs.Contract.{Resolves, told as resolved}
+use Rattle.targets.specs.Short.{codes-are-few}
+use Rattle.targets.specs.Meaning.{HasTarget, no-room-is}
 use Rattle.layout.specs.Target.{Target}
 use Rattle.layout.specs.EnumList.{EnumEntry}
 use Rattle.reading.specs.Answer.{Answer, refused, read, bind, check, within, true-within}

@@ -11,8 +11,8 @@ use lib.Seq.{sets, take-set-le, getD-set-same, getD-set-other, getD-at}
 use borrow.Author.Tests.{ltb-true, ltb-false}
 use Rattle.layout.specs.Target.{Target, object}
 use Rattle.layout.specs.EnumList.{EnumEntry}
-use Rattle.types.specs.Code.{preludeSize}
-use Rattle.types.specs.Laws.{kept-stands}
+use Rattle.targets.specs.Code.{preludeSize}
+use Rattle.targets.specs.Laws.{kept-stands}
 use Rattle.reading.specs.Answer.{Answer, refused, read, bind, several}
 use Rattle.reading.specs.File.{readerAt, readersAt}
 use Rattle.readers.specs.Judged.{judgedName}

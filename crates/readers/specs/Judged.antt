@@ -19,10 +19,10 @@ use Rattle.names.specs.Faults.{faults, fault-number}
 use Rattle.names.specs.Heading.{headings}
 use Rattle.names.specs.Contract as N
 use Rattle.names.specs.Contract.{placed, ending}
-use Rattle.types.specs.declared.Resolved.{Resolved}
-use Rattle.types.specs.Complaint.{readerFaults, leftmost}
-use Rattle.types.specs.Complaints.{leftmost-within}
-use Rattle.types.specs.Contract.{told, judged, resolution, Resolves}
+use Rattle.targets.specs.declared.Resolved.{Resolved}
+use Rattle.targets.specs.Complaint.{readerFaults, leftmost}
+use Rattle.targets.specs.Complaints.{leftmost-within}
+use Rattle.targets.specs.Contract.{told, judged, resolution, Resolves}
 use Rattle.reading.specs.File.{Named, unknown, known, Judges}
 use Rattle.reading.specs.Refusals.{WithinName}
 

@@ -11,9 +11,9 @@ use Rattle.layout.specs.EnumList.{EnumEntry}
 use Rattle.names.specs.Parse.{nameOf}
 use Rattle.names.specs.Contract as N
 use Rattle.names.specs.Contract.{coded, no-room, placed}
-use Rattle.types.specs.Code.{preludeSize}
-use Rattle.types.specs.declared.Resolved.{Resolved}
-use Rattle.types.specs.Contract.{told, resolution, content, Resolves}
+use Rattle.targets.specs.Code.{preludeSize}
+use Rattle.targets.specs.declared.Resolved.{Resolved}
+use Rattle.targets.specs.Contract.{told, resolution, content, Resolves}
 use Rattle.reading.specs.Answer.{Answer, refused, read}
 use Rattle.reading.specs.Seven.{sevenAt}
 use Rattle.numbers.specs.Padded.{padOf}

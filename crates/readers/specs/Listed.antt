@@ -4,7 +4,7 @@ use mathlib.Core.List.{List}
 use Prim.Native.Nat.{ℕ, _≤_, _<_}
 use lib.ListN.{length, getD}
 use Rattle.layout.specs.Target.{Target, object}
-use Rattle.types.specs.Code.{Stands}
+use Rattle.targets.specs.Code.{Stands}
 use Rattle.readers.specs.declared.Readers.{Readers}
 
 -- reader i's target stands in the codes at its place

@@ -7,7 +7,7 @@ use lib.ListN.{length, take, drop}
 use lib.Seq.{sets}
 use Rattle.layout.specs.Target.{Target}
 use Rattle.layout.specs.EnumList.{EnumEntry}
-use Rattle.types.specs.Code.{codeSize, Stands}
+use Rattle.targets.specs.Code.{codeSize, Stands}
 use Rattle.reading.specs.Answer.{Answer, refused, read, bind, check}
 use Rattle.reading.specs.Reads.{some}
 use Rattle.reading.specs.Seven.{sevenAt}

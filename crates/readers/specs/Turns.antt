@@ -5,7 +5,7 @@ use Prim.Native.Nat.{ℕ, _+_, _-_, _*_, _<_, _≤_}
 use lib.ListN.{length, take, drop, getD}
 use Rattle.layout.specs.Target.{Target, object}
 use Rattle.layout.specs.EnumList.{EnumEntry}
-use Rattle.types.specs.Code.{preludeSize, codeSize, Stands}
+use Rattle.targets.specs.Code.{preludeSize, codeSize, Stands}
 use Rattle.reading.specs.Answer.{Answer, refused, read, bind}
 use Rattle.reading.specs.File.{readersAt}
 use Rattle.readers.specs.declared.Many.{Many}

@@ -1,7 +1,7 @@
 // The reader list of a file: the type of each reader, as a place in an array of codes, and the first byte of its name.
 use answers::Number;
 use numbers::seven::Padded;
-use types::Resolved;
+use targets::Resolved;
 ghost use mathlib.Core.Path.{_≡_};
 ghost use Prim.Native.Nat.{_+_, _≤_, _<_};
 ghost use lib.ListN.{length};
@@ -98,7 +98,7 @@ fn named_at(
         return One::Refused(1, at);
     }
     let version = first + n;
-    match types::resolve(&file[first..version], first, enums, codes, used) {
+    match targets::resolve(&file[first..version], first, enums, codes, used) {
         Resolved::NoRoom => One::Refused(1, at),
         Resolved::Broken(number, place) => One::Refused(number, place),
         Resolved::Unknown(place) => One::Refused(11, place),
@@ -156,7 +156,7 @@ fn readers_at(
         ≡ arraysLeft (enumsOf (now (enums .entry))) (now (file .entry)) n at (now (codes .entry)) (now (targets .entry)) (now (starts .entry)) .starts ⌝ }
 {
     let mut i = 0;
-    let mut used: usize = types::PRELUDE;
+    let mut used: usize = targets::PRELUDE;
     let mut next = at;
     let mut padding = 0;
     while i < n {
@@ -231,9 +231,9 @@ fn codes_for(n: usize) -> usize
     ensures { λ r. ⌜ r ≡ codesFor n ⌝ }
 {
     if n == 0 {
-        return types::PRELUDE;
+        return targets::PRELUDE;
     }
-    types::PRELUDE + 93 * (n - 1) + 187
+    targets::PRELUDE + 93 * (n - 1) + 187
 }
 
 // The reader list and the shared count at a place. The targets' codes are left in `codes` behind the prelude,

@@ -15,9 +15,9 @@ use Rattle.reading.specs.Answer.{Answer, refused, read, bind, check}
 use Rattle.reading.specs.Seven.{sevenAt}
 use Rattle.reading.specs.Rules.{same, same-true, same-refl}
 use Rattle.reading.specs.File.{listsAt}
-use Rattle.types.specs.Code.{Stands}
-use Rattle.types.specs.Place.{equalAt}
-use Rattle.types.specs.Laws.{equal-then, then-equal}
+use Rattle.targets.specs.Code.{Stands}
+use Rattle.targets.specs.Place.{equalAt}
+use Rattle.targets.specs.Laws.{equal-then, then-equal}
 use Rattle.readers.specs.Judged.{judgedName}
 use Rattle.readers.specs.Parts.{upTo}
 use Rattle.readers.specs.Left.{codesFor, roomFor, enough, enough-for}

@@ -29,7 +29,7 @@ fn among_earlier(file: &[u8], codes: &[u32], targets: &[u32], j: u32) -> bool
     let mut i = j;
     while 0 < i {
         let other = target_at(targets, i - 1);
-        if types::equal(file, codes, other, own) {
+        if targets::equal(file, codes, other, own) {
             return true;
         }
         i -= 1;

@@ -119,10 +119,10 @@ fn of_texts(codes: &[u32], place: u32) -> bool
     ensures { λ r. ⌜ OfTexts (now (codes .entry)) place r ⌝ }
 {
     let at = place as usize;
-    if types::kind_at(codes, at) != 17 {
+    if targets::kind_at(codes, at) != 17 {
         return false;
     }
-    types::kind_at(codes, at + 1) == 13
+    targets::kind_at(codes, at + 1) == 13
 }
 
 // Whether the reader that a type id names is one of Arrays of String, where the codes suffice for the file's readers.

@@ -1,7 +1,7 @@
 use mathlib.Core.Path.{refl, ap}
 use native.Mathlib.Omega.{arith}
-use Rattle.types.specs.declared.Resolved.{Resolved}
-use Rattle.types.specs.Contract.{told}
+use Rattle.targets.specs.declared.Resolved.{Resolved}
+use Rattle.targets.specs.Contract.{told}
 use Rattle.reader_names.specs.Lines.{number}
 use Rattle.reader_names.proofs.Laws.{empty-is, long-is, judged-is, bounded}
 use borrow.Author.Needs.{needs}

@@ -4,8 +4,8 @@ use native.Mathlib.Omega.{arith}
 use lib.ListN.{length, drop, length-drop}
 use borrow.Author.Tests.{leb-true, not-true, not-false}
 use Rattle.names.specs.Entries.{enums-sized}
-use Rattle.types.specs.Contract.{told as resolved}
-use Rattle.types.specs.Meaning.{target-is}
+use Rattle.targets.specs.Contract.{told as resolved}
+use Rattle.targets.specs.Meaning.{target-is}
 use Rattle.readers.proofs.Parts.{name-part, named-missing, named-room, named-refused, named-target}
 use Rattle.readers.specs.Left.{name-missing, name-resolved}
 use borrow.Author.Needs.{needs}

@@ -4,8 +4,8 @@ use mathlib.Core.Bool.{false}
 use mathlib.Core.Path.{_≡_, refl, sym, subst, _∙_}
 use native.Mathlib.Omega.{arith}
 use Rattle.layout.specs.Fixed.{sizes}
-use Rattle.types.specs.Code.{Stands}
-use Rattle.types.specs.Laws.{kind-is}
+use Rattle.targets.specs.Code.{Stands}
+use Rattle.targets.specs.Laws.{kind-is}
 use Rattle.layout.specs.Number.{between}
 use Rattle.layout.specs.Target.{mesh}
 use Rattle.reading.specs.Heads.{headAt}
