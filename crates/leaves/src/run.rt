@@ -161,7 +161,8 @@ fn put_kept(
     depth: u32,
     parent: u32,
 ) -> bool
-    ensures { λ r. ⌜ (r ≡ true → Kept (now (file .entry)) kind size at n × (used + n ≤ grid .room) × (0 < depth) × (at + n * size ≤ length (now (file .entry)))) ⌝ }
+    ensures { λ r. ⌜ (r ≡ true → Kept (now (file .entry)) kind size at n × (used + n ≤ grid .room) × (0 < depth)
+        × (at + n * size ≤ length (now (file .entry)))) ⌝ }
     ensures { λ r. ⌜ now (words .exit) ≡ cond r (putRun grid used kind at size parent (now (words .entry)) n) (now (words .entry)) ⌝ }
 {
     if depth == 0 {

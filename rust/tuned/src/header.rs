@@ -8,6 +8,7 @@ use crate::refusal::{
 pub const HEADER_BYTES: usize = 10;
 const LONGEST_FILE: usize = 1 << 24;
 
+/// Judges the magic, the platform, the version, the flags and the length, in this order.
 pub fn check_header(file: &[u8]) -> Result<(), Refusal> {
     if file.len() > LONGEST_FILE {
         return refuse(TOO_LARGE, 0);

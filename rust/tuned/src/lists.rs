@@ -8,6 +8,7 @@ use crate::values::has_rule;
 use crate::walk::{Declared, Spot, Walk, DEEPEST};
 
 impl<const RECORD: bool> Walk<'_, RECORD> {
+    /// The keys and values of a dictionary; answers their number.
     #[inline(never)]
     pub fn entries(&mut self, key: u16, value: u16, spot: Spot) -> Option<u32> {
         let count = self.cursor.number()?;
@@ -18,6 +19,7 @@ impl<const RECORD: bool> Walk<'_, RECORD> {
         Some(2 * count)
     }
 
+    /// The elements of an array or a list; answers their number.
     #[inline(always)]
     pub fn elements(&mut self, number: u16, spot: Spot) -> Option<u32> {
         let count = self.cursor.number()?;

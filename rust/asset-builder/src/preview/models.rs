@@ -139,7 +139,7 @@ fn write_buffers(out: &mut dyn Write, shown: &Shown, draw: bool) -> io::Result<(
     if all == 0 {
         return Ok(());
     }
-    writeln!(out, "<div class=\"panel\"><h3>Buffers</h3>")?;
+    writeln!(out, "<div class=\"panel wide\"><h3>Buffers</h3>")?;
     if draw {
         let mut drawing = Drawing::default();
         for row in vertices.iter().take(MOST_LINES) {
