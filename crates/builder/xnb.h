@@ -248,7 +248,7 @@ uint32_t xnb_next(const uint32_t *words, size_t words_length, uint32_t row);
    order of a row's seven words. Each column is as long as the room, which is the number of words divided by seven, rounded
    down, and at most 65,536: word j of row i, both counted from 0, is words[i + room * j]. */
 
-/* Loads an XNB file as xnb_load_rows does: with the same list and as many words lent, every answer is the same and every row has the same
+/* Loads an XNB file as xnb_load_rows does: with the same list and as many words given, every answer is the same and every row has the same
    number. Every word of a row that is not used is zero, and so is every word in excess of the seven columns; on a refusal
    all words are zero. */
 uint64_t xnb_load_columns(const uint8_t *file, size_t file_length, const uint8_t *enums, size_t enums_length,

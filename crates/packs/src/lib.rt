@@ -2,13 +2,16 @@
 use answers::Number;
 use pack_records::Record;
 ghost use mathlib.Core.Path.{_≡_};
+ghost use mathlib.Core.Bool.{true};
 ghost use mathlib.Core.List.{[], _∷_, _++_};
-ghost use Prim.Native.Nat.{_+_, _≤_};
+ghost use Prim.Native.Nat.{_+_, _-_, _≤_};
 ghost use lib.ListN.{length, take};
+ghost use Rattle.text.specs.Passed.{Ascii};
 ghost use Rattle.pack_layout.specs.Table.{entry, flat};
 ghost use Rattle.pack_reading.specs.Pack.{packOf, tableFor};
 ghost use Rattle.pack_records.specs.Records.{markOf};
 ghost use Rattle.packs.specs.Files.{FilesRead, PackRead, answerOf};
+ghost use Rattle.packs.specs.Short.{Short, ShortPath};
 
 // Puts an entry into the table: a path of `size` bytes from `start` on, and data of `count` bytes from `first` on.
 fn put_entry(table: &mut [u64], at: usize, start: usize, size: usize, first: usize, count: usize)
@@ -19,6 +22,88 @@ fn put_entry(table: &mut [u64], at: usize, start: usize, size: usize, first: usi
     table[at + 1] = size as u64;
     table[at + 2] = first as u64;
     table[at + 3] = count as u64;
+}
+
+// Whether the 16 bytes from i on and those from k on are ASCII.
+fn ascii_blocks(s: &[u8], i: usize, k: usize) -> bool
+    requires { ⌜ (i + 16 ≤ length (now s)) × (k + 16 ≤ length (now s)) ⌝ }
+    ensures { λ r. ⌜ (r ≡ true → Ascii (now (s .entry)) i 16 × Ascii (now (s .entry)) k 16) ⌝ }
+{
+    let mut j = 0;
+    let mut other = false;
+    while j < 16 {
+        other = other | (0x80 <= s[i + j]) | (0x80 <= s[k + j]);
+        j += 1;
+    }
+    if other {
+        return false;
+    }
+    true
+}
+
+// Whether 16 to 32 bytes stand from `start` to `behind`, and all are ASCII.
+fn is_ascii(pack: &[u8], start: usize, behind: usize) -> bool
+    requires { ⌜ (start ≤ behind) × (behind ≤ length (now pack)) ⌝ }
+    ensures { λ r. ⌜ (r ≡ true → (16 ≤ behind - start) × (behind - start ≤ 32) × Ascii (now (pack .entry)) start (behind - start)) ⌝ }
+{
+    let size = behind - start;
+    if size < 16 {
+        return false;
+    }
+    if 32 < size {
+        return false;
+    }
+    let last = behind - 16;
+    ascii_blocks(pack, start, last)
+}
+
+// Whether the bytes from `start` to `behind` are a path of up to 127 bytes: 16 to 32 ASCII bytes at once, and others as any short text.
+fn is_path(pack: &[u8], start: usize, behind: usize) -> bool
+    requires { ⌜ (start ≤ behind) × (behind ≤ length (now pack)) ⌝ }
+    ensures { λ r. ⌜ (r ≡ true → ShortPath (now (pack .entry)) start behind) ⌝ }
+{
+    if is_ascii(pack, start, behind) {
+        return true;
+    }
+    let size = behind - start;
+    if size == 0 {
+        return false;
+    }
+    if 127 < size {
+        return false;
+    }
+    text::is_short_utf8(&pack[start..behind])
+}
+
+// One more than the bytes of data of the record at `at`, where it has no mark, its path is short, and nothing is wrong with it; else 0.
+fn short_record(pack: &[u8], at: usize, marked: bool) -> usize
+    ensures { λ r. ⌜ (1 ≤ r → Short marked (now (pack .entry)) at r) ⌝ }
+{
+    if marked {
+        return 0;
+    }
+    if pack.len() <= at {
+        return 0;
+    }
+    let size = pack[at] as usize;
+    if pack.len() - at <= size {
+        return 0;
+    }
+    let start = at + 1;
+    let behind = start + size;
+    if !is_path(pack, start, behind) {
+        return 0;
+    }
+    match numbers::little::little4(pack, behind) {
+        Number::Refused(_, _) => 0,
+        Number::Read(n, first) => {
+            let count = n as usize;
+            if !numbers::little::has_bytes(pack, first, count) {
+                return 0;
+            }
+            count + 1
+        }
+    }
 }
 
 // A refusal's number and place, or the number of files.
@@ -41,21 +126,32 @@ fn read_files(pack: &[u8], table: &mut [u64], marked: bool, n: usize) -> Reading
                 place: at,
             };
         }
-        match pack_records::record_at(pack, at, marked) {
-            Record::Refused { number, place } => {
-                return Reading::Refused { number, place };
-            }
-            Record::Read {
-                start,
-                size,
-                first,
-                count,
-            } => {
-                put_entry(table, 4 * i, start, size, first, count);
-                at = first + count;
+        let more = short_record(pack, at, marked);
+        if 0 < more {
+            let size = pack[at] as usize;
+            let start = at + 1;
+            let first = start + size + 4;
+            let count = more - 1;
+            put_entry(table, 4 * i, start, size, first, count);
+            at = first + count;
+            i += 1;
+        } else {
+            match pack_records::record_at(pack, at, marked) {
+                Record::Refused { number, place } => {
+                    return Reading::Refused { number, place };
+                }
+                Record::Read {
+                    start,
+                    size,
+                    first,
+                    count,
+                } => {
+                    put_entry(table, 4 * i, start, size, first, count);
+                    at = first + count;
+                    i += 1;
+                }
             }
         }
-        i += 1;
     }
     if at != pack.len() {
         return Reading::Refused {

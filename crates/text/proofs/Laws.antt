@@ -1,5 +1,5 @@
 -- The laws of characters at a place of a list, as the code meets them. Assumes nothing.
-use mathlib.Core.Path.{_≡_, refl, sym, ap, _∙_}
+use mathlib.Core.Path.{_≡_, refl, sym, ap, subst, _∙_}
 use mathlib.Core.Bool.{Bool, true, false, _||_, and-true, cond}
 use mathlib.Core.List.{List, _∷_}
 use Prim.Native.Nat.{ℕ, zero, suc, _+_, _*_, _-_, _<_, _≤_}
@@ -177,6 +177,15 @@ pub later-ascii : (s : List ℕ) (from n i : ℕ) → from ≤ i → Ascii s fro
 later-ascii s from n i h a k l =
     let z : i + k ≡ from + (i + k - from) = omega arith in
     rw z (a (i + k - from) (omega arith))
+
+-- past all bytes, where the first n and the last n are ASCII and none stands between them
+pub two-ascii : (s : List ℕ) (n : ℕ) → n ≤ length s → length s ≤ n + n → Ascii s 0 n → Ascii s (length s - n) n → Passed s 0 (length s)
+two-ascii s n h m a b =
+    let last = length s - n in
+    let k = last + n - (0 + n) in
+    let z : 0 + n + k ≡ length s = omega arith in
+    let rest = pass-block s k (0 + n) (omega arith) (later-ascii s last n (0 + n) (omega arith) b) in
+    passed-on s (0 + n) (pass-block s n 0 (omega arith) a) (length s) (subst (λ x. Passed s (0 + n) x) z rest)
 
 pub passed-all : (s : List ℕ) (i : ℕ) → Passed s 0 i → length s ≤ i → utf8s s ≡ true
 unfolding utf8s chars

@@ -81,10 +81,13 @@ pub fn is_utf8(s: &[u8]) -> bool
     true
 }
 
-// Whether `s` is UTF-8, for short texts: ASCII in blocks of 16 bytes, the last of which may overlap; then one character after the other.
+// Whether `s` is UTF-8, for short texts: ASCII in two blocks, or in blocks of 16 bytes, the last of which may overlap; then one character after the other.
 pub fn is_short_utf8(s: &[u8]) -> bool
     ensures { λ r. ⌜ r ≡ utf8s (now (s .entry)) ⌝ }
 {
+    if short_ascii(s) {
+        return true;
+    }
     let mut i = ascii_blocks(s, 0, 16);
     if ascii_end(s, i) {
         return true;
@@ -101,6 +104,35 @@ pub fn is_short_utf8(s: &[u8]) -> bool
         }
     }
     true
+}
+
+// Whether `s` has 4 to 32 bytes, and all are ASCII.
+fn short_ascii(s: &[u8]) -> bool
+    ensures { λ r. ⌜ (r ≡ true → Passed (now (s .entry)) 0 (length (now (s .entry)))) ⌝ }
+{
+    let n = s.len();
+    if n < 4 {
+        return false;
+    }
+    if n < 8 {
+        return two_blocks(s, 4);
+    }
+    if n < 16 {
+        return two_blocks(s, 8);
+    }
+    if n <= 32 {
+        return two_blocks(s, 16);
+    }
+    false
+}
+
+// Whether the first n bytes and the last n, which may overlap, are ASCII.
+fn two_blocks(s: &[u8], n: usize) -> bool
+    requires { ⌜ (n ≤ length (now s)) × (length (now s) ≤ n + n) ⌝ }
+    ensures { λ r. ⌜ (r ≡ true → Passed (now (s .entry)) 0 (length (now (s .entry)))) ⌝ }
+{
+    let end = s.len() - n;
+    ascii_block(s, 0, n) & ascii_block(s, end, n)
 }
 
 // Whether no more than the last 16 bytes are left from `i` on, and these are ASCII.

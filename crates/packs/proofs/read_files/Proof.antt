@@ -31,24 +31,32 @@ returns c =
     let v = c .before .before .loop .inv in
     rw (← v .1) (fills-refused (markOf (a .marked)) (a .pack .now) (a .n) _ _ (no-room _ _ _ _ (v .2 .walked) (c .before .loop-test .taken) (c .if1 .taken)))
 
-record-at-requires : tie.Need-record-at-requires Inv-loop μ-loop
-record-at-requires c κs = search needs
+short-record-requires : tie.Need-short-record-requires Inv-loop μ-loop
+short-record-requires c κs = search needs
 
-enum-known-number : tie.Need-enum-known-number Inv-loop μ-loop
-enum-known-number c = search needs
+shared-slice-read-size : tie.Need-shared-slice-read-size Inv-loop μ-loop
+shared-slice-read-size c = omega (arith, (c .before .before .short-record .ensures (c .before .if2 .taken)) .inside)
 
-same-length-2 : tie.Need-same-length-2 Inv-loop μ-loop
-same-length-2 c = search needs
+cast-size : tie.Need-cast-size Inv-loop μ-loop
+cast-size c = omega (arith, c .shared-slice-known2 .given (c .before .before .before .before .before .loop .at))
 
-returns-2 : tie.Need-returns-2 Inv-loop μ-loop
-returns-2 c =
-    let a = c .before .before .before .before .before .before .before .before .before .args in
-    let v = c .before .before .before .before .before .before .loop .inv in
-    let m = markOf (a .marked) in
-    rw (← v .1) (fills-refused m (a .pack .now) (a .n) _ _ (refuse _ _ _ _ (v .2 .walked) (c .before .before .before .before .before .loop-test .taken) (c .before .before .before .before .if1 .left) (none m _ _ (sym (c .before .number .given .1) ∙ c .before .before .before .record-at .ensures))))
+add-start : tie.Need-add-start Inv-loop μ-loop
+add-start c =
+    let s = c .before .before .short-record .ensures (c .before .if2 .taken) in
+    omega (arith, s .inside, s .ends)
 
-enum-known-start : tie.Need-enum-known-start Inv-loop μ-loop
-enum-known-start c = search needs
+add-first : tie.Need-add-first Inv-loop μ-loop
+add-first c =
+    let s = c .before .before .short-record .ensures (c .before .if2 .taken) in
+    omega (arith, s .inside, s .ends)
+
+add-first-2 : tie.Need-add-first-2 Inv-loop μ-loop
+add-first-2 c =
+    let s = c .before .before .short-record .ensures (c .before .if2 .taken) in
+    omega (arith, s .inside, s .ends)
+
+sub-count : tie.Need-sub-count Inv-loop μ-loop
+sub-count c = search needs
 
 mul-put-entry : tie.Need-mul-put-entry Inv-loop μ-loop
 unfolding roomOf
@@ -60,9 +68,8 @@ put-entry-requires c κs = search needs
 
 add-at : tie.Need-add-at Inv-loop μ-loop
 add-at c =
-    let a = c .before .before .before .before .before .before .before .before .before .before .before .before .before .args in
-    let small = small-by-index (a .pack .now) (λ i h. omega (arith, c .before .before .before .before .before .before .before .before .before .before .before .before .shared-slice-known .given i)) in
-    omega (arith, got (markOf (a .marked)) _ _ small (sym (c .before .before .before .before .before .start .given .1) ∙ c .before .before .before .before .before .before .before .record-at .ensures) .inside)
+    let s = c .before .before .before .before .before .before .short-record .ensures (c .before .before .before .before .before .if2 .taken) in
+    omega (arith, s .ends)
 
 add-i : tie.Need-add-i Inv-loop μ-loop
 add-i c = search needs
@@ -72,11 +79,59 @@ loop-less c = search needs
 
 loop-again : tie.Need-loop-again Inv-loop μ-loop
 loop-again c =
-    let a = c .before .before .before .before .before .before .before .before .before .before .before .before .before .args in
-    let v = c .before .before .before .before .before .before .before .before .before .before .loop .inv in
-    let small = small-by-index (a .pack .now) (λ i h. omega (arith, c .before .before .before .before .before .before .before .before .before .before .before .before .shared-slice-known .given i)) in
+    let a = c .before .before .before .before .before .before .before .before .before .before .before .before .args in
+    let v = c .before .before .before .before .before .before .before .before .before .loop .inv in
+    let small = small-by-index (a .pack .now) (λ i h. omega (arith, c .before .before .before .before .before .before .before .before .before .before .before .shared-slice-known .given i)) in
+    let s = c .before .before .before .before .before .before .short-record .ensures (c .before .before .before .before .before .if2 .taken) in
+    let g = got (markOf (a .marked)) _ _ small (s .is) in
+    (search needs, v .1, next _ _ _ _ (v .2) (c .before .before .before .before .before .before .before .before .loop-test .taken) (c .before .before .before .before .before .before .before .if1 .left) g (c .before .before .put-entry .ensures))
+
+record-at-requires : tie.Need-record-at-requires Inv-loop μ-loop
+record-at-requires c κs = search needs
+
+enum-known-number : tie.Need-enum-known-number Inv-loop μ-loop
+enum-known-number c = search needs
+
+same-length-2 : tie.Need-same-length-2 Inv-loop μ-loop
+same-length-2 c = search needs
+
+returns-2 : tie.Need-returns-2 Inv-loop μ-loop
+returns-2 c =
+    let a = c .before .before .before .before .before .before .before .before .before .before .before .args in
+    let v = c .before .before .before .before .before .before .before .before .loop .inv in
+    let m = markOf (a .marked) in
+    rw (← v .1) (fills-refused m (a .pack .now) (a .n) _ _ (refuse _ _ _ _ (v .2 .walked) (c .before .before .before .before .before .before .before .loop-test .taken) (c .before .before .before .before .before .before .if1 .left) (none m _ _ (sym (c .before .number .given .1) ∙ c .before .before .before .record-at .ensures))))
+
+enum-known-start : tie.Need-enum-known-start Inv-loop μ-loop
+enum-known-start c = search needs
+
+mul-put-entry-2 : tie.Need-mul-put-entry-2 Inv-loop μ-loop
+unfolding roomOf
+mul-put-entry-2 c = search needs
+
+put-entry-requires-2 : tie.Need-put-entry-requires-2 Inv-loop μ-loop
+unfolding roomOf
+put-entry-requires-2 c κs = search needs
+
+add-at-2 : tie.Need-add-at-2 Inv-loop μ-loop
+add-at-2 c =
+    let a = c .before .before .before .before .before .before .before .before .before .before .before .before .before .before .before .args in
+    let small = small-by-index (a .pack .now) (λ i h. omega (arith, c .before .before .before .before .before .before .before .before .before .before .before .before .before .before .shared-slice-known .given i)) in
+    omega (arith, got (markOf (a .marked)) _ _ small (sym (c .before .before .before .before .before .start .given .1) ∙ c .before .before .before .before .before .before .before .record-at .ensures) .inside)
+
+add-i-2 : tie.Need-add-i-2 Inv-loop μ-loop
+add-i-2 c = search needs
+
+loop-less-2 : tie.Need-loop-less-2 Inv-loop μ-loop
+loop-less-2 c = search needs
+
+loop-again-2 : tie.Need-loop-again-2 Inv-loop μ-loop
+loop-again-2 c =
+    let a = c .before .before .before .before .before .before .before .before .before .before .before .before .before .before .before .args in
+    let v = c .before .before .before .before .before .before .before .before .before .before .before .before .loop .inv in
+    let small = small-by-index (a .pack .now) (λ i h. omega (arith, c .before .before .before .before .before .before .before .before .before .before .before .before .before .before .shared-slice-known .given i)) in
     let g = got (markOf (a .marked)) _ _ small (sym (c .before .before .before .before .before .start .given .1) ∙ c .before .before .before .before .before .before .before .record-at .ensures) in
-    (search needs, v .1, next _ _ _ _ (v .2) (c .before .before .before .before .before .before .before .before .before .loop-test .taken) (c .before .before .before .before .before .before .before .before .if1 .left) g (c .before .before .put-entry .ensures))
+    (search needs, v .1, next _ _ _ _ (v .2) (c .before .before .before .before .before .before .before .before .before .before .before .loop-test .taken) (c .before .before .before .before .before .before .before .before .before .before .if1 .left) g (c .before .before .put-entry2 .ensures))
 
 same-length-3 : tie.Need-same-length-3 Inv-loop μ-loop
 same-length-3 c = search needs
@@ -85,7 +140,7 @@ returns-3 : tie.Need-returns-3 Inv-loop μ-loop
 returns-3 c =
     let a = c .before .before .before .before .before .args in
     let v = c .before .before .loop .inv in
-    rw (← v .1) (fills-refused (markOf (a .marked)) (a .pack .now) (a .n) _ _ (left-over _ _ _ _ (v .2 .walked) (c .before .loop-test .left) (c .if2 .taken)))
+    rw (← v .1) (fills-refused (markOf (a .marked)) (a .pack .now) (a .n) _ _ (left-over _ _ _ _ (v .2 .walked) (c .before .loop-test .left) (c .if3 .taken)))
 
 same-length-4 : tie.Need-same-length-4 Inv-loop μ-loop
 same-length-4 c = search needs
@@ -94,7 +149,7 @@ returns-4 : tie.Need-returns-4 Inv-loop μ-loop
 returns-4 c =
     let a = c .before .before .before .before .before .args in
     let v = c .before .before .loop .inv in
-    rw (← v .1) (filled (markOf (a .marked)) (a .pack .now) (a .n) _ (v .2) (c .before .loop-test .left) (c .if2 .left))
+    rw (← v .1) (filled (markOf (a .marked)) (a .pack .now) (a .n) _ (v .2) (c .before .loop-test .left) (c .if3 .left))
 
 pub read-files-spec : {M : Type 1} → statement M
 read-files-spec =
@@ -105,17 +160,30 @@ read-files-spec =
     loop-holds
     same-length
     returns
-    record-at-requires
-    enum-known-number
-    same-length-2
-    returns-2
-    enum-known-start
+    short-record-requires
+    shared-slice-read-size
+    cast-size
+    add-start
+    add-first
+    add-first-2
+    sub-count
     mul-put-entry
     put-entry-requires
     add-at
     add-i
     loop-less
     loop-again
+    record-at-requires
+    enum-known-number
+    same-length-2
+    returns-2
+    enum-known-start
+    mul-put-entry-2
+    put-entry-requires-2
+    add-at-2
+    add-i-2
+    loop-less-2
+    loop-again-2
     same-length-3
     returns-3
     same-length-4
