@@ -8,9 +8,9 @@ use native.Mathlib.Omega.{arith}
 use lib.Dec.{leb}
 use lib.ListN.{length, drop, getD, replicate, length-drop, length-append, List·getD-eq-default}
 use lib.Seq.{drop-cons}
-use borrow.Author.Tests.{lt-leb, le-leb, leb-true}
+use borrow.Author.Tests.{lt-leb, leb-true}
 use Rattle.laws.specs.Small.{differ}
-use Rattle.layout.specs.Target.{Target, fixed, char, string, object as anything, texture, texture2D, spriteFont, page, Mesh, indexBuffer, vertexDeclaration, vertexBuffer, model, mesh, meshKind, enum, nullable, array, list, dictionary}
+use Rattle.layout.specs.Target.{Target, fixed, char, string, object as anything, texture, texture2D, spriteFont, page, Mesh, mesh, meshKind, enum, nullable, array, list, dictionary}
 use Rattle.layout.specs.Slot as L
 use Rattle.layout.specs.Slot.{stop, each, raw, slotOf, pairs, fontSlots, pageSlots}
 use Rattle.reading.specs.Answer.{Answer, refused, read, bind, check}
@@ -22,7 +22,6 @@ use Rattle.table.specs.Leaf.{mute}
 use Rattle.heads.specs.declared.nest.Below.{Below}
 use Rattle.heads.specs.declared.nest.Below.the-variants.{Nothing, Nested}
 use Rattle.heads.specs.declared.nest.Nest.the-variants.{Mesh as Nest-mesh}
-use Rattle.heads.specs.declared.open.Opened.{Opened}
 use Rattle.heads.specs.declared.open.Opened.the-variants.{Refused, Head}
 use Rattle.heads.specs.Nests.{BelowIs, below-plan, mesh-nest}
 use lib.Dec.{ltb}
@@ -33,9 +32,8 @@ use Rattle.reading.specs.Utf8.{utf8s, charAt}
 use Rattle.reading.specs.Fixed.{fixedAt}
 use Rattle.reading.specs.Heads.{whole, ownAt, fixedHeadAt, textAt}
 use Rattle.targets.specs.Word.{enum-kind}
-use Rattle.targets.specs.Code.{codeKind, codeSize, Lawful, Stands}
-use Rattle.targets.specs.Place.{placeAfter}
-use Rattle.targets.specs.Laws.{size-is, fixed-has-size, nullable-argument, array-argument, list-argument, dictionary-key, dictionary-value}
+use Rattle.targets.specs.Code.{codeKind, codeSize, Stands}
+use Rattle.targets.specs.Laws.{size-is}
 use Rattle.heads.specs.Opens.{Opens, Stopping, Leafy, of-fixed, of-enum, of-char, of-string}
 
 pub alone-refused : (file codes : List ℕ) (x : Answer Opening) {n p : ℕ} → refused n p ≡ mute x → Opens file codes x (Refused n p)
@@ -84,11 +82,6 @@ module _ (file : List ℕ) (at : ℕ) where
   pub pairs-read : (t u : Target) {n e : ℕ} → littleAt file 4 at at ≡ read n e → headAt file (dictionary t u) at ≡ read ([], each (pairs n (slotOf t) (slotOf u))) e
   unfolding headAt
   pairs-read t u e = count-read (λ n. pairs n (slotOf t) (slotOf u)) e
-
-  -- an array's head is a list's
-  pub array-list : (t : Target) → headAt file (array t) at ≡ headAt file (list t) at
-  unfolding headAt
-  array-list t = refl
 
   -- one byte: missing, or there
   one-byte : leb 1 (length (drop at file)) ≡ true → drop at file ≡ getD file at 0 ∷ drop (suc at) file
@@ -180,45 +173,6 @@ pub opens-mesh : (file codes : List ℕ) (m : Mesh) (at : ℕ) → Opens file co
 unfolding headAt
 opens-mesh file codes m at = record { below = Nested (Nest-mesh (meshKind m)); is = refl; goes = mesh-nest file codes m }
 
--- 37 to 40
-pub mesh-range : (m : Mesh) → (37 ≤ meshKind m) × (meshKind m ≤ 40)
-unfolding meshKind
-mesh-range indexBuffer = omega arith
-mesh-range vertexDeclaration = omega arith
-mesh-range vertexBuffer = omega arith
-mesh-range model = omega arith
-
--- by the kind of a type whose reader is invoked
-module _ (file codes : List ℕ) (t at : ℕ) (r : Opened) where
-  pub by-kind : (x : Target) → Stands file codes t x
-      → (codeKind x ≡ 14 → Opens file codes (refused 13 at) r)
-      → (codeKind x ≡ 31 → Opens file codes (refused 13 at) r)
-      → (codeKind x ≡ 16 → (u : Target) → Stands file codes (t + 1) u → Opens file codes (headAt file (nullable u) at) r)
-      → (codeKind x ≡ 17 → (u : Target) → Stands file codes (t + 1) u → Opens file codes (headAt file (list u) at) r)
-      → (codeKind x ≡ 18 → (u : Target) → Stands file codes (t + 1) u → Opens file codes (headAt file (list u) at) r)
-      → (codeKind x ≡ 19 → (u v : Target) → Stands file codes (t + 1) u → Stands file codes (placeAfter codes (t + 1)) v → Opens file codes (headAt file (dictionary u v) at) r)
-      → (codeKind x ≡ 32 → Opens file codes (headAt file texture2D at) r)
-      → (codeKind x ≡ 33 → Opens file codes (headAt file spriteFont at) r)
-      → (codeKind x ≡ 34 → Opens file codes (headAt file page at) r)
-      → ((m : Mesh) → codeKind x ≡ meshKind m → Opens file codes (headAt file (mesh m) at) r)
-      → (Leafy x → Opens file codes (headAt file x at) r)
-      → Opens file codes (headAt file x at) r
-  unfolding codeKind headAt Lawful
-  by-kind (fixed k) s o x n m l d i f p g e = e (of-fixed (fixed-has-size k (s .lawful)))
-  by-kind char s o x n m l d i f p g e = e of-char
-  by-kind string s o x n m l d i f p g e = e of-string
-  by-kind anything s o x n m l d i f p g e = o refl
-  by-kind (enum name z) s o x n m l d i f p g e = e (of-enum (s .lawful))
-  by-kind (nullable u) s o x n m l d i f p g e = n refl u (nullable-argument s)
-  by-kind (array u) s o x n m l d i f p g e = rw (array-list file at u) (m refl u (array-argument s))
-  by-kind (list u) s o x n m l d i f p g e = l refl u (list-argument s)
-  by-kind (dictionary u w) s o x n m l d i f p g e = d refl u w (dictionary-key s) (dictionary-value s)
-  by-kind texture s o x n m l d i f p g e = x refl
-  by-kind texture2D s o x n m l d i f p g e = i refl
-  by-kind spriteFont s o x n m l d i f p g e = f refl
-  by-kind page s o x n m l d i f p g e = p refl
-  by-kind (mesh u) s o x n m l d i f p g e = g u refl
-
 pub font-head : (file : List ℕ) (at : ℕ) → headAt file spriteFont at ≡ read ([], each fontSlots) at
 unfolding headAt
 font-head file at = refl
@@ -249,13 +203,7 @@ pub between-leaf : {x : Target} {n : ℕ} → codeKind x ≡ n → 37 ≤ n → 
 unfolding sizes
 between-leaf {x} {n} e a b l = leaf-kind n e (omega arith) (λ q. omega arith) (λ q. omega arith) (List·getD-eq-default sizes 0 {n = n} (omega arith)) l
 
--- the kinds of mesh types are 37 to 40
-pub mesh-inside : (m : Mesh) {n : ℕ} → meshKind m ≡ n → between 37 40 n ≡ false → ⊥
-mesh-inside m {n} e f =
-    let t : between 37 40 n ≡ true = rw (← e, le-leb 37 (meshKind m) (mesh-range m .0), le-leb (meshKind m) 40 (mesh-range m .1)) in
-    differ cc
-
--- a kind that is before or behind them is none of theirs
+-- a kind before or behind those of mesh types, 37 to 40, is none of theirs
 pub outside : (n : ℕ) {A B : Type 0} → A ⊎ B → (A → n < 37) → (B → 41 ≤ n) → between 37 40 n ≡ false
 outside n (inl a) f g = rw (lt-leb 37 n (f a))
 outside n (inr b) f g = rw (lt-leb n 40 (omega (arith, g b))) (last (leb 37 n)) where

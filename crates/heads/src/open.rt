@@ -6,19 +6,12 @@ use answers::Number;
 use leaves::run::Run;
 use numbers::seven::Padded;
 ghost use mathlib.Core.Path.{_≡_};
-ghost use mathlib.Core.List.{List};
-ghost use Prim.Native.Nat.{ℕ, _≤_, max};
+ghost use Prim.Native.Nat.{_≤_, max};
 ghost use Rattle.answers.specs.Told.{told};
 ghost use Rattle.numbers.specs.Padded.{beside, toldPadded};
-ghost use Rattle.layout.specs.Target.{Target, nullable, list, texture2D};
-ghost use Rattle.targets.specs.Code.{codeKind};
 ghost use Rattle.layout.specs.Image.{digits};
-ghost use Rattle.reading.specs.Answer.{Answer};
 ghost use Rattle.reading.specs.Little.{littleAt};
-ghost use Rattle.reading.specs.Heads.{Opening, headAt};
-ghost use Rattle.table.specs.Leaf.{mute};
-ghost use Rattle.heads.specs.Opens.{Opens, Stopping, Leafy, rangedAt, heightAt, levelsAt, widthAt};
-ghost use Rattle.heads.specs.Contracts.{EachBelow, PairsBelow, OpensAt, OpensOf, OpensDictionary};
+ghost use Rattle.heads.specs.Opens.{rangedAt};
 ghost use Rattle.heads.specs.Total.{aloneAs, leafAs, eachAs, pairsAs, flagAs, listAs, dictionaryAs, levelsAs, heightAs, widthAs, imageAs, openAs};
 
 pub enum Opened {
@@ -28,7 +21,6 @@ pub enum Opened {
 
 // A value without children, once its bytes are read.
 fn alone(read: Padded) -> Opened
-    ensures { λ r. ⌜ ((file codes : List ℕ) (x : Answer Opening) → mute (toldPadded read) ≡ mute x → Stopping x → Opens file codes x r) ⌝ }
     ensures { λ r. ⌜ r ≡ aloneAs (toldPadded read) ⌝ }
 {
     match read {
@@ -49,7 +41,6 @@ fn unpadded(read: Number) -> Padded
 
 // The bytes of a value of a kind without children, and the padding of its count.
 fn leaf_at(file: &[u8], kind: u32, at: usize) -> Padded
-    ensures { λ r. ⌜ ((t : Target) → Leafy t → codeKind t ≡ kind → mute (toldPadded r) ≡ mute (headAt (now (file .entry)) t at)) ⌝ }
     ensures { λ r. ⌜ toldPadded r ≡ leafAs (now (file .entry)) kind at ⌝ }
 {
     match kind {
@@ -61,7 +52,6 @@ fn leaf_at(file: &[u8], kind: u32, at: usize) -> Padded
 
 // n values that stand alike.
 fn each_of(slot: Slot, n: u32) -> Below
-    ensures { λ r. ⌜ EachBelow slot n r ⌝ }
     ensures { λ r. ⌜ r ≡ eachAs slot n ⌝ }
 {
     match slot {
@@ -73,7 +63,6 @@ fn each_of(slot: Slot, n: u32) -> Below
 
 // n keys and values in turn.
 fn pairs_of(key: Slot, value: Slot, n: u32) -> Below
-    ensures { λ r. ⌜ PairsBelow key value n r ⌝ }
     ensures { λ r. ⌜ r ≡ pairsAs key value n ⌝ }
 {
     match key {
@@ -89,7 +78,6 @@ fn pairs_of(key: Slot, value: Slot, n: u32) -> Below
 
 // A nullable of the type at `a`: its first byte, and perhaps the value.
 fn nullable_head(file: &[u8], codes: &[u32], a: usize, at: usize) -> Opened
-    ensures { λ r. ⌜ OpensOf (now (file .entry)) (now (codes .entry)) nullable a at r ⌝ }
     ensures { λ r. ⌜ r ≡ flagAs (now (codes .entry)) a at (littleAt (now (file .entry)) 1 at at) ⌝ }
 {
     match numbers::little::little1(file, at) {
@@ -108,7 +96,6 @@ fn nullable_head(file: &[u8], codes: &[u32], a: usize, at: usize) -> Opened
 
 // An array or a list of the type at `a`: its count.
 fn list_head(file: &[u8], codes: &[u32], a: usize, at: usize) -> Opened
-    ensures { λ r. ⌜ OpensOf (now (file .entry)) (now (codes .entry)) list a at r ⌝ }
     ensures { λ r. ⌜ r ≡ listAs (now (codes .entry)) a (littleAt (now (file .entry)) 4 at at) ⌝ }
 {
     match numbers::little::little4(file, at) {
@@ -122,7 +109,6 @@ fn list_head(file: &[u8], codes: &[u32], a: usize, at: usize) -> Opened
 
 // A dictionary of the types at `a` and `b`: its count.
 fn dictionary_head(file: &[u8], codes: &[u32], a: usize, b: usize, at: usize) -> Opened
-    ensures { λ r. ⌜ OpensDictionary (now (file .entry)) (now (codes .entry)) a b at r ⌝ }
     ensures { λ r. ⌜ r ≡ dictionaryAs (now (codes .entry)) a b (littleAt (now (file .entry)) 4 at at) ⌝ }
 {
     match numbers::little::little4(file, at) {
@@ -159,7 +145,6 @@ fn ranged(file: &[u8], low: u64, high: u64, at: usize) -> Number
 // An image's level count.
 fn image_levels(file: &[u8], format: u32, width: u32, height: u32, at: usize) -> Opened
     requires { ⌜ (format ≤ 18) × (1 ≤ width) × (width ≤ 4096) × (1 ≤ height) × (height ≤ 4096) ⌝ }
-    ensures { λ r. ⌜ ((codes : List ℕ) → Opens (now (file .entry)) codes (levelsAt (now (file .entry)) format width height at) r) ⌝ }
     ensures { λ r. ⌜ r ≡ levelsAs format width height (rangedAt (now (file .entry)) 1 (digits 32 (max width height)) at) ⌝ }
 {
     let most = images::longest_chain(width, height) as u64;
@@ -178,7 +163,6 @@ fn image_levels(file: &[u8], format: u32, width: u32, height: u32, at: usize) ->
 // An image's height, and what follows it.
 fn image_height(file: &[u8], format: u32, width: u32, at: usize) -> Opened
     requires { ⌜ (format ≤ 18) × (1 ≤ width) × (width ≤ 4096) ⌝ }
-    ensures { λ r. ⌜ ((codes : List ℕ) → Opens (now (file .entry)) codes (heightAt (now (file .entry)) format width at) r) ⌝ }
     ensures { λ r. ⌜ r ≡ heightAs (now (file .entry)) format width (rangedAt (now (file .entry)) 1 4096 at) ⌝ }
 {
     match ranged(file, 1, 4096, at) {
@@ -190,7 +174,6 @@ fn image_height(file: &[u8], format: u32, width: u32, at: usize) -> Opened
 // An image's width, and what follows it.
 fn image_width(file: &[u8], format: u32, at: usize) -> Opened
     requires { ⌜ format ≤ 18 ⌝ }
-    ensures { λ r. ⌜ ((codes : List ℕ) → Opens (now (file .entry)) codes (widthAt (now (file .entry)) format at) r) ⌝ }
     ensures { λ r. ⌜ r ≡ widthAs (now (file .entry)) format (rangedAt (now (file .entry)) 1 4096 at) ⌝ }
 {
     match ranged(file, 1, 4096, at) {
@@ -201,7 +184,6 @@ fn image_width(file: &[u8], format: u32, at: usize) -> Opened
 
 // An image: format, width, height and level count, each judged before the next.
 fn image_head(file: &[u8], at: usize) -> Opened
-    ensures { λ r. ⌜ ((codes : List ℕ) → Opens (now (file .entry)) codes (headAt (now (file .entry)) texture2D at) r) ⌝ }
     ensures { λ r. ⌜ r ≡ imageAs (now (file .entry)) (rangedAt (now (file .entry)) 0 18 at) ⌝ }
 {
     match ranged(file, 0, 18, at) {
@@ -212,7 +194,6 @@ fn image_head(file: &[u8], at: usize) -> Opened
 
 // The head of a raw value of the type at `t`; Object and Texture have no raw values.
 pub fn open(file: &[u8], codes: &[u32], t: usize, at: usize) -> Opened
-    ensures { λ r. ⌜ OpensAt (now (file .entry)) (now (codes .entry)) t at r ⌝ }
     ensures { λ r. ⌜ r ≡ openAs (now (file .entry)) (now (codes .entry)) t at ⌝ }
 {
     if codes.len() <= t {

@@ -1,4 +1,4 @@
 pub mod Start
-pub mod Contracts
+pub mod Meaning
 pub mod Close
 pub mod Total

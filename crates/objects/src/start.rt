@@ -5,13 +5,11 @@ use ids::TypeId;
 use leaves::plain::Plain;
 use numbers::seven::Padded;
 ghost use mathlib.Core.Path.{_≡_};
-ghost use Prim.Native.Nat.{suc};
 ghost use lib.ListN.{getD};
 ghost use Rattle.ids.specs.Position.{positionOf};
 ghost use Rattle.reading.specs.Seven.{sevenAt};
 ghost use Rattle.objects.specs.Total.{readerAs, identifyAs, objectAs, startAs};
 ghost use Rattle.objects.specs.Start.{positionAt};
-ghost use Rattle.objects.specs.Contracts.{IdentifiesAs, ObjectStartsAs, StartsAs};
 
 // Null; the type of the reader that a type id names; or a refusal's number.
 pub enum Identified {
@@ -55,7 +53,6 @@ fn reader_for(
     declared: usize,
     i: u32,
 ) -> Identified
-    ensures { λ r. ⌜ IdentifiesAs (now (file .entry)) (now (codes .entry)) count target declared (suc i) r ⌝ }
     ensures { λ r. ⌜ r ≡ readerAs (now (file .entry)) (now (codes .entry)) count target declared i ⌝ }
 {
     if count <= i {
@@ -86,7 +83,6 @@ fn identify(
     declared: usize,
     id: TypeId,
 ) -> Identified
-    ensures { λ r. ⌜ IdentifiesAs (now (file .entry)) (now (codes .entry)) count target declared (id .0) r ⌝ }
     ensures { λ r. ⌜ r ≡ identifyAs (now (file .entry)) (now (codes .entry)) count target declared (positionOf (id .0)) ⌝ }
 {
     match id.position() {
@@ -104,7 +100,6 @@ fn object_start(
     declared: usize,
     at: usize,
 ) -> Started
-    ensures { λ r. ⌜ ObjectStartsAs (now (file .entry)) (now (codes .entry)) count target declared at r ⌝ }
     ensures { λ r. ⌜ r ≡ objectAs (now (file .entry)) (now (codes .entry)) count target declared at (sevenAt (now (file .entry)) at) ⌝ }
 {
     match numbers::seven::seven_padded(file, at) {
@@ -133,7 +128,6 @@ pub fn start(
     used: u32,
     depth: u32,
 ) -> Started
-    ensures { λ r. ⌜ StartsAs (now (file .entry)) (now (codes .entry)) count target room slot at used depth r ⌝ }
     ensures { λ r. ⌜ r ≡ startAs (now (file .entry)) (now (codes .entry)) count target room slot at used depth ⌝ }
 {
     match slot {

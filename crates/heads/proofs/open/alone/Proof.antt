@@ -1,5 +1,4 @@
 use Rattle.table.specs.Leaf.{mute}
-use Rattle.heads.specs.Below.{alone-refused, alone-read}
 use borrow.Author.Needs.{needs}
 use Rattle.heads.proofs.open.alone.Statement.{statement}
 use Rattle.heads.proofs.open.alone.Tie as tie
@@ -12,17 +11,11 @@ enum-known-read-2 c = search needs
 
 returns : tie.Need-returns
 unfolding mute
-returns c = (
-  λ file codes x e st. alone-refused file codes x (rw (c .before .read .given .1) at e),
-  rw (c .before .read .given .1),
-)
+returns c = rw (c .before .read .given .1)
 
 returns-2 : tie.Need-returns-2
 unfolding mute
-returns-2 c = (
-  λ file codes x e st. alone-read file codes x (c .before .read2 .given .0 .1 .1 .0) (rw (c .before .read2 .given .1) at e) st,
-  rw (c .before .read2 .given .1),
-)
+returns-2 c = rw (c .before .read2 .given .1)
 
 pub alone-spec : {M : Type 1} → statement M
 alone-spec = tie.close (tie.spec enum-known-read enum-known-read-2 returns returns-2)

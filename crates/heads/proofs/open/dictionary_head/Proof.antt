@@ -3,8 +3,6 @@ use native.Mathlib.Omega.{arith}
 use Rattle.answers.specs.Told.{told}
 use Rattle.reading.specs.Reads.{small-by-index}
 use Rattle.reading.specs.Little.{little-next}
-use Rattle.heads.specs.Below.{opens-refused, opens-head, pairs-refused, pairs-read}
-use Rattle.heads.specs.Slots.{slot-is}
 use borrow.Author.Needs.{needs}
 use Rattle.heads.proofs.open.dictionary_head.Statement.{statement}
 use Rattle.heads.proofs.open.dictionary_head.Tie as tie
@@ -34,16 +32,10 @@ pairs-of-requires : tie.Need-pairs-of-requires
 pairs-of-requires c κs = search needs
 
 returns : tie.Need-returns
-returns c = (
-  λ t u s v. opens-refused _ _ _ (pairs-refused _ _ t u (sym (c .before .before .before .little4 .ensures) ∙ ap told (c .before .number .given .1))),
-  rw (sym (c .before .before .before .little4 .ensures) ∙ ap told (c .before .number .given .1)),
-)
+returns c = rw (sym (c .before .before .before .little4 .ensures) ∙ ap told (c .before .number .given .1))
 
 returns-2 : tie.Need-returns-2
-returns-2 c = (
-  λ t u s v. opens-head _ _ _ _ _ (pairs-read _ _ t u (sym (c .before .before .before .before .before .before .little4 .ensures) ∙ ap told (c .before .before .before .before .n .given .1))) (c .pairs-of .ensures .0 _ _ _ _ (rw (c .before .before .slot-of .ensures) (slot-is t s)) (rw (c .before .slot-of2 .ensures) (slot-is u v))),
-  rw (sym (c .before .before .before .before .before .before .little4 .ensures) ∙ ap told (c .before .before .before .before .n .given .1), c .pairs-of .ensures .1, c .before .before .slot-of .ensures, c .before .slot-of2 .ensures),
-)
+returns-2 c = rw (sym (c .before .before .before .before .before .before .little4 .ensures) ∙ ap told (c .before .before .before .before .n .given .1), c .pairs-of .ensures, c .before .before .slot-of .ensures, c .before .slot-of2 .ensures)
 
 pub dictionary-head-spec : {M : Type 1} → statement M
 dictionary-head-spec =

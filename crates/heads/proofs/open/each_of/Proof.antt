@@ -1,6 +1,4 @@
-use mathlib.Core.Path.{refl}
 use borrow.Author.Needs.{needs}
-use Rattle.leaves.specs.Like.{alike-each}
 use Rattle.heads.proofs.open.each_of.Statement.{statement}
 use Rattle.heads.proofs.open.each_of.Tie as tie
 
@@ -14,24 +12,13 @@ enum-known-slot-3 : tie.Need-enum-known-slot-3
 enum-known-slot-3 c = search needs
 
 returns : tie.Need-returns
-returns c = (
-  λ file codes x s.
-      let w = rw (c .before .slot .given .1) at s in
-      (alike-each (c .before .before .before .args .n) (w .0), w .1),
-  rw (c .before .slot .given .1),
-)
+returns c = rw (c .before .slot .given .1)
 
 returns-2 : tie.Need-returns-2
-returns-2 c = (
-  λ file codes x s. record { slot = x; are = refl; is = rw (c .before .slot2 .given .1) at s },
-  rw (c .before .slot2 .given .1),
-)
+returns-2 c = rw (c .before .slot2 .given .1)
 
 returns-3 : tie.Need-returns-3
-returns-3 c = (
-  λ file codes x s. record { slot = x; are = refl; is = rw (c .before .slot3 .given .1) at s },
-  rw (c .before .slot3 .given .1),
-)
+returns-3 c = rw (c .before .slot3 .given .1)
 
 pub each-of-spec : {M : Type 1} → statement M
 each-of-spec =

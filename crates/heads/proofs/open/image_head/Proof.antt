@@ -2,8 +2,8 @@ use mathlib.Core.Path.{_≡_, sym, ap, _∙_}
 use native.Mathlib.Omega.{arith}
 use Rattle.answers.specs.Told.{told}
 use Rattle.reading.specs.Answer.{read}
-use Rattle.heads.specs.Opens.{rangedAt, widthAt}
-use Rattle.heads.specs.Images.{opens-refused, opens-read, ranged-bounds, image-fields}
+use Rattle.heads.specs.Opens.{rangedAt}
+use Rattle.heads.specs.Images.{ranged-bounds}
 use borrow.Author.Needs.{needs}
 use Rattle.heads.proofs.open.image_head.Statement.{statement}
 use Rattle.heads.proofs.open.image_head.Tie as tie
@@ -33,20 +33,10 @@ image-width-requires c κs =
     b .1
 
 returns : tie.Need-returns
-returns c = (
-  λ codes.
-      let a = c .before .before .before .before .before .args in
-      rw (image-fields (a .file .now) (a .at)) (opens-refused (a .file .now) codes (λ n e. widthAt (a .file .now) n e) (sym (c .before .before .before .ranged .ensures) ∙ ap told (c .before .number .given .1))),
-  rw (sym (c .before .before .before .ranged .ensures) ∙ ap told (c .before .number .given .1)),
-)
+returns c = rw (sym (c .before .before .before .ranged .ensures) ∙ ap told (c .before .number .given .1))
 
 returns-2 : tie.Need-returns-2
-returns-2 c = (
-  λ codes.
-      let a = c .before .before .before .before .before .before .args in
-      rw (image-fields (a .file .now) (a .at)) (opens-read (a .file .now) codes (λ n e. widthAt (a .file .now) n e) (c .image-width .result) (field (c .before)) (c .image-width .ensures .0 codes)),
-  rw (field (c .before)) (c .image-width .ensures .1),
-)
+returns-2 c = rw (field (c .before)) (c .image-width .ensures)
 
 pub image-head-spec : {M : Type 1} → statement M
 image-head-spec =

@@ -2,8 +2,8 @@ use mathlib.Core.Path.{_≡_, sym, ap, _∙_}
 use native.Mathlib.Omega.{arith}
 use Rattle.answers.specs.Told.{told}
 use Rattle.reading.specs.Answer.{read}
-use Rattle.heads.specs.Opens.{rangedAt, heightAt, levelsAt}
-use Rattle.heads.specs.Images.{opens-refused, opens-read, ranged-bounds}
+use Rattle.heads.specs.Opens.{rangedAt, heightAt}
+use Rattle.heads.specs.Images.{ranged-bounds}
 use borrow.Author.Needs.{needs}
 use Rattle.heads.proofs.open.image_height.Statement.{statement}
 use Rattle.heads.proofs.open.image_height.Tie as tie
@@ -35,21 +35,11 @@ image-levels-requires c κs =
 
 returns : tie.Need-returns
 unfolding heightAt
-returns c = (
-  λ codes.
-      let a = c .before .before .before .before .before .args in
-      opens-refused (a .file .now) codes (λ n e. levelsAt (a .file .now) (a .format) (a .width) n e) (sym (c .before .before .before .ranged .ensures) ∙ ap told (c .before .number .given .1)),
-  rw (sym (c .before .before .before .ranged .ensures) ∙ ap told (c .before .number .given .1)),
-)
+returns c = rw (sym (c .before .before .before .ranged .ensures) ∙ ap told (c .before .number .given .1))
 
 returns-2 : tie.Need-returns-2
 unfolding heightAt
-returns-2 c = (
-  λ codes.
-      let a = c .before .before .before .before .before .before .args in
-      opens-read (a .file .now) codes (λ n e. levelsAt (a .file .now) (a .format) (a .width) n e) (c .image-levels .result) (field (c .before)) (c .image-levels .ensures .0 codes),
-  rw (field (c .before)) (c .image-levels .ensures .1),
-)
+returns-2 c = rw (field (c .before)) (c .image-levels .ensures)
 
 pub image-height-spec : {M : Type 1} → statement M
 image-height-spec =

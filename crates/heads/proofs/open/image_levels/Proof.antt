@@ -2,7 +2,7 @@ use mathlib.Core.Path.{sym, ap, _∙_}
 use native.Mathlib.Omega.{arith}
 use Rattle.answers.specs.Told.{told}
 use Rattle.heads.specs.Opens.{levelsAt}
-use Rattle.heads.specs.Images.{chain-bound, ranged-bounds, opens-refused, levels-open}
+use Rattle.heads.specs.Images.{chain-bound, ranged-bounds}
 use borrow.Author.Needs.{needs}
 use Rattle.heads.proofs.open.image_levels.Statement.{statement}
 use Rattle.heads.proofs.open.image_levels.Tie as tie
@@ -31,24 +31,10 @@ cast-levels c =
 
 returns : tie.Need-returns
 unfolding levelsAt
-returns c = (
-  λ codes.
-      let a = c .before .before .before .before .before .before .args in
-      let most = c .before .before .before .before .longest-chain .ensures in
-      opens-refused (a .file .now) codes _ (rw (← most) (sym (c .before .before .before .ranged .ensures) ∙ ap told (c .before .number .given .1))),
-  rw (rw (c .before .before .before .before .longest-chain .ensures) at (sym (c .before .before .before .ranged .ensures) ∙ ap told (c .before .number .given .1))),
-)
+returns c = rw (rw (c .before .before .before .before .longest-chain .ensures) at (sym (c .before .before .before .ranged .ensures) ∙ ap told (c .before .number .given .1)))
 
 returns-2 : tie.Need-returns-2
-returns-2 c = (
-  λ codes.
-      let a = c .before .before .before .before .before .before .args in
-      let p = c .before .before .before .before .before .before .pre in
-      let most = c .before .before .before .before .longest-chain .ensures in
-      let field = sym (c .before .before .before .ranged .ensures) ∙ ap told (c .before .n .given .1) in
-      levels-open (a .file .now) codes (a .format) (a .width) (a .height) (a .at) _ _ (p .0) (p .1) (p .2) (p .3) (p .4) (rw most at field),
-  rw (rw (c .before .before .before .before .longest-chain .ensures) at (sym (c .before .before .before .ranged .ensures) ∙ ap told (c .before .n .given .1))),
-)
+returns-2 c = rw (rw (c .before .before .before .before .longest-chain .ensures) at (sym (c .before .before .before .ranged .ensures) ∙ ap told (c .before .n .given .1)))
 
 pub image-levels-spec : {M : Type 1} → statement M
 image-levels-spec =

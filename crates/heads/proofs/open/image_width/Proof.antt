@@ -2,8 +2,8 @@ use mathlib.Core.Path.{_≡_, sym, ap, _∙_}
 use native.Mathlib.Omega.{arith}
 use Rattle.answers.specs.Told.{told}
 use Rattle.reading.specs.Answer.{read}
-use Rattle.heads.specs.Opens.{rangedAt, widthAt, heightAt}
-use Rattle.heads.specs.Images.{opens-refused, opens-read, ranged-bounds}
+use Rattle.heads.specs.Opens.{rangedAt, widthAt}
+use Rattle.heads.specs.Images.{ranged-bounds}
 use borrow.Author.Needs.{needs}
 use Rattle.heads.proofs.open.image_width.Statement.{statement}
 use Rattle.heads.proofs.open.image_width.Tie as tie
@@ -34,21 +34,11 @@ image-height-requires c κs =
 
 returns : tie.Need-returns
 unfolding widthAt
-returns c = (
-  λ codes.
-      let a = c .before .before .before .before .before .args in
-      opens-refused (a .file .now) codes (λ n e. heightAt (a .file .now) (a .format) n e) (sym (c .before .before .before .ranged .ensures) ∙ ap told (c .before .number .given .1)),
-  rw (sym (c .before .before .before .ranged .ensures) ∙ ap told (c .before .number .given .1)),
-)
+returns c = rw (sym (c .before .before .before .ranged .ensures) ∙ ap told (c .before .number .given .1))
 
 returns-2 : tie.Need-returns-2
 unfolding widthAt
-returns-2 c = (
-  λ codes.
-      let a = c .before .before .before .before .before .before .args in
-      opens-read (a .file .now) codes (λ n e. heightAt (a .file .now) (a .format) n e) (c .image-height .result) (field (c .before)) (c .image-height .ensures .0 codes),
-  rw (field (c .before)) (c .image-height .ensures .1),
-)
+returns-2 c = rw (field (c .before)) (c .image-height .ensures)
 
 pub image-width-spec : {M : Type 1} → statement M
 image-width-spec =

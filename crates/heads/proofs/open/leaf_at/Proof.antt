@@ -2,8 +2,6 @@ use borrow.Author.Tests.{ne-eqb}
 use Rattle.numbers.specs.Padded.{beside}
 use Rattle.heads.specs.Total.{leafAs}
 use mathlib.Core.Path.{ap, _∙_}
-use Rattle.table.specs.Leaf.{mute}
-use Rattle.heads.specs.Images.{beside-mute, char-leaf, text-leaf, fixed-leaf}
 use borrow.Author.Needs.{needs}
 use Rattle.heads.proofs.open.leaf_at.Statement.{statement}
 use Rattle.heads.proofs.open.leaf_at.Tie as tie
@@ -28,31 +26,15 @@ unpadded-requires-2 c κs = search needs
 
 returns : tie.Need-returns
 unfolding leafAs
-returns c = (
-  λ t l e.
-      let a = c .before .before .before .before .args in
-      ap mute (c .unpadded .ensures) ∙ beside-mute 0 _ ∙ ap mute (c .before .char-at .ensures) ∙ char-leaf (a .file .now) (a .at) t l (e ∙ c .before .before .match .keys1),
-  rw (c .before .before .match .keys1) (c .unpadded .ensures ∙ ap (beside 0) (c .before .char-at .ensures)),
-)
+returns c = rw (c .before .before .match .keys1) (c .unpadded .ensures ∙ ap (beside 0) (c .before .char-at .ensures))
 
 returns-2 : tie.Need-returns-2
 unfolding leafAs
-returns-2 c = (
-  λ t l e.
-      let a = c .before .before .before .args in
-      ap mute (c .text-at .ensures) ∙ beside-mute _ _ ∙ text-leaf (a .file .now) (a .at) t l (e ∙ c .before .match .keys2),
-  rw (c .before .match .keys2) (c .text-at .ensures),
-)
+returns-2 c = rw (c .before .match .keys2) (c .text-at .ensures)
 
 returns-3 : tie.Need-returns-3
 unfolding leafAs
-returns-3 c = (
-  λ t l e.
-      let a = c .before .before .before .before .before .args in
-      let rest = c .before .before .before .match .rest in
-      ap mute (c .unpadded2 .ensures) ∙ beside-mute 0 _ ∙ ap mute (c .before .fixed-at .ensures) ∙ fixed-leaf (a .file .now) (a .at) t _ _ l e (c .before .before .bytes-of .ensures) (rest .0 .1) (rest .1),
-  rw (ne-eqb _ 12 (c .before .before .before .match .rest .0 .1), ne-eqb _ 13 (c .before .before .before .match .rest .1), ← c .before .before .bytes-of .ensures) (c .unpadded2 .ensures ∙ ap (beside 0) (c .before .fixed-at .ensures)),
-)
+returns-3 c = rw (ne-eqb _ 12 (c .before .before .before .match .rest .0 .1), ne-eqb _ 13 (c .before .before .before .match .rest .1), ← c .before .before .bytes-of .ensures) (c .unpadded2 .ensures ∙ ap (beside 0) (c .before .fixed-at .ensures))
 
 pub leaf-at-spec : {M : Type 1} → statement M
 leaf-at-spec =

@@ -3,8 +3,6 @@ use native.Mathlib.Omega.{arith}
 use Rattle.answers.specs.Told.{told}
 use Rattle.reading.specs.Reads.{small-by-index}
 use Rattle.reading.specs.Little.{little-next}
-use Rattle.heads.specs.Below.{opens-refused, opens-head, list-refused, list-read}
-use Rattle.heads.specs.Slots.{slot-is}
 use borrow.Author.Needs.{needs}
 use Rattle.heads.proofs.open.list_head.Statement.{statement}
 use Rattle.heads.proofs.open.list_head.Tie as tie
@@ -31,16 +29,10 @@ each-of-requires : tie.Need-each-of-requires
 each-of-requires c κs = search needs
 
 returns : tie.Need-returns
-returns c = (
-  λ t s. opens-refused _ _ _ (list-refused _ _ t (sym (c .before .before .before .little4 .ensures) ∙ ap told (c .before .number .given .1))),
-  rw (sym (c .before .before .before .little4 .ensures) ∙ ap told (c .before .number .given .1)),
-)
+returns c = rw (sym (c .before .before .before .little4 .ensures) ∙ ap told (c .before .number .given .1))
 
 returns-2 : tie.Need-returns-2
-returns-2 c = (
-  λ t s. opens-head _ _ _ _ _ (list-read _ _ t (sym (c .before .before .before .before .before .little4 .ensures) ∙ ap told (c .before .before .before .n .given .1))) (c .each-of .ensures .0 _ _ _ (rw (c .before .slot-of .ensures) (slot-is t s))),
-  rw (sym (c .before .before .before .before .before .little4 .ensures) ∙ ap told (c .before .before .before .n .given .1), c .each-of .ensures .1, c .before .slot-of .ensures),
-)
+returns-2 c = rw (sym (c .before .before .before .before .before .little4 .ensures) ∙ ap told (c .before .before .before .n .given .1), c .each-of .ensures, c .before .slot-of .ensures)
 
 pub list-head-spec : {M : Type 1} → statement M
 list-head-spec =

@@ -1,6 +1,4 @@
-use mathlib.Core.Path.{refl}
 use borrow.Author.Needs.{needs}
-use Rattle.leaves.specs.Like.{alike-pairs}
 use Rattle.heads.proofs.open.pairs_of.Statement.{statement}
 use Rattle.heads.proofs.open.pairs_of.Tie as tie
 
@@ -23,37 +21,19 @@ enum-known-key-3 : tie.Need-enum-known-key-3
 enum-known-key-3 c = search needs
 
 returns : tie.Need-returns
-returns c = (
-  λ file codes x y k v.
-      let p = rw (c .before .before .before .before .key .given .1) at k in
-      let q = rw (c .before .value .given .1) at v in
-      (alike-pairs (c .before .before .before .before .before .before .args .n) (p .0) (q .0), (p .1, q .1)),
-  rw (c .before .before .before .before .key .given .1, c .before .value .given .1),
-)
+returns c = rw (c .before .before .before .before .key .given .1, c .before .value .given .1)
 
 returns-2 : tie.Need-returns-2
-returns-2 c = (
-  λ file codes x y k v. record { key = x; value = y; are = refl; key-is = rw (c .before .before .before .before .key .given .1) at k; value-is = rw (c .before .value2 .given .1) at v },
-  rw (c .before .before .before .before .key .given .1, c .before .value2 .given .1),
-)
+returns-2 c = rw (c .before .before .before .before .key .given .1, c .before .value2 .given .1)
 
 returns-3 : tie.Need-returns-3
-returns-3 c = (
-  λ file codes x y k v. record { key = x; value = y; are = refl; key-is = rw (c .before .before .before .before .key .given .1) at k; value-is = rw (c .before .value3 .given .1) at v },
-  rw (c .before .before .before .before .key .given .1, c .before .value3 .given .1),
-)
+returns-3 c = rw (c .before .before .before .before .key .given .1, c .before .value3 .given .1)
 
 returns-4 : tie.Need-returns-4
-returns-4 c = (
-  λ file codes x y k v. record { key = x; value = y; are = refl; key-is = rw (c .before .key2 .given .1) at k; value-is = v },
-  rw (c .before .key2 .given .1),
-)
+returns-4 c = rw (c .before .key2 .given .1)
 
 returns-5 : tie.Need-returns-5
-returns-5 c = (
-  λ file codes x y k v. record { key = x; value = y; are = refl; key-is = rw (c .before .key3 .given .1) at k; value-is = v },
-  rw (c .before .key3 .given .1),
-)
+returns-5 c = rw (c .before .key3 .given .1)
 
 pub pairs-of-spec : {M : Type 1} → statement M
 pairs-of-spec =

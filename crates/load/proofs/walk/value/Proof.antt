@@ -1,6 +1,15 @@
 use mathlib.Core.Path.{sym}
-use Prim.Native.Nat.{ℕ, _-_}
+use Prim.Native.Nat.{ℕ, _-_, _≤_}
 use native.Mathlib.Omega.{arith}
+use mathlib.Core.List.{List}
+use lib.ListN.{length}
+use Rattle.layout.specs.Target.{Target}
+use Rattle.layout.specs.Slot.{Slot}
+use Rattle.readers.specs.declared.Readers.{Readers}
+use Rattle.readers.specs.Listed.{Listed}
+use Rattle.heads.specs.Slots.{SlotIs}
+use Rattle.objects.specs.Start.{Has, positionAt, Starts}
+use Rattle.objects.specs.Meaning.{starts-as}
 use Rattle.reading.specs.Drafts.{nothing}
 use Rattle.reading.specs.Answer.{read}
 use Rattle.reading.specs.Reads.{small-by-index}
@@ -13,6 +22,18 @@ use Rattle.leaves.specs.Like.{like-walk}
 use borrow.Author.Needs.{needs}
 use Rattle.load.proofs.walk.value.Statement.{statement}
 use Rattle.load.proofs.walk.value.Tie as tie
+
+-- what the value begins with
+starting : (c : tie.After-start) (rd : Readers) (readers : List Target) (x : Slot)
+    → Has rd (c .before .before .before .before .args .count) (positionAt (c .before .before .before .before .args .file .now) (c .before .before .before .before .args .at)) (c .before .before .before .before .args .target)
+    → Listed (c .before .before .before .before .args .file .now) (c .before .before .before .before .args .codes .now) rd readers
+    → SlotIs (c .before .before .before .before .args .file .now) (c .before .before .before .before .args .codes .now) (c .before .before .before .before .args .slot) x
+    → c .before .before .before .before .args .at ≤ length (c .before .before .before .before .args .file .now)
+    → Starts (c .before .before .before .before .args .file .now) (c .before .before .before .before .args .codes .now) readers (c .before .before .before .before .args .grid .room) (c .before .before .before .before .args .depth) x (c .before .before .before .before .args .at) (c .before .before .before .before .args .used) (c .start .result)
+starting c rd readers x h l s p =
+    let a = c .before .before .before .before .args in
+    let small = small-by-index (a .file .now) (λ i h. omega (arith, c .before .before .before .shared-slice-known .given i)) in
+    rw (c .start .ensures) (starts-as (a .file .now) (a .codes .now) (a .count) (a .target) rd readers l small (a .grid .room) (a .slot) (a .at) (a .used) (a .depth) x h s p)
 
 start-requires : tie.Need-start-requires
 start-requires c κs = search needs
@@ -43,17 +64,17 @@ enum-known-place c = search needs
 
 sub-raw-step : tie.Need-sub-raw-step
 sub-raw-step c = let p = c .before .before .before .before .before .before .before .before .pre in
-    let s = rw (c .before .before .place .given .1) at (c .before .before .before .before .start .ensures .0 (p .1 .rd) (p .1 .readers) (p .2 .x) (p .1 .has) (p .1 .listed) (p .2 .is) (p .0 .place)) in
+    let s = rw (c .before .before .place .given .1) at (starting (c .before .before .before .before) (p .1 .rd) (p .1 .readers) (p .2 .x) (p .1 .has) (p .1 .listed) (p .2 .is) (p .0 .place)) in
     omega (arith, s .deep)
 
 raw-step-requires : tie.Need-raw-step-requires
 raw-step-requires c κs = let p = c .before .before .before .before .before .before .before .before .pre in
-    let s = rw (c .before .before .place .given .1) at (c .before .before .before .before .start .ensures .0 (p .1 .rd) (p .1 .readers) (p .2 .x) (p .1 .has) (p .1 .listed) (p .2 .is) (p .0 .place)) in
+    let s = rw (c .before .before .place .given .1) at (starting (c .before .before .before .before) (p .1 .rd) (p .1 .readers) (p .2 .x) (p .1 .has) (p .1 .listed) (p .2 .is) (p .0 .place)) in
     record { long = p .0 .long; few = p .0 .few; free = s .free; begun = s .ahead; place = s .inside; short = p .0 .short; ided = s .ided }
 
 returns : tie.Need-returns
 returns c = λ rd readers x h l s.
-    let b = rw (c .before .number .given .1) at (c .before .before .before .start .ensures .0 rd readers x h l s (c .before .before .before .before .before .before .before .pre .0 .place)) in
+    let b = rw (c .before .number .given .1) at (starting (c .before .before .before) rd readers x h l s (c .before .before .before .before .before .before .before .pre .0 .place)) in
     refusing (b (c .before .before .before .before .before .before .before .args .shared) (c .before .before .before .before .before .before .before .args .parent))
 
 same-length : tie.Need-same-length
@@ -63,7 +84,7 @@ returns-2 : tie.Need-returns-2
 returns-2 c = λ rd readers x h l s.
     let a = c .before .before .before .before .before .before .before .before .before .before .before .before .args in
     let small = small-by-index (a .file .now) (λ i h. omega (arith, c .before .before .before .before .before .before .before .before .before .before .before .shared-slice-known .given i)) in
-    let b = rw (c .before .before .before .before .before .before .plain .given .1) at (c .before .before .before .before .before .before .before .before .start .ensures .0 rd readers x h l s (c .before .before .before .before .before .before .before .before .before .before .before .before .pre .0 .place)) in
+    let b = rw (c .before .before .before .before .before .before .plain .given .1) at (starting (c .before .before .before .before .before .before .before .before) rd readers x h l s (c .before .before .before .before .before .before .before .before .before .before .before .before .pre .0 .place)) in
     let e = c .before .before .before .read-plain .ensures in
     let w = plain-walked (a .file .now) (a .grid) (a .shared) (c .before .before .before .before .before .before .plain .given .0 .0) (a .at) (a .used) (a .words .now) small (c .before .before .before .before .before .before .before .before .before .before .before .before .pre .0) (b .1) readers (a .depth) (a .parent) in
     let v = rw (sym (like-walk (a .file .now) readers (a .shared) (a .grid .room) (a .depth) (b .0) (a .at) (a .used) (a .parent))) at w in
@@ -78,7 +99,7 @@ returns-3 c = λ rd readers x h l s.
     let a = c .before .before .before .before .before .before .before .before .before .before .before .before .args in
     let p = c .before .before .before .before .before .before .before .before .before .before .before .before .pre .0 in
     let small = small-by-index (a .file .now) (λ i h. omega (arith, c .before .before .before .before .before .before .before .before .before .before .before .shared-slice-known .given i)) in
-    let b = rw (c .before .before .before .before .before .before .next .given .1) at (c .before .before .before .before .before .before .before .before .start .ensures .0 rd readers x h l s (p .place)) in
+    let b = rw (c .before .before .before .before .before .before .next .given .1) at (starting (c .before .before .before .before .before .before .before .before) rd readers x h l s (p .place)) in
     let e = c .before .before .before .leaf .ensures in
     let free : Free (a .grid) (a .words .now) (a .used) = record { long = p .long; there = b .free; few = omega (arith, b .free, p .few) } in
     rw (c .walked-step2 .ensures, e .0, e .1, b .is (a .shared) (a .parent)) (leaf-walked {A = ℕ} (a .grid) (a .file .now) (a .words .now) (headOf (a .used) (a .at) (a .parent) 0 (c .before .before .before .before .before .before .next .given .0 .1 .0)) 0 nothing (read 0 _) free (b .ahead, omega (arith, b .inside, p .short)) (null-pads (a .file .now) small (a .used) (a .at) (a .parent) (b .pads)))
@@ -89,7 +110,7 @@ same-length-3 c = search needs
 returns-4 : tie.Need-returns-4
 returns-4 c = λ rd readers x h l s.
     let a = c .before .before .before .before .before .before .before .before .before .before .before .args in
-    let b = rw (c .before .before .before .before .before .place .given .1) at (c .before .before .before .before .before .before .before .start .ensures .0 rd readers x h l s (c .before .before .before .before .before .before .before .before .before .before .before .pre .0 .place)) in
+    let b = rw (c .before .before .before .before .before .place .given .1) at (starting (c .before .before .before .before .before .before .before) rd readers x h l s (c .before .before .before .before .before .before .before .before .before .before .before .pre .0 .place)) in
     raw-steps (a .grid) (a .file .now) (a .codes .now) readers (a .shared) (a .depth) (a .depth - 1) x (a .at) (a .used) (a .parent) _ _ _ _ (a .words .now) (c .before .before .raw-step .last .1 .1 .0) (c .before .before .raw-step .result) (omega (arith, b .deep)) b (c .before .before .raw-step .ensures readers (b .type) (b .stands))
 
 pub value-spec : {M : Type 1} → statement M

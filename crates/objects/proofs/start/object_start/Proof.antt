@@ -4,7 +4,6 @@ use Rattle.reading.specs.Answer.{read}
 use Rattle.reading.specs.Reads.{Small, small-by-index}
 use Rattle.reading.specs.Seven.{sevenAt, seven-next}
 use Rattle.numbers.specs.Padded.{padOf, toldPadded, number-read, number-refused}
-use Rattle.objects.specs.Start.{no-number, has-named, null-starts, read-starts, unread}
 use borrow.Author.Needs.{needs}
 use Rattle.objects.proofs.start.object_start.Statement.{statement}
 use Rattle.objects.proofs.start.object_start.Tie as tie
@@ -44,32 +43,22 @@ enum-known-number-2 c = search needs
 returns : tie.Need-returns
 returns c =
     let a = c .before .before .before .before .before .before .args in
-    let e = number-refused (a .at) (sevenAt (a .file .now) (a .at)) (sym (ap toldPadded (c .before .number .given .1)) ∙ c .before .before .before .seven-padded .ensures) in
-    (λ rd readers d h l s. no-number _ (a .codes .now) readers d _ e, rw e)
+    rw (number-refused (a .at) (sevenAt (a .file .now) (a .at)) (sym (ap toldPadded (c .before .number .given .1)) ∙ c .before .before .before .seven-padded .ensures))
 
 returns-2 : tie.Need-returns-2
 returns-2 c =
-    let a = c .before .before .before .before .before .before .before .before .before .args in
-    let n = number (c .before .before .before) in (
-      λ rd readers d h l p. null-starts (a .file .now) (a .codes .now) readers d _ (small (c .before .before .before)) (n .0) (n .1) (rw (c .enum-told .given .1) at (c .before .before .identify .ensures .0 rd readers d (has-named (a .file .now) (a .at) (n .0) h) l p)),
-      rw (n .1, n .0, sym (c .before .before .identify .ensures .1) ∙ c .enum-told .given .1),
-    )
+    let n = number (c .before .before .before) in
+    rw (n .1, n .0, sym (c .before .before .identify .ensures) ∙ c .enum-told .given .1)
 
 returns-3 : tie.Need-returns-3
 returns-3 c =
-    let a = c .before .before .before .before .before .before .before .before .before .before .args in
-    let n = number (c .before .before .before .before) in (
-      λ rd readers d h l p. read-starts (a .file .now) (a .codes .now) readers d _ (small (c .before .before .before .before)) (n .0) (n .1) (rw (c .before .place .given .1) at (c .before .before .before .identify .ensures .0 rd readers d (has-named (a .file .now) (a .at) (n .0) h) l p)),
-      rw (n .1, n .0, sym (c .before .before .before .identify .ensures .1) ∙ c .before .place .given .1),
-    )
+    let n = number (c .before .before .before .before) in
+    rw (n .1, n .0, sym (c .before .before .before .identify .ensures) ∙ c .before .place .given .1)
 
 returns-4 : tie.Need-returns-4
 returns-4 c =
-    let a = c .before .before .before .before .before .before .before .before .before .before .args in
-    let n = number (c .before .before .before .before) in (
-      λ rd readers d h l p. unread (a .file .now) (a .codes .now) readers d _ (small (c .before .before .before .before)) (n .0) (n .1) (rw (c .before .number2 .given .1) at (c .before .before .before .identify .ensures .0 rd readers d (has-named (a .file .now) (a .at) (n .0) h) l p)),
-      rw (n .0, sym (c .before .before .before .identify .ensures .1) ∙ c .before .number2 .given .1),
-    )
+    let n = number (c .before .before .before .before) in
+    rw (n .0, sym (c .before .before .before .identify .ensures) ∙ c .before .number2 .given .1)
 
 pub object-start-spec : {M : Type 1} → statement M
 object-start-spec =

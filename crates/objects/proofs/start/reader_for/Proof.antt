@@ -1,60 +1,39 @@
 use borrow.Author.Tests.{le-leb, lt-leb, eq-eqb, ne-eqb}
 use Rattle.objects.specs.Total.{readerAs, placeAs}
 use mathlib.Core.Path.{sym, _∙_}
-use mathlib.Core.Bool.{true, false}
-use mathlib.Core.Logic.{inl, inr}
-use Rattle.objects.specs.Start.{beyond-list, beyond-most, never-called, called-by}
 use borrow.Author.Needs.{needs}
 use Rattle.objects.proofs.start.reader_for.Statement.{statement}
 use Rattle.objects.proofs.start.reader_for.Tie as tie
 
 returns : tie.Need-returns
 unfolding readerAs placeAs
-returns c = (
-  λ rd readers d h l s. beyond-list h l s (c .if1 .taken),
-  rw (le-leb _ _ (c .if1 .taken)),
-)
+returns c = rw (le-leb _ _ (c .if1 .taken))
 
 returns-2 : tie.Need-returns-2
 unfolding readerAs placeAs
-returns-2 c = (
-  λ rd readers d h l s. beyond-most h l s (c .if2 .taken),
-  rw (lt-leb _ _ (c .before .if1 .left), le-leb 64 _ (c .if2 .taken)),
-)
+returns-2 c = rw (lt-leb _ _ (c .before .if1 .left), le-leb 64 _ (c .if2 .taken))
 
 kind-at-requires : tie.Need-kind-at-requires
 kind-at-requires c κs = search needs
 
 returns-3 : tie.Need-returns-3
 unfolding readerAs placeAs
-returns-3 c = (
-  λ rd readers d h l s. never-called h l s (c .before .before .before .if1 .left) (c .before .kind-at .ensures) (inl (c .if3 .taken)),
-  rw (lt-leb _ _ (c .before .before .before .if1 .left), lt-leb 64 _ (c .before .before .if2 .left), ← c .before .kind-at .ensures, eq-eqb _ 14 (c .if3 .taken)),
-)
+returns-3 c = rw (lt-leb _ _ (c .before .before .before .if1 .left), lt-leb 64 _ (c .before .before .if2 .left), ← c .before .kind-at .ensures, eq-eqb _ 14 (c .if3 .taken))
 
 returns-4 : tie.Need-returns-4
 unfolding readerAs placeAs
-returns-4 c = (
-  λ rd readers d h l s. never-called h l s (c .before .before .before .before .if1 .left) (c .before .before .kind-at .ensures) (inr (c .if4 .taken)),
-  rw (lt-leb _ _ (c .before .before .before .before .if1 .left), lt-leb 64 _ (c .before .before .before .if2 .left), ← c .before .before .kind-at .ensures, ne-eqb _ 14 (c .before .if3 .left), eq-eqb _ 31 (c .if4 .taken)),
-)
+returns-4 c = rw (lt-leb _ _ (c .before .before .before .before .if1 .left), lt-leb 64 _ (c .before .before .before .if2 .left), ← c .before .before .kind-at .ensures, ne-eqb _ 14 (c .before .if3 .left), eq-eqb _ 31 (c .if4 .taken))
 
 fits-requires : tie.Need-fits-requires
 fits-requires c κs = search needs
 
 returns-5 : tie.Need-returns-5
 unfolding readerAs placeAs
-returns-5 c = (
-  λ rd readers d h l s. called-by h l s (c .before .before .before .before .before .before .if1 .left) (c .before .before .before .before .kind-at .ensures) (c .before .before .before .if3 .left) (c .before .before .if4 .left) true (sym (c .before .fits2 .ensures) ∙ c .if5 .taken),
-  rw (lt-leb _ _ (c .before .before .before .before .before .before .if1 .left), lt-leb 64 _ (c .before .before .before .before .before .if2 .left), ← c .before .before .before .before .kind-at .ensures, ne-eqb _ 14 (c .before .before .before .if3 .left), ne-eqb _ 31 (c .before .before .if4 .left), sym (c .before .fits2 .ensures) ∙ c .if5 .taken),
-)
+returns-5 c = rw (lt-leb _ _ (c .before .before .before .before .before .before .if1 .left), lt-leb 64 _ (c .before .before .before .before .before .if2 .left), ← c .before .before .before .before .kind-at .ensures, ne-eqb _ 14 (c .before .before .before .if3 .left), ne-eqb _ 31 (c .before .before .if4 .left), sym (c .before .fits2 .ensures) ∙ c .if5 .taken)
 
 returns-6 : tie.Need-returns-6
 unfolding readerAs placeAs
-returns-6 c = (
-  λ rd readers d h l s. called-by h l s (c .before .before .before .before .before .before .if1 .left) (c .before .before .before .before .kind-at .ensures) (c .before .before .before .if3 .left) (c .before .before .if4 .left) false (sym (c .before .fits2 .ensures) ∙ c .if5 .left),
-  rw (lt-leb _ _ (c .before .before .before .before .before .before .if1 .left), lt-leb 64 _ (c .before .before .before .before .before .if2 .left), ← c .before .before .before .before .kind-at .ensures, ne-eqb _ 14 (c .before .before .before .if3 .left), ne-eqb _ 31 (c .before .before .if4 .left), sym (c .before .fits2 .ensures) ∙ c .if5 .left),
-)
+returns-6 c = rw (lt-leb _ _ (c .before .before .before .before .before .before .if1 .left), lt-leb 64 _ (c .before .before .before .before .before .if2 .left), ← c .before .before .before .before .kind-at .ensures, ne-eqb _ 14 (c .before .before .before .if3 .left), ne-eqb _ 31 (c .before .before .if4 .left), sym (c .before .fits2 .ensures) ∙ c .if5 .left)
 
 pub reader-for-spec : {M : Type 1} → statement M
 reader-for-spec =
