@@ -4,3 +4,5 @@ pub mod Roots
 pub mod Objects
 pub mod Total
 pub mod Flat
+pub mod OneRow
+pub mod Meaning

@@ -3,7 +3,7 @@ use mathlib.Core.Path.{_≡_, refl}
 use mathlib.Core.Bool.{Bool, true, false}
 use mathlib.Core.List.{List, [], _∷_, map}
 use Prim.Native.Nat.{ℕ, _*_, _≤_}
-use lib.ListN.{length, drop}
+use lib.ListN.{length}
 use Rattle.layout.specs.Rows.{width, words}
 use Rattle.reading.specs.Answer.{Answer, refused, check}
 use Rattle.reading.specs.Resource.{suits}
@@ -62,7 +62,3 @@ leftOf (Wrong first) exit cleared = exit
 pub record Settles (shared : List ℕ) (ds : List Draft) (exit cleared : List ℕ) (r : Settled) : Type 0 where
   pub answers : r ≡ settledOf shared ds
   pub leaves : exit ≡ leftOf r exit cleared
-
--- drafts that stand in the words are judged, and become the rows of 01
-abbrev pub SettlesDrafts : Grid → (entry exit : List ℕ) (used : ℕ) → Settled → Type 0
-SettlesDrafts g entry exit used r = (ds : List Draft) (w : List ℕ) → Drafted g entry used ds w → Settles (drop 1 (rootKinds ds)) ds exit (settled g w ds) r

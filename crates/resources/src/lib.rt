@@ -13,7 +13,6 @@ ghost use lib.ListN.{length, getD, drop, set};
 ghost use Rattle.layout.specs.Rows.{width};
 ghost use Rattle.reading.specs.Drafts.{resource};
 ghost use Rattle.reading.specs.Resource.{suit, suits};
-ghost use Rattle.resources.specs.Settled.{SettlesDrafts};
 ghost use Rattle.resources.specs.Roots.{padded, NotesRow};
 ghost use Rattle.resources.specs.Total.{NoneAmong, anyReference, nullCleared, rootsOf, rowSettled, rowsSettled, settleFrom, settleOf};
 
@@ -239,7 +238,6 @@ fn any_reference(words: &[u32], grid: Grid, used: u32) -> bool
 // Judges the references of the first `used` rows, and clears their marks: drafts that stand in the words become the rows of 01.
 // Rows that there is no room for may share words, so the kinds are looked up before a mark among them is cleared.
 pub fn settle(words: &mut [u32], grid: Grid, used: u32) -> Settled
-    ensures { λ r. ⌜ SettlesDrafts grid (now (words .entry)) (now (words .exit)) used r ⌝ }
     ensures { λ r. ⌜ r ≡ settleOf grid (now (words .entry)) used .0 ⌝ }
     ensures { λ _. ⌜ now (words .exit) ≡ settleOf grid (now (words .entry)) used .1 ⌝ }
 {

@@ -1,9 +1,7 @@
--- `resources::settle` meets its contract; what it says of drafts follows from its equations. Assumes nothing.
 use mathlib.Core.Path.{_≡_, refl, sym, _∙_}
 use Prim.Native.Nat.{_-_}
 use native.Mathlib.Omega.{arith}
 use borrow.Author.Tests.{not-true}
-use Rattle.resources.proofs.Passed.{drafted-settles}
 use Rattle.resources.proofs.Unmarked.{none-left}
 use borrow.Author.Needs.{needs}
 use Rattle.resources.proofs.settle.Statement.{statement}
@@ -19,7 +17,7 @@ returns : tie.Need-returns
 returns c =
     let none = sym (c .before .any-reference .ensures) ∙ not-true _ (c .if1 .taken) in
     let fine = none-left _ _ _ none in
-    (λ rows rest d. rw fine at (drafted-settles d), rw fine (refl, refl))
+    rw fine (refl, refl)
 
 judge-from-requires : tie.Need-judge-from-requires
 judge-from-requires c κs = search needs
@@ -31,8 +29,7 @@ returns-2 : tie.Need-returns-2
 returns-2 c =
     let used = c .before .before .before .before .before .before .before .before .before .before .args .used in
     let z : used - 0 ≡ used = omega arith in
-    let j = rw z at (c .before .before .judge-from .ensures) in
-    (λ rows rest d. rw (j .0, j .1) (drafted-settles d), j)
+    rw z at (c .before .before .judge-from .ensures)
 
 judge-all-requires : tie.Need-judge-all-requires
 judge-all-requires c κs = search needs
@@ -41,9 +38,7 @@ same-length-3 : tie.Need-same-length-3
 same-length-3 c = search needs
 
 returns-3 : tie.Need-returns-3
-returns-3 c =
-    let j = c .before .before .judge-all .ensures in
-    (λ rows rest d. rw (j .0, j .1) (drafted-settles d), j)
+returns-3 c = c .before .before .judge-all .ensures
 
 pub settle-spec : {M : Type 1} → statement M
 settle-spec =

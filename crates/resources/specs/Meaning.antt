@@ -17,7 +17,7 @@ use Rattle.resources.specs.declared.Settled.{Settled}
 use Rattle.resources.specs.Marked.{Marked}
 use Rattle.resources.specs.Settled.{settledOf, settled, Settles, Drafted}
 use Rattle.resources.specs.Total.{rootsFrom, rootsOf, onward, rowsSettled, settleOf}
-use Rattle.resources.proofs.OneRow.{stored, wide-append, word-at, cleared, row-settled}
+use Rattle.resources.specs.OneRow.{stored, wide-append, word-at, cleared, row-settled}
 
 module _ (g : Grid) (w : List ℕ) (long : width * g .room ≤ length w) where
   -- rows that are stored, and drafts behind them
@@ -90,8 +90,12 @@ none-before d = record { there = d .stand; place = refl; wide = tt; fits = omega
 roots-drafted : {g : Grid} {entry w : List ℕ} {used : ℕ} {ds : List Draft} → Drafted g entry used ds w → rootsOf g entry used ≡ rootKinds ds
 roots-drafted {g} {entry} {w} {used} {ds} d = rw (d .count, roots-from g w (d .long) ds (none-before d)) (take-all 257 (rootKinds ds) (d .few))
 
--- what is answered and left where drafts stand in the words
-pub drafted-settles : {g : Grid} {entry w : List ℕ} {used : ℕ} {ds : List Draft} → Drafted g entry used ds w
+-- what `settle` answers and leaves where drafts stand in the words
+drafted-settles : {g : Grid} {entry w : List ℕ} {used : ℕ} {ds : List Draft} → Drafted g entry used ds w
     → Settles (drop 1 (rootKinds ds)) ds (settleOf g entry used .1) (settled g w ds) (settleOf g entry used .0)
 unfolding settled
 drafted-settles {g} {entry} {w} {used} {ds} d = rw (roots-drafted d, d .count) (rows-settled g w (d .long) (drop 1 (rootKinds ds)) ds (d .marked) (none-before d))
+
+pub settles-drafts : {g : Grid} {entry exit w : List ℕ} {used : ℕ} {ds : List Draft} {r : Settled} → r ≡ settleOf g entry used .0 → exit ≡ settleOf g entry used .1 → Drafted g entry used ds w
+    → Settles (drop 1 (rootKinds ds)) ds exit (settled g w ds) r
+settles-drafts e f d = rw (e, f) (drafted-settles d)
