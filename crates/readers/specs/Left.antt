@@ -82,14 +82,6 @@ readersLeft es file n next c t s = readersFrom es file n 0 preludeSize next 0 c 
 abbrev pub arraysLeft : List EnumEntry → (file : List ℕ) (n next : ℕ) (codes targets starts : List ℕ) → Arrays
 arraysLeft es file n next c t s = readersLeft es file n next c t s .1
 
--- the three arrays of an equation
-pub each-array : {x : Arrays} {c t s : List ℕ} → x ≡ arrays c t s → (c ≡ x .codes) × ((t ≡ x .targets) × (s ≡ x .starts))
-each-array e = rw e (refl, (refl, refl))
-
--- the answer and the three arrays of an equation
-pub each-part : {x : Steps} {r : Many} {c t s : List ℕ} → x ≡ (r, arrays c t s) → (r ≡ x .0) × ((c ≡ x .1 .codes) × ((t ≡ x .1 .targets) × (s ≡ x .1 .starts)))
-each-part e = rw e (refl, (refl, (refl, refl)))
-
 -- how many codes so many readers may need: the prelude, 93 for each reader before the last, and 187 while the last one's name is judged
 unfoldable pub codesFor : (readers : ℕ) → ℕ
 codesFor zero = preludeSize

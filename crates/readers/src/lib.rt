@@ -14,7 +14,7 @@ ghost use Rattle.readers.specs.Judged.{judgedName};
 ghost use Rattle.readers.specs.Parts.{upTo, versionAt, endOf, namedAt, Ready, Takes};
 ghost use Rattle.readers.specs.Contract.{Sized, ReadsCounted, ReadsListsAt};
 ghost use Rattle.readers.specs.Turns.{Ends};
-ghost use Rattle.readers.specs.Left.{namedLeft, readerLeft, readersLeft, arraysLeft, codesFor, listsLeft};
+ghost use Rattle.readers.specs.Left.{namedLeft, readerLeft, readersLeft, arraysLeft, codesFor, listsLeft, arrays};
 
 // The types and names of the first `count` readers.
 pub struct Readers {
@@ -146,14 +146,8 @@ fn readers_at(
     requires { ⌜ Sized (now file) n (now codes) (now targets) (now starts) ⌝ }
     ensures { λ r. ⌜ Ends (enumsOf (now (enums .entry))) (now (file .entry))
         (now (codes .entry)) (now (codes .exit)) (now (targets .exit)) (now (starts .exit)) n at r ⌝ }
-    ensures { λ r. ⌜ r
-        ≡ readersLeft (enumsOf (now (enums .entry))) (now (file .entry)) n at (now (codes .entry)) (now (targets .entry)) (now (starts .entry)) .0 ⌝ }
-    ensures { λ _. ⌜ now (codes .exit)
-        ≡ arraysLeft (enumsOf (now (enums .entry))) (now (file .entry)) n at (now (codes .entry)) (now (targets .entry)) (now (starts .entry)) .codes ⌝ }
-    ensures { λ _. ⌜ now (targets .exit)
-        ≡ arraysLeft (enumsOf (now (enums .entry))) (now (file .entry)) n at (now (codes .entry)) (now (targets .entry)) (now (starts .entry)) .targets ⌝ }
-    ensures { λ _. ⌜ now (starts .exit)
-        ≡ arraysLeft (enumsOf (now (enums .entry))) (now (file .entry)) n at (now (codes .entry)) (now (targets .entry)) (now (starts .entry)) .starts ⌝ }
+    ensures { λ r. ⌜ readersLeft (enumsOf (now (enums .entry))) (now (file .entry)) n at (now (codes .entry)) (now (targets .entry)) (now (starts .entry))
+        ≡ (r, arrays (now (codes .exit)) (now (targets .exit)) (now (starts .exit))) ⌝ }
 {
     let mut i = 0;
     let mut used: usize = targets::PRELUDE;
@@ -199,12 +193,8 @@ fn counted(
     requires { ⌜ Sized (now file) n (now codes) (now targets) (now starts) × (padding ≤ 4) ⌝ }
     ensures { λ r. ⌜ ReadsCounted (enumsOf (now (enums .entry))) (now (file .entry)) n at padding
         (now (codes .entry)) (now (codes .exit)) (now (targets .exit)) (now (starts .exit)) r ⌝ }
-    ensures { λ _. ⌜ now (codes .exit)
-        ≡ arraysLeft (enumsOf (now (enums .entry))) (now (file .entry)) n at (now (codes .entry)) (now (targets .entry)) (now (starts .entry)) .codes ⌝ }
-    ensures { λ _. ⌜ now (targets .exit)
-        ≡ arraysLeft (enumsOf (now (enums .entry))) (now (file .entry)) n at (now (codes .entry)) (now (targets .entry)) (now (starts .entry)) .targets ⌝ }
-    ensures { λ _. ⌜ now (starts .exit)
-        ≡ arraysLeft (enumsOf (now (enums .entry))) (now (file .entry)) n at (now (codes .entry)) (now (targets .entry)) (now (starts .entry)) .starts ⌝ }
+    ensures { λ _. ⌜ arraysLeft (enumsOf (now (enums .entry))) (now (file .entry)) n at (now (codes .entry)) (now (targets .entry)) (now (starts .entry))
+        ≡ arrays (now (codes .exit)) (now (targets .exit)) (now (starts .exit)) ⌝ }
 {
     match readers_at(file, enums, codes, targets, starts, n, at) {
         Many::Refused(number, place) => Lists::Refused(number, place),
@@ -248,12 +238,8 @@ pub fn read_lists(
 ) -> Lists
     ensures { λ r. ⌜ ReadsListsAt (enumsOf (now (enums .entry))) (now (file .entry)) at
         (now (codes .entry)) (now (codes .exit)) (now (targets .exit)) (now (starts .exit)) r ⌝ }
-    ensures { λ _. ⌜ now (codes .exit)
-        ≡ listsLeft (enumsOf (now (enums .entry))) (now (file .entry)) at (now (codes .entry)) (now (targets .entry)) (now (starts .entry)) .codes ⌝ }
-    ensures { λ _. ⌜ now (targets .exit)
-        ≡ listsLeft (enumsOf (now (enums .entry))) (now (file .entry)) at (now (codes .entry)) (now (targets .entry)) (now (starts .entry)) .targets ⌝ }
-    ensures { λ _. ⌜ now (starts .exit)
-        ≡ listsLeft (enumsOf (now (enums .entry))) (now (file .entry)) at (now (codes .entry)) (now (targets .entry)) (now (starts .entry)) .starts ⌝ }
+    ensures { λ _. ⌜ listsLeft (enumsOf (now (enums .entry))) (now (file .entry)) at (now (codes .entry)) (now (targets .entry)) (now (starts .entry))
+        ≡ arrays (now (codes .exit)) (now (targets .exit)) (now (starts .exit)) ⌝ }
 {
     if 16777216 < file.len() {
         return Lists::Refused(9, 0);

@@ -1,4 +1,3 @@
-use Prim.Native.Nat.{_-_}
 use Rattle.readers.specs.Left.{codesFor, codes-for}
 use borrow.Author.Needs.{needs}
 use Rattle.readers.proofs.codes_for.Statement.{statement}

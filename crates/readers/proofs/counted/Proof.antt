@@ -60,7 +60,7 @@ same-length-3 c = search needs
 returns : tie.Need-returns
 returns c =
     let e = (c .before .before .before .before .before .before .before .before .before .readers-at) .ensures in
-    ((refl, readers-refused _ _ _ _ (rw ((c .before .number) .given .1) at (e .0))), e .1 .1)
+    ((refl, readers-refused _ _ _ _ (rw ((c .before .number) .given .1) at (e .0))), ap (λ o. o .1) (e .1))
 
 same-length-4 : tie.Need-same-length-4
 same-length-4 c = search needs
@@ -74,7 +74,7 @@ same-length-6 c = search needs
 returns-2 : tie.Need-returns-2
 returns-2 c =
     let e = (c .before .before .before .before .before .before .before .before .before .before .before .before .before .readers-at) .ensures in
-    ((refl, shared-refused _ _ _ _ ((rw ((c .before .before .before .before .before .names) .given .1) at (e .0)) .0) (sym ((c .before .before .before .up-to) .ensures) ∙ ap told ((c .before .number2) .given .1))), e .1 .1)
+    ((refl, shared-refused _ _ _ _ ((rw ((c .before .before .before .before .before .names) .given .1) at (e .0)) .0) (sym ((c .before .before .before .up-to) .ensures) ∙ ap told ((c .before .number2) .given .1))), ap (λ o. o .1) (e .1))
 
 same-length-7 : tie.Need-same-length-7
 same-length-7 c = search needs
@@ -97,7 +97,7 @@ returns-3 c =
         shared-read _ _ _ _ (r .0) (p .1) ((c .before .before .before .before .before .before .before .before .before .before .before .before .before .codes) .given) ((c .before .before .before .before .before .before .before .before .before .before .before .targets) .given ∙ p .3) ((c .before .before .before .before .before .before .before .before .before .starts) .given ∙ p .4) (sym ((c .before .before .before .before .up-to) .ensures) ∙ ap told ((c .before .before .shared) .given .1)),
         rw ((c .padding-at) .ensures, a .1, ← a .0),
       ),
-      e .1 .1,
+      ap (λ o. o .1) (e .1),
     )
 
 pub counted-spec : {M : Type 1} → statement M

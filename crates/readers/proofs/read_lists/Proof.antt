@@ -10,15 +10,15 @@ use Rattle.reading.specs.Reads.{small-by-index}
 use Rattle.places.specs.Padding.{pad-few}
 use Rattle.readers.proofs.Parts.{up-to-bound}
 use Rattle.readers.proofs.Whole.{lists-long, lists-refused, lists-counted, total-is}
-use Rattle.readers.specs.Left.{enough, left-long, left-full, left-counted, long-enough, enough-for, each-array}
+use Rattle.readers.specs.Left.{enough, left-long, left-full, left-counted, long-enough, enough-for}
 use mathlib.Core.Path.{sym, ap, _∙_}
-use Rattle.readers.specs.Left.{left-long, left-full, left-counted, long-enough, enough-for, each-array}
+use Rattle.readers.specs.Left.{left-long, left-full, left-counted, long-enough, enough-for}
 use borrow.Author.Needs.{needs}
 use Rattle.readers.proofs.read_lists.Statement.{statement}
 use Rattle.readers.proofs.read_lists.Tie as tie
 
 returns : tie.Need-returns
-returns c = ((long-enough _ _ _ ((c .if1) .taken), lists-long _ _ _ ((c .if1) .taken)), each-array (left-long _ _ _ _ _ _ ((c .if1) .taken)))
+returns c = ((long-enough _ _ _ ((c .if1) .taken), lists-long _ _ _ ((c .if1) .taken)), (left-long _ _ _ _ _ _ ((c .if1) .taken)))
 
 reader-count-requires : tie.Need-reader-count-requires
 reader-count-requires c κs = search needs
@@ -38,7 +38,7 @@ returns-2 c =
     let h = (c .before .before .before .before .before .before .if1) .left in
     let n = sym ((c .before .before .before .before .before .reader-count) .ensures) ∙ ap told ((c .before .before .before .count) .given .1) in
     let b = lt-leb _ _ (rw ((c .before .codes-for) .ensures) at ((c .if2) .taken)) in
-    (enough-for (a .file .now) (a .at) _ h false (rw n b), each-array (left-full _ _ _ _ _ _ h (rw n b)))
+    (enough-for (a .file .now) (a .at) _ h false (rw n b), (left-full _ _ _ _ _ _ h (rw n b)))
 
 padding-at-requires : tie.Need-padding-at-requires
 padding-at-requires c κs = search needs
@@ -56,7 +56,7 @@ returns-3 c =
     let a = (c .before .before .before .before .before .before .before .before .args) in
     let h = (c .before .before .before .before .if1) .left in
     let n = sym ((c .before .before .before .reader-count) .ensures) ∙ ap told ((c .before .number) .given .1) in
-    ((enough-for (a .file .now) (a .at) _ h true (rw n), lists-refused _ _ _ h n), each-array (left-counted _ _ _ _ _ _ h (rw n) ∙ rw n))
+    ((enough-for (a .file .now) (a .at) _ h true (rw n), lists-refused _ _ _ h n), (left-counted _ _ _ _ _ _ h (rw n) ∙ rw n))
 
 same-length : tie.Need-same-length
 same-length c = search needs

@@ -9,7 +9,7 @@ use Rattle.readers.specs.Passed.{Passed, none-passed, one-passed}
 use Rattle.readers.proofs.Turns.{start, refuse, stop, turn}
 use Rattle.reading.specs.Reads.{small-by-index}
 use Rattle.places.specs.Padding.{pad-few}
-use Rattle.readers.specs.Left.{codes-enough, readersFrom, readersLeft, readers-start, reader-turn, readers-end, each-part}
+use Rattle.readers.specs.Left.{codes-enough, readersFrom, readersLeft, readers-start, reader-turn, readers-end}
 use borrow.Author.Needs.{needs}
 use Rattle.readers.proofs.readers_at.Statement.{statement}
 use Rattle.readers.proofs.readers_at.Tie as tie
@@ -49,7 +49,7 @@ returns : tie.Need-returns Inv-loop μ-loop
 returns c =
     let e = (c .before .before .before .before .before .reader-at) .ensures in
     let one = sym ((c .before .number) .given .1) ∙ ap (λ o. o .0) (sym (e .1)) in
-    (refuse ((c .before .before .before .before .before .before .before .before .loop) .inv .3) ((c .before .before .before .before .before .before .before .loop-test) .taken) (rw ((c .before .number) .given .1) at (e .0)), each-part (sym ((c .before .before .before .before .before .before .before .before .loop) .inv .4) ∙ reader-turn _ _ _ _ _ _ _ _ _ _ _ _ ((c .before .before .before .before .before .before .before .loop-test) .taken) one (ap (λ o. o .1) (sym (e .1)))))
+    (refuse ((c .before .before .before .before .before .before .before .before .loop) .inv .3) ((c .before .before .before .before .before .before .before .loop-test) .taken) (rw ((c .before .number) .given .1) at (e .0)), (sym ((c .before .before .before .before .before .before .before .before .loop) .inv .4) ∙ reader-turn _ _ _ _ _ _ _ _ _ _ _ _ ((c .before .before .before .before .before .before .before .loop-test) .taken) one (ap (λ o. o .1) (sym (e .1)))))
 
 enum-known-first : tie.Need-enum-known-first Inv-loop μ-loop
 enum-known-first c = search needs
@@ -121,7 +121,7 @@ returns-2 : tie.Need-returns-2 Inv-loop μ-loop
 returns-2 c =
     let v = (c .before .loop) .inv in
     let all : (c .before .loop) .i ≡ (c .before .before .before .before .before .before .before .args) .n = omega (arith, v .3 .few, (c .loop-test) .left) in
-    ((stop (v .3) ((c .loop-test) .left), subst (λ k. Passed ((c .before .before .before .before .before .before .before .args) .file .now) ((c .before .before .before .before .before .before .before .args) .n) ((c .before .before .before .before .before .before .before .args) .at) k ((c .before .loop) .next) ((c .before .loop) .padding)) all (v .5)), each-part (sym (v .4) ∙ readers-end _ _ _ _ _ _ _ _ _ _ ((c .loop-test) .left)))
+    ((stop (v .3) ((c .loop-test) .left), subst (λ k. Passed ((c .before .before .before .before .before .before .before .args) .file .now) ((c .before .before .before .before .before .before .before .args) .n) ((c .before .before .before .before .before .before .before .args) .at) k ((c .before .loop) .next) ((c .before .loop) .padding)) all (v .5)), (sym (v .4) ∙ readers-end _ _ _ _ _ _ _ _ _ _ ((c .loop-test) .left)))
 
 pub readers-at-spec : {M : Type 1} → statement M
 readers-at-spec =
