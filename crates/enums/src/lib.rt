@@ -35,10 +35,10 @@ fn is_enum_type(name: &[u8], size: u8) -> bool
     if name.len() == 0 {
         return false;
     }
-    if names::run(name, false) != name.len() {
+    if names::bytes::run(name, false) != name.len() {
         return false;
     }
-    names::kind_of(name, false) == 0
+    names::tables::kind_of(name, false) == 0
 }
 
 // Judges a list of any length.
@@ -57,7 +57,7 @@ pub fn judge(enums: &[u8]) -> Judged
         if !is_enum_type(&enums[first..end], enums[end]) {
             return Judged::Refused(32, entry);
         }
-        if names::find(&enums[..at], &enums[first..end]) != 0 {
+        if names::tables::find(&enums[..at], &enums[first..end]) != 0 {
             return Judged::Refused(32, entry);
         }
         at = end + 1;

@@ -1,12 +1,12 @@
 -- One more zero of a fill, one more byte of a copy, and ranges that end inside. Assumes nothing.
-use mathlib.Core.Path.{_≡_, refl, sym, ap, subst}
+use mathlib.Core.Path.{_≡_, refl, sym, ap, subst, _∙_}
 use mathlib.Core.Bool.{Bool, true, false, _&&_, and-eq-true-iff}
 use mathlib.Core.List.{List, _∷_, append-nil}
 use Prim.Native.Nat.{ℕ, zero, suc, _+_, _-_, _≤_, _<_}
 use native.Mathlib.Numerals.{add-one}
 use native.Mathlib.Omega.{arith}
 use lib.Dec.{leb}
-use lib.ListN.{length, take, drop, getD, set, replicate, length-replicate, getD-replicate, length-drop, drop-of-length-le}
+use lib.ListN.{length, take, drop, getD, set, replicate, length-replicate, getD-replicate, length-set, length-drop, drop-of-length-le}
 use lib.Seq.{paste, paste-zero, paste-suc, getD-drop, take-all}
 use borrow.Author.Tests.{leb-true, le-leb}
 use Rattle.fill.specs.Fill.{cleared, wiped, pasted, inside, copied}
@@ -34,11 +34,25 @@ module _ (d : List ℕ) (k : ℕ) where
       (subst (λ v. set (zeroed i) (k + (i - k)) v ≡ paste d k z (suc (i - k))) g
       (paste-suc d k z (i - k) 0 (omega arith) (omega (arith, length-replicate {A = ℕ} (length d - k) 0)))))
 
-  pub zeroed-all : (i : ℕ) → k ≤ i → length d ≤ i → zeroed i ≡ cleared d k
+  zeroed-all : (i : ℕ) → k ≤ i → length d ≤ i → zeroed i ≡ cleared d k
   unfolding cleared
   zeroed-all i low h =
       let z : List ℕ = replicate (length d - k) 0 in
       rw (take-all (i - k) z (omega (arith, length-replicate {A = ℕ} (length d - k) 0)), drop-of-length-le d {i = k + (i - k)} (omega arith)) (append-nil _)
+
+  -- before a turn of a loop that puts zeros: the list has zeros up to i, and its length is as it was
+  abbrev pub Zeroing : List ℕ → ℕ → Type 0
+  Zeroing out i = (k ≤ i) × (length out ≡ length d) × (out ≡ zeroed i)
+
+  pub zeroing-starts : Zeroing d k
+  zeroing-starts = (omega arith, refl, zeroed-none)
+
+  pub zeroing-goes-on : {out : List ℕ} {i : ℕ} → Zeroing out i → i < length d → Zeroing (set out i 0) (i + 1)
+  zeroing-goes-on {out} {i} z h =
+      (omega (arith, z .0), length-set out i 0 ∙ z .1, ap (λ (l : List ℕ). set l i 0) (z .2) ∙ zeroed-more i (z .0) h)
+
+  pub zeroing-ends : {out : List ℕ} {i : ℕ} → Zeroing out i → length d ≤ i → out ≡ cleared d k
+  zeroing-ends {out} {i} z h = z .2 ∙ zeroed-all i (z .0) h
 
   -- zeros up to an index that is not behind the end
   pub zeroed-range : (i to : ℕ) → to ≤ length d → i - k ≡ to - k → zeroed i ≡ wiped d k to

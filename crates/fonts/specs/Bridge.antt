@@ -7,9 +7,9 @@ use native.Mathlib.Omega.{arith}
 use native.Mathlib.Numerals.{add-one}
 use lib.Dec.{ltb, eqb}
 use lib.ListN.{length, drop}
-use Rattle.layout.specs.Target.{Target, fixed, char, texture2D, spriteFont, list, isValue, kindOf}
+use Rattle.layout.specs.Target.{Target, fixed, char, texture2D, spriteFont, list, kindOf}
 use Rattle.layout.specs.Tree.{Trees, none, tree, count, size, kindAt, childrenAt}
-use Rattle.layout.specs.Slot.{Slot, raw, object, slotOf, rawOrObject, each, fontSlots}
+use Rattle.layout.specs.Slot.{raw, object, each, fontSlots}
 use Rattle.layout.specs.Layout.{Lays}
 use Rattle.layout.specs.Resource.{Within}
 use Rattle.layout.specs.Rows.{width}
@@ -24,7 +24,7 @@ use Rattle.ids.specs.declared.Grid.{Grid}
 use Rattle.table.specs.Written.{written}
 use Rattle.fonts.specs.FontWords.{beyond, beyond-is, wordAt, after, some, equal, allThere, allEqual, fontWords, by-rows}
 use Rattle.fonts.specs.Stands.{Stands, written-stands}
-use Rattle.fonts.specs.Children.{childRow, row-next, lays-count, Flat, fixed-childless, char-childless, picture-flat, list-flat, There, Placed, placed-at, object-row}
+use Rattle.fonts.specs.Children.{childRow, row-next, lays-count, fixed-childless, There, Placed, placed-at, object-row}
 use Rattle.fonts.specs.Characters.{map-rising}
 
 -- the tests of objects, of counts and of characters, one after the other
@@ -43,31 +43,18 @@ unfolding childRow
 first-row none n = refl
 first-row (tree k d own cs rest) n = refl
 
--- the row after a child with flat children is the next child's
-after-child : (g : Grid) (words : List ℕ) (i : ℕ) (ts : Trees) (n : ℕ) → i < count ts → wordAt g words (childRow i ts n) 3 ≡ count (childrenAt i ts) → size (childrenAt i ts) ≡ count (childrenAt i ts)
+-- the row after a child and all below it is the next child's
+after-child : (g : Grid) (words : List ℕ) (i : ℕ) (ts : Trees) (n : ℕ) → i < count ts → wordAt g words (childRow i ts n) 6 ≡ suc (size (childrenAt i ts))
     → childRow (suc i) ts n < 2 ^ 32 → childRow (suc i) ts n ≡ after g words (childRow i ts n)
 unfolding after
-after-child g words i ts n h r f b =
-    let c = childRow i ts n in
+after-child g words i ts n h r b =
     let z = row-next i ts n h in
-    let e : beyond c 1 ≡ c + 1 = beyond-is c 1 (omega (arith, z)) in
-    rw (e, r, beyond-is (c + 1) (count (childrenAt i ts)) (omega (arith, z))) (omega (arith, z))
+    z ∙ sym (ap (beyond (childRow i ts n)) r ∙ beyond-is (childRow i ts n) (suc (size (childrenAt i ts))) (omega (arith, z)))
 
 module _ (g : Grid) (file words : List ℕ) (readers : List Target) (refers : ℕ → ℕ → Type 0) where
-  flat-child : {x : Slot} {k n : ℕ} {cs : Trees} → Flat readers refers x → Placed g file words readers refers x k cs n → size cs ≡ count cs
-  flat-child {x} {k} {n} {cs} f p = f k (p .id) (p .own) cs (p .bytes) (p .value)
-
   no-child : (z : ℕ) {k n : ℕ} {cs : Trees} → Placed g file words readers refers (raw (fixed z)) k cs n → size cs ≡ 0
   unfolding size
   no-child z {k} {n} {cs} p = ap size (fixed-childless readers refers z k (p .id) (p .own) cs (p .bytes) (p .value))
-
-  list-fixed : (z : ℕ) → Flat readers refers (object (list (fixed z)))
-  unfolding slotOf isValue rawOrObject
-  list-fixed z = list-flat readers refers (fixed z) (fixed-childless readers refers z)
-
-  list-char : Flat readers refers (object (list char))
-  unfolding slotOf isValue rawOrObject
-  list-char = list-flat readers refers char (char-childless readers refers)
 
   -- a font's children that are laid down in the file, with their rows in the words
   pub laid-words : (ts : Trees) (bs : List ℕ) (w : Lays readers refers (each fontSlots) ts bs) (at number parent used : ℕ)
@@ -89,10 +76,10 @@ module _ (g : Grid) (file words : List ℕ) (readers : List Target) (refers : �
       let r₃ = object-row g file words readers refers p₃ in
       let r₆ = object-row g file words readers refers p₆ in
       let e₀ : childRow 0 ts n ≡ beyond used 1 = first-row ts n ∙ sym (beyond-is used 1 (omega (arith, s .fits)) ∙ add-one used) in
-      let e₁ : childRow 1 ts n ≡ after g words (childRow 0 ts n) = after-child g words 0 ts n (omega arith) (r₀ .1) (flat-child (picture-flat readers refers) p₀) (p₁ .few) in
-      let e₂ : childRow 2 ts n ≡ after g words (childRow 1 ts n) = after-child g words 1 ts n (omega arith) (r₁ .1) (flat-child (list-fixed 30) p₁) (p₂ .few) in
-      let e₃ : childRow 3 ts n ≡ after g words (childRow 2 ts n) = after-child g words 2 ts n (omega arith) (r₂ .1) (flat-child (list-fixed 30) p₂) (p₃ .few) in
-      let e₄ : childRow 4 ts n ≡ after g words (childRow 3 ts n) = after-child g words 3 ts n (omega arith) (r₃ .1) (flat-child list-char p₃) (p₄ .few) in
+      let e₁ : childRow 1 ts n ≡ after g words (childRow 0 ts n) = after-child g words 0 ts n (omega arith) (r₀ .2) (p₁ .few) in
+      let e₂ : childRow 2 ts n ≡ after g words (childRow 1 ts n) = after-child g words 1 ts n (omega arith) (r₁ .2) (p₂ .few) in
+      let e₃ : childRow 3 ts n ≡ after g words (childRow 2 ts n) = after-child g words 2 ts n (omega arith) (r₂ .2) (p₃ .few) in
+      let e₄ : childRow 4 ts n ≡ after g words (childRow 3 ts n) = after-child g words 3 ts n (omega arith) (r₃ .2) (p₄ .few) in
       let z : childRow 4 ts n + 2 ≡ childRow 6 ts n = omega (arith, row-next 4 ts n (omega arith), row-next 5 ts n (omega arith), no-child 5 p₄, no-child 9 p₅) in
       let e₆ : childRow 6 ts n ≡ beyond (after g words (childRow 3 ts n)) 2 = sym (ap (λ (c : ℕ). beyond c 2) (sym e₄) ∙ beyond-is (childRow 4 ts n) 2 (omega (arith, z, p₆ .few)) ∙ z) in
       let f : suc (childRow 3 ts n) ≡ beyond (childRow 3 ts n) 1 = sym (beyond-is (childRow 3 ts n) 1 (omega (arith, row-next 3 ts n (omega arith), p₄ .few)) ∙ add-one (childRow 3 ts n)) in

@@ -1,15 +1,14 @@
--- A font's children by their rows in the words: where each stands, and that what is below it has no children. Assumes nothing.
+-- A font's children by their rows in the words: where each stands, and how many rows it has. Assumes nothing.
 use mathlib.Core.Path.{_≡_, refl, sym, ap, _∙_}
 use mathlib.Core.List.{List, [], _∷_, _++_, append-assoc, append-nil}
 use mathlib.Core.Logic.{inl, inr}
 use Prim.Native.Nat.{ℕ, zero, suc, _+_, _<_, _^_}
 use native.Mathlib.Omega.{arith}
 use lib.ListN.{length, getD, drop, replicate}
-use Rattle.layout.specs.Target.{Target, fixed, char, texture2D, list, Serves, same as serves-same}
+use Rattle.layout.specs.Target.{Target, fixed, char, list, Serves, same as serves-same}
 use Rattle.layout.specs.Tree.{Trees, none, tree, count, size, kindAt, childrenAt}
-use Rattle.layout.specs.Image.{levels}
-use Rattle.layout.specs.Slot.{Leaf, level, Slot, raw, object, leaf, slotOf, Plan, stop, put, each, leaves}
-use Rattle.layout.specs.Head.{Head, Counted, Pictured}
+use Rattle.layout.specs.Slot.{Slot, raw, object, slotOf, Plan, stop, put, each}
+use Rattle.layout.specs.Head.{Head, Counted}
 use Rattle.layout.specs.Layout.{Value, Lays}
 use Rattle.layout.specs.Rows.{row, rawRows, valueRows, notedRows}
 use Rattle.reading.specs.Reads.{seam}
@@ -33,16 +32,9 @@ row-next zero (tree k d own cs none) n h = refl
 row-next zero (tree k d own cs (tree k′ d′ own′ cs′ rest)) n h = refl
 row-next (suc i) (tree k d own cs rest) n h = row-next i rest (n + suc (size cs)) (omega arith)
 
--- the reader of a list, and what stands below a list and a picture
+-- the reader of a list, and what stands below a list
 pub only-list : {t u : Target} → Serves (list t) u → u ≡ list t
 only-list serves-same = refl
-
-only-picture : {u : Target} → Serves texture2D u → u ≡ texture2D
-only-picture serves-same = refl
-
-picture-plan : (u : Target) (own : List ℕ) (plan : Plan) (b : List ℕ) → u ≡ texture2D → Head u own plan b → (zs : List ℕ) × (plan ≡ each (leaves zs))
-unfolding Head Pictured
-picture-plan u own plan b e w = let h : Head texture2D own plan b = rw e at w in (levels (h .0) (h .1) (h .2) (h .3), h .13)
 
 pub list-plan : (t u : Target) (own : List ℕ) (plan : Plan) (b : List ℕ) → u ≡ list t → Head u own plan b → (n : ℕ) × (plan ≡ each (replicate n (slotOf t)))
 unfolding Head Counted
@@ -60,15 +52,6 @@ module _ (readers : List Target) (refers : ℕ → ℕ → Type 0) where
   abbrev Childless : Slot → Type 0
   Childless x = (k i : ℕ) (own : List ℕ) (cs : Trees) (b : List ℕ) → Value readers refers (λ plan b. Lays readers refers plan cs b) x k i own cs b → cs ≡ none
 
-  Every : List Slot → Type 0
-  Every [] = Unit {0}
-  Every (x ∷ xs) = Childless x × Every xs
-
-  every-same : (x : Slot) → Childless x → (n : ℕ) → Every (replicate n x)
-  unfolding Every
-  every-same x h zero = tt
-  every-same x h (suc n) = (h, every-same x h n)
-
   nothing-below : (cs : Trees) (b : List ℕ) → Lays readers refers stop cs b → cs ≡ none
   unfolding Lays
   nothing-below none b w = refl
@@ -84,45 +67,6 @@ module _ (readers : List Target) (refers : ℕ → ℕ → Type 0) where
   pub char-childless : Childless (raw char)
   unfolding Value Head
   char-childless k i own cs b w = stopped (w .1 .plan) cs (w .1 .children) (w .1 .headed .2) (w .1 .laid)
-
-  leaf-childless : (x : Leaf) → Childless (leaf x)
-  unfolding Value
-  leaf-childless x k i own cs b w = w .1
-
-  every-leaf : (zs : List ℕ) → Every (leaves zs)
-  unfolding Every leaves
-  every-leaf [] = tt
-  every-leaf (z ∷ zs) = (leaf-childless (level z), every-leaf zs)
-
-  flat : (slots : List Slot) (ts : Trees) (bs : List ℕ) → Every slots → Lays readers refers (each slots) ts bs → size ts ≡ count ts
-  unfolding Lays each Every size count
-  flat [] none bs h w = refl
-  flat [] (tree k i own cs rest) bs h w = absurd w
-  flat (x ∷ slots) none bs h w = absurd w
-  flat (x ∷ slots) (tree k i own cs rest) bs h w =
-      let z : size cs ≡ 0 = rw (h .0 k i own cs (w .0) (w .3)) in
-      omega (arith, flat slots rest (w .1) (h .1) (w .4))
-
-  flat-plan : (plan : Plan) (slots : List Slot) (ts : Trees) (bs : List ℕ) → plan ≡ each slots → Every slots → Lays readers refers plan ts bs → size ts ≡ count ts
-  flat-plan plan slots ts bs e h w = flat slots ts bs h (rw e at w)
-
-  -- what is below a value has no children
-  abbrev pub Flat : Slot → Type 0
-  Flat x = (k i : ℕ) (own : List ℕ) (cs : Trees) (b : List ℕ) → Value readers refers (λ plan b. Lays readers refers plan cs b) x k i own cs b → size cs ≡ count cs
-
-  pub picture-flat : Flat (object texture2D)
-  unfolding Value size count
-  picture-flat k i own cs b (inl w) = rw (w .childless)
-  picture-flat k i own cs b (inr w) =
-      let p = picture-plan (w .target) own (w .laid .plan) (w .laid .head) (only-picture (w .serves)) (w .laid .headed) in
-      flat-plan (w .laid .plan) (leaves (p .0)) cs (w .laid .children) (p .1) (every-leaf (p .0)) (w .laid .laid)
-
-  pub list-flat : (t : Target) → Childless (slotOf t) → Flat (object (list t))
-  unfolding Value size count
-  list-flat t h k i own cs b (inl w) = rw (w .childless)
-  list-flat t h k i own cs b (inr w) =
-      let p = list-plan t (w .target) own (w .laid .plan) (w .laid .head) (only-list (w .serves)) (w .laid .headed) in
-      flat-plan (w .laid .plan) (replicate (p .0) (slotOf t)) cs (w .laid .children) (p .1) (every-same (slotOf t) h (p .0)) (w .laid .laid)
 
   -- the rows of a value in a slot
   abbrev pub rowsAt : (x : Slot) (k i : ℕ) (own : List ℕ) (cs : Trees) (b : List ℕ) → Value readers refers (λ plan b. Lays readers refers plan cs b) x k i own cs b → (at number parent : ℕ) → List Draft
@@ -188,16 +132,16 @@ module _ (g : Grid) (file words : List ℕ) (readers : List Target) (refers : �
       placed-at i slots x rest (w .1) (w .4) (at + length (w .0)) (number + suc (size cs)) parent (n + suc (size cs))
       (there-right file at bs (w .0) (w .1) (w .2) t) (rw l at (stands-right g words n v _ s)) (omega arith) e
 
-  -- the kind and the number of children of a value
+  -- the kind and the number of children of a value, and how many rows it has with all below it
   object-words : (t : Target) (k i : ℕ) (own : List ℕ) (cs : Trees) (b : List ℕ) (v : Value readers refers (λ plan b. Lays readers refers plan cs b) (object t) k i own cs b) (at number parent n : ℕ)
-      → Stands g words n (rowsAt readers refers (object t) k i own cs b v at number parent) → (wordAt g words n 0 ≡ k) × (wordAt g words n 3 ≡ count cs)
-  unfolding Value valueRows rawRows count
+      → Stands g words n (rowsAt readers refers (object t) k i own cs b v at number parent) → (wordAt g words n 0 ≡ k) × (wordAt g words n 3 ≡ count cs) × (wordAt g words n 6 ≡ suc (size cs))
+  unfolding Value valueRows rawRows count size
   object-words t k i own cs b (inl v) at number parent n s =
       let r = stands-row g words n (row 0 at (length b) 0 parent 0 1) [] s in
-      (r .0 ∙ sym (v .kind-of), r .2 ∙ sym (ap count (v .childless)))
+      (r .0 ∙ sym (v .kind-of), r .2 ∙ sym (ap count (v .childless)), r .3 ∙ sym (ap (λ (ts : Trees). suc (size ts)) (v .childless)))
   object-words t k i own cs b (inr v) at number parent n s =
       let r = stands-row g words n (row k at (length b) (count cs) parent i (suc (size cs))) _ s in
-      (r .0, r .2)
+      (r .0, r .2, r .3)
 
-  pub object-row : {t : Target} {k n : ℕ} {cs : Trees} → Placed (object t) k cs n → (wordAt g words n 0 ≡ k) × (wordAt g words n 3 ≡ count cs)
+  pub object-row : {t : Target} {k n : ℕ} {cs : Trees} → Placed (object t) k cs n → (wordAt g words n 0 ≡ k) × (wordAt g words n 3 ≡ count cs) × (wordAt g words n 6 ≡ suc (size cs))
   object-row {t} {k} {n} {cs} p = object-words t k (p .id) (p .own) cs (p .bytes) (p .value) (p .at) (p .number) (p .parent) n (p .stands)

@@ -24,9 +24,9 @@ module _ (g : Grid) where
   unfoldable pub wordAt : List ℕ → (row i : ℕ) → ℕ
   wordAt words row i = getD words (cellOf g row i) 0
 
-  -- the row after a value whose children have no children: 01: "Rows stand in file order, a value before all below it"
+  -- the row after a value and all below it, whose number of rows is the value's seventh word: 01: "Rows stand in file order, a value before all below it"
   unfoldable pub after : List ℕ → ℕ → ℕ
-  after words row = beyond (beyond row 1) (wordAt words row 3)
+  after words row = beyond row (wordAt words row 6)
 
   -- a value that is not null, whose row has kind 0
   unfoldable pub some : List ℕ → ℕ → Bool

@@ -31,13 +31,14 @@ module _ (g : Grid) (w : List ℕ) where
       let e : (i : ℕ) → getD (drafts (rs ++ qs)) (length rs + i) [] ≡ getD (drafts qs) i [] = λ i. rw (drafts-append rs qs, ← length-drafts rs) (getD-append-add (drafts rs) (drafts qs) i []) in
       record { there = λ i j h k. rw (e i, z i) at (s .there (length rs + i) j (omega arith) k); fits = omega (arith, s .fits) }
 
-  -- a row's kind, first byte and number of children
+  -- a row's kind, first byte, number of children, and number of rows with all below it
   pub stands-row : (n : ℕ) (r : Row) (ds : List Draft) → Stands g w n (drafted r ∷ ds)
-      → (wordAt g w n 0 ≡ r .kind) × (wordAt g w n 1 ≡ r .first) × (wordAt g w n 3 ≡ r .children)
+      → (wordAt g w n 0 ≡ r .kind) × (wordAt g w n 1 ≡ r .first) × (wordAt g w n 3 ≡ r .children) × (wordAt g w n 6 ≡ r .branch)
   unfolding drafts words
   stands-row n r ds s =
       let z : n + 0 ≡ n = omega arith in
-      (rw z at (s .there 0 0 (omega arith) (omega arith)), rw z at (s .there 0 1 (omega arith) (omega arith)), rw z at (s .there 0 3 (omega arith) (omega arith)))
+      let word : (j : ℕ) → j < width → wordAt g w n j ≡ getD (getD (drafts (drafted r ∷ ds)) 0 []) j 0 = λ j h. rw z at (s .there 0 j (omega arith) h) in
+      (word 0 (omega arith), word 1 (omega arith), word 3 (omega arith), word 6 (omega arith))
 
 -- rows that were stored stand there, where the words have room for them
 pub written-stands : (g : Grid) (w : List ℕ) (u : ℕ) (ds : List Draft) → width * g .room ≤ length w → g .room < 2 ^ 32 → u + length ds ≤ g .room → Stands g (written g w u ds) u ds

@@ -118,12 +118,11 @@ fn code(file: &[u8], words: &[u32], grid: Grid, row: RowNumber) -> u64
     }
 }
 
-// The row after a value whose children have no children.
+// The row after a value and all below it.
 fn row_after(words: &[u32], grid: Grid, row: RowNumber) -> RowNumber
     ensures { λ r. ⌜ (r .0) ≡ after grid (now (words .entry)) (row .0) ⌝ }
 {
-    let first = row_beyond(row, 1);
-    row_beyond(first, word_of(words, grid, row, 3))
+    row_beyond(row, word_of(words, grid, row, 6))
 }
 
 // The row `n` rows after another; the number of a row in the room fits, any other is its remainder by 2 to the 32.

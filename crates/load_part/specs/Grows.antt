@@ -95,8 +95,3 @@ pub file-grows : (nameOf : ℕ → List ℕ → Named) (file : List ℕ) (room r
 unfolding fileAt
 file-grows nameOf file room room′ h =
     same-bind (headerAt file) (λ o at. same-bind (listsAt nameOf file at) (λ l first. grows-bind (objects-grows file (l .1) (l .2) room room′ h first) (λ a e. alike)))
-
--- so an answer other than 19 is the answer with more room
-pub grown : {A : Type 0} {x y : Answer A} → Grows x y → ((p : ℕ) → x ≡ refused 19 p → ⊥) → x ≡ y
-grown alike f = refl
-grown (full {p = p}) f = absurd (f p refl)

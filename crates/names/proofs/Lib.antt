@@ -1,4 +1,4 @@
 pub mod Laws
-pub mod Tables
+pub mod Lookup
 pub mod Steps
 pub mod Whole

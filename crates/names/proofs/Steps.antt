@@ -10,8 +10,8 @@ use Rattle.laws.specs.Small.{differ}
 use Rattle.layout.specs.Text.{ascii}
 use Rattle.layout.specs.Name.{Name, Tail, none, simple, one, two, headByte}
 use Rattle.layout.specs.EnumList.{EnumEntry}
-use Rattle.names.specs.declared.Parsed.{Parsed}
-use Rattle.names.specs.declared.Parsed.the-variants.{Name as Parsed-name, Broken as Parsed-broken}
+use Rattle.names.specs.declared.parse.Parsed.{Parsed}
+use Rattle.names.specs.declared.parse.Parsed.the-variants.{Name as Parsed-name, Broken as Parsed-broken}
 use Rattle.names.specs.Parse.{Read, broken, name, span, starts, common, tailOf, ended, wrongBy, wrong, behind, missing, closed, opening, unopenedNumber, unopenedAt, onOnly, onSecond, onFirst, afterHead, headed, nameIn}
 use Rattle.names.specs.Complete.{length-write}
 use Rattle.names.specs.Sound.{Ok, Stands, span-le, sound}
@@ -303,14 +303,18 @@ module _ {es : List EnumEntry} {own : Bool} {l at : ℕ} {s c : List ℕ} {used 
             let k = took s (h + 4) (at + (h + 4)) (used + 1) (l - 1) g (d .answers) (t .is) in
             let r₂ = nameIn (l - 1) (at + b) (drop b s) in
             let i : nameIn l at s ≡ onSecond at s h (h + 4) (k .n) b r₂ = e ∙ rw (z, k .is, t .stands, ← t .next) in
-            let xs = codes es false (headings (at + (h + 4)) (k .n)) in
+            let xs = first es own at s h 2 ∷ codes es false (headings (at + (h + 4)) (k .n)) in
+            let ys = codes es false (met (at + b) r₂) in
             let m : b ≡ h + 4 + long (k .n) + 3 = omega (arith, t .next, k .size) in
-            let w₂ : c₂ ≡ sets c used (first es own at s h 2 ∷ xs) = fronted c used (first es own at s h 2) xs (rw z at w) (d .writes ∙ rw (k .is)) in
-            let v : u ≡ used + length (first es own at s h 2 ∷ xs) = omega (arith, k .more, codes-length es false (headings (at + (h + 4)) (k .n))) in
-            let w₃ : c₃ ≡ sets (sets c used (first es own at s h 2 ∷ xs)) (used + length (first es own at s h 2 ∷ xs)) (codes es false (met (at + b) r₂)) = d₂ .writes ∙ ap (λ (k : List ℕ). sets k u (codes es false (met (at + b) r₂))) w₂ ∙ ap (λ (k : ℕ). sets (sets c used (first es own at s h 2 ∷ xs)) k (codes es false (met (at + b) r₂))) v in
+            let w₂ : c₂ ≡ sets c used xs = fronted c used (first es own at s h 2) (codes es false (headings (at + (h + 4)) (k .n))) (rw z at w) (d .writes ∙ rw (k .is)) in
+            let v : u ≡ used + length xs = omega (arith, k .more, codes-length es false (headings (at + (h + 4)) (k .n))) in
+            let w₃ : c₃ ≡ sets (sets c used xs) (used + length xs) ys =
+            d₂ .writes ∙ ap (λ (k : List ℕ). sets k u ys) w₂ ∙ ap (λ (k : ℕ). sets (sets c used xs) k ys) v in
+            let met₂ = second-met es own at s h (length-take-le h s inside) (k .n) b m r₂ in
+            let answers₂ = second-answer es own at s h (length-take-le h s inside) (k .n) b m u used (k .more) r₂ in
             record {
-              answers = q ∙ ap (closing at s b) (d₂ .answers) ∙ second-answer es own at s h (length-take-le h s inside) (k .n) b m u used (k .more) r₂ ∙ ap (answer at used) (sym i);
-              writes = w₃ ∙ sets-append c used (first es own at s h 2 ∷ xs) (codes es false (met (at + b) r₂)) ∙ ap (sets c used) (sym (second-met es own at s h (length-take-le h s inside) (k .n) b m r₂) ∙ ap (λ (r : Read). codes es own (met at r)) (sym i));
+              answers = q ∙ ap (closing at s b) (d₂ .answers) ∙ answers₂ ∙ ap (answer at used) (sym i);
+              writes = w₃ ∙ sets-append c used xs ys ∙ ap (sets c used) (sym met₂ ∙ ap (λ (r : Read). codes es own (met at r)) (sym i));
             }
 
         pub part-lost : {m q : ℕ} → n ≡ 2 → passed (ascii "],[") at s (h + 4) f ≡ Parsed-broken m q → Parses es own l at s c c₂ used (Parsed-broken m q)

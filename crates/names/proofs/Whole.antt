@@ -10,9 +10,9 @@ use lib.Seq.{sets}
 use borrow.Author.Tests.{lt-leb, le-leb, eq-eqb, ne-eqb}
 use Rattle.laws.specs.Small.{differ}
 use Rattle.layout.specs.EnumList.{EnumEntry}
-use Rattle.names.specs.declared.Parsed.{Parsed}
-use Rattle.names.specs.declared.Parsed.the-variants.{Name as Parsed-name, Broken as Parsed-broken}
-use Rattle.names.specs.declared.Named.the-variants.{Codes, Broken, NoRoom}
+use Rattle.names.specs.declared.parse.Parsed.{Parsed}
+use Rattle.names.specs.declared.parse.Parsed.the-variants.{Name as Parsed-name, Broken as Parsed-broken}
+use Rattle.names.specs.declared.parse.Named.the-variants.{Codes, Broken, NoRoom}
 use Rattle.names.specs.Parse.{Read, broken, name, wrong, nameIn, whole, nameOf}
 use Rattle.names.specs.Complete.{length-write}
 use Rattle.names.specs.Sound.{Ok, Stands, sound}

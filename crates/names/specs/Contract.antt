@@ -9,10 +9,10 @@ use lib.Seq.{sets}
 use Rattle.layout.specs.Text.{ascii}
 use Rattle.layout.specs.Name.{headByte, tailByte}
 use Rattle.layout.specs.EnumList.{EnumEntry}
-use Rattle.names.specs.declared.Parsed.{Parsed}
-use Rattle.names.specs.declared.Parsed.the-variants.{Name as Parsed-name, Broken as Parsed-broken}
-use Rattle.names.specs.declared.Named.{Named}
-use Rattle.names.specs.declared.Named.the-variants.{Codes, Broken, NoRoom}
+use Rattle.names.specs.declared.parse.Parsed.{Parsed}
+use Rattle.names.specs.declared.parse.Parsed.the-variants.{Name as Parsed-name, Broken as Parsed-broken}
+use Rattle.names.specs.declared.parse.Named.{Named}
+use Rattle.names.specs.declared.parse.Named.the-variants.{Codes, Broken, NoRoom}
 use Rattle.names.specs.Parse.{Read, broken, name, starts, common, tailSize, tailOf, wrongBy, wrong, behind, nameIn, nameOf}
 use Rattle.names.specs.Heading.{Heading, headings}
 use Rattle.names.specs.Kind.{codes}

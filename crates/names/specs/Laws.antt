@@ -46,11 +46,3 @@ pub broken-is-no-text : (at : ℕ) (s : List ℕ) (number place : ℕ) (hs : Lis
 broken-is-no-text at s number place hs e n f q =
     let p : nameOf at s ≡ name n (length (text n)) = ap (nameOf at) q ∙ text-is-read at n f in
     differ cc
-
--- two lawful names with one text are one name
-pub text-is-unique : (m n : Name) → Formed 8 m → Formed 8 n → text m ≡ text n → m ≡ n
-text-is-unique m n f g e =
-    let p = text-is-read 0 m f in
-    let q = text-is-read 0 n g in
-    let r : nameOf 0 (text m) ≡ nameOf 0 (text n) = ap (nameOf 0) e in
-    cc

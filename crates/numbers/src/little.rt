@@ -1,9 +1,11 @@
-// Reading little-endian numbers of 1, 2, 4 and 8 bytes.
+// Little-endian numbers: reading 1, 2, 4 and 8 bytes, and putting 4.
 ghost use mathlib.Core.Path.{_≡_};
 ghost use Prim.Native.Nat.{_+_, _≤_, _<_};
 ghost use lib.Dec.{leb};
 ghost use lib.ListN.{length, drop};
 ghost use Rattle.answers.specs.Told.{told};
+ghost use Rattle.fill.specs.Fill.{copied};
+ghost use Rattle.layout.specs.Number.{little};
 ghost use Rattle.reading.specs.Little.{littleAt};
 ghost use Rattle.numbers.specs.Bytes.{Little};
 use answers::Number;
@@ -80,4 +82,20 @@ pub fn little8(s: &[u8], at: usize) -> Number
         return Number::Refused(1, at);
     }
     Number::Read(eight(s, at), at + 8)
+}
+
+// Puts the four bytes of a number into `out` from `at` on, where there is room for them.
+pub fn put4(out: &mut [u8], at: usize, n: usize)
+    ensures { λ _. ⌜ now (out .exit) ≡ copied (now (out .entry)) at (little 4 n) 0 4 ⌝ }
+{
+    let second = n / 256;
+    let third = second / 256;
+    let fourth = third / 256;
+    let bytes = [
+        (n % 256) as u8,
+        (second % 256) as u8,
+        (third % 256) as u8,
+        (fourth % 256) as u8,
+    ];
+    fill::copy(out, at, &bytes, 0, 4);
 }

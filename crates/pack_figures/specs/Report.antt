@@ -31,11 +31,6 @@ wordsFrom from (suc n) g = g (figureAt from) ∷ wordsFrom (suc from) n g
 abbrev pub report : (Figure → ℕ) → List ℕ
 report g = wordsFrom 0 132 g
 
--- Req 14: "zero at first"
-pub zero-first : report (λ f. 0) ≡ replicate 132 0
-unfolding wordsFrom
-zero-first = refl
-
 -- ---- Adding words to words, whatever they are
 
 -- two reports word by word; a word without a partner stays

@@ -12,8 +12,7 @@ use Rattle.layout.specs.Number.{little}
 use Rattle.reading.specs.Little.{length-little}
 use Rattle.reading.specs.Reads.{Small, small-drop, small-left}
 use Rattle.pack_layout.specs.Pack.{Stored, marked, recordBytes, recordsBytes, packBytes, PackLays}
-use Rattle.pack_reading.specs.Pack.{roomOf, packOf, accepted}
-use Rattle.pack_reading.specs.Theorems.{files-are}
+use Rattle.pack_reading.specs.Pack.{accepted}
 use Rattle.pack_salvage.specs.Scan.{Piece, kept, skipped, Scanned, piecesBytes, makes-up, keptOf, allKept, kept-lawful, kept-no-longer, keeps-all, kept-all}
 use Rattle.pack_salvage.specs.Scanning.{scan, scan-is, is-scanned}
 use Rattle.pack_salvage.specs.Stretches.{Stretch, stretches, words, stretches-at-most}
@@ -77,11 +76,6 @@ pub pack-written : (file : List ℕ) → Small file → PackLays marked (keptOf 
 pack-written file small =
     let k = kept-lawful (pieces-scanned file small) in
     record { lawful = k .0; not-many = k .1; parts = refl }
-
--- which the reader of marked packs accepts, with the right count, where the table has room
-pub written-accepted : (file : List ℕ) (room : ℕ) → Small file → length (keptOf (piecesOf file)) ≤ roomOf room → packOf marked (newPack file) room ≡ accepted (keptOf (piecesOf file))
-written-accepted file room small h =
-    files-are marked (newPack file) room (record { files = keptOf (piecesOf file); lays = pack-written file small; room = h })
 
 -- the new pack has no more bytes than the pack, so that as many are always room enough
 pub no-longer : (file : List ℕ) (ps : List Piece) → 4 ≤ length file → Scanned 4096 (drop 4 file) ps → length (packBytes marked (keptOf ps)) ≤ length file
@@ -147,8 +141,3 @@ new-small file small =
     let fs = keptOf (piecesOf file) in
     let e = makes-up (pieces-scanned file small) in
     small-append (little 4 (length fs)) (recordsBytes marked fs) (small-little 4 (length fs)) (kept-small (piecesOf file) (rw e (small-drop 4 file small)))
-
--- so salvaging what was salvaged gives the same bytes, with nothing skipped
-pub twice-is-once : (file : List ℕ) (out list : ℕ) → Small file → length (newPack file) ≤ out → salvageOf (newPack file) out list ≡ salvaged (newPack file) []
-twice-is-once file out list small room =
-    accepted-stays (keptOf (piecesOf file)) (newPack file) out list (new-small file small) (pack-written file small) room

@@ -1,17 +1,15 @@
 -- Converting a pack from one form to the other (Req 10). Assumes nothing.
-use mathlib.Core.Path.{_≡_, refl, sym, ap, _∙_}
-use mathlib.Core.List.{List, [], _∷_, _++_}
+use mathlib.Core.Path.{_≡_, refl}
+use mathlib.Core.List.{List, [], _∷_}
 use Prim.Native.Nat.{ℕ, _+_, _*_}
 use native.Mathlib.Omega.{arith}
-use lib.ListN.{length, replicate, length-append}
+use lib.ListN.{length, length-append}
 use Rattle.layout.specs.Number.{little}
 use Rattle.reading.specs.Answer.{Answer, refused, read}
 use Rattle.reading.specs.Output.{Rewritten, refusal, fitted}
 use Rattle.pack_layout.specs.Pack.{Stored, plain, marked, recordBytes, recordsBytes, packBytes, PackLays}
-use Rattle.pack_layout.specs.Table.{flat, entries}
 use Rattle.pack_reading.specs.Pack.{packAt}
 use Rattle.pack_reading.specs.Theorems.{pack-complete}
-use Rattle.pack_reading.specs.Lookup.{bytesOf, findOf, looks-up}
 
 -- Req 10: "Refusals: those of Req 01, 51 .., then 21 with the bytes needed"; "copying path lengths as found": the same files in the other form
 unfoldable pub byPack : (to : List ℕ) → Answer (List Stored) → (out : ℕ) → Rewritten
@@ -30,18 +28,6 @@ other-form from to fs w = record { lawful = w .lawful; not-many = w .not-many; p
 pub converts : (from to : List ℕ) (fs : List Stored) (file : List ℕ) (out : ℕ) → PackLays from fs file → convertOf from to file out ≡ fitted (packBytes to fs) out
 unfolding convertOf byPack
 converts from to fs file out w = rw (pack-complete from file 4096 fs w (w .not-many))
-
--- Req 10: "Both ways round give the original bytes, for every pack the reader of that form accepts"
-pub there-and-back : (from to : List ℕ) (fs : List Stored) (file : List ℕ) (out : ℕ) → PackLays from fs file → convertOf to from (packBytes to fs) out ≡ fitted file out
-there-and-back from to fs file out w =
-    converts to from fs (packBytes to fs) out (other-form from to fs w) ∙ ap (λ (bs : List ℕ). fitted bs out) (sym (w .parts))
-
--- Req 10: "lookups give equal data under both"
-pub equal-lookups : (from to : List ℕ) (fs : List Stored) (file path : List ℕ) (n m : ℕ) → PackLays from fs file
-    → bytesOf file (findOf file (flat (entries from 4 fs) ++ replicate n 0) path)
-    ≡ bytesOf (packBytes to fs) (findOf (packBytes to fs) (flat (entries to 4 fs) ++ replicate m 0) path)
-equal-lookups from to fs file path n m w =
-    looks-up from file path fs n w ∙ sym (looks-up to (packBytes to fs) path fs m (other-form from to fs w))
 
 -- a mark of two bytes for each file
 marks-length : (fs : List Stored) → length (recordsBytes marked fs) ≡ length (recordsBytes plain fs) + 2 * length fs

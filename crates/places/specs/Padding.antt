@@ -2,7 +2,7 @@
 use mathlib.Core.Path.{_≡_, refl, ap, _∙_}
 use mathlib.Core.Bool.{Bool, true, false, cond}
 use mathlib.Core.List.{List, [], _∷_, _++_, append-assoc}
-use Prim.Native.Nat.{ℕ, zero, suc, _+_, _*_, _-_, _≤_, _<_}
+use Prim.Native.Nat.{ℕ, zero, suc, _+_, _*_, _≤_, _<_}
 use native.Mathlib.Omega.{arith}
 use lib.Dec.{eqb}
 use lib.ListN.{length, getD, length-append}
@@ -14,8 +14,8 @@ use Rattle.reading.specs.Answer.{Answer, refused, read}
 use Rattle.reading.specs.Reads.{Small, next-of}
 use Rattle.reading.specs.Seven.{sevenAt, seven-reads, some-bytes}
 use Rattle.numbers.specs.Shortest.{shortest-is}
-use Rattle.numbers.specs.Padded.{numberOf, past, padOf}
-use Rattle.places.specs.Places.{numbered, idPlaces, rawPlace, countPlaces, rowsPlaces, behindEntry, entriesPlaces, entriesEnd, listsPlaces, filePlaces}
+use Rattle.numbers.specs.Padded.{past, padOf}
+use Rattle.places.specs.Places.{numbered, idPlaces, rawPlace, countPlaces, rowsPlaces, entriesPlaces, entriesEnd, listsPlaces, filePlaces}
 
 module _ (file : List ℕ) where
   unfoldable pub padding : List ℕ → ℕ
@@ -108,11 +108,6 @@ module _ (file : List ℕ) where
   no-number r i c = omega (arith, row-first r [], without-id (r .kind) (r .first) (r .detail) i .0, without-count (r .kind) (rawPlace file (r .kind) (r .first) (r .detail)) c, no-rows)
 
   -- ---- The reader list
-
-  -- the length of the next name
-  pub next-entry : (n at : ℕ) → padding (entriesPlaces file (suc n) at) ≡ padOf (sevenAt file at) at + padding (entriesPlaces file n (past (sevenAt file at) at + numberOf (sevenAt file at) + 4))
-  unfolding entriesPlaces padding behindEntry
-  next-entry n at = refl
 
   pub lists-padding : (n at : ℕ) → let first = past (sevenAt file at) at in
       padding (listsPlaces file n at) ≡ padOf (sevenAt file at) at + (padding (entriesPlaces file n first) + padOf (sevenAt file (entriesEnd file n first)) (entriesEnd file n first))

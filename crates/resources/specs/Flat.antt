@@ -1,6 +1,5 @@
 -- A table by rows: rows stored from the first on are their words one after the other, and what stood behind them. Assumes nothing.
 use mathlib.Core.Path.{_≡_, refl, _∙_}
-use mathlib.Core.Bool.{false}
 use mathlib.Core.List.{List, [], _∷_, _++_, map}
 use Prim.Native.Nat.{ℕ, suc, _+_, _*_, _≤_}
 use native.Mathlib.Omega.{arith}
@@ -8,10 +7,7 @@ use lib.ListN.{length, drop, set}
 use lib.Seq.{sets, sets-eq}
 use Rattle.layout.specs.Rows.{Row, words, flat, width}
 use Rattle.reading.specs.Grid.{byRows, cell, puts, writtenRows}
-use Rattle.reading.specs.Drafts.{Draft, bare, length-bare}
 use Rattle.reading.specs.References.{length-flat}
-use Rattle.ids.specs.declared.Grid.{Grid}
-use Rattle.resources.specs.Settled.{settled}
 
 -- stores one after the other, and more behind them
 sets-append : (w : List ℕ) (i : ℕ) (a b : List ℕ) → sets (sets w i a) (i + length a) b ≡ sets w i (a ++ b)
@@ -39,8 +35,3 @@ module _ (room : ℕ) where
       let l : length (flat rows) ≡ width * length rows = length-flat rows in
       let z : 0 + width * length rows ≡ width * length rows = omega arith in
       rows-sets w 0 rows ∙ sets-eq (flat rows) w 0 (omega arith) ∙ rw (l, z)
-
--- the rows of 01 in a table by rows
-pub settled-flat : (g : Grid) (w : List ℕ) (ds : List Draft) → g .columns ≡ false → width * length ds ≤ length w → settled g w ds ≡ flat (bare ds) ++ drop (width * length ds) w
-unfolding settled
-settled-flat g w ds c h = rw (c, ← length-bare ds) (rows-flat (g .room) w (bare ds) (omega (arith, length-bare ds)))

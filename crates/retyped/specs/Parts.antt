@@ -319,14 +319,6 @@ bytes-same f g equal at n h =
     getD-take n (drop at f) i 0 m ∙ getD-drop at f i 0 ∙ h (at + i) (omega arith) (omega arith) ∙ sym (getD-drop at g i 0) ∙ sym (getD-take n (drop at g) i 0 m))
 
 module _ (nameOf : ℕ → List ℕ → Named) (f g : List ℕ) (room : ℕ) where
-  -- a row whose part encloses no text has the same bytes in both files
-  pub part-bytes : length f ≡ length g → (r : Row) → SamePart nameOf f g room r → ((x : Span) → FileText nameOf room f x → Encloses r x → ⊥)
-      → take (r .bytes) (drop (r .first) f) ≡ take (r .bytes) (drop (r .first) g)
-  part-bytes equal r h free = bytes-same f g equal (r .first) (r .bytes) (λ i l m. by i (h i l m)) where
-    by : (i : ℕ) → (getD f i 0 ≡ getD g i 0) ⊎ ((t : InText (FileText nameOf room) f g i) × Encloses r (t .span)) → getD f i 0 ≡ getD g i 0
-    by i (inl e) = e
-    by i (inr c) = absurd (free (c .0 .span) (c .0 .typed) (c .1))
-
   module _ (t : Retyped (FileText nameOf room) f g) (r : Row) (h : (x : Span) → FileText nameOf room f x → Meets f x r) where
     -- a byte of a row's part is the same in both, or in a text that the part encloses; then the row is no signed number, and a String has type id and count before
     abbrev Byte : (i : ℕ) → Type 0

@@ -14,7 +14,7 @@ use Rattle.reading.specs.Rules.{Found, missing, found, reader}
 use Rattle.reading.specs.Utf8.{utf8s-sound}
 use Rattle.reading.specs.Walk.{Outcome, walk}
 use Rattle.reading.specs.File.{Named}
-use Rattle.retyped.specs.Texts.{Span, SequenceText, HeadText, RawText, ReaderText, ObjectText, ValueText, WalkText, FileText, In, InText, Retyped, EachRead, BothRead}
+use Rattle.retyped.specs.Texts.{Span, SequenceText, HeadText, RawText, ReaderText, ObjectText, ValueText, WalkText, FileText, In, InText, Retyped, BothRead}
 use Rattle.retyped.specs.Leaves.{TextBytes, text-here}
 use Rattle.retyped.specs.Files.{texts-kept}
 
@@ -92,24 +92,12 @@ module _ (Read : List ℕ → Span → Type 0) (f g : List ℕ) where
     go i (inl e) = inl e
     go i (inr c) = inr (c .span, c .inside, c .typed, kept (c .span) (c .typed))
 
-  -- one text that both read is a text of each
-  pub read-by-each : BothRead Read f g → EachRead Read f g
-  read-by-each r = record { as-long = r .as-long; elsewhere = λ i. go i (r .elsewhere i) } where
-    go : (i : ℕ) → (getD f i 0 ≡ getD g i 0) ⊎ ((x : Span) × In i x × Read f x × Read g x)
-        → (getD f i 0 ≡ getD g i 0) ⊎ (((x : Span) × In i x × Read f x) × ((y : Span) × In i y × Read g y))
-    go i (inl e) = inl e
-    go i (inr w) = inr ((w .0, w .1, w .2), (w .0, w .1, w .3))
-
 -- either file may be the first
 pub turned : (Read : List ℕ → Span → Type 0) (f g : List ℕ) → BothRead Read f g → BothRead Read g f
 turned Read f g r = record { as-long = sym (r .as-long); elsewhere = λ i. go i (r .elsewhere i) } where
   go : (i : ℕ) → (getD f i 0 ≡ getD g i 0) ⊎ ((x : Span) × In i x × Read f x × Read g x) → (getD g i 0 ≡ getD f i 0) ⊎ ((x : Span) × In i x × Read g x × Read f x)
   go i (inl e) = inl (sym e)
   go i (inr w) = inr (w .0, w .1, w .3, w .2)
-
--- so of the texts of the walk over a file: what both walks read is valid, and where the second file has valid text its walk reads it
-pub file-both-read : (nameOf : ℕ → List ℕ → Named) (f g : List ℕ) (room : ℕ) → BothRead (FileText nameOf room) f g → Retyped (FileText nameOf room) f g
-file-both-read nameOf f g room = both-read (FileText nameOf room) f g (text-valid nameOf g room)
 
 pub file-read-by-both : (nameOf : ℕ → List ℕ → Named) (f g : List ℕ) (room : ℕ) → Small f → Retyped (FileText nameOf room) f g → BothRead (FileText nameOf room) f g
 file-read-by-both nameOf f g room small r = read-by-both (FileText nameOf room) f g (texts-kept nameOf f g room small r) r

@@ -1,10 +1,12 @@
 -- A stretch between two places, and its two words in the list. Assumes nothing.
 use mathlib.Core.Path.{_≡_, sym, ap, _∙_}
 use mathlib.Core.List.{List, [], _∷_, _++_, append-nil}
-use Prim.Native.Nat.{ℕ, suc, pred, _+_, _*_, _-_, _≤_, _<_, _%_, _/_}
+use Prim.Native.Nat.{ℕ, suc, pred, _+_, _*_, _-_, _≤_, _<_}
 use native.Mathlib.Omega.{arith}
 use lib.ListN.{length, take, drop, set, take-append-drop}
 use lib.Seq.{sets-eq}
+use borrow.Author.Tests.{le-leb}
+use Rattle.fill.specs.Fill.{inside, pasted, copied}
 use Rattle.layout.specs.Number.{little}
 use Rattle.pack_salvage.specs.Stretches.{words}
 use Rattle.salvage.specs.Salvaging.{gap, gapOf, GapFits, gapPut, countPut}
@@ -42,14 +44,6 @@ gap-one list n from to h fits =
     two e = let z : 2 * n + 1 ≡ suc (2 * n) = omega arith in rw z e
 
 -- four bytes of a number
-pub count-put : (out : List ℕ) (n : ℕ) → 4 ≤ length out
-    → set (set (set (set out 0 (n % 256)) 1 (n / 256 % 256)) 2 (n / 65536 % 256)) 3 (n / 16777216 % 256) ≡ countPut out n
-unfolding little
-count-put (a ∷ b ∷ c ∷ d ∷ out) n h =
-    let p : n / 65536 ≡ n / 256 / 256 = omega arith in
-    let q : n / 16777216 ≡ n / 256 / 256 / 256 = omega arith in
-    rw (p, q)
-count-put [] n h = absurd (omega arith)
-count-put (a ∷ []) n h = absurd (omega arith)
-count-put (a ∷ b ∷ []) n h = absurd (omega arith)
-count-put (a ∷ b ∷ c ∷ []) n h = absurd (omega arith)
+pub count-put : (out : List ℕ) (n : ℕ) → 4 ≤ length out → copied out 0 (little 4 n) 0 4 ≡ countPut out n
+unfolding little copied inside pasted
+count-put out n h = rw (le-leb 4 (length out) h)

@@ -161,10 +161,7 @@ fn put_count(out: &mut [u8], records: usize)
     requires { ⌜ 4 ≤ length (now out) ⌝ }
     ensures { λ _. ⌜ now (out .exit) ≡ countPut (now (out .entry)) records ⌝ }
 {
-    out[0] = (records % 256) as u8;
-    out[1] = (records / 256 % 256) as u8;
-    out[2] = (records / 65536 % 256) as u8;
-    out[3] = (records / 16777216 % 256) as u8;
+    numbers::little::put4(out, 0, records);
 }
 
 // Puts so many records and their count into the output, and the stretches into the list.

@@ -7,8 +7,7 @@ use native.Mathlib.Omega.{arith}
 use lib.ListN.{length, take, length-append}
 use Rattle.laws.specs.Small.{differ}
 use Rattle.layout.specs.Target.{Target}
-use Rattle.layout.specs.Tree.{count}
-use Rattle.layout.specs.File.{sharedOf, FileLays}
+use Rattle.layout.specs.File.{FileLays}
 use lib.Dec.{leb}
 use Rattle.reading.specs.Answer.{Answer, refused, read}
 use Rattle.reading.specs.Reads.{Small}
@@ -18,7 +17,7 @@ use Rattle.reading.specs.Drafts.{bare}
 use Rattle.reading.specs.Numbers.{last-number}
 use Rattle.reading.specs.Refusals.{WithinName, refusal-number, refusal-place}
 use Rattle.reading.specs.Accepts.{file-complete}
-use Rattle.reading.specs.Theorems.{Fitting, rowsIn, rows-are, accepted-is}
+use Rattle.reading.specs.Theorems.{Fitting, rowsIn, accepted-is}
 use Rattle.numbers.specs.Shortest.{Shortens}
 use Rattle.shortest.specs.File.{shortBody, shortFile, length-file, length-header, header-is, file-short}
 use Rattle.places.specs.Padding.{filePadding}
@@ -41,15 +40,6 @@ module _ (named : List ℕ → Target → Type 0) (nameOf : ℕ → List ℕ →
     -- so the rewritten file fits the same room
     abbrev pub again : Fitting named (shortFile (f .tree)) words
     again = record { tree = f .tree; lays = least file (f .lays) .form; room = f .room }
-
-    -- it is accepted, with the same trees
-    pub accepted-again : loadOf nameOf (shortFile (f .tree)) words
-        ≡ accepted (rowsIn named again) (length (f .tree .names)) (count (sharedOf (f .tree .objects)))
-    accepted-again = rows-are named nameOf judges (shortFile (f .tree)) words again
-
-    -- rewriting twice is rewriting once
-    pub twice : (out : ℕ) → rewriteOf nameOf (shortFile (f .tree)) words out ≡ rewriteOf nameOf file words out
-    twice out = rewrite-is (shortFile (f .tree)) words out again ∙ sym (rewrite-is file words out f)
 
     -- a file already shortest comes out byte for byte
     pub stays : length file ≡ length (shortFile (f .tree)) → shortFile (f .tree) ≡ file

@@ -12,8 +12,8 @@ use Rattle.laws.specs.Small.{differ, both}
 use Rattle.layout.specs.Name.{Name, simple, one, two, write}
 use Rattle.layout.specs.EnumList.{EnumEntry, EnumSize, sizeIn}
 use Rattle.layout.specs.Named.{Typed, unknown, known, readerOf}
-use Rattle.names.specs.declared.Named.{Named}
-use Rattle.names.specs.declared.Named.the-variants.{Codes, Broken as Named-broken, NoRoom as Named-no-room}
+use Rattle.names.specs.declared.parse.Named.{Named}
+use Rattle.names.specs.declared.parse.Named.the-variants.{Codes, Broken as Named-broken, NoRoom as Named-no-room}
 use Rattle.names.specs.Parse.{Read, broken, name, nameOf}
 use Rattle.names.specs.Laws.{read-is-text}
 use Rattle.names.specs.Contract.{coded, refused, no-room, placed, ending, answerOf, contentOf, ReadsName}

@@ -165,12 +165,6 @@ module _ (file : List ℕ) where
   coded-same page ws us l w v = alone-same 34 ws us (omega arith) w v
   coded-same (mesh m) ws us l w v = alone-same (meshKind m) ws us (mesh-small m) w v
 
-  -- codes that begin with those of two types: the types are equal
-  pub unique : (d t : Target) (ws us r s : List ℕ) → Lawful d → Lawful t → Coded file d ws → Coded file t us → ws ++ r ≡ us ++ s → d ≡ t
-  unique d t ws us r s l m w v e =
-      let q : d ∷ decode file r ≡ t ∷ decode file s = sym (decode-code d ws r l w) ∙ ap (decode file) e ∙ decode-code t us s m v in
-      cc
-
   -- the same where the codes of one begin with codes that are the same as the other's
   pub alike-types : (d t : Target) (ws us xs r s : List ℕ) → Lawful d → Lawful t → Coded file d ws → Coded file t us → Pairwise ws xs → xs ++ r ≡ us ++ s → d ≡ t
   alike-types d t ws us xs r s l m w v p e =

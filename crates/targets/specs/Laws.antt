@@ -2,7 +2,7 @@
 use mathlib.Core.Path.{_≡_, refl, sym, ap, _∙_}
 use mathlib.Core.Bool.{Bool, true, false, _&&_, cond}
 use mathlib.Core.List.{List, [], _∷_, _++_, append-assoc}
-use mathlib.Core.Logic.{_⊎_, inl, inr}
+use mathlib.Core.Logic.{inl, inr}
 use Prim.Native.Nat.{ℕ, suc, _+_, _-_, _%_, _≤_, _<_}
 use native.Mathlib.Omega.{arith}
 use lib.Dec.{eqb, ltb, leb}
@@ -10,20 +10,18 @@ use lib.ListN.{length, take, drop, getD, set}
 use lib.Seq.{drop-drop, drop-append-seam, getD-drop, drop-set-add, length-take-le, sets, sets-eq}
 use borrow.Author.Tests.{eqb-true, ltb-true, le-leb, lt-leb}
 use Rattle.laws.specs.Small.{differ, both}
-use Rattle.laws.specs.Ok.{ok-pick, ok-weaken}
-use Rattle.layout.specs.Target.{Target, fixed, char, string, object, texture, texture2D, spriteFont, page, indexBuffer, vertexDeclaration, vertexBuffer, model, mesh, meshKind, enum, nullable, array, list, dictionary, kindOf, isValue, Serves, same, any, picture}
+use Rattle.layout.specs.Target.{Target, fixed, char, string, object, texture, texture2D, spriteFont, page, mesh, meshKind, enum, nullable, array, list, dictionary, kindOf, Serves, same, any, picture}
 use Rattle.layout.specs.Fixed.{sizes}
-use Rattle.layout.specs.Name.{Name, simple, one, two}
-use Rattle.layout.specs.Kind.{lookup, readers, targets}
-use Rattle.layout.specs.EnumList.{EnumEntry, EnumSize, sizeIn}
-use Rattle.layout.specs.Named.{Typed, unknown, known, fixedKind, meshed, plain, wrapped, paired, listedEnum, typeOf, sizeOrFour, enumOf, readerOf}
+use Rattle.layout.specs.Name.{two}
+use Rattle.layout.specs.EnumList.{EnumSize}
+use Rattle.layout.specs.Named.{unknown, known, fixedKind, meshed, plain}
 use Rattle.names.specs.Kind.{enumKind}
 use Rattle.targets.specs.Finite.{allBelow, below-is}
 use Rattle.targets.specs.Code.{Before, Coded, codeKind, codeSize, Lawful, Stands}
 use Rattle.targets.specs.Place.{kindAt, valueKind, extent, placeAfter, equalAt, fitsAt}
 use Rattle.targets.specs.Word.{fixed-small, mesh-small, mesh-plain, enum-kind}
 use Rattle.targets.specs.Contract.{settled}
-use Rattle.targets.specs.Coded.{Ok, none, some, ok-either, any-type, ok-plain, ok-wrapped, ok-paired, ok-array, Leaves}
+use Rattle.targets.specs.Coded.{Leaves}
 use Rattle.targets.specs.Decode.{alike-types, coded-same}
 use Rattle.targets.specs.Extent.{startsSame, starts-first, first-starts, code-extent, code-agree, code-kind, code-size}
 
@@ -191,75 +189,6 @@ fixed-test k e = rw e at (below-is fixed-tested 60 k refl (fixed-small k e))
 -- a kind that is a `fixed` target has a size in 01
 pub fixed-has-size : (k : ℕ) → fixedKind k ≡ true → 0 < getD sizes k 0
 fixed-has-size k e = ltb-true 0 (getD sizes k 0) (both (ltb 0 (getD sizes k 0)) (valueKind k) (fixed-test k e) .0)
-
--- a type is a value type exactly if its kind is one of 01's
-pub value-is : (t : Target) → Lawful t → valueKind (kindOf t) ≡ isValue t
-unfolding Lawful valueKind kindOf meshKind isValue
-value-is (fixed k) w = both (ltb 0 (getD sizes k 0)) (valueKind k) (fixed-test k w) .1
-value-is char w = refl
-value-is string w = refl
-value-is object w = refl
-value-is (enum name z) w = refl
-value-is (nullable t) w = refl
-value-is (array t) w = refl
-value-is (list t) w = refl
-value-is (dictionary k v) w = refl
-value-is texture w = refl
-value-is texture2D w = refl
-value-is spriteFont w = refl
-value-is page w = refl
-value-is (mesh indexBuffer) w = refl
-value-is (mesh vertexDeclaration) w = refl
-value-is (mesh vertexBuffer) w = refl
-value-is (mesh model) w = refl
-
--- a name's own head
-unfoldable pub headOf : Name → List ℕ
-headOf (simple h t) = h
-headOf (one h a t) = h
-headOf (two h a b t) = h
-
-plain-kind : (k : ℕ) → Ok (λ t. kindOf t ≡ k) (plain k)
-unfolding kindOf
-plain-kind k = ok-plain k (λ _. refl) sym sym sym sym sym sym sym (λ m e. sym e)
-
-wrapped-kind : (k : ℕ) (r : Typed) → Ok (λ t. kindOf t ≡ k) (wrapped k r)
-unfolding kindOf
-wrapped-kind k r = ok-wrapped k (any-type r) (λ t e _. sym e) (λ t e _. sym e)
-
-paired-kind : (k : ℕ) (r s : Typed) → Ok (λ t. kindOf t ≡ k) (paired k r s)
-unfolding kindOf
-paired-kind k r s = ok-paired k (any-type r) (any-type s) (λ t u e _ _. sym e)
-
-module _ (es : List EnumEntry) where
-  enum-known : (n : Name) → Ok (λ t. kindOf t ≡ 15) (enumOf es n)
-  unfolding enumOf kindOf
-  enum-known (simple h t) = ok-pick (eqb (lookup h targets) 0) (λ _. some {t = enum h (sizeOrFour (sizeIn es h))} refl) none
-  enum-known (one h a t) = none
-  enum-known (two h a b t) = none
-
-  -- an argument's type has the kind that its head names, or it is an enum whose head is no target name
-  pub argument-kind : (n : Name) (t : Target) → typeOf es n ≡ known t → (kindOf t ≡ lookup (headOf n) targets) ⊎ ((lookup (headOf n) targets ≡ 0) × (kindOf t ≡ 15))
-  unfolding headOf typeOf listedEnum kindOf
-  argument-kind (simple h tail) t e =
-      let k = lookup h targets in
-      let z = sizeIn es h in
-      let o : Ok (λ t. (kindOf t ≡ k) ⊎ ((k ≡ 0) × (kindOf t ≡ 15))) (typeOf es (simple h tail))
-      = ok-either (eqb k 0) (λ b. ok-either (eqb z 0) (λ _. none) (λ _. some {t = enum h z} (inr (eqb-true k 0 b, refl)))) (λ _. ok-weaken (plain-kind k) (λ t _ q. inl q)) in
-      o .got e
-  argument-kind (one h a tail) t e = inl (wrapped-kind (lookup h targets) (typeOf es a) .got e)
-  argument-kind (two h a b tail) t e = inl (paired-kind (lookup h targets) (typeOf es a) (typeOf es b) .got e)
-
-  -- a reader's target has the kind that its name's head names
-  pub reader-kind : (n : Name) (t : Target) → readerOf es n ≡ known t → kindOf t ≡ lookup (headOf n) readers
-  unfolding headOf readerOf kindOf
-  reader-kind (simple h tail) t e = plain-kind (lookup h readers) .got e
-  reader-kind (one h a tail) t e =
-      let k = lookup h readers in
-      let o : Ok (λ t. kindOf t ≡ k) (readerOf es (one h a tail))
-      = ok-pick (eqb k 15) (λ b. rw (eqb-true k 15 b) (enum-known a)) (ok-pick (eqb k 17) (λ b. ok-array (any-type (typeOf es a)) (λ t _. sym (eqb-true k 17 b))) (wrapped-kind k (typeOf es a))) in
-      o .got e
-  reader-kind (two h a b tail) t e = paired-kind (lookup h readers) (typeOf es a) (typeOf es b) .got e
 
 -- the codes of a target that are written at a place stand there
 pub written-stands : (file c : List ℕ) (place : ℕ) (cs : List ℕ) (t : Target) → Leaves file cs t → place + length (settled cs) ≤ length c → Stands file (sets c place (settled cs)) place t

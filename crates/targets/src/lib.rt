@@ -13,7 +13,8 @@ ghost use Rattle.targets.specs.Complaint.{isKnown};
 ghost use Rattle.targets.specs.Judge.{headOk, valueOk, badArguments, badEnum, badReader, complaint};
 ghost use Rattle.targets.specs.Settling.{Settles};
 ghost use Rattle.targets.specs.Contract.{enumWord, Resolves};
-use names::Named;
+use names::kinds;
+use names::parse::Named;
 
 // The types that fonts, pages and meshes declare have so many codes, at the start of the array.
 pub const PRELUDE: usize = 12;
@@ -60,9 +61,9 @@ fn same_head(file: &[u8], a: usize, b: usize) -> bool
 {
     let i = inside(file, a);
     let j = inside(file, b);
-    let m = i + names::run(&file[i..], false);
-    let n = j + names::run(&file[j..], false);
-    names::same_text(&file[i..m], &file[j..n])
+    let m = i + names::bytes::run(&file[i..], false);
+    let n = j + names::bytes::run(&file[j..], false);
+    names::texts::same_text(&file[i..m], &file[j..n])
 }
 
 // Two codes have one kind, as many arguments and, if they are enums, one name.
@@ -72,7 +73,7 @@ fn same_code(file: &[u8], x: u32, y: u32) -> bool
     if x % 256 != y % 256 {
         return false;
     }
-    if x % 64 < 60 {
+    if x % 64 < kinds::ENUM_OF_1 {
         return true;
     }
     same_head(file, (x / 256) as usize, (y / 256) as usize)
@@ -108,13 +109,13 @@ pub fn fits(file: &[u8], codes: &[u32], d: usize, t: usize) -> bool
     ensures { λ r. ⌜ r ≡ fitsAt (now (file .entry)) (now (codes .entry)) d t ⌝ }
 {
     let k = kind_at(codes, d);
-    if k == 14 {
+    if k == kinds::OBJECT {
         return true;
     }
-    if k != 31 {
+    if k != kinds::TEXTURE {
         return equal(file, codes, d, t);
     }
-    if kind_at(codes, t) == 32 {
+    if kind_at(codes, t) == kinds::TEXTURE_2D {
         return true;
     }
     equal(file, codes, d, t)
@@ -134,46 +135,46 @@ fn plain_ok(b: u32) -> bool
     requires { ⌜ b < 60 ⌝ }
     ensures { λ r. ⌜ r ≡ isKnown (plain b) ⌝ }
 {
-    if within(1, 14, b) {
+    if within(kinds::BYTE, kinds::OBJECT, b) {
         return true;
     }
-    if within(20, 34, b) {
+    if within(kinds::TIME_SPAN, kinds::PAGE, b) {
         return true;
     }
-    within(37, 40, b)
+    within(kinds::INDEX_BUFFER, kinds::MODEL, b)
 }
 
 fn head_ok(b: u32) -> bool
     ensures { λ r. ⌜ r ≡ headOk b ⌝ }
 {
-    if b < 60 {
+    if b < kinds::ENUM_OF_1 {
         return plain_ok(b);
     }
-    if within(60, 63, b) {
+    if within(kinds::ENUM_OF_1, kinds::ENUM_OF_8, b) {
         return true;
     }
-    if b == 80 {
+    if b == kinds::NULLABLE {
         return true;
     }
-    if b == 82 {
+    if b == kinds::LIST {
         return true;
     }
-    b == 147
+    b == kinds::DICTIONARY
 }
 
 fn value_ok(b: u32) -> bool
     ensures { λ r. ⌜ r ≡ valueOk b ⌝ }
 {
-    if within(1, 11, b) {
+    if within(kinds::BYTE, kinds::BOOLEAN, b) {
         return true;
     }
-    if within(20, 30, b) {
+    if within(kinds::TIME_SPAN, kinds::RECTANGLE, b) {
         return true;
     }
-    if within(60, 63, b) {
+    if within(kinds::ENUM_OF_1, kinds::ENUM_OF_8, b) {
         return true;
     }
-    b == 12
+    b == kinds::CHAR
 }
 
 fn argument_ok(nullable: bool, b: u32) -> bool
@@ -204,7 +205,7 @@ fn bad_arguments(s: &[u32], first: bool) -> Judged
             let place = (w / 256) as usize;
             return Judged::Wrong(place);
         }
-        nullable = b == 80;
+        nullable = b == kinds::NULLABLE;
         i += 1;
     }
     Judged::Fine
@@ -222,7 +223,7 @@ fn bad_enum(s: &[u32]) -> Judged
     if b == 0 {
         return Judged::Fine;
     }
-    if within(60, 63, b) {
+    if within(kinds::ENUM_OF_1, kinds::ENUM_OF_8, b) {
         return Judged::Fine;
     }
     let place = (w / 256) as usize;
@@ -238,17 +239,17 @@ fn bad_reader(s: &[u32]) -> Judged
     }
     let w = s[0];
     let b = w % 256;
-    if b == 79 {
+    if b == kinds::ENUM_READER {
         return bad_enum(&s[1..]);
     }
-    if b == 81 {
+    if b == kinds::ARRAY {
         return bad_arguments(&s[1..], false);
     }
     if !head_ok(b) {
         let place = (w / 256) as usize;
         return Judged::Wrong(place);
     }
-    bad_arguments(&s[1..], b == 80)
+    bad_arguments(&s[1..], b == kinds::NULLABLE)
 }
 
 // The code of an enum type that is Enum's own argument: one that is not listed has four bytes.
@@ -256,7 +257,7 @@ fn enum_word(v: u32) -> u32
     ensures { λ r. ⌜ r ≡ enumWord v ⌝ }
 {
     if v % 256 == 0 {
-        return v + 62;
+        return v + kinds::ENUM_OF_4;
     }
     v
 }
@@ -269,7 +270,7 @@ fn settle(codes: &mut [u32], used: usize, end: usize) -> usize
     if end - used < 2 {
         return end;
     }
-    if codes[used] % 256 != 79 {
+    if codes[used] % 256 != kinds::ENUM_READER {
         return end;
     }
     let next = used + 1;
@@ -290,7 +291,7 @@ pub enum Resolved {
 pub fn resolve(name: &[u8], at: usize, enums: &[u8], codes: &mut [u32], used: usize) -> Resolved
     ensures { λ r. ⌜ Resolves (enumsOf (now (enums .entry))) (now (name .entry)) at (now (codes .entry)) (now (codes .exit)) used r ⌝ }
 {
-    match names::read_name(name, at, enums, codes, used) {
+    match names::parse::read_name(name, at, enums, codes, used) {
         Named::NoRoom => Resolved::NoRoom,
         Named::Broken(number, place) => Resolved::Broken(number, place),
         Named::Codes(end) => match bad_reader(&codes[used..end]) {

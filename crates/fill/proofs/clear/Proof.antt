@@ -1,22 +1,20 @@
 -- `fill::clear` meets its contract: before each turn there are zeros up to `i`. Assumes nothing.
-use mathlib.Core.Path.{_≡_, refl, _∙_, ap}
-use mathlib.Core.List.{List}
-use Prim.Native.Nat.{ℕ, _-_, _≤_}
 use native.Mathlib.Omega.{arith}
-use lib.ListN.{length, set}
+use Prim.Native.Nat.{_-_}
+use lib.ListN.{length}
 use borrow.Author.Needs.{needs}
-use Rattle.fill.proofs.Laws.{zeroed, zeroed-none, zeroed-more, zeroed-all}
+use Rattle.fill.proofs.Laws.{Zeroing, zeroing-starts, zeroing-goes-on, zeroing-ends}
 use Rattle.fill.proofs.clear.Statement.{statement}
 use Rattle.fill.proofs.clear.Tie as tie
 
 abbrev Inv-loop : tie.InvT-loop
-Inv-loop out₀ from i₀ out i = (from ≤ i) × (length out ≡ length out₀) × (out ≡ zeroed out₀ from i)
+Inv-loop out₀ from i₀ out i = Zeroing out₀ from out i
 
 abbrev μ-loop : tie.MeasureT-loop
 μ-loop out₀ from i₀ out i = length out₀ - i
 
 loop-holds : tie.Need-loop-holds Inv-loop μ-loop
-loop-holds c = (omega arith, refl, zeroed-none (c .args .out .now) (c .args .from))
+loop-holds c = zeroing-starts _ _
 
 mul-out : tie.Need-mul-out Inv-loop μ-loop
 mul-out c = search needs
@@ -31,22 +29,13 @@ loop-less : tie.Need-loop-less Inv-loop μ-loop
 loop-less c = search needs
 
 loop-again : tie.Need-loop-again Inv-loop μ-loop
-loop-again c =
-    let at = c .before in
-    let a = at .before .args in (
-      omega arith,
-      search needs,
-      ap (λ (l : List ℕ). set l (at .loop .i) 0) (at .loop .inv .2) ∙ zeroed-more (a .out .now) (a .from) (at .loop .i) (omega arith) (omega arith),
-    )
+loop-again c = zeroing-goes-on _ _ (c .before .loop .inv) (omega arith)
 
 same-length : tie.Need-same-length Inv-loop μ-loop
 same-length c = search needs
 
 returns : tie.Need-returns Inv-loop μ-loop
-returns c =
-    let at = c .before in
-    let a = at .before .args in
-    at .loop .inv .2 ∙ zeroed-all (a .out .now) (a .from) (at .loop .i) (omega arith) (omega arith)
+returns c = zeroing-ends _ _ (c .before .loop .inv) (omega arith)
 
 pub clear-spec : {M : Type 1} → statement M
 clear-spec = tie.close (tie.spec Inv-loop μ-loop loop-holds mul-out slice-write-out add-i loop-less loop-again same-length returns)

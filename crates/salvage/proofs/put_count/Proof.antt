@@ -1,51 +1,17 @@
-use native.Mathlib.Omega.{arith}
-use lib.ListN.{length-set}
+use mathlib.Core.Path.{_∙_}
 use Rattle.salvage.proofs.Gaps.{count-put}
 use borrow.Author.Needs.{needs}
 use Rattle.salvage.proofs.put_count.Statement.{statement}
 use Rattle.salvage.proofs.put_count.Tie as tie
 
-cast-out : tie.Need-cast-out
-cast-out c = search needs
-
-slice-write-out : tie.Need-slice-write-out
-slice-write-out c = search needs
-
-cast-out-2 : tie.Need-cast-out-2
-cast-out-2 c = search needs
-
-slice-write-out-2 : tie.Need-slice-write-out-2
-slice-write-out-2 c = simp length-set (omega arith)
-
-cast-out-3 : tie.Need-cast-out-3
-cast-out-3 c = search needs
-
-slice-write-out-3 : tie.Need-slice-write-out-3
-slice-write-out-3 c = simp length-set (omega arith)
-
-cast-out-4 : tie.Need-cast-out-4
-cast-out-4 c = search needs
-
-slice-write-out-4 : tie.Need-slice-write-out-4
-slice-write-out-4 c = search needs
+put4-requires : tie.Need-put4-requires
+put4-requires c κs = search needs
 
 same-length : tie.Need-same-length
 same-length c = search needs
 
 returns : tie.Need-returns
-returns c = count-put (c .args .out .now) (c .args .records) (c .pre)
+returns c = c .before .before .put4 .ensures ∙ count-put _ _ (c .before .before .before .before .pre)
 
 pub put-count-spec : {M : Type 1} → statement M
-put-count-spec =
-    tie.close
-    (tie.spec
-    cast-out
-    slice-write-out
-    cast-out-2
-    slice-write-out-2
-    cast-out-3
-    slice-write-out-3
-    cast-out-4
-    slice-write-out-4
-    same-length
-    returns)
+put-count-spec = tie.close (tie.spec put4-requires same-length returns)
