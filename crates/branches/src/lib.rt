@@ -12,7 +12,7 @@ pub fn next_of(words: &[u32], grid: Grid, row: RowNumber) -> u32
     if grid.room <= number {
         return 0;
     }
-    let branch = words::word_of(words, grid, row, 6);
+    let branch = words::word_of(words, grid, row, ids::BRANCH);
     if branch == 0 {
         return 0;
     }

@@ -15,6 +15,21 @@ pub struct RowNumber(pub u32);
 // How many words make a row.
 pub const WIDTH: u32 = 7;
 
+// The words of a row, by their places in it.
+pub const KIND: u32 = 0;
+
+pub const FIRST: u32 = 1;
+
+pub const LENGTH: u32 = 2;
+
+pub const CHILDREN: u32 = 3;
+
+pub const PARENT: u32 = 4;
+
+pub const DETAIL: u32 = 5;
+
+pub const BRANCH: u32 = 6;
+
 // The shape of a table: how many rows it has room for, and whether it is in columns.
 pub struct Grid {
     pub room: u32,

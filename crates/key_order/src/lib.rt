@@ -42,8 +42,8 @@ fn key_text(file: &[u8], words: &[u32], grid: Grid, keys: &[u32], key: u32) -> S
     ensures { λ r. ⌜ Spans (now (file .entry)) (keyText (now (file .entry)) grid (now (words .entry)) (now (keys .entry)) key) r ⌝ }
 {
     let row = number_at(keys, key as usize);
-    let first = word_of(words, grid, RowNumber(row), 1);
-    let detail = word_of(words, grid, RowNumber(row), 5);
+    let first = word_of(words, grid, RowNumber(row), ids::FIRST);
+    let detail = word_of(words, grid, RowNumber(row), ids::DETAIL);
     text_span(file, first as usize, detail)
 }
 

@@ -50,7 +50,7 @@ fn gather(words: &[u32], grid: Grid, used: u32, first: u32, n: u32, keys: &mut [
         if used <= row {
             return m;
         }
-        let kind = word_in(words, grid, used, row, 0);
+        let kind = word_in(words, grid, used, row, ids::KIND);
         m = note(keys, m, row, kind);
         let value = next_row(words, grid, used, row);
         row = next_row(words, grid, used, value);
@@ -75,7 +75,7 @@ fn key_place(words: &[u32], grid: Grid, keys: &[u32], key: u32) -> usize
     ensures { λ r. ⌜ r ≡ keyPlace grid (now (words .entry)) (now (keys .entry)) key ⌝ }
 {
     let row = number_at(keys, key as usize);
-    word_of(words, grid, RowNumber(row), 1) as usize
+    word_of(words, grid, RowNumber(row), ids::FIRST) as usize
 }
 
 // A key has the text of an earlier one.
@@ -216,11 +216,11 @@ fn dictionary(file: &[u8], words: &[u32], grid: Grid, used: u32, row: u32) -> Pl
     requires { ⌜ row < used ⌝ }
     ensures { λ r. ⌜ KeysFault (now (file .entry)) grid (now (words .entry)) used row r ⌝ }
 {
-    let kind = word_in(words, grid, used, row, 0);
+    let kind = word_in(words, grid, used, row, ids::KIND);
     if kind != 19 {
         return Place::Fine;
     }
-    let children = word_in(words, grid, used, row, 3);
+    let children = word_in(words, grid, used, row, ids::CHILDREN);
     if 65535 < children {
         return Place::Fine;
     }

@@ -25,8 +25,8 @@ pub fn part_of(file: &[u8], words: &[u32], grid: Grid, row: RowNumber) -> Span
     if grid.room <= number {
         return Span::Refused(23, number);
     }
-    let first = words::word_of(words, grid, row, 1) as usize;
-    let length = words::word_of(words, grid, row, 2) as usize;
+    let first = words::word_of(words, grid, row, ids::FIRST) as usize;
+    let length = words::word_of(words, grid, row, ids::LENGTH) as usize;
     if length == 0 {
         return Span::Refused(23, number);
     }
@@ -112,7 +112,7 @@ pub fn text_of(file: &[u8], words: &[u32], grid: Grid, row: RowNumber) -> Span
         Span::Refused(refusal, at) => Span::Refused(refusal, at),
         Span::Found(first, length) => {
             let end = first + length;
-            let kind = words::word_of(words, grid, row, 0);
+            let kind = words::word_of(words, grid, row, ids::KIND);
             text_in(&file[first..end], first, kind, number)
         }
     }
@@ -214,7 +214,7 @@ pub fn signed_of(file: &[u8], words: &[u32], grid: Grid, row: RowNumber) -> Whol
         Span::Refused(refusal, at) => Whole::Refused(refusal, at),
         Span::Found(first, length) => {
             let end = first + length;
-            let kind = words::word_of(words, grid, row, 0);
+            let kind = words::word_of(words, grid, row, ids::KIND);
             signed_in(&file[first..end], kind, number)
         }
     }
@@ -241,7 +241,7 @@ pub fn time_of(file: &[u8], words: &[u32], grid: Grid, row: RowNumber) -> Moment
     match signed_of(file, words, grid, row) {
         Whole::Refused(refusal, at) => Moment::Refused(refusal, at),
         Whole::Number(count) => {
-            let kind = words::word_of(words, grid, row, 0);
+            let kind = words::word_of(words, grid, row, ids::KIND);
             if kind != 20 {
                 return Moment::Refused(24, number);
             }

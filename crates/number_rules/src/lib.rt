@@ -110,9 +110,9 @@ fn row_numbers(file: &[u8], words: &[u32], grid: Grid, used: u32, row: u32) -> P
     requires { ⌜ row < used ⌝ }
     ensures { λ r. ⌜ RowFound (now (file .entry)) grid (now (words .entry)) used row r ⌝ }
 {
-    let kind = word_in(words, grid, used, row, 0);
-    let first = word_in(words, grid, used, row, 1);
-    let detail = word_in(words, grid, used, row, 5);
+    let kind = word_in(words, grid, used, row, ids::KIND);
+    let first = word_in(words, grid, used, row, ids::FIRST);
+    let detail = word_in(words, grid, used, row, ids::DETAIL);
     value_numbers(file, kind, first as usize, detail)
 }
 

@@ -80,18 +80,18 @@ fn level_bytes(length: u32) -> u64
 fn count_row(file: &[u8], words: &[u32], grid: Grid, row: u32, figures: &mut [u64])
     ensures { λ _. ⌜ now (figures .exit) ≡ counted (ofMark (markOf (now (file .entry)) (rowAt grid (now (words .entry)) row))) (now (figures .entry)) ⌝ }
 {
-    let kind = word_of(words, grid, RowNumber(row), 0);
+    let kind = word_of(words, grid, RowNumber(row), ids::KIND);
     raise(figures, 68 + kind as usize, 1);
     if kind == 13 {
-        let first = word_of(words, grid, RowNumber(row), 1);
-        let id = word_of(words, grid, RowNumber(row), 5);
+        let first = word_of(words, grid, RowNumber(row), ids::FIRST);
+        let id = word_of(words, grid, RowNumber(row), ids::DETAIL);
         raise(figures, 2, text_bytes(file, first as usize, id));
         return;
     }
     if kind != 35 {
         return;
     }
-    let length = word_of(words, grid, RowNumber(row), 2);
+    let length = word_of(words, grid, RowNumber(row), ids::LENGTH);
     raise(figures, 3, level_bytes(length));
 }
 

@@ -13,11 +13,11 @@ ghost use Rattle.page_rules.specs.Pages.{pageFault};
 pub fn no_page(words: &[u32], grid: Grid, used: u32) -> Place
     ensures { λ r. ⌜ Finds grid (now (words .entry)) used noPage r ⌝ }
 {
-    let kind = word_in(words, grid, used, 0, 0);
+    let kind = word_in(words, grid, used, 0, ids::KIND);
     if kind == 34 {
         return Place::Fine;
     }
-    let first = word_in(words, grid, used, 0, 1);
+    let first = word_in(words, grid, used, 0, ids::FIRST);
     Place::At(first as usize)
 }
 
@@ -37,16 +37,16 @@ fn nextless_at(words: &[u32], grid: Grid, used: u32, row: u32) -> Place
     requires { ⌜ row < used ⌝ }
     ensures { λ r. ⌜ Finds grid (now (words .entry)) used (λ rows. pageFault (drop row rows)) r ⌝ }
 {
-    let kind = word_in(words, grid, used, row, 0);
+    let kind = word_in(words, grid, used, row, ids::KIND);
     if kind != 34 {
         return Place::Fine;
     }
     let next = next_of_page(words, grid, used, row);
-    let detail = word_in(words, grid, used, next, 5);
+    let detail = word_in(words, grid, used, next, ids::DETAIL);
     if detail != 0 {
         return Place::Fine;
     }
-    let first = word_in(words, grid, used, next, 1);
+    let first = word_in(words, grid, used, next, ids::FIRST);
     Place::At(first as usize)
 }
 

@@ -137,9 +137,12 @@ fn pass_row(file: &[u8], words: &[u32], out: &mut [u8], c: Cursor, row: u32) -> 
     ensures { λ r. ⌜ Writes (now (file .entry)) (now (out .entry)) (now (out .exit)) c (placesIn (now (file .entry)) (now (words .entry)) row) r ⌝ }
 {
     let grid = words::grid(words.len());
-    let kind = words::word_of(words, grid, RowNumber(row), 0);
-    let first = words::word_of(words, grid, RowNumber(row), 1) as usize;
-    if numbered(kind, words::word_of(words, grid, RowNumber(row), 5)) {
+    let kind = words::word_of(words, grid, RowNumber(row), ids::KIND);
+    let first = words::word_of(words, grid, RowNumber(row), ids::FIRST) as usize;
+    if numbered(
+        kind,
+        words::word_of(words, grid, RowNumber(row), ids::DETAIL),
+    ) {
         let id = measure(file, first);
         let behind = pass(file, out, c, first, id);
         return pass_count(file, out, behind, kind, id.next);

@@ -55,13 +55,13 @@ fn store_cells(words: &mut [u32], grid: Grid, row: RowNumber, r: RowWords)
     requires { ⌜ cellOf grid (row .0) 6 < length (now words) ⌝ }
     ensures { λ _. ⌜ now (words .exit) ≡ putRow grid (now (words .entry)) (row .0) (rowOf r) ⌝ }
 {
-    let first = row.cell(grid, 0);
-    let second = row.cell(grid, 1);
-    let third = row.cell(grid, 2);
-    let fourth = row.cell(grid, 3);
-    let fifth = row.cell(grid, 4);
-    let sixth = row.cell(grid, 5);
-    let seventh = row.cell(grid, 6);
+    let first = row.cell(grid, ids::KIND);
+    let second = row.cell(grid, ids::FIRST);
+    let third = row.cell(grid, ids::LENGTH);
+    let fourth = row.cell(grid, ids::CHILDREN);
+    let fifth = row.cell(grid, ids::PARENT);
+    let sixth = row.cell(grid, ids::DETAIL);
+    let seventh = row.cell(grid, ids::BRANCH);
     words[first] = r.kind;
     words[second] = r.first;
     words[third] = r.bytes;
@@ -75,7 +75,7 @@ fn store_cells(words: &mut [u32], grid: Grid, row: RowNumber, r: RowWords)
 fn put_cells(words: &mut [u32], grid: Grid, row: RowNumber, r: RowWords)
     ensures { λ _. ⌜ now (words .exit) ≡ putRow grid (now (words .entry)) (row .0) (rowOf r) ⌝ }
 {
-    if row.cell(grid, 6) < words.len() {
+    if row.cell(grid, ids::BRANCH) < words.len() {
         store_cells(words, grid, row, r);
     }
 }
@@ -117,7 +117,7 @@ pub fn clear_behind(words: &mut [u32], grid: Grid, used: RowNumber)
         clear_columns(words, grid, used);
         return;
     }
-    fill::clear(words, used.cell(grid, 0));
+    fill::clear(words, used.cell(grid, ids::KIND));
 }
 
 // The sum of two words, as a word holds it.

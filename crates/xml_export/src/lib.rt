@@ -190,7 +190,7 @@ fn is_list(file: &[u8], enums: &[u8], words: &[u32], rows: u32, shared: u32) -> 
         return false;
     }
     let grid = words::grid(words.len());
-    let id = words::word_of(words, grid, RowNumber(0), 5);
+    let id = words::word_of(words, grid, RowNumber(0), ids::DETAIL);
     texts_reader(file, enums, id)
 }
 
@@ -215,7 +215,7 @@ fn answer(file: &[u8], words: &mut [u32], out: &mut [u8], rows: u32, list: bool)
 {
     if !list {
         let grid = words::grid(words.len());
-        let first = words::word_of(words, grid, RowNumber(0), 1);
+        let first = words::word_of(words, grid, RowNumber(0), ids::FIRST);
         return refuse(words, 61, first as usize);
     }
     match measure(file, words, rows) {
