@@ -9,7 +9,7 @@ use lib.ListN.{length, getD, drop, length-append, length-drop}
 use lib.Seq.{getD-drop, drop-drop, drop-append-seam}
 use borrow.Author.Tests.{eqb-true, eqb-false, eq-eqb, ne-eqb, ltb-true, ltb-false}
 use Rattle.layout.specs.Tree.{Trees, none, tree, count, size}
-use Rattle.branches.specs.Rule.{naming, Chain, Skips}
+use Rattle.layout.specs.Branches.{naming, Chain, Skips}
 
 -- of a row: its number of children, its parent's row number plus 1, and how many rows it has with all below it
 pub record Frame : Type 0 where

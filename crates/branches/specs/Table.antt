@@ -11,18 +11,11 @@ use Rattle.layout.specs.Layout.{Lays}
 use Rattle.layout.specs.Resource.{Resource}
 use Rattle.layout.specs.Rows.{Row, words, flat, width}
 use Rattle.layout.specs.File.{FileTree, sharedOf, objectsPlan, FileLays, fileRows}
-use Rattle.reading.specs.Grid.{Shape, byRows, cell}
-use Rattle.branches.specs.Rule.{Skips, skips-same, Roots, roots-same}
+use Rattle.layout.specs.Table.{Shape, byRows, cell}
+use Rattle.layout.specs.Branches.{Roots, TableSkips, TableRoots}
+use Rattle.branches.specs.Rule.{skips-same, roots-same}
 use Rattle.branches.specs.Frames.{frames, childrenOf, parentOf, branchOf, skips, roots, root-count}
 use Rattle.branches.specs.Framed.{framed, rows-framed}
-
--- a table with room for so many rows, of which so many are used, keeps the rule: a row's number of children, its parent and its count are its words 3, 4 and 6
-abbrev pub TableSkips : Shape → (room : ℕ) (table : List ℕ) (used : ℕ) → Type 0
-TableSkips s room table used = Skips (λ i. getD table (cell s room i 3) 0) (λ i. getD table (cell s room i 4) 0) (λ i. getD table (cell s room i 6) 0) used
-
--- the rows of its objects, so many, follow each other
-abbrev pub TableRoots : Shape → (room : ℕ) (table : List ℕ) (used objects : ℕ) → Type 0
-TableRoots s room table used objects = Roots (λ i. getD table (cell s room i 4) 0) (λ i. getD table (cell s room i 6) 0) used objects
 
 -- the words of row i of some rows stand in the table
 abbrev pub Stand : Shape → (room : ℕ) (table : List ℕ) → List Row → Type 0

@@ -4,7 +4,8 @@ use mathlib.Core.List.{List, []}
 use Prim.Native.Nat.{ℕ, _*_, _/_, _≤_}
 use native.Mathlib.Omega.{arith}
 use Rattle.layout.specs.Rows.{width}
-use Rattle.reading.specs.File.{Load, refusal, roomOf}
+use Rattle.layout.specs.Table.{roomOf}
+use Rattle.reading.specs.File.{Load, refusal}
 use Rattle.load.specs.Under.{loadUnder}
 use Rattle.load_part.specs.Part.{same-answer}
 use Rattle.builder.specs.Packed.{code, packed}

@@ -2,7 +2,8 @@
 use ids::RowNumber;
 ghost use mathlib.Core.Path.{_≡_};
 ghost use lib.ListN.{length};
-ghost use Rattle.columns.specs.Columns.{columnsTableOf};
+ghost use Rattle.layout.specs.Table.{byColumns};
+ghost use Rattle.reading.specs.File.{tableIn};
 ghost use Rattle.load.specs.Under.{loadUnder};
 ghost use Rattle.branches.specs.Next.{columnsNext};
 ghost use Rattle.lookups.specs.Parts.{columnsPart};
@@ -24,7 +25,7 @@ pub extern "C" fn xnb_load_columns(
     ensures { λ r. ⌜ (r, now (readers .exit), now (shared .exit), now (padding .exit))
         ≡ loadTold (now (file .entry)) (loadUnder (now (enums .entry)) (now (file .entry)) (length (now (words .entry)))) ⌝ }
     ensures { λ _. ⌜ now (words .exit)
-        ≡ columnsTableOf (loadUnder (now (enums .entry)) (now (file .entry)) (length (now (words .entry)))) (length (now (words .entry))) ⌝ }
+        ≡ tableIn byColumns (loadUnder (now (enums .entry)) (now (file .entry)) (length (now (words .entry)))) (length (now (words .entry))) ⌝ }
 {
     crate::load_told(file, enums, words, true, readers, shared, padding)
 }

@@ -18,8 +18,8 @@ ghost use mathlib.Core.List.{[]};
 ghost use Prim.Native.Nat.{_*_};
 ghost use lib.ListN.{length};
 ghost use Rattle.layout.specs.Rows.{width};
-ghost use Rattle.reading.specs.File.{tableOf};
-ghost use Rattle.columns.specs.Columns.{tableIn};
+ghost use Rattle.layout.specs.Table.{shapeOf};
+ghost use Rattle.reading.specs.File.{tableOf, tableIn};
 ghost use Rattle.load.specs.Under.{loadUnder};
 ghost use Rattle.branches.specs.Next.{rowsNext};
 ghost use Rattle.lookups.specs.Parts.{rowsPart};
@@ -63,7 +63,7 @@ pub(crate) fn load_told(
     ensures { λ r. ⌜ (r, now (readers .exit), now (shared .exit), now (padding .exit))
         ≡ loadTold (now (file .entry)) (loadUnder (now (enums .entry)) (now (file .entry)) (length (now (words .entry)))) ⌝ }
     ensures { λ _. ⌜ now (words .exit)
-        ≡ tableIn columns (loadUnder (now (enums .entry)) (now (file .entry)) (length (now (words .entry)))) (length (now (words .entry))) ⌝ }
+        ≡ tableIn (shapeOf columns) (loadUnder (now (enums .entry)) (now (file .entry)) (length (now (words .entry)))) (length (now (words .entry))) ⌝ }
 {
     match load::load_in(file, enums, words, columns) {
         Loading::Refused { number, place } => {

@@ -7,7 +7,7 @@ use native.Mathlib.Nat.{mul-suc}
 use lib.ListN.{length, getD, replicate, length-append, length-replicate, getD-replicate, List·getD-append}
 use lib.Seq.{getD-append-add}
 use Rattle.layout.specs.Rows.{Row, words, width}
-use Rattle.columns.specs.Columns.{column, columnsOf}
+use Rattle.layout.specs.Table.{column, columnsOf}
 
 pub length-map : {A B : Type 0} (f : A → B) (l : List A) → length (map f l) ≡ length l
 length-map f [] = refl

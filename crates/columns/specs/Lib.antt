@@ -1,4 +1,3 @@
-pub mod Columns
 pub mod Cells
 pub mod Stored
 pub mod Words

@@ -8,11 +8,11 @@ use native.Mathlib.Nat.{mul-suc, mul-comm, mul-le-mul-left}
 use lib.ListN.{length, take, drop, getD, replicate, length-append, length-drop}
 use lib.Seq.{ext-getD, getD-take, getD-drop, length-take-le, take-append-add, drop-append-add, drop-drop, take-at}
 use Rattle.layout.specs.Rows.{Row, words, width}
-use Rattle.reading.specs.Grid.{byColumns, shapeOf, cell, writtenRows, Wide, length-rows, rows-at}
+use Rattle.layout.specs.Table.{byColumns, shapeOf, cell, column, columnsOf}
+use Rattle.reading.specs.Grid.{writtenRows, Wide, length-rows, rows-at}
 use Rattle.fill.specs.Fill.{cleared, wiped}
 use Rattle.ids.specs.declared.Grid.{Grid}
 use Rattle.table.specs.Cleared.{columnsWiped, columnsCleared}
-use Rattle.columns.specs.Columns.{column, columnsOf}
 use Rattle.columns.specs.Cells.{length-map, wordOf, rowWord, columnsFrom, seven-columns, length-columns, columns-more}
 
 wide-words : (rows : List Row) → Wide (map words rows)

@@ -5,8 +5,7 @@ use Prim.Native.Nat.{ℕ, zero, suc, _+_, _*_, _<_, _≤_}
 use native.Mathlib.Omega.{arith}
 use lib.ListN.{length, getD, replicate, List·getD-append}
 use Rattle.layout.specs.Rows.{Row, words, flat, width}
-use Rattle.reading.specs.Grid.{byColumns, cell}
-use Rattle.columns.specs.Columns.{columnsOf}
+use Rattle.layout.specs.Table.{byColumns, cell, columnsOf}
 use Rattle.columns.specs.Cells.{rowWord, seven-columns, columns-at}
 
 -- a word of zeros

@@ -13,12 +13,12 @@ use Rattle.layout.specs.EnumList.{EnumEntry}
 use Rattle.layout.specs.Named.{named}
 use Rattle.layout.specs.Rows.{Row, words, width, flat}
 use Rattle.layout.specs.File.{sharedOf, header}
+use Rattle.layout.specs.Table.{cell, roomOf}
 use Rattle.reading.specs.Answer.{read}
 use Rattle.reading.specs.Reads.{Small}
-use Rattle.reading.specs.Grid.{cell}
 use Rattle.reading.specs.Front.{lists-reads}
 use Rattle.reading.specs.Accepts.{entries-length}
-use Rattle.reading.specs.File.{listsAt, Load, refusal, accepted, roomOf, loadOf, tableOf}
+use Rattle.reading.specs.File.{listsAt, Load, refusal, accepted, loadOf, tableOf, tableIn}
 use Rattle.reading.specs.Theorems.{Fitting, rowsIn, accepted-is}
 use Rattle.words.specs.Grids.{rowsGrid}
 use Rattle.places.specs.Padding.{filePadding}
@@ -32,7 +32,7 @@ use Rattle.load.specs.declared.Loading.the-variants.{Refused, Loaded}
 use Rattle.load.specs.Under.{loadUnder, load-lawful, accepted-list, load-refused-list}
 use Rattle.load.specs.Loads.{answerOf}
 use Rattle.profile.specs.Stand.{Stand, file-stand}
-use Rattle.profile.specs.Offences.{Fault, fine, fault, faultOf, byFault, targetsOf, profiled, driverOf}
+use Rattle.profile.specs.Offences.{fine, fault, faultOf, byFault, targetsOf, profiled, driverOf, Offence}
 use Rattle.used_rows.specs.Held.{wordIn, Held}
 use Rattle.driver.specs.Under.{byList, driverUnder}
 use Rattle.driver.specs.Rules.{Accepted}
@@ -146,9 +146,9 @@ module _ (enums file : List ℕ) (n : ℕ) where
   pub settled : {rows readers shared padding : ℕ} → Small file → Bytes enums → Loaded rows readers shared padding ≡ answerOf file (loadUnder enums file n) → (entry exit : List ℕ) (r : Loading)
       → length entry ≡ n → entry ≡ tableOf (loadUnder enums file n) n → Settles (enumsOf enums) file entry exit rows readers shared padding r
       → (r ≡ answerOf file (driverUnder enums file n)) × (exit ≡ tableOf (driverUnder enums file n) n)
-  unfolding byFault tableOf driverUnder byList
+  unfolding byFault tableIn driverUnder byList
   settled {rows} {readers} {shared} {padding} small bytes e entry exit r len en s = go (loadUnder enums file n) refl e where
-    left-is : (rs : List Row) (rd sh : ℕ) (x : Fault) → Left x entry exit (length rs) rd sh (filePadding file rd rs) r → entry ≡ tableOf (accepted rs rd sh) n
+    left-is : (rs : List Row) (rd sh : ℕ) (x : Offence) → Left x entry exit (length rs) rd sh (filePadding file rd rs) r → entry ≡ tableOf (accepted rs rd sh) n
         → (r ≡ answerOf file (byFault x (accepted rs rd sh))) × (exit ≡ tableOf (byFault x (accepted rs rd sh)) n)
     left-is rs rd sh fine w t = (w .0, w .1 ∙ t)
     left-is rs rd sh (fault k p) w t = (w .0, w .1 ∙ ap (λ (m : ℕ). replicate m 0) len)

@@ -14,7 +14,7 @@ use Rattle.reading.specs.File.{listsAt}
 use Rattle.readers.specs.Judged.{judgedName}
 use Rattle.places.specs.Places.{filePlaces}
 use Rattle.places.specs.Padding.{filePadding}
-use Rattle.profile.specs.Offences.{wrongAt, otherPlatform, padded, unused, doubled, repeated, noPage, nextless, Fault, fine, fault, from47, from46, from45, from44, from43, from42, faultOf}
+use Rattle.profile.specs.Offences.{wrongAt, otherPlatform, padded, unused, doubled, repeated, noPage, nextless, fine, fault, from47, from46, from45, from44, from43, from42, faultOf, Offence}
 use Rattle.profile.specs.Rules.{none-padded}
 use Rattle.fault_places.specs.declared.Place.{Place}
 use Rattle.fault_places.specs.declared.Place.the-variants.{Fine, At}
@@ -24,7 +24,7 @@ use Rattle.key_repeats.specs.Steps.{Few}
 use Rattle.driver.specs.declared.Broken.{Broken}
 use Rattle.driver.specs.declared.Broken.the-variants.{None, Rule}
 
-abbrev pub toFault : Broken → Fault
+abbrev pub toFault : Broken → Offence
 toFault None = fine
 toFault (Rule number place) = fault number place
 

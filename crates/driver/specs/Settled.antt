@@ -11,12 +11,12 @@ use Rattle.layout.specs.Rows.{Row}
 use Rattle.words.specs.Grids.{rowsGrid}
 use Rattle.load.specs.declared.Loading.{Loading}
 use Rattle.load.specs.declared.Loading.the-variants.{Refused, Loaded}
-use Rattle.profile.specs.Offences.{Fault, fine, fault, faultOf}
+use Rattle.profile.specs.Offences.{fine, fault, faultOf, Offence}
 use Rattle.driver.specs.declared.Broken.{Broken}
 use Rattle.driver.specs.declared.Broken.the-variants.{None, Rule}
 use Rattle.driver.specs.Rules.{toFault, Accepted, From41}
 
-abbrev pub Left : Fault → (entry exit : List ℕ) (rows readers shared padding : ℕ) → Loading → Type 0
+abbrev pub Left : Offence → (entry exit : List ℕ) (rows readers shared padding : ℕ) → Loading → Type 0
 Left fine entry exit rows readers shared padding r = (r ≡ Loaded rows readers shared padding) × (exit ≡ entry)
 Left (fault number place) entry exit rows readers shared padding r = (r ≡ Refused number place) × (exit ≡ replicate (length entry) 0)
 

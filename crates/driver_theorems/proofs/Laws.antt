@@ -10,17 +10,18 @@ use Rattle.layout.specs.Tree.{count}
 use Rattle.layout.specs.Rows.{width}
 use Rattle.layout.specs.File.{sharedOf}
 use Rattle.layout.specs.Named.{named}
-use Rattle.enums.specs.First.{FirstBad}
+use Rattle.layout.specs.EnumList.{FirstBad, Unlawful}
+use Rattle.layout.specs.Table.{roomOf, byRows, table}
+use Rattle.layout.specs.Branches.{TableSkips}
+use Rattle.layout.specs.Shortest.{shortFile}
 use Rattle.enums.specs.Judge.{Judgement, enumsAt}
 use Rattle.enums.specs.Judge.{refused as list-refused, lawful as list-lawful}
-use Rattle.enums.specs.Lists.{Bytes, Says, enums-sound, enums-complete, Unlawful}
+use Rattle.enums.specs.Lists.{Bytes, Says, enums-sound, enums-complete}
 use Rattle.places.specs.Padding.{filePadding}
 use Rattle.reading.specs.Reads.{Small}
-use Rattle.reading.specs.File.{Load, refusal, accepted, roomOf, loadOf, tableOf}
-use Rattle.reading.specs.Grid.{byRows}
+use Rattle.reading.specs.File.{Load, refusal, accepted, loadOf, tableOf, tableIn}
 use Rattle.reading.specs.Theorems as T
-use Rattle.branches.specs.Table.{TableSkips, rows-stand, file-skips}
-use Rattle.shortest.specs.File.{shortFile}
+use Rattle.branches.specs.Table.{rows-stand, file-skips}
 use Rattle.shortest.specs.Theorems as S
 use Rattle.readers.specs.Judged.{judgedName, judges}
 use Rattle.load.specs.declared.Loading.{Loading}
@@ -28,16 +29,16 @@ use Rattle.load.specs.declared.Loading.the-variants.{Refused, Loaded}
 use Rattle.load.specs.Under.{loadUnder, load-lawful, load-refused-list}
 use Rattle.load.specs.Loads.{answerOf}
 use Rattle.profile.specs.Profile.{Profile}
-use Rattle.profile.specs.Offences.{Fault, fine, fault, faultOf, byFault, profiled, driverOf}
+use Rattle.profile.specs.Offences.{fine, fault, faultOf, byFault, profiled, driverOf, Offence}
 use Rattle.profile.specs.Passes.{driver-is}
 use Rattle.profile_places.specs.Broken.{FirstBroken}
 use Rattle.profile_places.specs.First.{first-broken}
 use Rattle.driver.specs.Facts.{hand-on}
 use Rattle.driver.specs.Under.{byList, driverUnder, passes-under, same-under, none-under}
 use Rattle.theorems.specs.Fits.{Fitting, rowsIn}
-use Rattle.theorems.specs.Exact.{Accepted, table}
-use Rattle.driver_theorems.specs.declared.Loads.{Loads}
-use Rattle.driver_theorems.specs.Exact.{Passes, Exact, Beside}
+use Rattle.theorems.specs.Loading.{IsLoaded}
+use Rattle.driver_theorems.specs.declared.LoadedBoth.{LoadedBoth}
+use Rattle.driver_theorems.specs.Driver.{Passes, LoadsForDriver, Beside}
 
 -- ---- A file tree that fits, and the list under which it does
 
@@ -61,9 +62,9 @@ module _ {enums file : List ℕ} {words : ℕ} (f : Fitting enums file words) wh
   unpadded e = omega (arith, ap length e, S.padding-is (named (f .es)) (judgedName (f .es)) (judges (f .es)) file words plain)
 
 -- the rule of the seventh word holds of its table
-table-skips : {enums file : List ℕ} {words : ℕ} (f : Fitting enums file words) {left : List ℕ} → left ≡ table false (rowsIn f) words → TableSkips byRows (roomOf words) left (length (rowsIn f))
+table-skips : {enums file : List ℕ} {words : ℕ} (f : Fitting enums file words) {left : List ℕ} → left ≡ table byRows (rowsIn f) words → TableSkips byRows (roomOf words) left (length (rowsIn f))
 table-skips {enums} {file} {words} f e =
-    rw e (file-skips (named (f .es)) byRows (roomOf words) (f .tree) file (f .lays) (table false (rowsIn f) words) (rows-stand (roomOf words) (rowsIn f) (replicate (words - width * length (rowsIn f)) 0)))
+    rw e (file-skips (named (f .es)) byRows (roomOf words) (f .tree) file (f .lays) (table byRows (rowsIn f) words) (rows-stand (roomOf words) (rowsIn f) (replicate (words - width * length (rowsIn f)) 0)))
 
 module _ (enums file : List ℕ) (words : ℕ) {left : List ℕ} {r : Loading} (bytes : Bytes enums) (small : Small file)
     (answers : r ≡ answerOf file (driverUnder enums file words)) (leaves : left ≡ tableOf (driverUnder enums file words) words) where
@@ -72,26 +73,26 @@ module _ (enums file : List ℕ) (words : ℕ) {left : List ℕ} {r : Loading} (
   passed f p = same-under enums file words (f .es) (list-is f) (plain f) p ∙ load-is f
 
   loaded : (p : Passes enums file words)
-      → (r ≡ Loaded (length (rowsIn (p .0))) (length (p .0 .tree .names)) (count (sharedOf (p .0 .tree .objects))) 0) × (left ≡ table false (rowsIn (p .0)) words)
-  unfolding tableOf
+      → (r ≡ Loaded (length (rowsIn (p .0))) (length (p .0 .tree .names)) (count (sharedOf (p .0 .tree .objects))) 0) × (left ≡ table byRows (rowsIn (p .0)) words)
+  unfolding tableIn
   loaded (f, p) =
       let d = passed f p in
       (answers ∙ rw (d, unpadded f (p .shortest)), leaves ∙ rw d)
 
-  list-first : Unlawful enums → (place : ℕ) × (r ≡ Refused 32 place) × FirstBad enums 32 place
+  list-first : Unlawful enums → (place : ℕ) × (r ≡ Refused 32 place) × FirstBad enums place
   list-first none = go (enumsAt enums) refl (enums-sound enums bytes) where
-    go : (j : Judgement) → enumsAt enums ≡ j → Says enums j → (place : ℕ) × (r ≡ Refused 32 place) × FirstBad enums 32 place
+    go : (j : Judgement) → enumsAt enums ≡ j → Says enums j → (place : ℕ) × (r ≡ Refused 32 place) × FirstBad enums place
     go (list-refused n i) e w =
-        let z : n ≡ 32 = w .number-is in
+        let z : n ≡ 32 = w .0 in
         let d : driverUnder enums file words ≡ refusal n i = none-under enums file words e ∙ load-refused-list enums file words e in
-        (i, answers ∙ rw (d, z), rw z at w)
+        (i, answers ∙ rw (d, z), w .1)
     go (list-lawful es) e w = absurd (none es (w .0) (w .1))
 
   -- what passes
-  fits : (x : Load) → driverUnder enums file words ≡ x → Accepted (answerOf file x) → Passes enums file words
+  fits : (x : Load) → driverUnder enums file words ≡ x → IsLoaded (answerOf file x) → Passes enums file words
   unfolding T.Accepts
   fits x e a = go (enumsAt enums) refl (enums-sound enums bytes) where
-    accepts : (x : Load) → Accepted (answerOf file x) → T.Accepts x
+    accepts : (x : Load) → IsLoaded (answerOf file x) → T.Accepts x
     accepts (refusal n p) a = absurd a
     accepts (accepted rows readers shared) a = a
 
@@ -104,7 +105,7 @@ module _ (enums file : List ℕ) (words : ℕ) {left : List ℕ} {r : Loading} (
         (record { es = es; lawful = w .0; listed = w .1; tree = y .0 .tree; lays = y .0 .lays; room = y .0 .room }, y .1)
 
   cleared : (number place : ℕ) → r ≡ Refused number place → left ≡ replicate words 0
-  unfolding tableOf
+  unfolding tableIn
   cleared number place e = leaves ∙ go (driverUnder enums file words) (sym answers ∙ e) where
     go : (x : Load) → answerOf file x ≡ Refused number place → tableOf x words ≡ replicate words 0
     go (refusal n p) q = refl
@@ -115,7 +116,7 @@ module _ (enums file : List ℕ) (words : ℕ) {left : List ℕ} {r : Loading} (
   placed f number place e =
       first-broken (named (f .es)) (f .tree) file small (f .lays) number place
       (go (faultOf file (f .lays .readers) (rowsIn f)) (ap (answerOf file) (sym (driver-of f)) ∙ sym answers ∙ e)) where
-        go : (x : Fault) → answerOf file (byFault x (accepted (rowsIn f) (length (f .tree .names)) (count (sharedOf (f .tree .objects))))) ≡ Refused number place → x ≡ fault number place
+        go : (x : Offence) → answerOf file (byFault x (accepted (rowsIn f) (length (f .tree .names)) (count (sharedOf (f .tree .objects))))) ≡ Refused number place → x ≡ fault number place
         go fine q = differ cc
         go (fault n p) q =
             let a : n ≡ number = cc in
@@ -131,7 +132,7 @@ module _ (enums file : List ℕ) (words : ℕ) {left : List ℕ} {r : Loading} (
         let u : used ≡ length (rowsIn f) = cc in
         rw u (table-skips f (l .1))
 
-  pub load-driver-exact : Exact enums file words left r
+  pub load-driver-exact : LoadsForDriver enums file words left r
   load-driver-exact = record {
     passes = (λ a. fits (driverUnder enums file words) refl (rw answers at a), λ p. rw (loaded p .0) tt);
     rows = loaded;
@@ -145,22 +146,22 @@ module _ (enums file : List ℕ) (words : ℕ) {left : List ℕ} {r : Loading} (
 
 -- what passes is as it was loaded
 module _ (enums file : List ℕ) where
-  unchanged : (words : ℕ) → Accepted (answerOf file (driverUnder enums file words)) → driverUnder enums file words ≡ loadUnder enums file words
+  unchanged : (words : ℕ) → IsLoaded (answerOf file (driverUnder enums file words)) → driverUnder enums file words ≡ loadUnder enums file words
   unfolding driverUnder byList driverOf profiled byFault
   unchanged words a = go (enumsAt enums) refl a where
-    by-fault : (x : Fault) (l : Load) → Accepted (answerOf file (byFault x l)) → byFault x l ≡ l
+    by-fault : (x : Offence) (l : Load) → IsLoaded (answerOf file (byFault x l)) → byFault x l ≡ l
     by-fault fine l a = refl
     by-fault (fault n p) l a = absurd a
 
-    by-load : (readers : _) (l : Load) → Accepted (answerOf file (profiled file readers l)) → profiled file readers l ≡ l
+    by-load : (readers : _) (l : Load) → IsLoaded (answerOf file (profiled file readers l)) → profiled file readers l ≡ l
     by-load readers (refusal n p) a = refl
     by-load readers (accepted rows m s) a = by-fault (faultOf file readers rows) (accepted rows m s) a
 
-    go : (j : Judgement) → enumsAt enums ≡ j → Accepted (answerOf file (byList j file words)) → byList j file words ≡ loadUnder enums file words
+    go : (j : Judgement) → enumsAt enums ≡ j → IsLoaded (answerOf file (byList j file words)) → byList j file words ≡ loadUnder enums file words
     go (list-refused n i) e a = absurd a
     go (list-lawful es) e a = by-load _ (loadOf (judgedName es) file words) a ∙ sym (load-lawful enums file words es e)
 
-  module _ (n m : ℕ) {plainLeft left : List ℕ} {r : Loads} (answers : r .plain ≡ answerOf file (loadUnder enums file n)) (leaves : plainLeft ≡ tableOf (loadUnder enums file n) n)
+  module _ (n m : ℕ) {plainLeft left : List ℕ} {r : LoadedBoth} (answers : r .plain ≡ answerOf file (loadUnder enums file n)) (leaves : plainLeft ≡ tableOf (loadUnder enums file n) n)
       (driver-answers : r .driver ≡ answerOf file (driverUnder enums file m)) (driver-leaves : left ≡ tableOf (driverUnder enums file m) m) where
     pub beside : Beside n m plainLeft left r
     beside = record {

@@ -1,2 +1,2 @@
 -- What is demanded of the driver's loader.
-pub mod Exact
+pub mod Driver

@@ -1,29 +1,29 @@
 // What is demanded of the driver's loader (02, Req 07), as contracts: each function calls the code, and is here for what it ensures
-// (specs/Exact.antt, from top to bottom).
+// (specs/Driver.antt, from top to bottom).
 use load::Loading;
 ghost use lib.ListN.{length};
-ghost use Rattle.driver_theorems.specs.Exact.{Exact, Beside};
+ghost use Rattle.driver_theorems.specs.Driver.{LoadsForDriver, Beside};
 
 // A file that the driver's loader takes or refuses, under a list of enum types.
 pub fn load_driver_exact(file: &[u8], enums: &[u8], words: &mut [u32]) -> Loading
-    ensures { λ r. ⌜ Exact (now (enums .entry)) (now (file .entry)) (length (now (words .entry))) (now (words .exit)) r ⌝ }
+    ensures { λ r. ⌜ LoadsForDriver (now (enums .entry)) (now (file .entry)) (length (now (words .entry))) (now (words .exit)) r ⌝ }
 {
     driver::load_driver(file, enums, words)
 }
 
 // The answers of the plain loader and of the driver's.
-pub struct Loads {
+pub struct LoadedBoth {
     pub plain: Loading,
     pub driver: Loading,
 }
 
 // A file that both load, under one list of enum types.
-pub fn load_both(file: &[u8], enums: &[u8], plain: &mut [u32], words: &mut [u32]) -> Loads
+pub fn load_both(file: &[u8], enums: &[u8], plain: &mut [u32], words: &mut [u32]) -> LoadedBoth
     ensures { λ r. ⌜ Beside (length (now (plain .entry))) (length (now (words .entry))) (now (plain .exit)) (now (words .exit)) r ⌝ }
 {
     let by_plain = load::load(file, enums, plain);
     let by_driver = driver::load_driver(file, enums, words);
-    Loads {
+    LoadedBoth {
         plain: by_plain,
         driver: by_driver,
     }

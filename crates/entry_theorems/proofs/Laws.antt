@@ -11,17 +11,16 @@ use borrow.Author.Tests.{leb-true, leb-false}
 use Rattle.laws.specs.Small.{differ}
 use Rattle.layout.specs.Tree.{count}
 use Rattle.layout.specs.File.{sharedOf}
-use Rattle.layout.specs.EnumList.{EnumEntry, writeEnums, Enums}
-use Rattle.enums.specs.First.{FirstBad}
-use Rattle.enums.specs.Lists.{Bytes, Unlawful}
-use Rattle.reading.specs.Numbers.{LoadNumber}
+use Rattle.layout.specs.EnumList.{EnumEntry, writeEnums, Enums, FirstBad, Unlawful}
+use Rattle.layout.specs.Refusals.{LoadNumber}
+use Rattle.layout.specs.Table.{roomOf, table, shapeOf, byRows}
+use Rattle.layout.specs.Shortest.{shortFile}
+use Rattle.enums.specs.Lists.{Bytes}
 use Rattle.reading.specs.Reads.{Small}
-use Rattle.reading.specs.File.{Load, refusal, accepted, roomOf, tableOf}
+use Rattle.reading.specs.File.{Load, refusal, accepted, tableOf, tableIn}
 use Rattle.reading.specs.Output as rewritten
 use Rattle.reading.specs.Output.{outputOf}
-use Rattle.columns.specs.Columns.{tableIn}
 use Rattle.places.specs.Padding.{filePadding}
-use Rattle.shortest.specs.File.{shortFile}
 use Rattle.shortest.specs.Rewrite.{wordsOf}
 use Rattle.load.specs.Under.{loadUnder}
 use Rattle.rewrite.specs.Whole.{rewriteUnder}
@@ -32,11 +31,11 @@ use Rattle.builder.specs.Packed.{code, packed, rewritePacked}
 use Rattle.builder.specs.Places.{load-exactly, rewrite-exactly}
 use Rattle.builder.specs.Told.{loadTold}
 use Rattle.theorems.specs.Fits.{Fitting, rowsIn}
-use Rattle.theorems.specs.Exact.{table}
-use Rattle.theorems.specs.Rewriting as R
+use Rattle.theorems.specs.Rewriting.{Rewrites}
 use Rattle.theorems.specs.Fitted.{rows-are, rows-room, padding-is, least}
 use Rattle.theorems.specs.Laws.{Ends, fits, refuses, bad-list, ends, table-in, cleared-in, handed-on, rewrite-exact}
-use Rattle.entry_theorems.specs.Told.{ListTold, Told, Fills, Rewrites}
+use Rattle.entry_theorems.specs.Told.{ListTold, TellsLoad, Fills, TellsRewrite}
+use Rattle.entry_theorems.specs.Refusals.{TellsRefusal, TellsRewriteRefusal}
 
 -- a load's numbers are from 1 on, and none is 32
 some-number : {number : ℕ} → LoadNumber number → (1 ≤ number) × (number ≡ 32 → ⊥)
@@ -82,14 +81,17 @@ module _ (enums file : List ℕ) (words : ℕ) (bytes : Bytes enums) (small : Sm
   listed (refuses es l b n p e i) u = absurd (u es l b)
   listed (bad-list p bad v e) u = (p, list-told e, bad)
 
-  pub load-told : Told enums file words r
+  pub load-told : TellsLoad enums file words r
   load-told =
       let e = ends enums file words bytes small in
-      record { accepts = (only e, below); rows = rows-told; refuses = exactly e; list = listed e }
+      record { accepts = (only e, below); rows = rows-told; list = listed e }
+
+  pub refusal-told : TellsRefusal enums file words r
+  refusal-told = exactly (ends enums file words bytes small)
 
 module _ (enums file : List ℕ) (words : ℕ) (columns : Bool) (bytes : Bytes enums) (small : Small file) {r readers shared padding : ℕ} {left : List ℕ}
     (answers : _≡_ {A = ℕ × ℕ × ℕ × ℕ} (r, readers, shared, padding) (loadTold file (loadUnder enums file words)))
-    (leaves : left ≡ tableIn columns (loadUnder enums file words) words) where
+    (leaves : left ≡ tableIn (shapeOf columns) (loadUnder enums file words) words) where
   pub number-told : r ≡ packed (loadUnder enums file words)
   unfolding loadTold
   number-told = ap (λ (t : ℕ × ℕ × ℕ × ℕ). t .0) answers ∙ go (loadUnder enums file words) where
@@ -98,7 +100,7 @@ module _ (enums file : List ℕ) (words : ℕ) (columns : Bool) (bytes : Bytes e
     go (accepted rows m s) = refl
 
   filled : (f : Fitting enums file words)
-      → (readers ≡ length (f .tree .names)) × (shared ≡ count (sharedOf (f .tree .objects))) × (padding ≡ length file - length (shortFile (f .tree))) × (left ≡ table columns (rowsIn f) words)
+      → (readers ≡ length (f .tree .names)) × (shared ≡ count (sharedOf (f .tree .objects))) × (padding ≡ length file - length (shortFile (f .tree))) × (left ≡ table (shapeOf columns) (rowsIn f) words)
   unfolding loadTold
   filled f =
       let e = rw (rows-are f) at answers in
@@ -116,7 +118,7 @@ module _ (enums file : List ℕ) (words : ℕ) (columns : Bool) (bytes : Bytes e
   by-end (refuses es l b n p e i) none = cleared e
   by-end (bad-list p b u e) none = cleared e
 
-  pub load-fills : Fills columns enums file words left readers shared padding
+  pub load-fills : Fills (shapeOf columns) enums file words left readers shared padding
   load-fills = record { fills = filled; clears = by-end (ends enums file words bytes small) }
 
 -- ---- Rewriting
@@ -138,7 +140,7 @@ module _ (enums file : List ℕ) (words : ℕ) (out : List ℕ) (bytes : Bytes e
   abbrev answer : Rewriting
   answer = contract.answerOf (rewriteUnder enums file words (length out))
 
-  exact : R.Exact enums file words left out end answer
+  exact : Rewrites enums file words left out end answer
   exact = rewrite-exact enums file words out bytes small refl writes leaves
 
   number-is : r ≡ tells answer
@@ -148,7 +150,7 @@ module _ (enums file : List ℕ) (words : ℕ) (out : List ℕ) (bytes : Bytes e
   bound f = omega (arith, least f file (f .lays) .no-longer, f .lays .short)
 
   told : (f : Fitting enums file words) → length (shortFile (f .tree)) ≤ length out
-      → (r ≡ length (shortFile (f .tree))) × (end ≡ shortFile (f .tree) ++ drop (length (shortFile (f .tree))) out) × (left ≡ table false (rowsIn f) words)
+      → (r ≡ length (shortFile (f .tree))) × (end ≡ shortFile (f .tree) ++ drop (length (shortFile (f .tree))) out) × (left ≡ table byRows (rowsIn f) words)
   told f h =
       let x = exact .rewrites f h in
       (number-is ∙ ap tells (x .0), x .1, x .2)
@@ -181,18 +183,20 @@ module _ (enums file : List ℕ) (words : ℕ) (out : List ℕ) (bytes : Bytes e
   exactly-told es w b number place e =
       answers ∙ rewrite-exactly enums file words number place (not-32 (exact .inside es w b number place (ap contract.answerOf e) .0)) small (length out) e
 
+  pub rewrite-refusal-told : TellsRewriteRefusal enums file words (length out) r
+  rewrite-refusal-told = exactly-told
+
   first-told : ListTold enums r
   unfolding code
   first-told u =
       let x = exact .list u in
       (x .0, number-is ∙ ap tells (x .1), x .2)
 
-  pub rewrite-told : Rewrites enums file words left out end r
+  pub rewrite-told : TellsRewrite enums file words left out end r
   rewrite-told = record {
     accepts = (some-tree (ends enums file words bytes small), λ x. omega (arith, told (x .0) (x .1) .0, bound (x .0)));
     rewrites = told;
     too-small = too-long;
     unchanged = λ none. let x = exact .refuses none in (x .3, x .4);
-    refuses = exactly-told;
     list = first-told;
   }

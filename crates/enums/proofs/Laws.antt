@@ -10,7 +10,8 @@ use lib.Seq.{drop-cons, drop-drop, getD-drop}
 use Rattle.layout.specs.Name.{headByte, all}
 use Rattle.layout.specs.Kind.{lookup, targets}
 use Rattle.names.specs.Parse.{span}
-use Rattle.enums.specs.Judge.{isSize, isHead, isEnumType}
+use Rattle.names.specs.Entries.{isSize}
+use Rattle.enums.specs.Judge.{isHead, isEnumType}
 
 -- every byte is of a class exactly if as many bytes as there are stand in it from the first on
 span-all : (p : ℕ → Bool) (s : List ℕ) → span p s ≡ length s → all p s ≡ true

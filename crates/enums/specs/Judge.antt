@@ -1,5 +1,5 @@
 -- Which lists of enum types are refused with 32, and at which entry (02, Req 02). Assumes nothing.
-use mathlib.Core.Bool.{Bool, true, false, _&&_, _||_}
+use mathlib.Core.Bool.{Bool, true, false, _&&_}
 use mathlib.Core.List.{List, [], _∷_, _++_}
 use Prim.Native.Nat.{ℕ, zero, suc}
 use lib.Dec.{eqb, ltb}
@@ -7,15 +7,12 @@ use lib.ListN.{length, take, drop, getD}
 use Rattle.layout.specs.Name.{headByte, all}
 use Rattle.layout.specs.Kind.{lookup, targets}
 use Rattle.layout.specs.EnumList.{EnumEntry, entry, sizeIn}
+use Rattle.names.specs.Entries.{isSize}
 
 -- refused with a number at an entry's number from 0, or the entries
 pub data Judgement : Type 0 where
   refused : (number entry : ℕ) → Judgement
   lawful : List EnumEntry → Judgement
-
--- 02: "with sizes 1, 2, 4 or 8"
-unfoldable pub isSize : ℕ → Bool
-isSize z = eqb z 1 || (eqb z 2 || (eqb z 4 || eqb z 8))
 
 -- 01: "The head is one or more ASCII letters, digits, `.`, `_`, `+`"
 unfoldable pub isHead : List ℕ → Bool

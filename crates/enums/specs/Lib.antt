@@ -1,5 +1,4 @@
 -- Lists of enum types as bytes (02, Req 02).
-pub mod First
 pub mod Judge
 pub mod Contract
 pub mod Laws

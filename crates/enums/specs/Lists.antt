@@ -9,36 +9,22 @@ use lib.Dec.{eqb, ltb}
 use lib.ListN.{length, take, drop, getD, length-drop, length-append}
 use lib.Seq.{getD-drop, length-take-le, split-at}
 use borrow.Author.Tests.{lt-ltb, ltb-true, eqb-true}
-use Rattle.laws.specs.Small.{differ, both, either}
-use Rattle.layout.specs.Name.{Head}
+use Rattle.laws.specs.Small.{differ, both}
 use Rattle.layout.specs.Kind.{alike, lookup, targets}
-use Rattle.layout.specs.EnumList.{EnumEntry, entry, writeEnums, EnumSize, EnumType, Unlisted, Enums, sizeIn}
+use Rattle.layout.specs.EnumList.{EnumEntry, entry, writeEnums, EnumSize, EnumType, Unlisted, Enums, sizeIn, FirstBad}
+use Rattle.layout.specs.Name.{NameHead}
 use Rattle.names.specs.Codes.{alike-then, alike-self}
-use Rattle.enums.specs.Judge.{Judgement, refused, lawful, isSize, isHead, isEnumType, check, enumsFrom, enumsAt}
-use Rattle.enums.specs.First.{FirstBad}
+use Rattle.names.specs.Entries.{isSize, size-true, true-size}
+use Rattle.enums.specs.Judge.{Judgement, refused, lawful, isHead, isEnumType, check, enumsFrom, enumsAt}
 use Rattle.enums.specs.Laws.{written-parts, write-append}
 
 -- the tests of an entry by itself, both ways
-size-true : (z : ℕ) → EnumSize z → isSize z ≡ true
-unfolding EnumSize isSize
-size-true z (inl e) = rw e
-size-true z (inr (inl e)) = rw e
-size-true z (inr (inr (inl e))) = rw e
-size-true z (inr (inr (inr e))) = rw e
-
-true-size : (z : ℕ) → isSize z ≡ true → EnumSize z
-unfolding EnumSize isSize
-true-size z b =
-    either (eqb z 1) _ b (λ q. inl (eqb-true z 1 q))
-    (λ r. either (eqb z 2) _ r (λ q. inr (inl (eqb-true z 2 q)))
-    (λ r. either (eqb z 4) _ r (λ q. inr (inr (inl (eqb-true z 4 q)))) (λ q. inr (inr (inr (eqb-true z 8 q))))))
-
-head-true : (h : List ℕ) → Head h → isHead h ≡ true
+head-true : (h : List ℕ) → NameHead h → isHead h ≡ true
 unfolding isHead
 head-true [] w = absurd (w .some refl)
 head-true (b ∷ h) w = w .bytes
 
-true-head : (h : List ℕ) → isHead h ≡ true → Head h
+true-head : (h : List ℕ) → isHead h ≡ true → NameHead h
 unfolding isHead
 true-head [] b = differ cc
 true-head (c ∷ h) b = record { some = λ q. differ cc; bytes = b }
@@ -138,10 +124,6 @@ enums-complete es w = complete-from (length (writeEnums es)) [] es (omega arith)
 pub judged-list : (s : List ℕ) (es : List EnumEntry) → Enums es → s ≡ writeEnums es → enumsAt s ≡ lawful es
 judged-list s es w e = ap enumsAt e ∙ enums-complete es w
 
--- no lawful list is written with these bytes
-abbrev pub Unlawful : List ℕ → Type 0
-Unlawful s = (es : List EnumEntry) → Enums es → s ≡ writeEnums es → ⊥
-
 -- each of some numbers is a byte
 abbrev pub Bytes : List ℕ → Type 0
 Bytes s = (i : ℕ) → i < length s → getD s i 0 < 256
@@ -161,7 +143,7 @@ first-written n s h =
 -- what a judgement says of a list's bytes
 abbrev pub Says : List ℕ → Judgement → Type 0
 Says s (lawful es) = Enums es × (s ≡ writeEnums es)
-Says s (refused number place) = FirstBad s number place
+Says s (refused number place) = (number ≡ 32) × FirstBad s place
 
 -- an entry that stands first and may follow the earlier ones passes each test
 first-passes : (earlier : List EnumEntry) (n : ℕ) (s name : List ℕ) (size : ℕ) (more : List ℕ) → n ∷ s ≡ writeEnums (entry name size ∷ []) ++ more
@@ -177,10 +159,10 @@ first-passes earlier n s name size more q w =
     rw (t, m, p .1, p .2, unlisted-size name earlier (l .1)) (lt-ltb (length name) (length (name ++ (size ∷ more))) (p .0), type-true name size (l .0), refl)
 
 module _ (whole : List ℕ) where
-  says-check : (b : Bool) (i : ℕ) (x : Judgement) → (b ≡ true → Says whole x) → (b ≡ false → FirstBad whole 32 i) → Says whole (check b i x)
+  says-check : (b : Bool) (i : ℕ) (x : Judgement) → (b ≡ true → Says whole x) → (b ≡ false → FirstBad whole i) → Says whole (check b i x)
   unfolding check
   says-check true i x f g = f refl
-  says-check false i x f g = g refl
+  says-check false i x f g = (refl, g refl)
 
   says-from : (k : ℕ) (earlier : List EnumEntry) (s : List ℕ) → length s ≤ k → Bytes s → Enums earlier → whole ≡ writeEnums earlier ++ s → Says whole (enumsFrom k earlier s)
   unfolding enumsFrom
@@ -192,8 +174,8 @@ module _ (whole : List ℕ) where
       let size = getD s n 0 in
       let rest = drop (suc n) s in
       let d = length-drop (suc n) s in
-      let bad : ((nm : List ℕ) (sz : ℕ) (more : List ℕ) → n ∷ s ≡ writeEnums (entry nm sz ∷ []) ++ more → Enums (earlier ++ (entry nm sz ∷ [])) → ⊥) → FirstBad whole 32 (length earlier)
-      = λ f. record { number-is = refl; before = earlier; keeps = w; place-is = refl; rest = n ∷ s; parts = q; some = λ e. differ cc; bad = f } in
+      let bad : ((nm : List ℕ) (sz : ℕ) (more : List ℕ) → n ∷ s ≡ writeEnums (entry nm sz ∷ []) ++ more → Enums (earlier ++ (entry nm sz ∷ [])) → ⊥) → FirstBad whole (length earlier)
+      = λ f. record { before = earlier; keeps = w; place-is = refl; rest = n ∷ s; parts = q; some = λ e. differ cc; bad = f } in
       says-check (ltb n (length s)) (length earlier) _
       (λ t. says-check (isEnumType name size) (length earlier) _
       (λ u. says-check (eqb (sizeIn earlier name) 0) (length earlier) _

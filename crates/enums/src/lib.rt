@@ -1,6 +1,7 @@
 // Lists of enum types that a caller lends: for each a name length byte, the name, a size byte.
 ghost use mathlib.Core.Path.{_≡_};
-ghost use Rattle.enums.specs.Judge.{isSize, isEnumType, enumsAt};
+ghost use Rattle.names.specs.Entries.{isSize};
+ghost use Rattle.enums.specs.Judge.{isEnumType, enumsAt};
 ghost use Rattle.enums.specs.Contract.{answerOf};
 
 // Whether a list is lawful, or its refusal: the number 32 and the number, from 0, of the first entry that is not.

@@ -16,6 +16,8 @@ use Rattle.layout.specs.Rows.{row, words as row-words, width, flat}
 use Rattle.layout.specs.Name.{headByte, tailByte}
 use Rattle.layout.specs.Kind.{lookup, alike, reader, readers, target as target-entry, targets}
 use Rattle.layout.specs.Named.{fixedKind, plain, nullableOf, wrapped, paired, typeOf, enumOf, arrayOf, readerOf}
+use Rattle.layout.specs.Table.{roomOf}
+use Rattle.layout.specs.Shortest.{fewest, shortest, numbered, idBytes, body, short, shortEntry, shortEntries, shortLists, shortBody, shortFile}
 use Rattle.reading.specs.Answer.{Answer, read, refused, bind, check, within, several}
 use Rattle.reading.specs.Reads.{some, field}
 use Rattle.reading.specs.Seven.{group, groups, sevenAt}
@@ -27,13 +29,9 @@ use Rattle.reading.specs.Font.{fontOk, fontIf, fontTest}
 use Rattle.reading.specs.Resource.{suit, suits}
 use Rattle.reading.specs.Walk.{before, sequence, rawAt, byReader, objectAt, valueAt, walk}
 use Rattle.reading.specs.Heads.{headAt, fixedHeadAt, whole as whole-value, textAt, countAt, imageAt, leafAt, always}
-use Rattle.reading.specs.File.{isPlatform, headerAt, judge, rootKind, rootKinds, judged, readerAt, readersAt, listsAt, objectsAt, finished, fileAt, Load, refusal, accepted, toLoad, roomOf, tableOf}
+use Rattle.reading.specs.File.{isPlatform, headerAt, judge, rootKind, rootKinds, judged, readerAt, readersAt, listsAt, objectsAt, finished, fileAt, Load, refusal, accepted, toLoad, tableOf, tableIn}
 use Rattle.names.specs.Parse.{span, starts, tailSize, tailOf, closed, opening, onOnly, onSecond, onFirst, afterHead, headed, nameIn, whole, nameOf}
 use Rattle.readers.specs.Judged.{typedName, readName, judgedName}
-use Rattle.numbers.specs.Shortest.{fewest, shortest}
-use Rattle.places.specs.Places.{numbered}
-use Rattle.shortest.specs.Short.{idBytes, body, short}
-use Rattle.shortest.specs.File.{shortEntry, shortEntries, shortLists, shortBody, shortFile}
 use Rattle.reading.specs.Output.{Rewritten, written, fitted, outputOf}
 use Rattle.shortest.specs.Rewrite.{byLoad}
 use Rattle.enums.specs.Judge.{enumsFrom, enumsAt}
@@ -136,5 +134,5 @@ listed-examples =
     ∷ []
 
 pub examples : Hold listed-examples
-unfolding Hold listed-examples tableOf flat row-words code packed outputOf A B paddedB start texted rewriteUnder loadUnder fileUnder underList enumsAt enumsFrom byLoad fitted shortFile shortBody shortLists shortEntries shortEntry short body idBytes numbered shortest fewest header follow size isPlatform headerAt judge rootKind rootKinds judged readerAt readersAt several listsAt objectsAt finished fileAt toLoad roomOf headAt fixedHeadAt whole-value textAt countAt imageAt leafAt always toldOf told before sequence rawAt byReader objectAt valueAt walk suit suits fontOk fontIf fontTest rule isBoolean isDateTime isDecimal fixedAt utf8s chars charSize decided same serves invoked reader-of valueOf littleAt group groups sevenAt some field bind check within sharedOf objectsPlan sizes levels levelBytes pixelBytes blockBytes digits ascii little each slotOf rawOrObject pairs leaves fontSlots pageSlots count kindAt childrenAt kindOf isValue headByte tailByte headings lookup alike listed reader readers target-entry targets span starts tailSize tailOf closed opening onOnly onSecond onFirst afterHead headed nameIn whole nameOf fixedKind plain nullableOf wrapped paired typeOf enumOf arrayOf readerOf typedName readName judgedName
+unfolding Hold listed-examples tableIn flat row-words code packed outputOf A B paddedB start texted rewriteUnder loadUnder fileUnder underList enumsAt enumsFrom byLoad fitted shortFile shortBody shortLists shortEntries shortEntry short body idBytes numbered shortest fewest header follow size isPlatform headerAt judge rootKind rootKinds judged readerAt readersAt several listsAt objectsAt finished fileAt toLoad roomOf headAt fixedHeadAt whole-value textAt countAt imageAt leafAt always toldOf told before sequence rawAt byReader objectAt valueAt walk suit suits fontOk fontIf fontTest rule isBoolean isDateTime isDecimal fixedAt utf8s chars charSize decided same serves invoked reader-of valueOf littleAt group groups sevenAt some field bind check within sharedOf objectsPlan sizes levels levelBytes pixelBytes blockBytes digits ascii little each slotOf rawOrObject pairs leaves fontSlots pageSlots count kindAt childrenAt kindOf isValue headByte tailByte headings lookup alike listed reader readers target-entry targets span starts tailSize tailOf closed opening onOnly onSecond onFirst afterHead headed nameIn whole nameOf fixedKind plain nullableOf wrapped paired typeOf enumOf arrayOf readerOf typedName readName judgedName
 examples = (refl, (refl, (refl, (refl, (refl, (refl, (refl, (refl, (refl, (refl, (refl, (refl, (refl, (refl, (refl, (refl, (refl, (refl, (refl, (refl, (refl, (refl, (p12 .0, (p12 .1, (p13 .0, (p13 .1, (p13 .2, (euro, (surrogate, (of-four, tt))))))))))))))))))))))))))))))

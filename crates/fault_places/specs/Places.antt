@@ -8,7 +8,7 @@ use native.Mathlib.Omega.{arith}
 use lib.Dec.{leb}
 use borrow.Author.Tests.{leb-true, leb-false}
 use Rattle.laws.specs.Small.{differ}
-use Rattle.profile.specs.Offences.{wrongAt, Fault, fault, first, lowest, firstLowest}
+use Rattle.profile.specs.Offences.{wrongAt, fault, first, lowest, firstLowest, Offence}
 use Rattle.fault_places.specs.declared.Place.{Place}
 use Rattle.fault_places.specs.declared.Place.the-variants.{Fine, At}
 
@@ -165,22 +165,22 @@ lower-fine (At p) = refl
 
 -- ---- As faults
 
-pub first-fault : (n : ℕ) (l : List ℕ) (x : Fault) {p : ℕ} → At p ≡ firstPlace l → first n l x ≡ fault n p
+pub first-fault : (n : ℕ) (l : List ℕ) (x : Offence) {p : ℕ} → At p ≡ firstPlace l → first n l x ≡ fault n p
 unfolding first
 first-fault n [] x e = differ cc
 first-fault n (q ∷ l) x {p} e = let z : p ≡ q = cc in rw z
 
-pub first-right : (n : ℕ) (l : List ℕ) (x : Fault) → Fine ≡ firstPlace l → first n l x ≡ x
+pub first-right : (n : ℕ) (l : List ℕ) (x : Offence) → Fine ≡ firstPlace l → first n l x ≡ x
 unfolding first
 first-right n [] x e = refl
 first-right n (q ∷ l) x e = differ cc
 
-pub lowest-fault : (n : ℕ) (l : List ℕ) (x : Fault) {p : ℕ} → At p ≡ lowestPlace l → firstLowest n l x ≡ fault n p
+pub lowest-fault : (n : ℕ) (l : List ℕ) (x : Offence) {p : ℕ} → At p ≡ lowestPlace l → firstLowest n l x ≡ fault n p
 unfolding firstLowest
 lowest-fault n [] x e = differ cc
 lowest-fault n (q ∷ l) x {p} e = let z : p ≡ lowest q l = cc in rw z
 
-pub lowest-right : (n : ℕ) (l : List ℕ) (x : Fault) → Fine ≡ lowestPlace l → firstLowest n l x ≡ x
+pub lowest-right : (n : ℕ) (l : List ℕ) (x : Offence) → Fine ≡ lowestPlace l → firstLowest n l x ≡ x
 unfolding firstLowest
 lowest-right n [] x e = refl
 lowest-right n (q ∷ l) x e = differ cc

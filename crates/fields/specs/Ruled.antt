@@ -1,29 +1,19 @@
 -- Numbers that keep a rule, by the bytes that are read, and data bytes. Assumes nothing.
 use mathlib.Core.Path.{_≡_, refl, sym, ap}
-use mathlib.Core.Bool.{Bool, true, false, cond}
+use mathlib.Core.Bool.{Bool, true, false}
 use mathlib.Core.List.{List}
 use Prim.Native.Nat.{ℕ, _+_}
-use lib.Dec.{leb, ltb, eqb}
+use lib.Dec.{leb}
 use lib.ListN.{length, take, drop}
 use lib.Seq.{length-take-le}
 use borrow.Author.Tests.{leb-true}
 use Rattle.layout.specs.Number.{valueOf}
-use Rattle.layout.specs.Slot.{Rule, atMost, multipleOf, Field, boneField, codeField, uintField, Leaf, blob, numeric}
+use Rattle.layout.specs.Slot.{Rule, Field, blob, numeric}
 use Rattle.reading.specs.Answer.{Answer, refused, read, bind, check}
 use Rattle.reading.specs.Reads.{some, field}
 use Rattle.reading.specs.Little.{littleAt}
 use Rattle.reading.specs.Fixed.{sized}
 use Rattle.reading.specs.Heads.{keeps, leafAt}
-
--- a bone reference, a code and the size of index data, as the layout has them
-abbrev pub boneLeaf : (bones : ℕ) → Leaf
-boneLeaf bones = numeric boneField (cond (ltb bones 255) 1 4) (atMost bones)
-
-abbrev pub codeLeaf : (last : ℕ) → Leaf
-codeLeaf last = numeric codeField 4 (atMost last)
-
-abbrev pub sizeLeaf : (flag : ℕ) → Leaf
-sizeLeaf flag = numeric uintField 4 (multipleOf (cond (eqb flag 1) 2 4))
 
 -- a number that was read, or refused, under a rule: how many bytes it has
 abbrev pub ruled : Rule → (size at : ℕ) → Answer ℕ → Answer ℕ

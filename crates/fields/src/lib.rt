@@ -4,9 +4,10 @@ ghost use mathlib.Core.Path.{_≡_};
 ghost use Prim.Native.Nat.{_≤_};
 ghost use Rattle.answers.specs.Told.{told};
 ghost use Rattle.layout.specs.Slot.{atMost, multipleOf, blob};
+ghost use Rattle.layout.specs.Mesh.{boneLeaf, codeLeaf, sizeLeaf};
 ghost use Rattle.reading.specs.Fixed.{sized};
 ghost use Rattle.reading.specs.Heads.{leafAt};
-ghost use Rattle.fields.specs.Ruled.{ruled, boneLeaf, codeLeaf, sizeLeaf};
+ghost use Rattle.fields.specs.Ruled.{ruled};
 
 // A number of `size` bytes that was read at `at`: at most `most`, else 15.
 fn at_most(read: Number, most: u64, size: u64, at: usize) -> Number

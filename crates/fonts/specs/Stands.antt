@@ -6,7 +6,8 @@ use native.Mathlib.Omega.{arith}
 use lib.ListN.{length, getD, length-append, List·getD-append}
 use lib.Seq.{getD-append-add}
 use Rattle.layout.specs.Rows.{Row, words, width}
-use Rattle.reading.specs.Grid.{shapeOf, rows-at}
+use Rattle.layout.specs.Table.{shapeOf}
+use Rattle.reading.specs.Grid.{rows-at}
 use Rattle.reading.specs.Drafts.{Draft, drafted}
 use Rattle.ids.specs.declared.Grid.{Grid}
 use Rattle.table.specs.Written.{drafts, drafts-append, length-drafts, wide-drafts, written}

@@ -10,10 +10,11 @@ use Rattle.layout.specs.Tree.{size}
 use Rattle.layout.specs.File.{FileTree, FileLays, fileRows}
 use Rattle.layout.specs.EnumList.{EnumEntry, writeEnums, Enums}
 use Rattle.layout.specs.Named.{named}
+use Rattle.layout.specs.Table.{roomOf}
 use Rattle.reading.specs.Answer.{Answer, refused, read, bind}
 use Rattle.reading.specs.Drafts.{Draft, bare, length-bare}
 use Rattle.reading.specs.Walk.{Taken}
-use Rattle.reading.specs.File.{Named, Loaded, refusal, toLoad, roomOf, loadOf, tableOf, headerAt, listsAt, objectsAt, judged, finished, fileAt}
+use Rattle.reading.specs.File.{Named, Loaded, refusal, toLoad, loadOf, tableOf, headerAt, listsAt, objectsAt, judged, finished, fileAt, tableIn}
 use Rattle.reading.specs.Accepts.{loadedOf, rows-count, file-complete, file-bare}
 use Rattle.readers.specs.Judged.{judgedName, judges}
 use Rattle.enums.specs.Lists.{judged-list}
@@ -77,7 +78,7 @@ module _ (enums file : List ℕ) (words : ℕ) {left : List ℕ} {r : Loading} (
       load-lawful enums file words es (judged-list enums es v b) ∙ rw s (ap (refusal 19) (first-bare rows (roomOf words) ∙ ap (λ rows. firstOf rows (roomOf words)) i))
 
   pub load-full : Full enums file words left r
-  unfolding tableOf
+  unfolding tableIn
   load-full = record {
     full = λ es v b ft w h. let e = no-room es v b ft w h in (answers ∙ ap (answerOf file) e, leaves ∙ rw e);
   }

@@ -8,7 +8,7 @@ use Rattle.layout.specs.Rows.{Row}
 use Rattle.layout.specs.File.{FileTree, FileLays, fileRows}
 use Rattle.layout.specs.EnumList.{EnumEntry, writeEnums, Enums}
 use Rattle.layout.specs.Named.{named}
-use Rattle.reading.specs.File.{roomOf}
+use Rattle.layout.specs.Table.{roomOf}
 use Rattle.load.specs.declared.Loading.{Loading}
 use Rattle.load.specs.declared.Loading.the-variants.{Refused}
 

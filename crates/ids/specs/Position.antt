@@ -1,6 +1,6 @@
 -- Where an id or a row number points. Assumes nothing.
 use Prim.Native.Nat.{ℕ, zero, suc}
-use Rattle.reading.specs.Grid.{shapeOf, cell}
+use Rattle.layout.specs.Table.{shapeOf, cell}
 use Rattle.ids.specs.declared.TypeId.{TypeId}
 use Rattle.ids.specs.declared.RowNumber.{RowNumber}
 use Rattle.ids.specs.declared.Grid.{Grid}

@@ -5,8 +5,8 @@ use mathlib.Core.List.{List, [], _∷_, _++_}
 use mathlib.Core.Logic.{_⊎_}
 use Prim.Native.Nat.{ℕ, _≤_}
 use lib.ListN.{length}
-use Rattle.layout.specs.Name.{Head}
 use Rattle.layout.specs.Kind.{alike, lookup, targets}
+use Rattle.layout.specs.Name.{NameHead}
 
 -- 02: "a list of enum type names with sizes"
 pub data EnumEntry : Type 0 where
@@ -26,7 +26,7 @@ pub record EnumType (name : List ℕ) (size : ℕ) : Type 0 where
   pub sized : EnumSize size
   -- the length is one byte
   pub short : length name ≤ 255
-  pub head : Head name
+  pub head : NameHead name
   pub untaken : lookup name targets ≡ 0
 
 -- no entry has this name
@@ -43,3 +43,17 @@ Enums (entry name size ∷ es) = EnumType name size × Unlisted name es × Enums
 unfoldable pub sizeIn : List EnumEntry → List ℕ → ℕ
 sizeIn [] h = 0
 sizeIn (entry name size ∷ es) h = cond (alike h name) size (sizeIn es h)
+
+-- no lawful list is written with these bytes
+abbrev pub Unlawful : List ℕ → Type 0
+Unlawful s = (es : List EnumEntry) → Enums es → s ≡ writeEnums es → ⊥
+
+-- 02: "placed at the first such entry's number from 0": the entries before it are a lawful list, and no entry that would keep it lawful stands behind them
+pub record FirstBad (s : List ℕ) (place : ℕ) : Type 0 where
+  pub before : List EnumEntry
+  pub keeps : Enums before
+  pub place-is : place ≡ length before
+  pub rest : List ℕ
+  pub parts : s ≡ writeEnums before ++ rest
+  pub some : rest ≡ [] → ⊥
+  pub bad : (name : List ℕ) (size : ℕ) (more : List ℕ) → rest ≡ writeEnums (entry name size ∷ []) ++ more → Enums (before ++ (entry name size ∷ [])) → ⊥

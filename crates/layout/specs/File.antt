@@ -3,6 +3,7 @@ use mathlib.Core.Path.{_≡_}
 use mathlib.Core.List.{List, [], _∷_, _++_}
 use mathlib.Core.Logic.{_⊎_}
 use Prim.Native.Nat.{ℕ, suc, _+_, _≤_}
+use Prim.Native.Char.{code}
 use lib.ListN.{length, replicate}
 use Rattle.layout.specs.Number.{Seven, little}
 use Rattle.layout.specs.Text.{ascii}
@@ -31,7 +32,7 @@ sharedOf (tree k i own cs rest) = rest
 
 -- 01, header byte 3: "`w`, `m` or `x`"
 unfoldable pub Platform : ℕ → Type 0
-Platform b = (b ∷ [] ≡ ascii "w") ⊎ ((b ∷ [] ≡ ascii "m") ⊎ (b ∷ [] ≡ ascii "x"))
+Platform b = (b ≡ code "w") ⊎ ((b ≡ code "m") ⊎ (b ≡ code "x"))
 
 -- 01, "File header": `XNB`, the platform, 5, the flags, and four bytes that say the file's length
 unfoldable pub header : (platform flags size : ℕ) → List ℕ

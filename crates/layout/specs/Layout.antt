@@ -5,21 +5,21 @@ use mathlib.Core.Logic.{_⊎_}
 use Prim.Native.Nat.{ℕ, suc, _<_, _^_}
 use lib.ListN.{length, getD}
 use Rattle.layout.specs.Number.{Seven, little, valueOf}
-use Rattle.layout.specs.Target.{Target, kindOf, spriteFont, Serves}
+use Rattle.layout.specs.Target.{Target, object as anything, kindOf, spriteFont, Serves}
 use Rattle.layout.specs.Tree.{Trees, none, tree, told}
-use Rattle.layout.specs.Slot.{Leaf, level, blob, numeric, fieldKind, Keeps, Slot, raw, object, reference, leaf, Plan, stop, put}
+use Rattle.layout.specs.Slot.{Leaf, level, blob, numeric, leafKind, Keeps, Slot, raw, object, reference, leaf, Plan, stop, put}
 use Rattle.layout.specs.Head.{Head}
 use Rattle.layout.specs.Font.{FontRule}
 
 -- the target of the reader that a type id names; 01: "A type id counts readers .. one more than a position"
 unfoldable pub Reader : List Target → ℕ → Target → Type 0
-Reader readers id t = (i : ℕ) × (id ≡ suc i) × (i < length readers) × (getD readers i t ≡ t)
+Reader readers id t = (i : ℕ) × (id ≡ suc i) × (i < length readers) × (getD readers i anything ≡ t)
 
 -- what no reader reads, by its own bytes; 01: "per level a 4-byte size and the data"
 unfoldable pub Leafed : Leaf → (kind : ℕ) (own bs : List ℕ) → Type 0
-Leafed (level z) kind own bs = (kind ≡ 35) × (z < 256 ^ 4) × (length own ≡ z) × (bs ≡ little 4 z ++ own)
-Leafed (blob z) kind own bs = (kind ≡ 41) × (length own ≡ z) × (bs ≡ own)
-Leafed (numeric f z rule) kind own bs = (kind ≡ fieldKind f) × (length own ≡ z) × Keeps rule (valueOf own) × (bs ≡ own)
+Leafed (level z) kind own bs = (kind ≡ leafKind (level z)) × (z < 256 ^ 4) × (length own ≡ z) × (bs ≡ little 4 z ++ own)
+Leafed (blob z) kind own bs = (kind ≡ leafKind (blob z)) × (length own ≡ z) × (bs ≡ own)
+Leafed (numeric f z rule) kind own bs = (kind ≡ leafKind (numeric f z rule)) × (length own ≡ z) × Keeps rule (valueOf own) × (bs ≡ own)
 
 -- a raw value: its head, then its children, whose bytes `below` says; a font keeps its rule
 pub record Raw (below : Plan → List ℕ → Type 0) (t : Target) (kind : ℕ) (own : List ℕ) (cs : Trees) (bs : List ℕ) : Type 0 where

@@ -7,6 +7,8 @@ pub mod Name
 pub mod Kind
 pub mod EnumList
 pub mod Named
+pub mod Fault
+pub mod Complaint
 pub mod Fixed
 pub mod Image
 pub mod Tree
@@ -17,4 +19,8 @@ pub mod Font
 pub mod Layout
 pub mod Resource
 pub mod Rows
+pub mod Table
+pub mod Branches
 pub mod File
+pub mod Shortest
+pub mod Refusals

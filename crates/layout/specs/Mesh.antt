@@ -3,7 +3,7 @@ use mathlib.Core.Bool.{cond}
 use Prim.Native.Nat.{ℕ, zero, suc, _*_}
 use lib.Dec.{eqb, ltb}
 use Rattle.layout.specs.Target.{fixed, string, object as anything, Mesh, indexBuffer, vertexDeclaration, vertexBuffer, model, mesh, meshKind}
-use Rattle.layout.specs.Slot.{atMost, multipleOf, boneField, codeField, uintField, blob, numeric, Slot, raw, object, reference, leaf, Plan, stop, put}
+use Rattle.layout.specs.Slot.{atMost, multipleOf, boneField, codeField, uintField, Leaf, blob, numeric, Slot, raw, object, reference, leaf, Plan, stop, put}
 
 -- 000: "Repeat <n> { .. }": a block so many times, and then the rest
 unfoldable pub times : ℕ → (Plan → Plan) → Plan → Plan
@@ -18,12 +18,18 @@ unfoldable pub uint : Slot
 uint = raw (fixed 6)
 
 -- an Int32 that is one of the codes 0 to `last`; Req 05: "15 for .. codes 000 doesn't list"
+abbrev pub codeLeaf : (last : ℕ) → Leaf
+codeLeaf last = numeric codeField 4 (atMost last)
+
 unfoldable pub code : (last : ℕ) → Slot
-code last = leaf (numeric codeField 4 (atMost last))
+code last = leaf (codeLeaf last)
 
 -- the size of index data; Req 05: "Index data must be a multiple of 2 or 4 bytes as its flag says"; "index data's at its size"
+abbrev pub sizeLeaf : (flag : ℕ) → Leaf
+sizeLeaf flag = numeric uintField 4 (multipleOf (cond (eqb flag 1) 2 4))
+
 unfoldable pub dataSize : (flag : ℕ) → Slot
-dataSize flag = leaf (numeric uintField 4 (multipleOf (cond (eqb flag 1) 2 4)))
+dataSize flag = leaf (sizeLeaf flag)
 
 -- 000, "IndexBuffer": Boolean "Is 16 bit", "If false, index values are 32 bits in size"; UInt32 "Data size"; Byte [data size] "Index data"
 unfoldable pub indexPlan : Plan
@@ -44,8 +50,11 @@ bufferPlan = put (raw (mesh vertexDeclaration)) (λ stride. put uint (λ vertice
 
 -- 000, "Model": "If bone count is less than 255 this value is serialized as a Byte, otherwise it is UInt32. If the reference value is zero the bone is null, otherwise (bone reference - 1) is an index into the model bone list."
 -- Req 05: "A bone reference above the bone count is refused"
+abbrev pub boneLeaf : (bones : ℕ) → Leaf
+boneLeaf bones = numeric boneField (cond (ltb bones 255) 1 4) (atMost bones)
+
 unfoldable pub bone : (bones : ℕ) → Slot
-bone bones = leaf (numeric boneField (cond (ltb bones 255) 1 4) (atMost bones))
+bone bones = leaf (boneLeaf bones)
 
 -- 000, "Model", of each bone: Object: String "Bone name"; Matrix "Bone transform"
 unfoldable pub bonePlan : Plan → Plan

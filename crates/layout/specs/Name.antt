@@ -2,9 +2,10 @@
 use mathlib.Core.Path.{_≡_}
 use mathlib.Core.Bool.{Bool, true, not, _&&_, _||_}
 use mathlib.Core.List.{List, [], _∷_, _++_}
-use Prim.Native.Nat.{ℕ, zero, suc}
+use Prim.Native.Nat.{ℕ, zero, suc, _+_}
 use Prim.Native.Char.{code}
 use lib.Dec.{eqb}
+use lib.ListN.{length}
 use Rattle.layout.specs.Number.{between}
 use Rattle.layout.specs.Text.{ascii}
 
@@ -31,7 +32,7 @@ all p [] = true
 all p (b ∷ s) = p b && all p s
 
 -- 01: "The head is one or more ASCII letters, digits, `.`, `_`, `+`"
-pub record Head (h : List ℕ) : Type 0 where
+pub record NameHead (h : List ℕ) : Type 0 where
   pub some : h ≡ [] → ⊥
   pub bytes : all headByte h ≡ true
 
@@ -62,6 +63,16 @@ Tailed (some t) = all tailByte t ≡ true
 -- 01: "Names nest at most 8 levels, the reader's own being level 1": a name that keeps the rules above and nests at most so many levels
 unfoldable pub Formed : (levels : ℕ) → Name → Type 0
 Formed zero n = ⊥
-Formed (suc l) (simple h t) = Head h × Tailed t
-Formed (suc l) (one h a t) = Head h × Formed l a × Tailed t
-Formed (suc l) (two h a b t) = Head h × Formed l a × Formed l b × Tailed t
+Formed (suc l) (simple h t) = NameHead h × Tailed t
+Formed (suc l) (one h a t) = NameHead h × Formed l a × Tailed t
+Formed (suc l) (two h a b t) = NameHead h × Formed l a × Formed l b × Tailed t
+
+-- how many bytes a name has
+unfoldable pub longTail : Tail → ℕ
+longTail none = 0
+longTail (some t) = suc (length t)
+
+unfoldable pub long : Name → ℕ
+long (simple h t) = length h + longTail t
+long (one h a t) = length h + 4 + long a + 2 + longTail t
+long (two h a b t) = length h + 4 + long a + 3 + long b + 2 + longTail t

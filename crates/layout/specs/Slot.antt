@@ -30,7 +30,7 @@ pub data Leaf : Type 0 where
   numeric : Field → (size : ℕ) → Rule → Leaf
 
 -- 02, Req 05: "41 data bytes"
-unfoldable pub leafKind : Leaf → ℕ
+abbrev pub leafKind : Leaf → ℕ
 leafKind (level z) = 35
 leafKind (blob z) = 41
 leafKind (numeric f z r) = fieldKind f

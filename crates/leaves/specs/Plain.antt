@@ -12,6 +12,8 @@ use Rattle.layout.specs.Tree.{none, tree, count}
 use Rattle.layout.specs.Fixed.{sizes}
 use Rattle.layout.specs.Slot.{fieldKind, Leaf, level, blob, leafKind, Slot, raw, reference, leaf, Plan, stop}
 use Rattle.layout.specs.Rows.{row, width}
+use Rattle.layout.specs.Shortest.{numbered}
+use Rattle.layout.specs.Mesh.{boneLeaf, codeLeaf, sizeLeaf}
 use Rattle.reading.specs.Answer.{Answer, refused, read, bind, check}
 use Rattle.reading.specs.Seven.{sevenAt, seven-next}
 use Rattle.reading.specs.Utf8.{charAt, char-reads}
@@ -27,13 +29,11 @@ use Rattle.table.specs.Loop.{refusing}
 use Rattle.table.specs.Leaf.{leafOf, leafAnswer, leafWords, Pads, leaf-walked}
 use Rattle.numbers.specs.Padded.{padOf}
 use Rattle.places.specs.Word.{inWord, in-word}
-use Rattle.places.specs.Places.{numbered}
 use Rattle.places.specs.Padding.{no-number, id-alone, reference-numbered, sized-plain, pad-few}
 use Rattle.leaves.specs.declared.plain.Plain.{Plain}
 use Rattle.leaves.specs.declared.plain.Plain.the-variants.{Fixed, Enum, Char, Level, Reference, Blob, Bone, Code, DataSize}
 use Rattle.reading.specs.Drafts.{nothing, resource, drafted}
 use Rattle.ids.specs.declared.Grid.{Grid}
-use Rattle.fields.specs.Ruled.{boneLeaf, codeLeaf, sizeLeaf}
 
 -- how the value stands; an enum's name makes no difference to its values, so it stands for those of every name
 abbrev pub plainSlot : Plain → Slot
@@ -256,7 +256,7 @@ module _ (file : List ℕ) (readers : List Target) (shared room : ℕ) (below : 
   -- what a value in such a slot answers, whatever the reader list is
   plain-seen : (p : Plain) → Lawful p → (at used parent : ℕ)
       → seen (valueAt file readers shared room below (plainSlot p) at used parent) ≡ plainSeen p (headOf used at parent 0 0) (plainAt file shared p at)
-  unfolding valueAt plainAt kindOf leafKind fieldKind
+  unfolding valueAt plainAt kindOf fieldKind
   plain-seen (Fixed kind size) l at used parent =
       raw-leaf (fixed kind) (fixed-none kind) (fixedAt file kind size at) at at used parent 0 0 (fixed-head file kind size l at) ∙ sized-leaf (headOf used at parent 0 0) kind (fixedAt file kind size at)
   plain-seen (Enum size) l at used parent =

@@ -18,14 +18,15 @@ use Rattle.layout.specs.Text.{ascii}
 use Rattle.layout.specs.Number.{little}
 use Rattle.layout.specs.EnumList.{EnumEntry}
 use Rattle.layout.specs.Named.{named}
+use Rattle.layout.specs.Table.{shapeOf, cell, roomOf, wordsWith}
 use Rattle.reading.specs.Answer.{Answer, refused, read, bind, check}
 use Rattle.reading.specs.Reads.{Small, reads-bounds}
 use Rattle.reading.specs.Seven.{sevenAt}
 use Rattle.reading.specs.References.{length-flat}
 use Rattle.reading.specs.Walk.{Taken, sequence, walk}
-use Rattle.reading.specs.Grid.{shapeOf, cell, writtenRows}
+use Rattle.reading.specs.Grid.{writtenRows}
 use Rattle.reading.specs.Drafts.{bare, length-bare}
-use Rattle.reading.specs.File.{Loaded as FileLoaded, accepted, rootKinds, headerAt, listsAt, objectsAt, finished, fileAt, toLoad, loadOf, tableOf, roomOf}
+use Rattle.reading.specs.File.{Loaded as FileLoaded, accepted, rootKinds, headerAt, listsAt, objectsAt, finished, fileAt, toLoad, loadOf, tableOf, tableIn}
 use Rattle.reading.specs.Front.{header-sound, lists-reads}
 use Rattle.ids.specs.declared.Grid.{Grid}
 use Rattle.ids.specs.Position.{cellOf}
@@ -44,7 +45,6 @@ use Rattle.resources.specs.declared.Settled.the-variants.{Fine, Wrong}
 use Rattle.resources.specs.Settled.{settledOf, settled as rows-settled, answered, judged-is, Drafted}
 use Rattle.resources.specs.Flat.{rows-flat}
 use Rattle.table.specs.Cleared.{clearedBehind, behind-columns, behind-rows}
-use Rattle.columns.specs.Columns.{columnsTableOf, rowsIn, tableIn}
 use Rattle.columns.specs.Stored.{settled-columns}
 use Rattle.words.specs.Grids.{gridOf}
 use Rattle.resources.specs.Objects.{objects-drafted}
@@ -106,7 +106,7 @@ module _ (file : List ℕ) (platform flags : ℕ) (names : List (List ℕ)) (rea
 
     -- in either shape
     rows-left-in : (g : Grid) (w : List ℕ) (rows : List Row) → length rows ≤ g .room → width * g .room ≤ length w → (b : Bool) → g .columns ≡ b
-        → clearedBehind g (writtenRows (shapeOf (g .columns)) (g .room) w 0 (map words rows)) (length rows) ≡ rowsIn b (g .room) rows (length w)
+        → clearedBehind g (writtenRows (shapeOf (g .columns)) (g .room) w 0 (map words rows)) (length rows) ≡ wordsWith (shapeOf b) (g .room) rows (length w)
     rows-left-in g w rows fits long false e = rows-left g w rows e fits long
     rows-left-in g w rows fits long true e = behind-columns g _ (length rows) e ∙ settled-columns g w rows e fits long
 
@@ -310,20 +310,20 @@ module _ (enums file entry : List ℕ) (columns : Bool) where
   loads exit r = Loads (gridOf (length entry) columns) (fileTotal file) (fileUnder enums file (roomOf (length entry))) entry exit r
 
   pub load-refused : (mid : List ℕ) {exit : List ℕ} {n p : ℕ} → loads mid (Refused n p) → length mid ≡ length entry → exit ≡ cleared mid 0
-      → (Refused n p ≡ answerOf file (loadUnder enums file (length entry))) × (exit ≡ tableIn columns (loadUnder enums file (length entry)) (length entry))
-  unfolding loadUnder toLoad tableOf columnsTableOf cleared
+      → (Refused n p ≡ answerOf file (loadUnder enums file (length entry))) × (exit ≡ tableIn (shapeOf columns) (loadUnder enums file (length entry)) (length entry))
+  unfolding loadUnder toLoad tableIn cleared
   load-refused mid {exit} {n} {p} l m e = go columns (fileUnder enums file (roomOf (length entry))) l where
-    go : (b : Bool) (x : Answer FileLoaded) → Loads (gridOf (length entry) b) (fileTotal file) x entry mid (Refused n p) → (Refused n p ≡ answerOf file (toLoad x)) × (exit ≡ tableIn b (toLoad x) (length entry))
+    go : (b : Bool) (x : Answer FileLoaded) → Loads (gridOf (length entry) b) (fileTotal file) x entry mid (Refused n p) → (Refused n p ≡ answerOf file (toLoad x)) × (exit ≡ tableIn (shapeOf b) (toLoad x) (length entry))
     go false (refused a b) l = (l, e ∙ none-kept mid (length entry) m)
     go true (refused a b) l = (l, e ∙ none-kept mid (length entry) m)
     go b (read a f) l = absurd (let q : Refused n p ≡ Loaded (length (a .rows)) (a .readers) (a .shared) (fileTotal file (a .readers) (bare (a .rows))) = l .0 in differ cc)
 
   pub load-loaded : Small file → {exit : List ℕ} {rows readers shared padding : ℕ} → loads exit (Loaded rows readers shared padding)
-      → (Loaded rows readers shared padding ≡ answerOf file (loadUnder enums file (length entry))) × (exit ≡ tableIn columns (loadUnder enums file (length entry)) (length entry))
-  unfolding loadUnder toLoad tableOf columnsTableOf
+      → (Loaded rows readers shared padding ≡ answerOf file (loadUnder enums file (length entry))) × (exit ≡ tableIn (shapeOf columns) (loadUnder enums file (length entry)) (length entry))
+  unfolding loadUnder toLoad tableIn
   load-loaded small {exit} {rows} {readers} {shared} {padding} l = go columns (fileUnder enums file (roomOf (length entry))) refl l where
     go : (b : Bool) (x : Answer FileLoaded) → fileUnder enums file (roomOf (length entry)) ≡ x → Loads (gridOf (length entry) b) (fileTotal file) x entry exit (Loaded rows readers shared padding)
-        → (Loaded rows readers shared padding ≡ answerOf file (toLoad x)) × (exit ≡ tableIn b (toLoad x) (length entry))
+        → (Loaded rows readers shared padding ≡ answerOf file (toLoad x)) × (exit ≡ tableIn (shapeOf b) (toLoad x) (length entry))
     go b (refused c d) q l = differ cc
     go false (read a f) q l =
         let t = total-fits enums file (length entry) small (bare (a .rows)) (a .readers) (a .shared) (ap toLoad q) in

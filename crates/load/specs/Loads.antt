@@ -4,12 +4,12 @@ use mathlib.Core.List.{List}
 use Prim.Native.Nat.{ℕ}
 use lib.ListN.{length}
 use Rattle.ids.specs.declared.Grid.{Grid}
-use Rattle.columns.specs.Columns.{rowsIn}
 use Rattle.reading.specs.Answer.{Answer, refused, read, bind}
 use Rattle.reading.specs.File as File
 use Rattle.reading.specs.File.{Loaded as FileLoaded, refusal, accepted, listsAt, objectsAt, finished}
 use Rattle.layout.specs.EnumList.{EnumEntry}
 use Rattle.layout.specs.Rows.{Row}
+use Rattle.layout.specs.Table.{wordsWith, shapeOf}
 use Rattle.places.specs.Word.{inWord}
 use Rattle.places.specs.Padding.{filePadding}
 use Rattle.readers.specs.Judged.{judgedName}
@@ -33,7 +33,7 @@ fileTotal file readers rows = inWord (filePadding file readers rows)
 -- after success the rows stand in the words, with zeros elsewhere; after a refusal the words may hold anything
 abbrev pub Loads : Grid → Total → Answer FileLoaded → (entry exit : List ℕ) → Loading → Type 0
 Loads g total (refused n p) entry exit r = r ≡ Refused n p
-Loads g total (read a e) entry exit r = (r ≡ Loaded (length (a .rows)) (a .readers) (a .shared) (total (a .readers) (bare (a .rows)))) × (exit ≡ rowsIn (g .columns) (g .room) (bare (a .rows)) (length entry))
+Loads g total (read a e) entry exit r = (r ≡ Loaded (length (a .rows)) (a .readers) (a .shared) (total (a .readers) (bare (a .rows)))) × (exit ≡ wordsWith (shapeOf (g .columns)) (g .room) (bare (a .rows)) (length entry))
 
 -- what stands behind the header, under a list of enum types
 unfoldable pub behindHeader : List EnumEntry → (file : List ℕ) (room platform flags at : ℕ) → Answer FileLoaded

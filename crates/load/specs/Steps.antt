@@ -15,6 +15,7 @@ use Rattle.layout.specs.Slot.{stop, each}
 use Rattle.layout.specs.Rows.{row}
 use Rattle.layout.specs.Tree.{none, count}
 use Rattle.layout.specs.Tree as Tree
+use Rattle.layout.specs.Shortest.{numbered}
 use Rattle.reading.specs.Reads.{Small, reads-bounds}
 use Rattle.reading.specs.Heads.{headAt, head-reads}
 use Rattle.reading.specs.Answer.{refused, read, bind, check}
@@ -30,7 +31,6 @@ use Rattle.table.specs.Written.{putRow}
 use Rattle.places.specs.Word.{inWord, in-word}
 use Rattle.numbers.specs.Padded.{padOf}
 use Rattle.reading.specs.Seven.{sevenAt}
-use Rattle.places.specs.Places.{numbered}
 use Rattle.places.specs.Padding.{no-rows, id-alone, pad-few}
 use Rattle.table.specs.Loop.{Got, refusing}
 use Rattle.leaves.specs.Plain.{headOf}

@@ -6,7 +6,8 @@ use Rattle.laws.specs.Small.{differ}
 use Rattle.layout.specs.EnumList.{EnumEntry}
 use Rattle.reading.specs.Answer.{Answer, refused}
 use Rattle.layout.specs.Rows.{Row}
-use Rattle.reading.specs.File.{Loaded, fileAt, Load, refusal, accepted, toLoad, roomOf, loadOf}
+use Rattle.layout.specs.Table.{roomOf}
+use Rattle.reading.specs.File.{Loaded, fileAt, Load, refusal, accepted, toLoad, loadOf}
 use Rattle.names.specs.Entries.{enumsOf, enums-written}
 use Rattle.enums.specs.Judge.{Judgement, lawful, enumsAt}
 use Rattle.enums.specs.Judge.{refused as list-refused}

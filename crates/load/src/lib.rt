@@ -16,11 +16,11 @@ ghost use mathlib.Core.Bool.{true};
 ghost use Prim.Native.Nat.{_*_, _≤_};
 ghost use lib.ListN.{length, take};
 ghost use Rattle.layout.specs.Rows.{width};
-ghost use Rattle.reading.specs.File.{tableOf};
+ghost use Rattle.layout.specs.Table.{shapeOf, byColumns};
+ghost use Rattle.reading.specs.File.{tableOf, tableIn};
 ghost use Rattle.names.specs.Entries.{enumsOf};
 ghost use Rattle.targets.specs.Code.{preludeSize};
 ghost use Rattle.readers.specs.Left.{codesFor, enough};
-ghost use Rattle.columns.specs.Columns.{columnsTableOf, tableIn};
 ghost use Rattle.leaves.specs.Plain.{Begin};
 ghost use Rattle.heads.specs.Nests.{prelude};
 ghost use Rattle.load.specs.Known.{Known};
@@ -245,7 +245,7 @@ fn load_under(file: &[u8], enums: &[u8], words: &mut [u32], grid: Grid) -> Loadi
 pub fn load_in(file: &[u8], enums: &[u8], words: &mut [u32], columns: bool) -> Loading
     ensures { λ r. ⌜ r ≡ answerOf (now (file .entry)) (loadUnder (now (enums .entry)) (now (file .entry)) (length (now (words .entry)))) ⌝ }
     ensures { λ _. ⌜ now (words .exit)
-        ≡ tableIn columns (loadUnder (now (enums .entry)) (now (file .entry)) (length (now (words .entry)))) (length (now (words .entry))) ⌝ }
+        ≡ tableIn (shapeOf columns) (loadUnder (now (enums .entry)) (now (file .entry)) (length (now (words .entry)))) (length (now (words .entry))) ⌝ }
 {
     let grid = words::shaped(words.len(), columns);
     match load_under(file, enums, words, grid) {
@@ -280,7 +280,7 @@ pub fn load(file: &[u8], enums: &[u8], words: &mut [u32]) -> Loading
 pub fn load_columns(file: &[u8], enums: &[u8], words: &mut [u32]) -> Loading
     ensures { λ r. ⌜ r ≡ answerOf (now (file .entry)) (loadUnder (now (enums .entry)) (now (file .entry)) (length (now (words .entry)))) ⌝ }
     ensures { λ _. ⌜ now (words .exit)
-        ≡ columnsTableOf (loadUnder (now (enums .entry)) (now (file .entry)) (length (now (words .entry)))) (length (now (words .entry))) ⌝ }
+        ≡ tableIn byColumns (loadUnder (now (enums .entry)) (now (file .entry)) (length (now (words .entry)))) (length (now (words .entry))) ⌝ }
 {
     load_in(file, enums, words, true)
 }

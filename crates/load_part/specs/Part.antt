@@ -7,8 +7,9 @@ use native.Mathlib.Omega.{arith}
 use lib.ListN.{length, drop, replicate, length-append, length-drop, length-replicate}
 use Rattle.laws.specs.Small.{differ}
 use Rattle.layout.specs.Rows.{flat, width}
+use Rattle.layout.specs.Table.{roomOf}
 use Rattle.reading.specs.Answer.{Answer, read}
-use Rattle.reading.specs.File.{Loaded, fileAt, Load, refusal, accepted, toLoad, roomOf, tableOf}
+use Rattle.reading.specs.File.{Loaded, fileAt, Load, refusal, accepted, toLoad, tableOf, tableIn}
 use Rattle.reading.specs.References.{length-flat}
 use Rattle.enums.specs.Judge.{Judgement, lawful, enumsAt}
 use Rattle.enums.specs.Judge.{refused as list-refused}
@@ -78,7 +79,7 @@ replicate-append (suc n) m = let z : suc n + m ≡ suc (n + m) = omega arith in 
 
 -- the table of a part, with zeros behind it, is the table of the whole
 pub part-table : (x : Load) (part words : ℕ) → part ≤ words → length (tableOf x part) ≡ part → tableOf x part ++ replicate (words - part) 0 ≡ tableOf x words
-unfolding tableOf
+unfolding tableIn
 part-table (refusal n p) part words h l =
     let e : part + (words - part) ≡ words = omega arith in
     replicate-append part (words - part) ∙ rw e refl
@@ -103,7 +104,7 @@ part-left x entry last part h t l z =
 
 -- a refused file leaves zeros
 refused-table : (n p words : ℕ) → tableOf (refusal n p) words ≡ replicate words 0
-unfolding tableOf
+unfolding tableIn
 refused-table n p words = refl
 
 -- ---- One load after another

@@ -4,9 +4,8 @@ use mathlib.Core.List.{[], _∷_}
 use lib.IntN.{pos, negsuc}
 use Rattle.layout.specs.Number.{valueOf}
 use Rattle.layout.specs.Rows.{width}
+use Rattle.layout.specs.Table.{roomOf, cell}
 use Rattle.ids.specs.declared.Grid.{Grid}
-use Rattle.reading.specs.File.{roomOf}
-use Rattle.reading.specs.Grid.{cell}
 use Rattle.words.specs.Grids.{rowsGrid}
 use Rattle.reading.specs.Answer.{bind, check}
 use Rattle.reading.specs.Seven.{group, groups, sevenAt}

@@ -10,10 +10,9 @@ use Rattle.laws.specs.Small.{differ}
 use Rattle.reading.specs.Answer.{Answer, refused, read, Ok}
 use Rattle.reading.specs.Reads.{Small}
 use Rattle.reading.specs.Output.{Rewritten, refusal, fitted, outputOf}
-use Rattle.pack_layout.specs.Pack.{Stored, PackLays, packBytes}
+use Rattle.pack_layout.specs.Pack.{Stored, PackLays, packBytes, markOf}
 use Rattle.pack_reading.specs.Pack.{packAt, toPack}
 use Rattle.pack_reading.specs.Theorems.{pack-sound}
-use Rattle.pack_records.specs.Records.{markOf}
 use Rattle.packs.specs.declared.Reading.the-variants.{Refused, Read}
 use Rattle.packs.specs.Files as packs
 use Rattle.pack_writing.specs.Convert.{byPack, convertOf, converts, marked-length}

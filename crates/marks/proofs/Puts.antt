@@ -16,12 +16,12 @@ use Rattle.reading.specs.Reads.{seam}
 use Rattle.reading.specs.Little.{length-little}
 use Rattle.reading.specs.Output.{fitted, outputOf}
 use Rattle.pack_layout.specs.Pack as layout
-use Rattle.pack_layout.specs.Pack.{Stored, Lawful, plain, recordBytes, recordsBytes, packBytes, Each}
+use Rattle.pack_layout.specs.Pack.{Stored, Lawful, plain, recordBytes, recordsBytes, packBytes, Each, markOf}
 use Rattle.pack_layout.specs.Table.{entryOf}
 use Rattle.pack_reading.specs.Pack.{recordAt}
 use Rattle.pack_reading.specs.Laws.{record-reads}
 use Rattle.pack_records.specs.declared.Record.the-variants as record′
-use Rattle.pack_records.specs.Records.{markOf, recorded}
+use Rattle.pack_records.specs.Records.{recorded}
 use Rattle.packs.specs.Walk.{records-append, entry-end}
 use Rattle.pack_writing.specs.Convert.{converts}
 use Rattle.marks.specs.Converting.{Placed, placed, Fits, converted}

@@ -7,9 +7,8 @@ use lib.ListN.{length}
 use Rattle.fill.specs.Fill.{copied}
 use Rattle.reading.specs.Output.{Rewritten, refusal, written}
 use Rattle.pack_layout.specs.Pack as layout
-use Rattle.pack_layout.specs.Pack.{Stored, PackLays, packBytes}
+use Rattle.pack_layout.specs.Pack.{Stored, PackLays, packBytes, markOf}
 use Rattle.pack_reading.specs.Pack.{packAt, toPack}
-use Rattle.pack_records.specs.Records.{markOf}
 use Rattle.packs.specs.declared.Reading.{Reading}
 use Rattle.packs.specs.Files as packs
 use Rattle.pack_writing.specs.Convert.{convertOf}

@@ -5,8 +5,8 @@ use packs::Reading;
 ghost use mathlib.Core.Path.{_≡_};
 ghost use Prim.Native.Nat.{_≤_};
 ghost use lib.ListN.{length};
+ghost use Rattle.pack_layout.specs.Pack.{markOf};
 ghost use Rattle.reading.specs.Output.{outputOf};
-ghost use Rattle.pack_records.specs.Records.{markOf};
 ghost use Rattle.marks.specs.Converting.{walkOf, countOf, sizeOf, Measured, Placed, placed, Fits, converted, answerOf};
 
 // Walks over so many records behind the file count, to the end of the pack.

@@ -77,9 +77,9 @@ behindOf s n =
     (onwardOf s)))))))))))))))
 
 -- the number of a field that was read, as a word holds it
-abbrev pub numberOf : Answer ℕ → ℕ
-numberOf (refused n p) = 0
-numberOf (read n e) = n % 2 ^ 32
+abbrev pub wordOf : Answer ℕ → ℕ
+wordOf (refused n p) = 0
+wordOf (read n e) = n % 2 ^ 32
 
 -- how many bytes a field that tells a number has for it: a flag one, all others four
 abbrev pub toldSize : (step : ℕ) → ℕ
@@ -87,7 +87,7 @@ toldSize step = cond (eqb step 0) 1 4
 
 -- the number that the field at a place tells
 unfoldable pub toldAt : List ℕ → (step at : ℕ) → ℕ
-toldAt file step at = numberOf (littleAt file (toldSize step) at at)
+toldAt file step at = wordOf (littleAt file (toldSize step) at at)
 
 -- the product of two words fits 64 bits
 pub words-product : (a b : ℕ) → a < 2 ^ 32 → b < 2 ^ 32 → a * b < 2 ^ 64

@@ -21,7 +21,7 @@ use Rattle.reading.specs.Reads.{Small}
 use Rattle.reading.specs.Little.{littleAt, little-there, little-next}
 use Rattle.reading.specs.Walk.{Taken, walk}
 use Rattle.reading.specs.Sound.{walk-sound}
-use Rattle.meshes.specs.Stages.{toldSize, numberOf, toldAt}
+use Rattle.meshes.specs.Stages.{toldSize, toldAt, wordOf}
 use Rattle.meshes.specs.Follows.{Telling, by-flag, by-number, by-size, by-stride}
 
 -- bytes begin with a number of so many bytes
@@ -101,4 +101,4 @@ module _ (file : List ℕ) (readers : List Target) (shared room : ℕ) (small : 
       let b = tells readers (Within shared) t (v .kind) (v .id) (v .own) (v .children) (v .bytes) (v .laid) in
       let n = little-at file at (toldSize step) (told (v .kind) (v .own) (v .children)) (v .bytes) (drop e file) b (v .there) in
       let w = little-next file small (toldSize step) at at (some-bytes (eqb step 0)) n in
-      ap numberOf n ∙ word (eqb step 0) _ (w .2) ∙ ap toldOf (sym (v .tree-is))
+      ap wordOf n ∙ word (eqb step 0) _ (w .2) ∙ ap toldOf (sym (v .tree-is))

@@ -3,7 +3,7 @@ use answers::Number;
 use leaves::plain::Plain;
 ghost use mathlib.Core.Path.{_≡_};
 ghost use Rattle.answers.specs.Told.{told};
-ghost use Rattle.meshes.specs.Stages.{stageOf, firstField, fieldOf, onwardOf, behindOf, numberOf, toldAt};
+ghost use Rattle.meshes.specs.Stages.{stageOf, firstField, fieldOf, onwardOf, behindOf, toldAt, wordOf};
 ghost use Rattle.meshes.specs.Stages.{toElements, toNames, toParents, toChildren, toMeshes, toParts};
 
 // The fields of an index buffer.
@@ -255,7 +255,7 @@ fn behind(stage: Stage, n: u32) -> Stage
 
 // The number of a field that was read, as a word holds it; 0 if it was not.
 fn number_of(read: Number) -> u32
-    ensures { λ r. ⌜ r ≡ numberOf (told read) ⌝ }
+    ensures { λ r. ⌜ r ≡ wordOf (told read) ⌝ }
 {
     match read {
         Number::Refused(_, _) => 0,

@@ -15,11 +15,11 @@ use Rattle.layout.specs.Name.{Name}
 use Rattle.layout.specs.File.{Entry, Entries}
 use Rattle.layout.specs.EnumList.{EnumEntry}
 use Rattle.layout.specs.Named.{Typed, unknown as no-type, known as has-type, readerOf, named}
+use Rattle.layout.specs.Fault.{Fault}
+use Rattle.layout.specs.Complaint.{readerFaults, leftmost}
 use Rattle.names.specs.Parse.{Read, broken, name, nameOf}
 use Rattle.names.specs.Laws.{read-is-text}
-use Rattle.names.specs.Fault.{Fault}
 use Rattle.names.specs.Faults.{faults}
-use Rattle.targets.specs.Complaint.{readerFaults, leftmost}
 use Rattle.targets.specs.Complaints.{unknown-placed}
 use Rattle.reading.specs.Answer.{Answer, refused, read, bind, check, within, within-true, several}
 use Rattle.reading.specs.Reads.{Small, Spans, some, some-reads}

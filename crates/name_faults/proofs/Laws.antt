@@ -8,11 +8,12 @@ use native.Mathlib.Omega.{arith}
 use borrow.Author.Tests.{le-leb, ne-eqb}
 use Rattle.laws.specs.Small.{differ}
 use Rattle.layout.specs.EnumList.{EnumEntry}
-use Rattle.names.specs.Fault.{Fault}
+use Rattle.layout.specs.Fault.{Fault}
+use Rattle.layout.specs.Table.{roomOf}
 use Rattle.names.specs.Faults.{fault-number}
 use Rattle.reading.specs.Answer.{Answer, refused, read}
 use Rattle.reading.specs.Reads.{Small}
-use Rattle.reading.specs.File.{Loaded, Load, refusal, accepted, toLoad, roomOf, loadOf, fileAt}
+use Rattle.reading.specs.File.{Loaded, Load, refusal, accepted, toLoad, loadOf, fileAt}
 use Rattle.enums.specs.Judge.{Judgement, enumsAt}
 use Rattle.enums.specs.Judge.{refused as list-refused, lawful as list-lawful}
 use Rattle.enums.specs.Lists.{Bytes, Says, enums-sound}
@@ -73,7 +74,7 @@ module _ (enums file : List ℕ) (words : ℕ) (bytes : Bytes enums) (small : Sm
     go (list-refused n k) q w =
         let z : _≡_ {A = Load} (refusal n k) (refusal number place) = sym (load-refused-list enums file words q) ∙ e in
         let y : number ≡ n = cc in
-        let x : isName 32 ≡ true = rw (y ∙ w .number-is) at i in
+        let x : isName 32 ≡ true = rw (y ∙ w .0) at i in
         differ cc
     go (list-lawful es) q w =
         (es, w .0, w .1, file-wrong es file small number place i (roomOf words) (refused-as (fileAt (judgedName es) file (roomOf words)) (sym (load-lawful enums file words es q) ∙ e)))

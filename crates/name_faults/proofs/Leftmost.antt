@@ -6,12 +6,11 @@ use Prim.Native.Nat.{ℕ, suc, _+_, _≤_}
 use native.Mathlib.Omega.{arith}
 use lib.Dec.{eqb}
 use lib.ListN.{length}
-use Rattle.layout.specs.Name.{Name, simple, one, two}
+use Rattle.layout.specs.Name.{Name, simple, one, two, longTail, long}
 use Rattle.layout.specs.Kind.{lookup, targets, readers}
 use Rattle.layout.specs.EnumList.{EnumEntry}
 use Rattle.layout.specs.Named.{plain, typeOf, enumOf}
-use Rattle.names.specs.Heading.{longTail, long}
-use Rattle.targets.specs.Complaint.{isKnown, fitting, unless, typeFaults, readerFaults}
+use Rattle.layout.specs.Complaint.{isKnown, fitting, unless, typeFaults, readerFaults}
 use Rattle.name_faults.specs.Names.{From}
 
 -- each place is behind the former, from a place up to another

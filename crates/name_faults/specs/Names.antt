@@ -9,8 +9,8 @@ use Rattle.layout.specs.Name.{Name, text, Formed}
 use Rattle.layout.specs.File.{Entries}
 use Rattle.layout.specs.EnumList.{EnumEntry, writeEnums, Enums}
 use Rattle.layout.specs.Named.{unknown, readerOf, named}
-use Rattle.names.specs.Fault.{Fault}
-use Rattle.targets.specs.Complaint.{readerFaults}
+use Rattle.layout.specs.Fault.{Fault}
+use Rattle.layout.specs.Complaint.{readerFaults}
 use Rattle.load.specs.declared.Loading.{Loading}
 use Rattle.load.specs.declared.Loading.the-variants.{Refused}
 

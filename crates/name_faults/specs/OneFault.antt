@@ -9,15 +9,15 @@ use lib.Dec.{eqb, ltb}
 use lib.ListN.{length, take}
 use borrow.Author.Tests.{eqb-true, eqb-false, ltb-true, ltb-false}
 use Rattle.layout.specs.Name.{Name, text}
+use Rattle.layout.specs.Fault.{Part, head-start, head-end, digit, brackets, tail-end, Place, faultNumber, Fault}
 use Rattle.names.specs.Complete.{end}
 use Rattle.names.specs.Local.{Agree, fewer}
-use Rattle.names.specs.Fault.{Part, head-start, head-end, digit, brackets, tail-end, Place, numberOf, Fault}
 use Rattle.name_faults.specs.SameStart.{place-same}
 use Rattle.name_faults.specs.Scan.{State, at-head, run, partOf, place-part}
 
 -- 38 is of a part of level 9, at its start
-is-38 : (level : ℕ) (part : Part) (ended : Bool) → numberOf level part ended ≡ 38 → (part ≡ head-start) × (level ≡ 9)
-unfolding numberOf
+is-38 : (level : ℕ) (part : Part) (ended : Bool) → faultNumber level part ended ≡ 38 → (part ≡ head-start) × (level ≡ 9)
+unfolding faultNumber
 is-38 level head-start ended q = go (eqb level 9) refl q where
   go : (t : Bool) → eqb level 9 ≡ t → _≡_ {A = ℕ} (cond t 38 33) 38 → (head-start ≡ head-start) × (level ≡ 9)
   go true t q = (refl, eqb-true level 9 t)
@@ -30,8 +30,8 @@ is-38 level tail-end true q = absurd (omega arith)
 is-38 level tail-end false q = absurd (omega arith)
 
 -- the other numbers do not hang on the level
-level-free : (l k : ℕ) (part : Part) (ended : Bool) → (numberOf l part ended ≡ 38 → ⊥) → (numberOf k part ended ≡ 38 → ⊥) → numberOf l part ended ≡ numberOf k part ended
-unfolding numberOf
+level-free : (l k : ℕ) (part : Part) (ended : Bool) → (faultNumber l part ended ≡ 38 → ⊥) → (faultNumber k part ended ≡ 38 → ⊥) → faultNumber l part ended ≡ faultNumber k part ended
+unfolding faultNumber
 level-free l k head-start ended f g = go (eqb l 9) (eqb k 9) f g where
   go : (x y : Bool) → (_≡_ {A = ℕ} (cond x 38 33) 38 → ⊥) → (_≡_ {A = ℕ} (cond y 38 33) 38 → ⊥) → _≡_ {A = ℕ} (cond x 38 33) (cond y 38 33)
   go true y f g = absurd (f refl)
@@ -87,7 +87,7 @@ module _ {s : List ℕ} where
     go true y p q = let e = eqb-true n 38 p in told (deep-too f g (omega arith) e) e
     go false true p q = let e = eqb-true m 38 q in sym (told (deep-too g f (omega arith) e) e)
     go false false p q =
-        let z = ap (λ (p : Part). numberOf (g .level) p (eqb i (length s))) (same-part f g) in
+        let z = ap (λ (p : Part). faultNumber (g .level) p (eqb i (length s))) (same-part f g) in
         f .is ∙ level-free (f .level) (g .level) (f .part) (eqb i (length s)) (λ e. eqb-false n 38 p (f .is ∙ e)) (λ e. eqb-false m 38 q (g .is ∙ sym z ∙ e)) ∙ z ∙ sym (g .is)
 
   pub one-fault : {n m i j : ℕ} → Fault s n i → Fault s m j → (n ≡ m) × (i ≡ j)

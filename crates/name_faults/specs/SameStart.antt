@@ -8,13 +8,12 @@ use native.Mathlib.Omega.{arith}
 use lib.ListN.{length, take, drop, length-append}
 use lib.Seq.{drop-append-seam, take-append-seam}
 use Rattle.layout.specs.Text.{ascii}
-use Rattle.layout.specs.Name.{Tail, none, some, Name, simple, one, two, writeTail, write, headByte, Head, Tailed, Formed}
-use Rattle.names.specs.Heading.{long}
+use Rattle.layout.specs.Name.{Tail, none, some, Name, simple, one, two, writeTail, write, headByte, Tailed, Formed, NameHead, long}
+use Rattle.layout.specs.Fault.{Part, head-start, Place, start, only, first, second}
 use Rattle.names.specs.Parse.{Read, name, span, nameIn}
 use Rattle.names.specs.Complete.{Stops, end, bracket, span-all, tail-opens, complete, past}
 use Rattle.names.specs.Local.{Agree, fewer, further-on, not-empty, same-first, same-rest, span-local, Reaches, Shallow, same-read}
 use Rattle.names.specs.Faults.{formed-more}
-use Rattle.names.specs.Fault.{Part, head-start, Place, start, only, first, second}
 
 -- a head that starts in a name is its own, or one in its arguments
 record Own (r i : ℕ) : Type 0 where
@@ -69,7 +68,7 @@ head-ends (simple h t) w = tail-opens t w .0
 head-ends (one h a t) w = refl
 head-ends (two h a b t) w = refl
 
-head-is : (l : ℕ) (n : Name) → Formed l n → Head (headOf n)
+head-is : (l : ℕ) (n : Name) → Formed l n → NameHead (headOf n)
 unfolding headOf Formed
 head-is zero n f = absurd f
 head-is (suc l) (simple h t) f = f .0

@@ -11,10 +11,9 @@ use lib.Seq.{take-append-add}
 use borrow.Author.Tests.{eqb-true}
 use Rattle.laws.specs.Small.{differ, both}
 use Rattle.layout.specs.Text.{ascii}
-use Rattle.layout.specs.Name.{Tail, none, some, Name, simple, one, two, writeTail, write, text, headByte, tailByte, all, Head, Tailed, Formed}
-use Rattle.names.specs.Heading.{longTail, long}
+use Rattle.layout.specs.Name.{Tail, none, some, Name, simple, one, two, writeTail, write, text, headByte, tailByte, all, Tailed, Formed, NameHead, longTail, long}
+use Rattle.layout.specs.Fault.{Part, head-start, head-end, digit, brackets, tail-end, Place, start, head, digit-1, digit-2, opens-1, opens-2, closes-1, divides, closes-2, behind-1, behind-2, tail-0, tail-1, tail-2, only, first, second}
 use Rattle.names.specs.Complete.{length-write, write-append}
-use Rattle.names.specs.Fault.{Part, head-start, head-end, digit, brackets, tail-end, Place, start, head, digit-1, digit-2, opens-1, opens-2, closes-1, divides, closes-2, behind-1, behind-2, tail-0, tail-1, tail-2, only, first, second}
 
 -- where a reading stands: a head is due; in a head; a digit is due; the two brackets that open; behind the first that closes; behind the comma between arguments; behind both; in a tail
 pub data State : Type 0 where
@@ -75,7 +74,7 @@ run-heads (b ∷ h) e =
     let w = both (headByte b) (all headByte h) e in
     rw (other-byte headByte (code "`") b (not-head .0) (w .0), other-byte headByte (code "]") b (not-head .1) (w .0), other-byte headByte (code ",") b (not-head .2) (w .0)) (run-heads h (w .1))
 
-run-head : (h : List ℕ) → Head h → run at-head h ≡ in-head
+run-head : (h : List ℕ) → NameHead h → run at-head h ≡ in-head
 unfolding run step all
 run-head [] w = absurd (w .some refl)
 run-head (b ∷ h) w = run-heads h (both (headByte b) (all headByte h) (w .bytes) .1)
@@ -119,7 +118,7 @@ closes (one h a (some t)) rest = refl
 closes (two h a b none) rest = refl
 closes (two h a b (some t)) rest = refl
 
-past-head : (h rest : List ℕ) → Head h → run at-head (h ++ rest) ≡ run in-head rest
+past-head : (h rest : List ℕ) → NameHead h → run at-head (h ++ rest) ≡ run in-head rest
 past-head h rest w = run-append at-head h rest ∙ ap (λ (s : State). run s rest) (run-head h w)
 
 opens : (c : ℕ) (rest : List ℕ) → run in-head (code "`" ∷ c ∷ code "[" ∷ code "[" ∷ rest) ≡ run at-head rest
@@ -138,7 +137,7 @@ run-name (suc l) (two h a b t) f rest =
 
 -- ---- the bytes before a place
 
-take-head : (h rest : List ℕ) (k i : ℕ) → Head h → i ≡ length h + k → run at-head (take i (h ++ rest)) ≡ run in-head (take k rest)
+take-head : (h rest : List ℕ) (k i : ℕ) → NameHead h → i ≡ length h + k → run at-head (take i (h ++ rest)) ≡ run in-head (take k rest)
 take-head h rest k i w e = ap (λ (m : ℕ). run at-head (take m (h ++ rest))) e ∙ ap (run at-head) (take-append-add h rest k) ∙ past-head h (take k rest) w
 
 take-name : (l : ℕ) (n : Name) (rest : List ℕ) (k i : ℕ) → Formed l n → i ≡ long n + k → run at-head (take i (write n rest)) ≡ run (endOf n) (take k rest)
@@ -155,12 +154,12 @@ unfolding run
 take-end l n rest f = take-name l n rest 0 (long n) f (omega arith)
 
 -- behind what opens arguments
-take-open : (h : List ℕ) (c : ℕ) (rest : List ℕ) (k i : ℕ) → Head h → i ≡ length h + 4 + k → run at-head (take i (h ++ (code "`" ∷ c ∷ code "[" ∷ code "[" ∷ rest))) ≡ run at-head (take k rest)
+take-open : (h : List ℕ) (c : ℕ) (rest : List ℕ) (k i : ℕ) → NameHead h → i ≡ length h + 4 + k → run at-head (take i (h ++ (code "`" ∷ c ∷ code "[" ∷ code "[" ∷ rest))) ≡ run at-head (take k rest)
 unfolding run step
 take-open h c rest k i w e = take-head h (code "`" ∷ c ∷ code "[" ∷ code "[" ∷ rest) (suc (suc (suc (suc k)))) i w (omega arith)
 
 -- in what opens them
-open-part : (h : List ℕ) (c : ℕ) (rest : List ℕ) (j i : ℕ) → Head h → 2 ≤ j → j ≤ 3 → i ≡ length h + j → partOf (run at-head (take i (h ++ (code "`" ∷ c ∷ code "[" ∷ code "[" ∷ rest)))) ≡ brackets
+open-part : (h : List ℕ) (c : ℕ) (rest : List ℕ) (j i : ℕ) → NameHead h → 2 ≤ j → j ≤ 3 → i ≡ length h + j → partOf (run at-head (take i (h ++ (code "`" ∷ c ∷ code "[" ∷ code "[" ∷ rest)))) ≡ brackets
 unfolding run step partOf
 open-part h c rest zero i w a b e = absurd (omega arith)
 open-part h c rest (suc zero) i w a b e = absurd (omega arith)
@@ -169,13 +168,13 @@ open-part h c rest (suc (suc (suc zero))) i w a b e = ap partOf (take-head h (co
 open-part h c rest (suc (suc (suc (suc j)))) i w a b e = absurd (omega arith)
 
 -- behind the first argument, and its bracket
-take-first : (l : ℕ) (h : List ℕ) (c : ℕ) (a : Name) (rest : List ℕ) (k i : ℕ) → Head h → Formed l a → i ≡ length h + 4 + long a + suc k
+take-first : (l : ℕ) (h : List ℕ) (c : ℕ) (a : Name) (rest : List ℕ) (k i : ℕ) → NameHead h → Formed l a → i ≡ length h + 4 + long a + suc k
     → run at-head (take i (h ++ (code "`" ∷ c ∷ code "[" ∷ code "[" ∷ write a (code "]" ∷ rest)))) ≡ run at-close (take k rest)
 take-first l h c a rest k i w f e =
     take-open h c (write a (code "]" ∷ rest)) (long a + suc k) i w (omega arith) ∙ take-name l a (code "]" ∷ rest) (suc k) (long a + suc k) f refl ∙ closes a (take k rest)
 
 -- behind the comma between arguments
-take-second : (l : ℕ) (h : List ℕ) (a b : Name) (rest : List ℕ) (k i : ℕ) → Head h → Formed l a → i ≡ length h + 4 + long a + 3 + k
+take-second : (l : ℕ) (h : List ℕ) (a b : Name) (rest : List ℕ) (k i : ℕ) → NameHead h → Formed l a → i ≡ length h + 4 + long a + 3 + k
     → run at-head (take i (h ++ (code "`" ∷ code "2" ∷ code "[" ∷ code "[" ∷ write a (code "]" ∷ code "," ∷ code "[" ∷ write b rest)))) ≡ run at-head (take k (write b rest))
 unfolding run step
 take-second l h a b rest k i w f e = take-first l h (code "2") a (code "," ∷ code "[" ∷ write b rest) (suc (suc k)) i w f (omega arith)

@@ -9,8 +9,7 @@ use lib.ListN.{length, take, drop, getD, length-take, length-drop, drop-of-lengt
 use lib.Seq.{getD-drop, drop-drop, take-add, take-all, length-take-le}
 use borrow.Author.Tests.{lt-ltb, le-ltb, le-leb}
 use Rattle.layout.specs.Number.{between}
-use Rattle.layout.specs.Kind as K
-use Rattle.layout.specs.Kind.{Entry, alike, lookup}
+use Rattle.layout.specs.Kind.{KindEntry, kindEntry, alike, lookup}
 use Rattle.layout.specs.EnumList.{EnumEntry, entry, writeEnums, sizeIn}
 use Rattle.names.specs.Parse.{starts}
 use Rattle.names.specs.Entries.{entriesIn, entriesOf, entries-written, listing, listing-is}
@@ -146,29 +145,29 @@ module _ {table head : List ℕ} {at : ℕ} (left : Left table head at) (h : at 
         }
 
 -- an entry, or none
-abbrev keep : Bool → Entry → List Entry → List Entry
+abbrev keep : Bool → KindEntry → List KindEntry → List KindEntry
 keep true e es = e ∷ es
 keep false e es = es
 
 -- those entries whose head's length is of a class
-unfoldable pub part : (ℕ → Bool) → List Entry → List Entry
+unfoldable pub part : (ℕ → Bool) → List KindEntry → List KindEntry
 part p [] = []
-part p (K.entry n k ∷ es) = keep (p (length n)) (K.entry n k) (part p es)
+part p (kindEntry n k ∷ es) = keep (p (length n)) (kindEntry n k) (part p es)
 
-kept-found : (p : ℕ → Bool) (h n : List ℕ) (k : ℕ) (s t : List Entry) (b : Bool) → p (length h) ≡ true → p (length n) ≡ b →
-    lookup h s ≡ lookup h t → lookup h (keep b (K.entry n k) s) ≡ lookup h (K.entry n k ∷ t)
+kept-found : (p : ℕ → Bool) (h n : List ℕ) (k : ℕ) (s t : List KindEntry) (b : Bool) → p (length h) ≡ true → p (length n) ≡ b →
+    lookup h s ≡ lookup h t → lookup h (keep b (kindEntry n k) s) ≡ lookup h (kindEntry n k ∷ t)
 unfolding lookup
 kept-found p h n k s t true w q e = rw e
 kept-found p h n k s t false w q e = rw (sym (alike-length h n (λ z. true≢false (sym w ∙ ap p z ∙ q))), e)
 
 -- a head whose length is of the class is found in the part, if it is in the whole
-part-found : (p : ℕ → Bool) (h : List ℕ) (es : List Entry) → p (length h) ≡ true → lookup h (part p es) ≡ lookup h es
+part-found : (p : ℕ → Bool) (h : List ℕ) (es : List KindEntry) → p (length h) ≡ true → lookup h (part p es) ≡ lookup h es
 unfolding part
 part-found p h [] w = refl
-part-found p h (K.entry n k ∷ es) w = kept-found p h n k (part p es) es (p (length n)) w refl (part-found p h es w)
+part-found p h (kindEntry n k ∷ es) w = kept-found p h n k (part p es) es (p (length n)) w refl (part-found p h es w)
 
 -- a table of heads and kinds that has such a part
-pub table-found : (p : ℕ → Bool) (es : List Entry) (table h : List ℕ) → table ≡ writeEnums (listing (part p es)) → p (length h) ≡ true →
+pub table-found : (p : ℕ → Bool) (es : List KindEntry) (table h : List ℕ) → table ≡ writeEnums (listing (part p es)) → p (length h) ≡ true →
     sizeIn (entriesOf table) h ≡ lookup h es
 table-found p es table h e w =
     let is : entriesOf table ≡ listing (part p es) = ap entriesOf e ∙ entries-written (listing (part p es)) in

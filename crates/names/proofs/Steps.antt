@@ -8,7 +8,7 @@ use lib.ListN.{length, take, drop, set, length-append, length-drop}
 use lib.Seq.{sets, length-take-le}
 use Rattle.laws.specs.Small.{differ}
 use Rattle.layout.specs.Text.{ascii}
-use Rattle.layout.specs.Name.{Name, Tail, none, simple, one, two, headByte}
+use Rattle.layout.specs.Name.{Name, Tail, none, simple, one, two, headByte, long}
 use Rattle.layout.specs.EnumList.{EnumEntry}
 use Rattle.names.specs.declared.parse.Parsed.{Parsed}
 use Rattle.names.specs.declared.parse.Parsed.the-variants.{Name as Parsed-name, Broken as Parsed-broken}
@@ -20,7 +20,7 @@ use borrow.Author.Tests.{eq-eqb, ne-eqb}
 use Rattle.names.specs.Common.{starts-common}
 use Rattle.names.proofs.Laws.{rest, starts-fits}
 use Rattle.names.specs.Codes.{heads-few, codes-append, codes-length}
-use Rattle.names.specs.Heading.{Heading, heading, headings, long}
+use Rattle.names.specs.Heading.{Heading, heading, headings}
 use Rattle.names.specs.Kind.{codes, word, kindIn}
 
 -- what follows a head: at most 3, and four bytes where arguments are opened

@@ -9,17 +9,17 @@ use lib.ListN.{length, length-append}
 use borrow.Author.Tests.{eqb-true, eq-eqb, ltb-true}
 use Rattle.laws.specs.Small.{differ, both}
 use Rattle.layout.specs.Text.{ascii}
-use Rattle.layout.specs.Name.{Name, simple, one, two, Head, Formed}
-use Rattle.layout.specs.Kind.{Entry, entry, reader, readers, target, targets, alike, lookup}
+use Rattle.layout.specs.Name.{Name, simple, one, two, Formed, NameHead, long}
+use Rattle.layout.specs.Kind.{reader, readers, target, targets, alike, lookup, KindEntry, kindEntry}
 use Rattle.layout.specs.EnumList.{EnumEntry, sizeIn}
 use Rattle.names.specs.Parse.{name, nameOf}
 use Rattle.names.specs.Complete.{length-write}
 use Rattle.names.specs.Laws.{read-is-text}
-use Rattle.names.specs.Heading.{Heading, heading, headings, long}
+use Rattle.names.specs.Heading.{Heading, heading, headings}
 use Rattle.names.specs.Kind.{listed, enumKind, kindIn, codes}
 
 -- a head has a byte
-pub some-head : (h : List ℕ) → Head h → 1 ≤ length h
+pub some-head : (h : List ℕ) → NameHead h → 1 ≤ length h
 some-head [] w = absurd (w .some refl)
 some-head (b ∷ h) w = omega arith
 
@@ -55,10 +55,10 @@ unfolding alike
 alike-self [] = refl
 alike-self (x ∷ a) = rw (eq-eqb x x refl, alike-self a)
 
--- each entry is found by its own head
-unfoldable pub allFound : (entries all : List Entry) → Bool
+-- each kindEntry is found by its own head
+unfoldable pub allFound : (entries all : List KindEntry) → Bool
 allFound [] all = true
-allFound (entry h k ∷ es) all = eqb (lookup h all) k && allFound es all
+allFound (kindEntry h k ∷ es) all = eqb (lookup h all) k && allFound es all
 
 -- no head is listed twice with two kinds
 pub listed-found : (own : Bool) → allFound (listed own) (listed own) ≡ true
@@ -66,18 +66,18 @@ unfolding allFound lookup alike listed readers targets reader target ascii
 listed-found true = refl
 listed-found false = refl
 
-small : List Entry → Bool
+small : List KindEntry → Bool
 small [] = true
-small (entry h k ∷ es) = ltb k 64 && small es
+small (kindEntry h k ∷ es) = ltb k 64 && small es
 
 found-small : (b : Bool) (k m : ℕ) → k < 64 → m < 64 → cond b k m < 64
 found-small true k m h g = h
 found-small false k m h g = g
 
-lookup-small : (h : List ℕ) (es : List Entry) → small es ≡ true → lookup h es < 64
+lookup-small : (h : List ℕ) (es : List KindEntry) → small es ≡ true → lookup h es < 64
 unfolding lookup small
 lookup-small h [] e = omega arith
-lookup-small h (entry n k ∷ es) e =
+lookup-small h (kindEntry n k ∷ es) e =
     let q = both (ltb k 64) (small es) e in
     found-small (alike h n) k (lookup h es) (ltb-true k 64 (q .0)) (lookup-small h es (q .1))
 

@@ -9,9 +9,8 @@ use lib.ListN.{length, drop, length-append}
 use lib.Seq.{drop-drop, drop-append-seam, drop-append-add, take-append-seam}
 use Rattle.laws.specs.Small.{both}
 use Rattle.layout.specs.Text.{ascii}
-use Rattle.layout.specs.Name.{Tail, none, some, Name, simple, one, two, writeTail, write, headByte, tailByte, all, Head, Tailed, Formed}
+use Rattle.layout.specs.Name.{Tail, none, some, Name, simple, one, two, writeTail, write, headByte, tailByte, all, Tailed, Formed, NameHead, longTail, long}
 use Rattle.names.specs.Parse.{Read, name, span, starts, tailSize, tailOf, ended, closed, opening, onOnly, onSecond, onFirst, afterHead, headed, nameIn}
-use Rattle.names.specs.Heading.{longTail, long}
 
 -- what may follow a name: nothing, or a closing bracket
 pub data Stops : List ℕ → Type 0 where
@@ -135,7 +134,7 @@ unfolding closed starts ascii
 closed-is at x s e n t ok w q = rw q (ended-is s (e + 2) n t ok w (sym (drop-drop 2 e s) ∙ ap (drop 2) q))
 
 -- a head that is written before what opens there
-head-read : (below : ℕ → List ℕ → Read) (at : ℕ) (h r : List ℕ) (n : ℕ) → Head h → (span headByte r ≡ 0) × (opening r ≡ n)
+head-read : (below : ℕ → List ℕ → Read) (at : ℕ) (h r : List ℕ) (n : ℕ) → NameHead h → (span headByte r ≡ 0) × (opening r ≡ n)
     → headed below at (h ++ r) (span headByte (h ++ r)) ≡ afterHead below at (h ++ r) (length h) n
 unfolding headed
 head-read below at [] r n w o = absurd (w .some refl)

@@ -1,6 +1,6 @@
 -- The entries that bytes hold, whatever the bytes are: a name length byte, the name, a byte; and so on. Assumes nothing.
 use mathlib.Core.Path.{_≡_, refl, ap, _∙_}
-use mathlib.Core.Bool.{Bool, true, false, cond}
+use mathlib.Core.Bool.{Bool, true, false, _||_, cond}
 use mathlib.Core.List.{List, [], _∷_, _++_}
 use mathlib.Core.Logic.{inl, inr}
 use Prim.Native.Nat.{ℕ, zero, suc, _+_, _≤_}
@@ -8,9 +8,9 @@ use native.Mathlib.Omega.{arith}
 use lib.Dec.{eqb, ltb}
 use lib.ListN.{length, take, drop, getD, length-append}
 use lib.Seq.{take-append-seam, drop-append-add, getD-append-seam}
-use borrow.Author.Tests.{lt-ltb}
-use Rattle.layout.specs.Kind as K
-use Rattle.layout.specs.Kind.{Entry, alike, lookup}
+use borrow.Author.Tests.{lt-ltb, eqb-true}
+use Rattle.laws.specs.Small.{either}
+use Rattle.layout.specs.Kind.{KindEntry, kindEntry, alike, lookup}
 use Rattle.layout.specs.EnumList.{EnumEntry, entry, writeEnums, EnumSize, Enums, sizeIn}
 use Rattle.names.specs.Kind.{enumKind}
 
@@ -24,9 +24,13 @@ entriesIn (suc m) (l ∷ s) = cond (ltb l (length s)) (entry (take l s) (getD s 
 unfoldable pub entriesOf : List ℕ → List EnumEntry
 entriesOf s = entriesIn (length s) s
 
+-- 02: "with sizes 1, 2, 4 or 8"
+unfoldable pub isSize : ℕ → Bool
+isSize z = eqb z 1 || (eqb z 2 || (eqb z 4 || eqb z 8))
+
 -- a size, or 0 for a number that is none
 unfoldable pub lawfulSize : ℕ → ℕ
-lawfulSize z = cond (eqb z 1) 1 (cond (eqb z 2) 2 (cond (eqb z 4) 4 (cond (eqb z 8) 8 0)))
+lawfulSize z = cond (isSize z) z 0
 
 unfoldable pub lawfully : List EnumEntry → List EnumEntry
 lawfully [] = []
@@ -52,12 +56,24 @@ pub entries-written : (es : List EnumEntry) → entriesOf (writeEnums es) ≡ es
 unfolding entriesOf
 entries-written es = written-from es (length (writeEnums es)) (omega arith)
 
+-- the test of a size, both ways
+pub size-true : (z : ℕ) → EnumSize z → isSize z ≡ true
+unfolding EnumSize isSize
+size-true z (inl e) = rw e
+size-true z (inr (inl e)) = rw e
+size-true z (inr (inr (inl e))) = rw e
+size-true z (inr (inr (inr e))) = rw e
+
+pub true-size : (z : ℕ) → isSize z ≡ true → EnumSize z
+unfolding EnumSize isSize
+true-size z b =
+    either (eqb z 1) _ b (λ q. inl (eqb-true z 1 q))
+    (λ r. either (eqb z 2) _ r (λ q. inr (inl (eqb-true z 2 q)))
+    (λ r. either (eqb z 4) _ r (λ q. inr (inr (inl (eqb-true z 4 q)))) (λ q. inr (inr (inr (eqb-true z 8 q))))))
+
 lawful-is : (z : ℕ) → EnumSize z → lawfulSize z ≡ z
-unfolding EnumSize lawfulSize
-lawful-is z (inl e) = rw e
-lawful-is z (inr (inl e)) = rw e
-lawful-is z (inr (inr (inl e))) = rw e
-lawful-is z (inr (inr (inr e))) = rw e
+unfolding lawfulSize
+lawful-is z w = rw (size-true z w)
 
 all-lawful : (es : List EnumEntry) → Enums es → lawfully es ≡ es
 unfolding lawfully Enums
@@ -74,19 +90,16 @@ pick-lawful true z x = refl
 pick-lawful false z x = refl
 
 size-lawful : (es : List EnumEntry) (h : List ℕ) → sizeIn (lawfully es) h ≡ lawfulSize (sizeIn es h)
-unfolding lawfully sizeIn lawfulSize
+unfolding lawfully sizeIn lawfulSize isSize
 size-lawful [] h = refl
 size-lawful (entry n z ∷ es) h = rw (size-lawful es h, pick-lawful (alike h n) z (sizeIn es h))
 
 lawful-size : (z : ℕ) → (lawfulSize z ≡ 0 → ⊥) → EnumSize (lawfulSize z)
-unfolding lawfulSize EnumSize
-lawful-size z f = go (eqb z 1) (eqb z 2) (eqb z 4) (eqb z 8) f where
-  go : (a b c d : Bool) → (_≡_ {A = ℕ} (cond a 1 (cond b 2 (cond c 4 (cond d 8 0)))) 0 → ⊥) → EnumSize (cond a 1 (cond b 2 (cond c 4 (cond d 8 0))))
-  go true b c d f = inl refl
-  go false true c d f = inr (inl refl)
-  go false false true d f = inr (inr (inl refl))
-  go false false false true f = inr (inr (inr refl))
-  go false false false false f = absurd (f refl)
+unfolding lawfulSize
+lawful-size z f = go (isSize z) refl f where
+  go : (b : Bool) → isSize z ≡ b → (cond b z 0 ≡ 0 → ⊥) → EnumSize (cond b z 0)
+  go true e f = true-size z e
+  go false e f = absurd (f refl)
 
 -- a listed name has one of 02's sizes
 pub enums-sized : (enums h : List ℕ) → (sizeIn (enumsOf enums) h ≡ 0 → ⊥) → EnumSize (sizeIn (enumsOf enums) h)
@@ -95,27 +108,31 @@ enums-sized enums h f =
     let e = size-lawful (entriesOf enums) h in
     rw e (lawful-size (sizeIn (entriesOf enums) h) (λ q. f (e ∙ q)))
 
-by-size : (a b c d : Bool) → enumKind (cond a 1 (cond b 2 (cond c 4 (cond d 8 0)))) ≡ cond a 60 (cond b 61 (cond c 62 (cond d 63 0)))
-unfolding enumKind
+by-size : (a b c d : Bool) → _≡_ {A = ℕ} (cond (a || (b || (c || d))) (cond a 60 (cond b 61 (cond c 62 (cond d 63 0)))) 0) (cond a 60 (cond b 61 (cond c 62 (cond d 63 0))))
 by-size true b c d = refl
 by-size false true c d = refl
 by-size false false true d = refl
 by-size false false false true = refl
 by-size false false false false = refl
 
+pick-kind : (b : Bool) (z : ℕ) → enumKind (cond b z 0) ≡ cond b (enumKind z) 0
+unfolding enumKind
+pick-kind true z = refl
+pick-kind false z = refl
+
 -- the kind of a listed name goes by the byte that the list has for it
 pub kind-listed : (enums h : List ℕ) → enumKind (sizeIn (enumsOf enums) h) ≡ enumKind (sizeIn (entriesOf enums) h)
-unfolding enumsOf lawfulSize enumKind
-kind-listed enums h = ap enumKind (size-lawful (entriesOf enums) h) ∙ by-size (eqb z 1) (eqb z 2) (eqb z 4) (eqb z 8) where
+unfolding enumsOf lawfulSize isSize enumKind
+kind-listed enums h = ap enumKind (size-lawful (entriesOf enums) h) ∙ pick-kind (isSize z) z ∙ by-size (eqb z 1) (eqb z 2) (eqb z 4) (eqb z 8) where
   z : ℕ
   z = sizeIn (entriesOf enums) h
 
 -- a table of heads and kinds in the same form
-unfoldable pub listing : List Entry → List EnumEntry
+unfoldable pub listing : List KindEntry → List EnumEntry
 listing [] = []
-listing (K.entry h k ∷ es) = entry h k ∷ listing es
+listing (kindEntry h k ∷ es) = entry h k ∷ listing es
 
-pub listing-is : (es : List Entry) (h : List ℕ) → sizeIn (listing es) h ≡ lookup h es
+pub listing-is : (es : List KindEntry) (h : List ℕ) → sizeIn (listing es) h ≡ lookup h es
 unfolding listing sizeIn lookup
 listing-is [] h = refl
-listing-is (K.entry n k ∷ es) h = rw (listing-is es h)
+listing-is (kindEntry n k ∷ es) h = rw (listing-is es h)

@@ -12,14 +12,14 @@ use lib.Seq.{take-append-add, take-append-le, drop-drop, length-take-le}
 use borrow.Author.Tests.{eq-eqb, ne-eqb, eqb-true, eqb-false}
 use Rattle.laws.specs.Small.{differ}
 use Rattle.layout.specs.Text.{ascii}
-use Rattle.layout.specs.Name.{Tail, none, some, Name, simple, one, two, writeTail, write, text, headByte, all, Head, Tailed, Formed}
-use Rattle.names.specs.Heading.{Heading, headings, longTail, long}
+use Rattle.layout.specs.Name.{Tail, none, some, Name, simple, one, two, writeTail, write, text, headByte, all, Tailed, Formed, NameHead, longTail, long}
+use Rattle.layout.specs.Fault.{Part, head-start, head-end, digit, brackets, tail-end, Place, start, head, digit-1, opens-1, opens-2, closes-1, divides, closes-2, behind-1, behind-2, tail-0, tail-1, tail-2, only, first, second, faultNumber, Fault}
+use Rattle.names.specs.Heading.{Heading, headings}
 use Rattle.names.specs.Parse.{Read, broken, name, span, starts, common, ended, wrongBy, wrong, behind, closed, opening, unopenedNumber, unopenedAt, onOnly, onSecond, onFirst, afterHead, headed, nameIn, whole, nameOf}
 use Rattle.names.specs.Common.{common-le, common-fits, common-is, common-part, starts-longer}
 use Rattle.names.specs.Complete.{length-write, write-append, complete, end}
 use Rattle.names.specs.Sound.{Ok, Stands, sound, span-le, span-is, starts-is}
 use Rattle.names.specs.Local.{Reaches, Shallow, same-read}
-use Rattle.names.specs.Fault.{Part, head-start, head-end, digit, brackets, tail-end, Place, start, head, digit-1, opens-1, opens-2, closes-1, divides, closes-2, behind-1, behind-2, tail-0, tail-1, tail-2, only, first, second, numberOf, Fault}
 
 -- a name to go on with: a head of one letter
 bare : Name
@@ -105,7 +105,7 @@ record Piece (b l : ℕ) (s : List ℕ) (number i : ℕ) : Type 0 where
   level : ℕ
   part : Part
   place : Place level part n i
-  is : number ≡ numberOf (b + level) part (eqb i (length s))
+  is : number ≡ faultNumber (b + level) part (eqb i (length s))
   leftmost : Leftmost b n number i
 
 -- P holds of the fault that an answer at a place tells
@@ -127,14 +127,14 @@ module _ {at : ℕ} {P : ℕ → ℕ → Type 0} where
 record Last (n : Name) : Type 0 where
   part : Part
   place : Place 1 part n (long n)
-  is : (level : ℕ) (ended : Bool) → numberOf level part ended ≡ cond ended 36 (wrong n)
+  is : (level : ℕ) (ended : Bool) → faultNumber level part ended ≡ cond ended 36 (wrong n)
 
 same-36 : (ended : Bool) → _≡_ {A = ℕ} 36 (cond ended 36 36)
 same-36 true = refl
 same-36 false = refl
 
 last : (n : Name) → Last n
-unfolding numberOf wrong wrongBy
+unfolding faultNumber wrong wrongBy
 last (simple h none) = record { part = head-end; place = head; is = λ l e. refl }
 last (simple h (some t)) = record { part = tail-end; place = tail-0; is = λ l e. refl }
 last (one h a none) = record { part = brackets; place = behind-1; is = λ l e. same-36 e }
@@ -202,7 +202,7 @@ module _ (b l : ℕ) (s : List ℕ) (p : List ℕ) (e : ℕ) (size : length p �
 
   -- what is due behind it does not stand there, or only in part
   due : (w u : List ℕ) → text n ≡ p ++ (w ++ u) → starts w (drop e s) ≡ false → {level m : ℕ} {part : Part} → e + common w (drop e s) ≤ long n
-      → Place level part n (e + common w (drop e s)) → m ≡ numberOf (b + level) part (eqb (common w (drop e s)) (length (drop e s))) → Leftmost b n m (e + common w (drop e s))
+      → Place level part n (e + common w (drop e s)) → m ≡ faultNumber (b + level) part (eqb (common w (drop e s)) (length (drop e s))) → Leftmost b n m (e + common w (drop e s))
       → Piece b l s m (e + common w (drop e s))
   due w u t f {level} {part = part} h place is v =
       let j = common w (drop e s) in
@@ -221,7 +221,7 @@ module _ (b l : ℕ) (s : List ℕ) (p : List ℕ) (e : ℕ) (size : length p �
       }
 
   -- a fault right behind it
-  right-behind : (x : List ℕ) → text n ≡ p ++ x → {level m : ℕ} {part : Part} → e ≤ long n → Place level part n e → m ≡ numberOf (b + level) part (eqb 0 (length (drop e s))) → Leftmost b n m e → Piece b l s m e
+  right-behind : (x : List ℕ) → text n ≡ p ++ x → {level m : ℕ} {part : Part} → e ≤ long n → Place level part n e → m ≡ faultNumber (b + level) part (eqb 0 (length (drop e s))) → Leftmost b n m e → Piece b l s m e
   right-behind x t {level} {part = part} h place is v =
       let z : e + 0 ≡ e = omega arith in
       record {
@@ -241,7 +241,7 @@ module _ (b l : ℕ) (s : List ℕ) (p : List ℕ) (e : ℕ) (size : length p �
   lost-piece : (w u : List ℕ) (x : Name) → text n ≡ p ++ ((code "]" ∷ w) ++ u) → starts (code "]" ∷ w) (drop e s) ≡ false → e + suc (length w) ≤ long n → Place 2 (last x .part) n e
       → ((c : ℕ) → 1 ≤ c → c ≤ length w → Place 1 brackets n (e + c)) → ((r j : ℕ) → b + r ≡ 9 → Place r head-start n j → e + suc (length w) ≤ j)
       → Piece b l s (behind (wrong x) (drop e s)) (e + common (code "]" ∷ w) (drop e s))
-  unfolding numberOf
+  unfolding faultNumber
   lost-piece w u x t f h inner-end bracket further = go (eqb (common (code "]" ∷ w) (drop e s)) 0) refl where
     y : List ℕ
     y = drop e s
@@ -260,7 +260,7 @@ module _ (b l : ℕ) (s : List ℕ) (p : List ℕ) (e : ℕ) (size : length p �
         let z : c ≡ 0 = eqb-true c 0 q in
         let v : e ≡ e + c = omega arith in
         due (code "]" ∷ w) u t f (omega (arith, less)) (subst (λ (k : ℕ). Place 2 (last x .part) n k) v inner-end)
-        (lost x w y .none-stands z ∙ sym (last x .is (b + 2) (eqb 0 (length y))) ∙ ap (λ (k : ℕ). numberOf (b + 2) (last x .part) (eqb k (length y))) (sym z)) leftmost
+        (lost x w y .none-stands z ∙ sym (last x .is (b + 2) (eqb 0 (length y))) ∙ ap (λ (k : ℕ). faultNumber (b + 2) (last x .part) (eqb k (length y))) (sym z)) leftmost
     go false q =
         let z : c ≡ 0 → ⊥ = eqb-false c 0 q in
         due (code "]" ∷ w) u t f (omega (arith, less)) (bracket c (omega arith) (omega (arith, less))) (lost x w y .some-stands z) leftmost
@@ -282,7 +282,7 @@ shifted a e (inl x) = inl (omega arith)
 shifted a e (inr x) = inr (omega (arith, x .0), x .1)
 
 -- after a head of h bytes
-module _ (b l at : ℕ) (levels : b + suc l ≡ 8) (s : List ℕ) (h : ℕ) (head-is : Head (take h s)) (size : length (take h s) ≡ h) where
+module _ (b l at : ℕ) (levels : b + suc l ≡ 8) (s : List ℕ) (h : ℕ) (head-is : NameHead (take h s)) (size : length (take h s) ≡ h) where
   -- the head and a text behind it
   abbrev with : List ℕ → List ℕ
   with w = take h s ++ w
@@ -341,7 +341,7 @@ module _ (b l at : ℕ) (levels : b + suc l ≡ 8) (s : List ℕ) (h : ℕ) (hea
   -- a backquote that opens no arguments
   unopened-piece : starts (ascii "`") (drop h s) ≡ true → starts (ascii "`1[[") (drop h s) ≡ false → starts (ascii "`2[[") (drop h s) ≡ false
       → Piece b (suc l) s (unopenedNumber (drop h s)) (h + unopenedAt (drop h s))
-  unfolding unopenedNumber unopenedAt numberOf one-bare two-bare bare write long longTail writeTail ascii
+  unfolding unopenedNumber unopenedAt faultNumber one-bare two-bare bare write long longTail writeTail ascii
   unopened-piece q p₁ p₂ = go (starts (ascii "`1[") y) (starts (ascii "`2[") y) (starts (ascii "`1") y) (starts (ascii "`2") y) refl refl refl refl where
     y : List ℕ
     y = drop h s
@@ -557,7 +557,7 @@ module _ (b l at : ℕ) (levels : b + suc l ≡ 8) (s : List ℕ) (h : ℕ) (hea
 
 -- a head that is empty
 empty-piece : (b l : ℕ) (s : List ℕ) (number : ℕ) → number ≡ cond (eqb (b + 1) 9) 38 33 → Piece b l s number 0
-unfolding numberOf bare
+unfolding faultNumber bare
 empty-piece b l s number e = record {
   inside = omega arith;
   n = bare;
@@ -640,7 +640,7 @@ faults at s number place hs e = go (nameIn 8 at s) refl e where
     level = f .level;
     part = f .part;
     place = f .place;
-    is = f .is ∙ ap (λ (k : ℕ). numberOf k (f .part) (eqb i (length s))) (let z : 0 + f .level ≡ f .level = omega arith in z);
+    is = f .is ∙ ap (λ (k : ℕ). faultNumber k (f .part) (eqb i (length s))) (let z : 0 + f .level ≡ f .level = omega arith in z);
     leftmost = λ j w. f .leftmost 9 j refl w;
     after = after-as at s number i hs (nameIn 8 at s) refl (e ∙ ap (λ (k : ℕ). broken number k hs) q);
   }
@@ -661,8 +661,8 @@ faults at s number place hs e = go (nameIn 8 at s) refl e where
         (k, sym y, as-fault k (sym y) (subst (λ (j : ℕ). Piece 0 8 s j k) x (more-piece s n k (sound 8 at s .got q) (eqb-false k (length s) t))))
 
 -- the numbers of faults are 33 to 38
-number-range : (level : ℕ) (part : Part) (ended : Bool) → (33 ≤ numberOf level part ended) × (numberOf level part ended ≤ 38)
-unfolding numberOf
+number-range : (level : ℕ) (part : Part) (ended : Bool) → (33 ≤ faultNumber level part ended) × (faultNumber level part ended ≤ 38)
+unfolding faultNumber
 number-range level head-start ended = by-level (eqb level 9) where
   by-level : (b : Bool) → (33 ≤ cond b 38 33) × (cond b 38 33 ≤ 38)
   by-level true = (omega arith, omega arith)

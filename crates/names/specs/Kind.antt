@@ -3,12 +3,12 @@ use mathlib.Core.Bool.{Bool, true, false, cond}
 use mathlib.Core.List.{List, [], _∷_}
 use Prim.Native.Nat.{ℕ, _+_, _*_}
 use lib.Dec.{eqb}
-use Rattle.layout.specs.Kind.{Entry, readers, targets, lookup}
+use Rattle.layout.specs.Kind.{readers, targets, lookup, KindEntry}
 use Rattle.layout.specs.EnumList.{EnumEntry, sizeIn}
 use Rattle.names.specs.Heading.{Heading, heading}
 
 -- the reader's own head is looked up among the readers, every other one among the targets
-unfoldable pub listed : (own : Bool) → List Entry
+unfoldable pub listed : (own : Bool) → List KindEntry
 listed true = readers
 listed false = targets
 

@@ -9,11 +9,11 @@ use lib.ListN.{length}
 use lib.Seq.{drop-length}
 use borrow.Author.Tests.{eq-eqb, eqb-true}
 use Rattle.laws.specs.Small.{differ}
-use Rattle.layout.specs.Name.{Name, write, text, Formed}
+use Rattle.layout.specs.Name.{Name, write, text, Formed, long}
 use Rattle.names.specs.Parse.{Read, broken, name, wrong, nameIn, whole, nameOf}
 use Rattle.names.specs.Complete.{length-write, complete, end}
 use Rattle.names.specs.Sound.{Ok, not-read, is-read, Stands, sound}
-use Rattle.names.specs.Heading.{Heading, headings, long}
+use Rattle.names.specs.Heading.{Heading, headings}
 
 -- the text of a lawful name is read as that name
 pub text-is-read : (at : ℕ) (n : Name) → Formed 8 n → nameOf at (text n) ≡ name n (length (text n))

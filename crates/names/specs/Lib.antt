@@ -2,7 +2,6 @@
 pub mod Heading
 pub mod Parse
 pub mod Common
-pub mod Fault
 pub mod Local
 pub mod Complete
 pub mod Sound

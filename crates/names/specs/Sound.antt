@@ -12,9 +12,9 @@ use Rattle.laws.specs.Small.{differ, both}
 use Rattle.laws.specs.Ok as law
 use Rattle.laws.specs.Ok.{ok-pick}
 use Rattle.layout.specs.Text.{ascii}
-use Rattle.layout.specs.Name.{Tail, none, some, Name, simple, one, two, writeTail, write, headByte, tailByte, all, Head, Tailed, Formed}
+use Rattle.layout.specs.Name.{Tail, none, some, Name, simple, one, two, writeTail, write, headByte, tailByte, all, Tailed, Formed, NameHead, long, longTail}
 use Rattle.names.specs.Parse.{Read, broken, name, span, starts, tailSize, tailOf, ended, closed, opening, onOnly, onSecond, onFirst, afterHead, headed, nameIn}
-use Rattle.names.specs.Heading.{Heading, long, longTail}
+use Rattle.names.specs.Heading.{Heading}
 
 -- what holds of a name that was read
 abbrev pub Ok : (Name → ℕ → Type 0) → Read → Type 0
@@ -87,7 +87,7 @@ abbrev pub Stands : ℕ → List ℕ → Name → ℕ → Type 0
 Stands l s n k = Formed l n × (s ≡ write n (drop k s)) × (k ≡ long n)
 
 -- after a lawful head of h bytes, with arguments of at most l levels
-module _ (l at : ℕ) (s : List ℕ) (h : ℕ) (head : Head (take h s)) (size : length (take h s) ≡ h) (below : ℕ → List ℕ → Read) (sound-below : (p : ℕ) (r : List ℕ) → Ok (Stands l r) (below p r)) where
+module _ (l at : ℕ) (s : List ℕ) (h : ℕ) (head : NameHead (take h s)) (size : length (take h s) ≡ h) (below : ℕ → List ℕ → Read) (sound-below : (p : ℕ) (r : List ℕ) → Ok (Stands l r) (below p r)) where
   opened : (w : List ℕ) → starts w (drop h s) ≡ true → s ≡ take h s ++ (w ++ drop (h + length w) s)
   opened w b = sym (take-append-drop h s) ∙ ap (λ (l : List ℕ). take h s ++ l) (starts-is w (drop h s) b ∙ ap (λ (l : List ℕ). w ++ l) (drop-drop (length w) h s))
 

@@ -9,12 +9,14 @@ use lib.ListN.{length, drop}
 use borrow.Author.Tests.{eq-eqb, ne-eqb}
 use Rattle.laws.specs.Small.{differ}
 use Rattle.layout.specs.Rows.{Row}
+use Rattle.layout.specs.Shortest.{numbered}
 use Rattle.ids.specs.declared.Grid.{Grid}
 use Rattle.reading.specs.Answer.{refused}
 use Rattle.reading.specs.Seven.{sevenAt}
 use Rattle.numbers.specs.Padded.{past, padOf}
-use Rattle.places.specs.Places.{numbered, behindEntry, idPlaces, rawPlace, countPlaces, rowsPlaces, entriesPlaces, entriesEnd, listsPlaces, filePlaces}
-use Rattle.profile.specs.Offences.{wrongAt, kindOf, detailOf, firstOf, padded}
+use Rattle.places.specs.Places.{behindEntry, idPlaces, rawPlace, countPlaces, rowsPlaces, entriesPlaces, entriesEnd, listsPlaces, filePlaces}
+use Rattle.profile.specs.Offences.{wrongAt, kindOf, detailOf, padded}
+use Rattle.profile.specs.Profile.{firstOf}
 use Rattle.fault_places.specs.declared.Place.{Place}
 use Rattle.fault_places.specs.declared.Place.the-variants.{Fine, At}
 use Rattle.fault_places.specs.Places.{firstPlace, orElse, first-append, fine-none}

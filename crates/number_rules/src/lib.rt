@@ -9,10 +9,10 @@ use used_rows::word_in;
 ghost use mathlib.Core.Path.{_≡_};
 ghost use mathlib.Core.List.{[], _∷_};
 ghost use Prim.Native.Nat.{_<_};
+ghost use Rattle.layout.specs.Shortest.{numbered as startsWithId};
 ghost use Rattle.reading.specs.Seven.{sevenAt};
 ghost use Rattle.numbers.specs.Padded.{past};
 ghost use Rattle.places.specs.Places.{countPlaces};
-ghost use Rattle.places.specs.Places.{numbered as startsWithId};
 ghost use Rattle.number_rules.specs.Entries.{EntryIs};
 ghost use Rattle.number_rules.specs.Numbers.{rowNumbers, NumbersFound, RowFound, RowsFound, EntriesFound, ListsFound, PaddedNumber};
 

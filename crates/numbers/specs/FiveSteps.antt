@@ -12,12 +12,13 @@ use lib.Dec.{eqb, ltb, leb}
 use lib.ListN.{length, getD, drop, drop-of-length-le}
 use lib.Seq.{drop-cons}
 use borrow.Author.Tests.{eqb-true, eqb-false, ltb-true, ltb-false, leb-true, leb-false, lt-ltb, le-ltb}
+use Rattle.layout.specs.Shortest.{shortest, fewest}
 use Rattle.reading.specs.Answer.{Answer, refused, read, bind, check}
 use Rattle.reading.specs.Seven.{group as groupRead, groups, sevenAt}
 use Rattle.numbers.specs.declared.seven.Step.{Step}
 use Rattle.numbers.specs.declared.seven.Step.the-variants.{Ends, HandsOn, Refuses}
 use Rattle.numbers.specs.Steps.{joined, neededBy, group, step, lastGroup, lastStep}
-use Rattle.numbers.specs.Shortest.{shortest, fewest, fewest-length}
+use Rattle.numbers.specs.Shortest.{fewest-length}
 use Rattle.numbers.specs.Padded.{padOf, padded}
 
 -- the groups read so far have the value `low`; those still to come count by the weight

@@ -3,10 +3,10 @@ use mathlib.Core.Path.{_≡_, ap}
 use Prim.Native.Nat.{ℕ, _-_}
 use lib.ListN.{length}
 use Rattle.laws.specs.Small.{differ}
+use Rattle.layout.specs.Shortest.{shortest}
 use Rattle.reading.specs.Answer.{Answer, read, refused}
 use Rattle.numbers.specs.declared.seven.Padded.{Padded}
 use Rattle.numbers.specs.declared.seven.Padded.the-variants.{Read, Refused}
-use Rattle.numbers.specs.Shortest.{shortest}
 
 -- the value of a number that was read, where it ends if it starts at `at`, and its bytes beyond the shortest form
 unfoldable pub numberOf : Answer ℕ → ℕ

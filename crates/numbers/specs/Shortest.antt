@@ -1,7 +1,7 @@
 -- The shortest form of a seven-bit number (01: the rewriter changes "these numbers, each to its shortest form"). Assumes nothing.
 use mathlib.Core.Path.{_≡_, refl, ap}
 use mathlib.Core.Bool.{Bool, true, false, cond}
-use mathlib.Core.List.{List, [], _∷_, _++_}
+use mathlib.Core.List.{List, _∷_, _++_}
 use Prim.Native.Nat.{ℕ, zero, suc, _+_, _*_, _-_, _/_, _%_, _<_, _≤_, _^_}
 use native.Mathlib.Omega.{arith}
 use native.Mathlib.Nat.{pow-succ'}
@@ -11,23 +11,10 @@ use lib.ListN.{length, take, drop, set}
 use lib.Seq.{sets}
 use borrow.Author.Tests.{ltb-true, ltb-false, lt-ltb, le-ltb}
 use Rattle.layout.specs.Number.{Groups, last, more, Seven}
+use Rattle.layout.specs.Shortest.{fewest, shortest, Shortens}
 use Rattle.reading.specs.Seven.{some-bytes}
 use Rattle.numbers.specs.declared.shortest.Placed.{Placed}
 use Rattle.numbers.specs.declared.shortest.Placed.the-variants.{Next, NoRoom}
-
--- n in as few groups as it takes, at most k
-unfoldable pub fewest : (k n : ℕ) → List ℕ
-fewest zero n = []
-fewest (suc k) n = cond (ltb n 128) (n ∷ []) ((n % 128 + 128) ∷ fewest k (n / 128))
-
-unfoldable pub shortest : ℕ → List ℕ
-shortest n = fewest 5 n
-
--- how a form of a number compares with the shortest: the shortest is a form too, is no longer, and as long only if it is the same
-pub record Shortens (P : List ℕ → Type 0) (s b : List ℕ) : Type 0 where
-  pub form : P s
-  pub no-longer : length s ≤ length b
-  pub same : length s ≡ length b → s ≡ b
 
 groups-shortest : {k n : ℕ} {bs : List ℕ} → Groups k n bs → Shortens (Groups k n) (fewest k n) bs
 unfolding fewest

@@ -3,7 +3,8 @@ ghost use mathlib.Core.Path.{_≡_};
 ghost use Prim.Native.Nat.{_+_, _≤_};
 ghost use lib.ListN.{length};
 ghost use lib.Seq.{sets};
-ghost use Rattle.numbers.specs.Shortest.{shortest, placedAt, writtenAt};
+ghost use Rattle.layout.specs.Shortest.{shortest};
+ghost use Rattle.numbers.specs.Shortest.{placedAt, writtenAt};
 
 // The place behind the number written, or no room for it.
 pub enum Placed {

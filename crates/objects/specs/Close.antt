@@ -15,6 +15,7 @@ use Rattle.layout.specs.Layout.{Lays}
 use Rattle.layout.specs.Resource.{Within}
 use Rattle.layout.specs.Rows.{Row, row, width}
 use Rattle.layout.specs.Named.{plain, fixedKind}
+use Rattle.layout.specs.Shortest.{numbered}
 use Rattle.reading.specs.Answer.{Answer, read, bind, check}
 use Rattle.reading.specs.Reads.{Small}
 use Rattle.reading.specs.Font.{fontOk}
@@ -37,7 +38,7 @@ use Rattle.table.specs.Leaf.{valueRow, value-row}
 use Rattle.table.specs.Loop.{Got, got, lost, refusing, reading}
 use Rattle.heads.specs.Below.{font-head}
 use Rattle.places.specs.Word.{inWord, word-more}
-use Rattle.places.specs.Places.{numbered, countPlaces}
+use Rattle.places.specs.Places.{countPlaces}
 use Rattle.places.specs.Padding.{rowsPadding, row-first, id-of, sized-plain}
 use Rattle.places.specs.Padding.{padding as paddingOf}
 use Rattle.objects.specs.Start.{Ided, under}

@@ -8,10 +8,11 @@ use lib.Dec.{eqb, ltb}
 use lib.ListN.{length, getD}
 use borrow.Author.Tests.{eq-eqb, ne-eqb, ltb-true, ltb-false, eqb-true, eqb-false}
 use Rattle.layout.specs.Rows.{Row, row, words, flat, width}
-use Rattle.reading.specs.Grid.{cell}
+use Rattle.layout.specs.Table.{cell}
+use Rattle.layout.specs.Shortest.{numbered}
 use Rattle.reading.specs.Seven.{sevenAt}
 use Rattle.numbers.specs.Padded.{numberOf, past}
-use Rattle.places.specs.Places.{numbered, rawPlace}
+use Rattle.places.specs.Places.{rawPlace}
 use Rattle.ids.specs.declared.Grid.{Grid}
 use Rattle.ids.specs.Position.{cellOf}
 use Rattle.words.specs.Grids.{rowsGrid}

@@ -11,15 +11,14 @@ use Rattle.laws.specs.Small.{differ}
 use Rattle.reading.specs.Reads.{Small}
 use Rattle.reading.specs.Output.{Rewritten, outputOf}
 use Rattle.reading.specs.Output as output
-use Rattle.pack_layout.specs.Pack.{Stored, PackLays}
+use Rattle.pack_layout.specs.Pack.{Stored, PackLays, markOf}
 use Rattle.pack_layout.specs.Numbers.{PackNumber}
-use Rattle.pack_layout.specs.Table.{wholes}
-use Rattle.pack_reading.specs.Pack.{Pack, roomOf, packOf, tableFor}
+use Rattle.pack_layout.specs.Table.{wholes, filesRoom, Fitting}
+use Rattle.pack_layout.specs.Lookup.{NoMatch}
+use Rattle.pack_reading.specs.Pack.{Pack, packOf, tableFor}
 use Rattle.pack_reading.specs.Pack as pack
-use Rattle.pack_reading.specs.Theorems.{Fitting}
-use Rattle.pack_reading.specs.Lookup.{NoMatch, findOf}
+use Rattle.pack_reading.specs.Lookup.{findOf}
 use Rattle.pack_reading.specs.Lookup as lookup
-use Rattle.pack_records.specs.Records.{markOf}
 use Rattle.pack_salvage.specs.Scan.{Piece}
 use Rattle.pack_salvage.specs.Salvage.{salvageFor, outputFor, listFor}
 use Rattle.pack_salvage.specs.Salvage as salvage
@@ -82,7 +81,7 @@ reads-told marked file words small told leaves =
 
 -- a pack of either form has room in a table of its own
 roomy : (mark file : List ℕ) (fs : List Stored) → PackLays mark fs file → Fitting mark file (4 * 4096)
-unfolding roomOf
+unfolding filesRoom
 roomy mark file fs w = record { files = fs; lays = w; room = omega (arith, w .not-many) }
 
 refusal-not-zero : (other : Bool) (size n p : ℕ) → (n ≡ 21) ⊎ (PackNumber other n × (p ≤ size)) → n ≡ 0 → ⊥

@@ -5,11 +5,9 @@ use mathlib.Core.List.{List}
 use mathlib.Core.Logic.{_↔_}
 use Prim.Native.Nat.{ℕ, _≤_}
 use lib.ListN.{length}
-use Rattle.pack_layout.specs.Pack.{Stored, PackLays}
-use Rattle.pack_layout.specs.Table.{wholes}
-use Rattle.pack_reading.specs.Theorems.{Fitting}
-use Rattle.pack_reading.specs.Lookup.{NoMatch}
-use Rattle.pack_records.specs.Records.{markOf}
+use Rattle.pack_layout.specs.Pack.{Stored, PackLays, markOf}
+use Rattle.pack_layout.specs.Table.{wholes, Fitting}
+use Rattle.pack_layout.specs.Lookup.{NoMatch}
 use Rattle.pack_salvage.specs.Scan.{Piece}
 use Rattle.packs.specs.declared.Reading.{Reading}
 use Rattle.packs.specs.declared.Reading.the-variants as reading

@@ -18,13 +18,14 @@ use Rattle.layout.specs.Layout.{Leafed, Raw, Value, Lays}
 use Rattle.layout.specs.Resource.{Resource}
 use Rattle.layout.specs.File.{FileTree, sharedOf, header, objectsPlan, FileLays, fileRows}
 use Rattle.layout.specs.Rows.{Row, row, rawRows, valueRows, notedRows, rowsOf}
+use Rattle.layout.specs.Shortest.{numbered}
 use Rattle.reading.specs.Answer.{read}
 use Rattle.reading.specs.Reads.{seam}
 use Rattle.reading.specs.Seven.{sevenAt}
 use Rattle.reading.specs.Little.{length-little}
 use Rattle.reading.specs.Rules.{null-id}
 use Rattle.numbers.specs.Padded.{numberOf, past}
-use Rattle.places.specs.Places.{numbered, rawPlace}
+use Rattle.places.specs.Places.{rawPlace}
 use Rattle.places.specs.Padding.{sized-not}
 use Rattle.shortest.specs.Short.{Form, plain, text, raw-form, form-numbered}
 use Rattle.shortest.specs.Places.{number-is, split}

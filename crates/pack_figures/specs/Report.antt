@@ -6,8 +6,9 @@ use Prim.Native.Nat.{ℕ, zero, suc, _+_, _-_, _^_}
 use native.Mathlib.Omega.{arith}
 use lib.Dec.{leb, ltb}
 use lib.ListN.{replicate}
+use Rattle.layout.specs.Table.{roomOf}
 use Rattle.reading.specs.Answer.{Answer}
-use Rattle.reading.specs.File.{Loaded, roomOf}
+use Rattle.reading.specs.File.{Loaded}
 use Rattle.pack_layout.specs.Pack.{plain}
 use Rattle.pack_reading.specs.Pack.{Pack, refusal, accepted, packOf, tableFor}
 use Rattle.pack_figures.specs.Figures.{Figure, files, loaded, text-bytes, image-bytes, refusals, rows, ofPack, season, split}

@@ -12,12 +12,13 @@ use Rattle.laws.specs.Small.{differ}
 use Rattle.layout.specs.Text.{ascii}
 use Rattle.layout.specs.Rows.{flat, width}
 use Rattle.layout.specs.Named.{named}
+use Rattle.layout.specs.Table.{roomOf}
 use Rattle.reading.specs.Answer.{Answer, refused, read}
 use Rattle.reading.specs.Reads.{Small}
 use Rattle.reading.specs.Drafts.{bare}
 use Rattle.reading.specs.References.{length-flat}
 use Rattle.reading.specs.Same.{same}
-use Rattle.reading.specs.File.{Loaded, fileAt, refusal, toLoad, roomOf, tableOf}
+use Rattle.reading.specs.File.{Loaded, fileAt, refusal, toLoad, tableOf, tableIn}
 use Rattle.fill.specs.Fill.{wiped}
 use Rattle.enums.specs.Judge.{Judgement, lawful, enumsAt}
 use Rattle.enums.specs.Judge.{refused as list-refused}
@@ -122,7 +123,7 @@ module _ (enums content entry : List ℕ) (clear : Clear entry) where
   -- a refusal: the words are zeros again
   refused-by : (x : Answer Loaded) {n p : ℕ} {exit : List ℕ} → code.Refused n p ≡ answerOf content (toLoad x) → exit ≡ tableOf (toLoad x) (length entry)
       → ((f : Figure) → ofRefusal n f ≡ ofLoad x f) × (exit ≡ replicate (length entry) 0)
-  unfolding toLoad tableOf ofLoad
+  unfolding toLoad tableIn ofLoad
   refused-by (refused m q) {n} e t = let z : n ≡ m = cc in (λ f. rw z, t)
   refused-by (read a e) q t = differ cc
 
@@ -135,7 +136,7 @@ module _ (enums content entry : List ℕ) (clear : Clear entry) where
   loaded-by : Small content → (x : Answer Loaded) → opened enums content ≡ x → {k readers shared padding : ℕ} {exit : List ℕ} → length exit ≡ length entry
       → code.Loaded k readers shared padding ≡ answerOf content (toLoad x) → exit ≡ tableOf (toLoad x) (length entry)
       → ((f : Figure) → byRows content (rowsAt (rowsGrid (length exit)) exit 0 k) f ≡ ofLoad x f) × (wiped exit 0 (min (width * k) (length exit)) ≡ replicate (length entry) 0)
-  unfolding toLoad tableOf wiped
+  unfolding toLoad tableIn wiped
   loaded-by small (refused m q) o n e t = differ cc
   loaded-by small (read a p) o {k} {readers} {shared} {padding} {exit} n e t =
       let rs = bare (a .rows) in

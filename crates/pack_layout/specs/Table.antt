@@ -1,8 +1,8 @@
 -- The table of a pack (Req 01): four words a file. Assumes nothing.
 use mathlib.Core.List.{List, [], _∷_}
-use Prim.Native.Nat.{ℕ, _+_}
+use Prim.Native.Nat.{ℕ, _+_, _/_, _≤_}
 use lib.ListN.{length}
-use Rattle.pack_layout.specs.Pack.{Stored, recordBytes}
+use Rattle.pack_layout.specs.Pack.{Stored, recordBytes, PackLays}
 
 -- Req 01: "path start, path length, data start, data length, four 64-bit words a file"
 pub record Entry : Type 0 where
@@ -41,3 +41,13 @@ module _ (mark : List ℕ) where
   unfoldable pub entries : ℕ → List Stored → List Entry
   entries at [] = []
   entries at (f ∷ fs) = entryOf at f ∷ entries (at + length (recordBytes mark f)) fs
+
+-- Req 01: "four 64-bit words a file"
+unfoldable pub filesRoom : (words : ℕ) → ℕ
+filesRoom words = words / 4
+
+-- of the form with this mark, "some pack may have these bytes, and the table has room for its files"
+pub record Fitting (mark file : List ℕ) (words : ℕ) : Type 0 where
+  pub files : List Stored
+  pub lays : PackLays mark files file
+  pub room : length files ≤ filesRoom words

@@ -4,7 +4,7 @@ use mathlib.Core.Bool.{Bool, true, false}
 use mathlib.Core.List.{List}
 use Prim.Native.Nat.{ℕ, _+_, _≤_, _<_}
 use lib.ListN.{getD}
-use Rattle.pack_reading.specs.Lookup.{lower}
+use Rattle.pack_layout.specs.Lookup.{lower}
 
 -- the bytes with index k are the same
 abbrev pub SameAt : (a b : List ℕ) (k : ℕ) → Type 0

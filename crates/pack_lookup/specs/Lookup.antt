@@ -7,7 +7,8 @@ use native.Mathlib.Omega.{arith}
 use lib.ListN.{length, take, drop, getD}
 use Rattle.laws.specs.Small.{differ}
 use Rattle.pack_layout.specs.Table.{Entry, entry, wholes}
-use Rattle.pack_reading.specs.Lookup.{Found, absent, found, findIn, findOf, FirstMatch, Says, find-says}
+use Rattle.pack_layout.specs.Lookup.{FirstMatch}
+use Rattle.pack_reading.specs.Lookup.{Found, absent, found, findIn, findOf, Says, find-says}
 use Rattle.pack_lookup.specs.declared.Found as code
 use Rattle.pack_lookup.specs.declared.Found.the-variants.{Absent, At}
 

@@ -2,8 +2,9 @@
 ghost use mathlib.Core.Path.{_≡_};
 ghost use Prim.Native.Nat.{_+_, _≤_};
 ghost use lib.ListN.{length};
+ghost use Rattle.pack_layout.specs.Lookup.{lower, lowered};
 ghost use Rattle.reading.specs.Same.{same};
-ghost use Rattle.pack_reading.specs.Lookup.{lower, lowered, matches, findOf};
+ghost use Rattle.pack_reading.specs.Lookup.{matches, findOf};
 ghost use Rattle.pack_lookup.specs.Compared.{Compared};
 ghost use Rattle.pack_lookup.specs.Lookup.{entryAt, foundAs, dataOf};
 

@@ -2,35 +2,19 @@
 use mathlib.Core.Path.{_≡_, refl, sym, ap, subst, _∙_}
 use mathlib.Core.Bool.{Bool, true, false, _&&_, cond}
 use mathlib.Core.List.{List, [], _∷_, _++_}
-use mathlib.Core.Logic.{_⊎_, inl, inr, _↔_}
-use Prim.Native.Nat.{ℕ, zero, suc, _+_, _≤_}
+use mathlib.Core.Logic.{inl, inr, _↔_}
+use Prim.Native.Nat.{ℕ, zero, suc, _+_}
 use native.Mathlib.Omega.{arith}
 use lib.Dec.{leb}
 use lib.ListN.{length, take, drop, replicate}
 use borrow.Author.Tests.{leb-true, le-leb}
 use Rattle.laws.specs.Small.{both, differ}
-use Rattle.layout.specs.Number.{between}
 use Rattle.pack_layout.specs.Pack.{Stored, Lawful, recordBytes, Each, PackLays}
 use Rattle.pack_layout.specs.Table.{Entry, flat, wholes, entryOf, entries}
+use Rattle.pack_layout.specs.Parts.{NamesOne, Names}
+use Rattle.pack_layout.specs.Lookup.{lowered, Matches, NoMatch, FirstMatch, Content, missing, content}
 use Rattle.reading.specs.Same.{same, same-sound, same-complete}
-use Rattle.pack_reading.specs.Parts.{NamesOne, Names, names}
-
--- ---- Which entry matches
-
--- Req 01: "lowering ASCII letters": 41 to 5A hex, A to Z
-unfoldable pub lower : ℕ → ℕ
-lower b = cond (between 0x41 0x5A b) (b + 32) b
-
-unfoldable pub lowered : List ℕ → List ℕ
-lowered [] = []
-lowered (b ∷ bs) = lower b ∷ lowered bs
-
--- Req 01: "compares after lowering ASCII letters"; "an entry with path length 0, or with path or data past the pack, never matches"
-pub record Matches (file path : List ℕ) (e : Entry) : Type 0 where
-  pub named : 1 ≤ e .path-length
-  pub path-inside : e .path-start + e .path-length ≤ length file
-  pub data-inside : e .data-start + e .data-length ≤ length file
-  pub equal : lowered (take (e .path-length) (drop (e .path-start) file)) ≡ lowered path
+use Rattle.pack_reading.specs.Parts.{names}
 
 -- ---- What a lookup answers
 
@@ -79,21 +63,10 @@ module _ (file path : List ℕ) where
         m .equal,
       ) (same-complete (lowered path))
 
-  -- no entry matches
-  unfoldable pub NoMatch : List Entry → Type 0
-  NoMatch [] = Unit {0}
-  NoMatch (e ∷ es) = (Matches file path e → ⊥) × NoMatch es
-
-  -- the first entry that matches has its data at this place
-  unfoldable pub FirstMatch : List Entry → (first count : ℕ) → Type 0
-  FirstMatch [] first count = ⊥
-  FirstMatch (e ∷ es) first count =
-      (Matches file path e × (first ≡ e .data-start) × (count ≡ e .data-length)) ⊎ ((Matches file path e → ⊥) × FirstMatch es first count)
-
   -- what the answer says of the entries
   unfoldable pub Says : List Entry → Found → Type 0
-  Says es absent = NoMatch es
-  Says es (found first count) = FirstMatch es first count
+  Says es absent = NoMatch file path es
+  Says es (found first count) = FirstMatch file path es first count
 
   says-later : (e : Entry) (es : List Entry) (x : Found) → (Matches file path e → ⊥) → Says es x → Says (e ∷ es) x
   unfolding Says NoMatch FirstMatch
@@ -110,14 +83,14 @@ module _ (file path : List ℕ) where
     go false q s = says-later e es (findIn file path es) (λ m. let z : true ≡ false = sym (matches-complete e m) ∙ q in differ cc) s
 
   -- no entry matches where one is the first to match
-  apart : (es : List Entry) (first count : ℕ) → NoMatch es → FirstMatch es first count → ⊥
+  apart : (es : List Entry) (first count : ℕ) → NoMatch file path es → FirstMatch file path es first count → ⊥
   unfolding NoMatch FirstMatch
   apart [] first count n f = f
   apart (e ∷ es) first count n (inl f) = n .0 (f .0)
   apart (e ∷ es) first count n (inr f) = apart es first count (n .1) (f .1)
 
   -- the first entry that matches is the one that is found
-  pub first-exactly : (es : List Entry) (first count : ℕ) → FirstMatch es first count → findIn file path es ≡ found first count
+  pub first-exactly : (es : List Entry) (first count : ℕ) → FirstMatch file path es first count → findIn file path es ≡ found first count
   unfolding FirstMatch findIn
   first-exactly [] first count f = absurd f
   first-exactly (e ∷ es) first count (inl f) = rw (matches-complete e (f .0), f .1, f .2)
@@ -126,19 +99,14 @@ module _ (file path : List ℕ) where
     go true q s = absurd (f .0 (matches-sound e q))
     go false q s = s
 
-  pub absent-exactly : (es : List Entry) → (findIn file path es ≡ absent) ↔ NoMatch es
+  pub absent-exactly : (es : List Entry) → (findIn file path es ≡ absent) ↔ NoMatch file path es
   unfolding Says
   absent-exactly es = (λ q. subst (Says es) q (find-says es), λ n. go (findIn file path es) (find-says es) n) where
-    go : (x : Found) → Says es x → NoMatch es → x ≡ absent
+    go : (x : Found) → Says es x → NoMatch file path es → x ≡ absent
     go absent s n = refl
     go (found first count) s n = absurd (apart es first count n s)
 
 -- ---- In the table of a pack it gives the data of the first file of that path
-
--- the data of a file, or nothing
-pub data Content : Type 0 where
-  missing : Content
-  content : List ℕ → Content
 
 -- the data of the first file of a path, by the files alone
 unfoldable pub wanted : (path : List ℕ) → List Stored → Content

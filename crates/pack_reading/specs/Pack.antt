@@ -1,6 +1,6 @@
 -- What reading a pack answers: the first fault with its number and place, or its files (Req 01 and Req 10). Assumes nothing.
 use mathlib.Core.List.{List, [], _∷_, _++_}
-use Prim.Native.Nat.{ℕ, _*_, _-_, _/_, min}
+use Prim.Native.Nat.{ℕ, _*_, _-_, min}
 use lib.Dec.{leb, eqb}
 use lib.ListN.{length, replicate}
 use Rattle.reading.specs.Answer.{Answer, refused, read, bind, check, several, within}
@@ -9,7 +9,7 @@ use Rattle.reading.specs.Seven.{sevenAt}
 use Rattle.reading.specs.Little.{littleAt}
 use Rattle.reading.specs.Utf8.{utf8s}
 use Rattle.pack_layout.specs.Pack.{Stored}
-use Rattle.pack_layout.specs.Table.{flat, entries}
+use Rattle.pack_layout.specs.Table.{flat, entries, filesRoom}
 use Rattle.reading.specs.Same.{same, withBytes}
 
 module _ (file : List ℕ) where
@@ -55,13 +55,9 @@ unfoldable pub toPack : Answer (List Stored) → Pack
 toPack (refused number place) = refusal number place
 toPack (read fs e) = accepted fs
 
--- Req 01: "four 64-bit words a file"
-unfoldable pub roomOf : (words : ℕ) → ℕ
-roomOf words = words / 4
-
 -- what reading a pack answers, where so many words are lent
 unfoldable pub packOf : (mark file : List ℕ) (words : ℕ) → Pack
-packOf mark file words = toPack (packAt mark file (roomOf words))
+packOf mark file words = toPack (packAt mark file (filesRoom words))
 
 -- what it leaves in the words lent. Req 01: "Unused words, and all on refusal, are zero".
 unfoldable pub tableOf : (mark : List ℕ) → Pack → (words : ℕ) → List ℕ

@@ -1,21 +1,15 @@
 -- What reading a file record answers in code, by the definitions of Req 01 and Req 10. Assumes nothing.
-use mathlib.Core.Bool.{Bool, true, false}
 use mathlib.Core.List.{List}
 use Prim.Native.Nat.{ℕ, _+_}
 use lib.ListN.{length}
 use Rattle.reading.specs.Answer.{Answer, refused, read, bind}
-use Rattle.pack_layout.specs.Pack.{Stored, plain, marked}
+use Rattle.pack_layout.specs.Pack.{Stored}
 use Rattle.pack_layout.specs.Table.{Entry, entryOf}
 use Rattle.pack_reading.specs.Pack.{markAt}
 use Rattle.pack_records.specs.declared.Path.{Path}
 use Rattle.pack_records.specs.declared.Path.the-variants as path
 use Rattle.pack_records.specs.declared.Record.{Record}
 use Rattle.pack_records.specs.declared.Record.the-variants.{Refused, Read}
-
--- the mark of each form: Req 10's has one, Req 01's has none
-abbrev pub markOf : Bool → List ℕ
-markOf true = marked
-markOf false = plain
 
 -- where a record's path starts
 abbrev pub startAt : (mark file : List ℕ) (at : ℕ) → Answer ℕ

@@ -3,9 +3,10 @@ use answers::Number;
 ghost use mathlib.Core.Path.{_≡_};
 ghost use Prim.Native.Nat.{_+_, _≤_};
 ghost use lib.ListN.{length};
+ghost use Rattle.pack_layout.specs.Pack.{markOf};
 ghost use Rattle.answers.specs.Told.{told};
 ghost use Rattle.pack_reading.specs.Pack.{pathAt, contentAt, recordAt};
-ghost use Rattle.pack_records.specs.Records.{markOf, startAt, pathed, contented, recorded};
+ghost use Rattle.pack_records.specs.Records.{startAt, pathed, contented, recorded};
 
 // Where a record's path starts: behind the mark, where the form has one.
 fn start_at(pack: &[u8], at: usize, marked: bool) -> Number

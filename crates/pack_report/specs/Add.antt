@@ -7,15 +7,15 @@ use native.Mathlib.Omega.{arith}
 use lib.ListN.{length, take, drop, replicate, take-append-drop, length-replicate}
 use borrow.Author.Tests.{le-leb, lt-leb}
 use Rattle.laws.specs.Small.{differ}
+use Rattle.layout.specs.Table.{roomOf}
 use Rattle.fill.specs.Fill.{cleared}
 use Rattle.reading.specs.Answer.{Answer, refused, read}
 use Rattle.reading.specs.Reads.{Small, small-drop, small-left}
-use Rattle.reading.specs.File.{roomOf}
 use Rattle.pack_layout.specs.Pack.{Stored, plain, PackLays}
-use Rattle.pack_layout.specs.Table.{Entry, flat, entries}
+use Rattle.pack_layout.specs.Table.{Entry, flat, entries, filesRoom as packRoom}
+use Rattle.pack_layout.specs.Parts.{Names}
 use Rattle.pack_reading.specs.Pack.{Pack, refusal, accepted, packAt, toPack, packOf, tableOf, tableFor}
-use Rattle.pack_reading.specs.Pack.{roomOf as packRoom}
-use Rattle.pack_reading.specs.Parts.{Names, names}
+use Rattle.pack_reading.specs.Parts.{names}
 use Rattle.pack_reading.specs.Theorems.{pack-sound}
 use Rattle.packs.specs.declared.Reading.the-variants as reading
 use Rattle.packs.specs.Files.{answerOf}

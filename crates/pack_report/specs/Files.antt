@@ -11,7 +11,7 @@ use Rattle.reading.specs.Answer.{Answer}
 use Rattle.reading.specs.File.{Loaded}
 use Rattle.pack_layout.specs.Pack.{Stored}
 use Rattle.pack_layout.specs.Table.{Entry, flat}
-use Rattle.pack_reading.specs.Parts.{NamesOne, Names}
+use Rattle.pack_layout.specs.Parts.{NamesOne, Names}
 use Rattle.pack_figures.specs.Figures.{Figure, ofContent, ofFiles}
 use Rattle.pack_counts.specs.Raise.{counted, counted-none, counted-twice}
 

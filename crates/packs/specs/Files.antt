@@ -6,10 +6,9 @@ use Prim.Native.Nat.{ℕ, _*_}
 use lib.Dec.{eqb}
 use lib.ListN.{length, take}
 use Rattle.reading.specs.Answer.{Answer, refused, read, bind, check}
-use Rattle.pack_layout.specs.Pack.{Stored}
-use Rattle.pack_layout.specs.Table.{flat, entries}
-use Rattle.pack_reading.specs.Pack.{recordsAt, packAt, roomOf, Pack, refusal, accepted}
-use Rattle.pack_records.specs.Records.{markOf}
+use Rattle.pack_layout.specs.Pack.{Stored, markOf}
+use Rattle.pack_layout.specs.Table.{flat, entries, filesRoom}
+use Rattle.pack_reading.specs.Pack.{recordsAt, packAt, Pack, refusal, accepted}
 use Rattle.packs.specs.declared.Reading.{Reading}
 use Rattle.packs.specs.declared.Reading.the-variants.{Refused, Read}
 
@@ -24,11 +23,11 @@ Fills mark (read fs e) table r = (r ≡ Read (length fs)) × (take (4 * length f
 
 -- so many files were read into a table of so many words
 abbrev pub FilesRead : (marked : Bool) (file : List ℕ) (n words : ℕ) (table : List ℕ) → Reading → Type 0
-FilesRead marked file n words table r = Fills (markOf marked) (filesFrom (markOf marked) file n (roomOf words)) table r
+FilesRead marked file n words table r = Fills (markOf marked) (filesFrom (markOf marked) file n (filesRoom words)) table r
 
 -- the whole pack was read into a table of so many words
 abbrev pub PackRead : (marked : Bool) (file : List ℕ) (words : ℕ) (table : List ℕ) → Reading → Type 0
-PackRead marked file words table r = Fills (markOf marked) (packAt (markOf marked) file (roomOf words)) table r
+PackRead marked file words table r = Fills (markOf marked) (packAt (markOf marked) file (filesRoom words)) table r
 
 -- a refusal's number and place, or the number of files
 abbrev pub answerOf : Pack → Reading

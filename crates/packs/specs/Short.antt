@@ -15,11 +15,11 @@ use Rattle.reading.specs.Seven.{group, groups, sevenAt}
 use Rattle.reading.specs.Little.{littleAt, little-next}
 use Rattle.reading.specs.Utf8.{utf8s}
 use Rattle.reading.specs.Same.{same, withBytes}
-use Rattle.pack_layout.specs.Pack.{plain}
+use Rattle.pack_layout.specs.Pack.{plain, markOf}
 use Rattle.pack_layout.specs.Table.{entryOf}
 use Rattle.pack_reading.specs.Pack.{markAt, pathAt, contentAt, recordAt}
 use Rattle.pack_records.specs.declared.Record.the-variants.{Read}
-use Rattle.pack_records.specs.Records.{markOf, recorded}
+use Rattle.pack_records.specs.Records.{recorded}
 
 -- the bytes from one place to another are a path of up to 127 bytes
 pub record ShortPath (file : List ℕ) (start behind : ℕ) : Type 0 where

@@ -8,8 +8,8 @@ ghost use Prim.Native.Nat.{_+_, _-_, _≤_};
 ghost use lib.ListN.{length, take};
 ghost use Rattle.text.specs.Passed.{Ascii};
 ghost use Rattle.pack_layout.specs.Table.{entry, flat};
+ghost use Rattle.pack_layout.specs.Pack.{markOf};
 ghost use Rattle.pack_reading.specs.Pack.{packOf, tableFor};
-ghost use Rattle.pack_records.specs.Records.{markOf};
 ghost use Rattle.packs.specs.Files.{FilesRead, PackRead, answerOf};
 ghost use Rattle.packs.specs.Short.{Short, ShortPath};
 

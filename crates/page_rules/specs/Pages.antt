@@ -10,7 +10,8 @@ use borrow.Author.Tests.{eq-eqb, ne-eqb}
 use Rattle.laws.specs.Small.{differ}
 use Rattle.layout.specs.Rows.{Row}
 use Rattle.ids.specs.declared.Grid.{Grid}
-use Rattle.profile.specs.Offences.{wrongAt, next, skip, kindOf, detailOf, firstOf, noPage, nextless}
+use Rattle.profile.specs.Offences.{wrongAt, next, skip, kindOf, detailOf, noPage, nextless}
+use Rattle.profile.specs.Profile.{firstOf}
 use Rattle.fault_places.specs.declared.Place.the-variants.{Fine, At}
 use Rattle.fault_places.specs.Places.{firstPlace, fine-none}
 use Rattle.used_rows.specs.Held.{wordIn, Held, Follows, Skips, Tells, Finds, kind-word, first-word, detail-word, drop-past, drop-row}

@@ -10,12 +10,13 @@ use borrow.Author.Tests.{ne-eqb}
 use Rattle.layout.specs.Number.{Groups, last, more}
 use Rattle.layout.specs.Fixed.{sizes}
 use Rattle.layout.specs.Rows.{Row}
+use Rattle.layout.specs.Shortest.{numbered}
 use Rattle.reading.specs.Answer.{Answer, refused, read}
 use Rattle.reading.specs.Reads.{Small, next-of}
 use Rattle.reading.specs.Seven.{sevenAt, seven-reads, some-bytes}
 use Rattle.numbers.specs.Shortest.{shortest-is}
 use Rattle.numbers.specs.Padded.{past, padOf}
-use Rattle.places.specs.Places.{numbered, idPlaces, rawPlace, countPlaces, rowsPlaces, entriesPlaces, entriesEnd, listsPlaces, filePlaces}
+use Rattle.places.specs.Places.{idPlaces, rawPlace, countPlaces, rowsPlaces, entriesPlaces, entriesEnd, listsPlaces, filePlaces}
 
 module _ (file : List ℕ) where
   unfoldable pub padding : List ℕ → ℕ

@@ -1,17 +1,13 @@
 -- Where the seven-bit numbers of a file start, by its rows: the reader count, the lengths of names, the shared count, type ids, resource ids and texts' counts. Assumes nothing.
-use mathlib.Core.Bool.{Bool, true, cond, _||_}
+use mathlib.Core.Bool.{cond}
 use mathlib.Core.List.{List, [], _∷_, _++_}
 use Prim.Native.Nat.{ℕ, zero, suc, _+_}
 use lib.Dec.{eqb}
 use Rattle.layout.specs.Rows.{Row}
+use Rattle.layout.specs.Shortest.{numbered}
 use Rattle.reading.specs.Answer.{Answer}
 use Rattle.reading.specs.Seven.{sevenAt}
 use Rattle.numbers.specs.Padded.{numberOf, past}
-
--- a value of a kind with such an id starts with a type id or a resource id: null, a shared reference, or an object
-unfoldable pub numbered : (kind id : ℕ) → Bool
-numbered kind zero = eqb kind 0 || eqb kind 36
-numbered kind (suc i) = true
 
 -- where a reader ends: its name's length, the name, and four bytes of a version
 unfoldable pub behindEntry : Answer ℕ → (at : ℕ) → ℕ

@@ -14,6 +14,7 @@ use Rattle.reading.specs.File.{Named, listsAt, Load, refusal, accepted, loadOf}
 use Rattle.numbers.specs.Padded.{past, padOf}
 use Rattle.places.specs.Places.{entriesEnd, filePlaces}
 use Rattle.profile.specs.Stand.{textOf}
+use Rattle.profile.specs.Profile.{firstOf}
 
 -- the place of something that a test finds wrong
 unfoldable pub wrongAt : Bool → (place : ℕ) → List ℕ
@@ -36,10 +37,6 @@ kindOf (r ∷ rows) = r .kind
 unfoldable pub detailOf : List Row → ℕ
 detailOf [] = 0
 detailOf (r ∷ rows) = r .detail
-
-unfoldable pub firstOf : List Row → ℕ
-firstOf [] = 0
-firstOf (r ∷ rows) = r .first
 
 -- ---- The places of what is wrong, in file order
 
@@ -110,12 +107,12 @@ nextless (r ∷ rows) = wrongAt (eqb (r .kind) 34 && eqb (detailOf (skip 3 rows)
 
 -- ---- The first of them, by number and then by place
 
-pub data Fault : Type 0 where
-  fine : Fault
-  fault : (number place : ℕ) → Fault
+pub data Offence : Type 0 where
+  fine : Offence
+  fault : (number place : ℕ) → Offence
 
 -- the first of places in file order, or what comes after
-unfoldable pub first : (number : ℕ) → List ℕ → Fault → Fault
+unfoldable pub first : (number : ℕ) → List ℕ → Offence → Offence
 first number [] x = x
 first number (p ∷ places) x = fault number p
 
@@ -124,36 +121,36 @@ unfoldable pub lowest : ℕ → List ℕ → ℕ
 lowest p [] = p
 lowest p (q ∷ places) = lowest (min p q) places
 
-unfoldable pub firstLowest : (number : ℕ) → List ℕ → Fault → Fault
+unfoldable pub firstLowest : (number : ℕ) → List ℕ → Offence → Offence
 firstLowest number [] x = x
 firstLowest number (p ∷ places) x = fault number (lowest p places)
 
 -- of a file with readers of these targets and these rows: by the rules from one on, and by all
-unfoldable pub from47 : List Row → Fault
+unfoldable pub from47 : List Row → Offence
 from47 rows = first 47 (nextless rows) fine
 
-unfoldable pub from46 : List Row → Fault
+unfoldable pub from46 : List Row → Offence
 from46 rows = first 46 (noPage rows) (from47 rows)
 
-unfoldable pub from45 : (file : List ℕ) → List Row → Fault
+unfoldable pub from45 : (file : List ℕ) → List Row → Offence
 from45 file rows = firstLowest 45 (repeated file rows) (from46 rows)
 
-unfoldable pub from44 : (file : List ℕ) → List Target → List Row → Fault
+unfoldable pub from44 : (file : List ℕ) → List Target → List Row → Offence
 from44 file readers rows = first 44 (doubled file [] readers 0) (from45 file rows)
 
-unfoldable pub from43 : (file : List ℕ) → List Target → List Row → Fault
+unfoldable pub from43 : (file : List ℕ) → List Target → List Row → Offence
 from43 file readers rows = first 43 (unused file rows (length readers) 0) (from44 file readers rows)
 
-unfoldable pub from42 : (file : List ℕ) → List Target → List Row → Fault
+unfoldable pub from42 : (file : List ℕ) → List Target → List Row → Offence
 from42 file readers rows = first 42 (padded file (filePlaces file (length readers) rows)) (from43 file readers rows)
 
-unfoldable pub faultOf : (file : List ℕ) (readers : List Target) (rows : List Row) → Fault
+unfoldable pub faultOf : (file : List ℕ) (readers : List Target) (rows : List Row) → Offence
 faultOf file readers rows = first 41 (otherPlatform file) (from42 file readers rows)
 
 -- ---- What the driver's loader answers
 
 -- "all of 01's first, then 41 to 47"; "Its rows are then the plain loader's"
-unfoldable pub byFault : Fault → Load → Load
+unfoldable pub byFault : Offence → Load → Load
 byFault fine x = x
 byFault (fault number place) x = refusal number place
 

@@ -14,6 +14,7 @@ use Rattle.layout.specs.Target.{Target}
 use Rattle.layout.specs.Tree.{Trees, count}
 use Rattle.layout.specs.Rows.{Row}
 use Rattle.layout.specs.File.{sharedOf, header}
+use Rattle.layout.specs.Shortest.{shortFile}
 use Rattle.reading.specs.Reads.{Small}
 use Rattle.reading.specs.Front.{lists-reads}
 use Rattle.reading.specs.Accepts.{entries-length}
@@ -21,20 +22,19 @@ use Rattle.reading.specs.File.{Named, Judges, listsAt, Load, refusal, accepted,
 use Rattle.reading.specs.Theorems.{Accepts, Fitting, rowsIn, rows-are, accepted-is}
 use Rattle.places.specs.Places.{filePlaces}
 use Rattle.places.specs.Padding.{padding}
-use Rattle.shortest.specs.File.{shortFile}
 use Rattle.shortest.specs.Theorems.{padding-is, stays}
 use Rattle.profile.specs.Profile.{Profile}
 use Rattle.profile.specs.Stand.{Stand, file-stand}
-use Rattle.profile.specs.Offences.{otherPlatform, padded, uses, unused, doubled, repeated, noPage, nextless, Fault, fine, fault, first, firstLowest, from47, from46, from45, from44, from43, from42, faultOf, byFault, targetsOf, profiled, driverOf}
+use Rattle.profile.specs.Offences.{otherPlatform, padded, uses, unused, doubled, repeated, noPage, nextless, fine, fault, first, firstLowest, from47, from46, from45, from44, from43, from42, faultOf, byFault, targetsOf, profiled, driverOf, Offence}
 use Rattle.profile.specs.Keys.{repeated-none, none-repeated}
 use Rattle.profile.specs.Rules.{SeenOther, platform-none, none-platform, padded-none, none-padded, uses-some, some-uses, unused-none, none-unused, doubled-none, none-doubled, all-distinct, distinct-all, page-none, none-page, nextless-none, none-nextless}
 
-first-fine : (n : ℕ) (l : List ℕ) (x : Fault) → first n l x ≡ fine → (l ≡ []) × (x ≡ fine)
+first-fine : (n : ℕ) (l : List ℕ) (x : Offence) → first n l x ≡ fine → (l ≡ []) × (x ≡ fine)
 unfolding first
 first-fine n [] x e = (refl, e)
 first-fine n (p ∷ l) x e = differ cc
 
-lowest-fine : (n : ℕ) (l : List ℕ) (x : Fault) → firstLowest n l x ≡ fine → (l ≡ []) × (x ≡ fine)
+lowest-fine : (n : ℕ) (l : List ℕ) (x : Offence) → firstLowest n l x ≡ fine → (l ≡ []) × (x ≡ fine)
 unfolding firstLowest
 lowest-fine n [] x e = (refl, e)
 lowest-fine n (p ∷ l) x e = differ cc
@@ -66,7 +66,7 @@ module _ (file : List ℕ) (readers : List Target) (rows : List Row) where
   unfolding faultOf from42 from43 from44 from45 from46 from47 first firstLowest
   clean-fine c = rw (c .c41, c .c42, c .c43, c .c44, c .c45, c .c46, c .c47)
 
-by-fault : (f : Fault) (x : Load) → Accepts (byFault f x) → (f ≡ fine) × Accepts x
+by-fault : (f : Offence) (x : Load) → Accepts (byFault f x) → (f ≡ fine) × Accepts x
 unfolding byFault Accepts
 by-fault fine x a = (refl, a)
 by-fault (fault n p) x a = absurd a

@@ -4,6 +4,7 @@ use mathlib.Core.Bool.{Bool, true, false, not, _&&_, _||_}
 use mathlib.Core.List.{List, [], _∷_, _++_, append-assoc}
 use mathlib.Core.Logic.{_⊎_, inl, inr}
 use Prim.Native.Nat.{ℕ, zero, suc, _+_, _<_, _≤_}
+use Prim.Native.Char.{code}
 use native.Mathlib.Omega.{arith}
 use lib.Dec.{eqb}
 use lib.ListN.{length, getD}
@@ -19,9 +20,9 @@ use Rattle.reading.specs.Seven.{sevenAt}
 use Rattle.reading.specs.Rules as targets
 use Rattle.numbers.specs.Padded.{padOf}
 use Rattle.places.specs.Padding.{padding}
-use Rattle.profile.specs.Profile.{Every, Some, idAt, ReadBy, HasNext}
+use Rattle.profile.specs.Profile.{Every, Some, idAt, ReadBy, HasNext, firstOf}
 use Rattle.profile.specs.Stand.{IsRow, Stand}
-use Rattle.profile.specs.Offences.{wrongAt, skip, kindOf, detailOf, firstOf, nameStart, otherPlatform, padded, uses, unused, among, doubled, noPage, nextless}
+use Rattle.profile.specs.Offences.{wrongAt, skip, kindOf, detailOf, nameStart, otherPlatform, padded, uses, unused, among, doubled, noPage, nextless}
 use Rattle.profile.specs.Keys.{empty-both, none-wrong, right-none, stand-detail}
 
 not-false : (b : Bool) → not b ≡ false → b ≡ true
@@ -35,17 +36,15 @@ module _ (named : List ℕ → Target → Type 0) (ft : FileTree) (file : List �
   unfolding header ascii little
   platform-byte = ap (λ (l : List ℕ). getD l 3 0) (w .parts)
 
-  pub platform-none : otherPlatform file ≡ [] → ft .platform ∷ [] ≡ ascii "w"
-  unfolding otherPlatform ascii
+  pub platform-none : otherPlatform file ≡ [] → ft .platform ≡ code "w"
+  unfolding otherPlatform
   platform-none e =
       let q : getD file 3 0 ≡ 0x77 = eqb-true (getD file 3 0) 0x77 (not-false (eqb (getD file 3 0) 0x77) (none-wrong (not (eqb (getD file 3 0) 0x77)) 3 e)) in
-      ap (λ (b : ℕ). b ∷ []) (sym platform-byte ∙ q)
+      sym platform-byte ∙ q
 
-  pub none-platform : ft .platform ∷ [] ≡ ascii "w" → otherPlatform file ≡ []
-  unfolding otherPlatform ascii wrongAt
-  none-platform e =
-      let q : ft .platform ≡ 0x77 = ap (λ (l : List ℕ). getD l 0 0) e in
-      rw (eq-eqb (getD file 3 0) 0x77 (platform-byte ∙ q))
+  pub none-platform : ft .platform ≡ code "w" → otherPlatform file ≡ []
+  unfolding otherPlatform wrongAt
+  none-platform e = rw (eq-eqb (getD file 3 0) 0x77 (platform-byte ∙ e))
 
 -- ---- 42
 

@@ -3,16 +3,15 @@ use mathlib.Core.Path.{_≡_}
 use mathlib.Core.List.{List, [], _∷_, _++_}
 use mathlib.Core.Logic.{_⊎_}
 use Prim.Native.Nat.{ℕ, zero, suc, _+_, _*_, _<_, _≤_}
+use Prim.Native.Char.{code}
 use lib.ListN.{length, take, drop, getD}
 use Rattle.layout.specs.Number.{Seven}
-use Rattle.layout.specs.Text.{ascii}
 use Rattle.layout.specs.Target.{Target, object}
 use Rattle.layout.specs.Tree.{Trees, none, tree, size, kindAt}
 use Rattle.layout.specs.Rows.{Row}
 use Rattle.layout.specs.File.{FileTree}
-use Rattle.numbers.specs.Shortest.{shortest}
-use Rattle.profile.specs.Profile.{Some, idAt, ownAt, ReadBy}
-use Rattle.profile.specs.Offences.{firstOf}
+use Rattle.layout.specs.Shortest.{shortest}
+use Rattle.profile.specs.Profile.{Some, idAt, ownAt, ReadBy, firstOf}
 use Rattle.profile_places.specs.Pieces.{Piece, number, entriesPieces, filePieces, EndsAt}
 
 -- ---- Values, and where they stand by their rows, of which each value has one before those of its children
@@ -63,7 +62,7 @@ module _ (ft : FileTree) (readers : List Target) (file : List ℕ) (rows : List 
 
   -- 41: "platform `w`": the header's byte 3
   abbrev pub PlatformAt : ℕ → Type 0
-  PlatformAt place = (place ≡ 3) × (ft .platform ∷ [] ≡ ascii "w" → ⊥)
+  PlatformAt place = (place ≡ 3) × (ft .platform ≡ code "w" → ⊥)
 
   -- 42: "every 7-bit number shortest": a number of the file that is longer
   abbrev pub PaddedAt : ℕ → Type 0

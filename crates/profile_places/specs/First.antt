@@ -4,12 +4,12 @@ use mathlib.Core.Bool.{Bool, true, false, not}
 use mathlib.Core.List.{List, [], _∷_}
 use mathlib.Core.Logic.{_⊎_, inl, inr}
 use Prim.Native.Nat.{ℕ, suc, _-_, _<_, _≤_}
+use Prim.Native.Char.{code}
 use native.Mathlib.Omega.{arith}
 use lib.Dec.{eqb}
 use lib.ListN.{length, getD}
 use borrow.Author.Tests.{eqb-true, eqb-false}
 use Rattle.laws.specs.Small.{differ}
-use Rattle.layout.specs.Text.{ascii}
 use Rattle.layout.specs.Target.{Target}
 use Rattle.layout.specs.Rows.{Row}
 use Rattle.layout.specs.File.{FileTree, FileLays, fileRows}
@@ -17,7 +17,7 @@ use Rattle.reading.specs.Reads.{Small}
 use Rattle.reading.specs.Accepts.{entries-length}
 use Rattle.places.specs.Places.{filePlaces}
 use Rattle.profile.specs.Stand.{Stand, file-stand}
-use Rattle.profile.specs.Offences.{wrongAt, otherPlatform, padded, unused, doubled, repeated, noPage, nextless, Fault, fine, fault, first, firstLowest, from47, from46, from45, from44, from43, from42, faultOf}
+use Rattle.profile.specs.Offences.{wrongAt, otherPlatform, padded, unused, doubled, repeated, noPage, nextless, fine, fault, first, firstLowest, from47, from46, from45, from44, from43, from42, faultOf, Offence}
 use Rattle.profile.specs.Rules.{platform-none, none-platform}
 use Rattle.fault_places.specs.declared.Place.{Place}
 use Rattle.fault_places.specs.declared.Place.the-variants.{Fine, At}
@@ -30,12 +30,12 @@ use Rattle.profile_places.specs.Values.{keys-lowest, page-lowest, nexts-
 
 -- ---- Faults by number, then by place
 
-first-is : (k : ℕ) (l : List ℕ) (x : Fault) {n p : ℕ} → first k l x ≡ fault n p → ((n ≡ k) × (firstPlace l ≡ At p)) ⊎ ((firstPlace l ≡ Fine) × (x ≡ fault n p))
+first-is : (k : ℕ) (l : List ℕ) (x : Offence) {n p : ℕ} → first k l x ≡ fault n p → ((n ≡ k) × (firstPlace l ≡ At p)) ⊎ ((firstPlace l ≡ Fine) × (x ≡ fault n p))
 unfolding first
 first-is k [] x e = inr (refl, e)
 first-is k (q ∷ l) x {n} {p} e = let a : k ≡ n = cc in let b : q ≡ p = cc in inl (sym a, ap At b)
 
-lowest-is : (k : ℕ) (l : List ℕ) (x : Fault) {n p : ℕ} → firstLowest k l x ≡ fault n p → ((n ≡ k) × (lowestPlace l ≡ At p)) ⊎ ((lowestPlace l ≡ Fine) × (x ≡ fault n p))
+lowest-is : (k : ℕ) (l : List ℕ) (x : Offence) {n p : ℕ} → firstLowest k l x ≡ fault n p → ((n ≡ k) × (lowestPlace l ≡ At p)) ⊎ ((lowestPlace l ≡ Fine) × (x ≡ fault n p))
 unfolding firstLowest
 lowest-is k [] x e = inr (refl, e)
 lowest-is k (q ∷ l) x {n} {p} e = inl ((let a : k ≡ n = cc in sym a), ap At cc)
@@ -87,7 +87,7 @@ module _ (file : List ℕ) (readers : List Target) (rows : List Row) where
     end : {A : Type 0} → fine ≡ fault n p → A
     end e = differ cc
 
-    Or : (k : ℕ) → Place → Fault → Type 0
+    Or : (k : ℕ) → Place → Offence → Type 0
     Or k r x = ((n ≡ k) × (r ≡ At p)) ⊎ ((r ≡ Fine) × (x ≡ fault n p))
 
     at-47 : Kept 47 → Or 47 (placeOf nexts) fine → Found n p
@@ -131,7 +131,7 @@ module _ (named : List ℕ → Target → Type 0) (ft : FileTree) (file : List �
   platform-lowest : Lowest (PlatformAt ft (w .readers) file (fileRows named ft file w)) (firstPlace (otherPlatform file))
   unfolding otherPlatform wrongAt Lowest
   platform-lowest = go (eqb (getD file 3 0) 0x77) refl (platform-none named ft file w) (none-platform named ft file w) where
-    go : (b : Bool) → eqb (getD file 3 0) 0x77 ≡ b → (wrongAt (not b) 3 ≡ [] → ft .platform ∷ [] ≡ ascii "w") → (ft .platform ∷ [] ≡ ascii "w" → wrongAt (not b) 3 ≡ [])
+    go : (b : Bool) → eqb (getD file 3 0) 0x77 ≡ b → (wrongAt (not b) 3 ≡ [] → ft .platform ≡ code "w") → (ft .platform ≡ code "w" → wrongAt (not b) 3 ≡ [])
         → Lowest (PlatformAt ft (w .readers) file (fileRows named ft file w)) (firstPlace (wrongAt (not b) 3))
     go true e f g = λ p x. x .1 (f refl)
     go false e f g = ((refl, λ x. let z = g x in differ cc), λ q x. let y = x .0 in omega arith)

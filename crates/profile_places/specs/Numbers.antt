@@ -17,16 +17,17 @@ use Rattle.layout.specs.Layout.{Raw, Value, Lays}
 use Rattle.layout.specs.Resource.{Resource}
 use Rattle.layout.specs.Rows.{Row, row, rawRows, valueRows, notedRows, rowsOf}
 use Rattle.layout.specs.File.{FileTree, sharedOf, header, objectsPlan, Entries, FileLays, fileRows}
+use Rattle.layout.specs.Shortest.{shortest, numbered, body}
 use Rattle.reading.specs.Answer.{read}
 use Rattle.reading.specs.Reads.{seam}
 use Rattle.reading.specs.Seven.{sevenAt}
 use Rattle.reading.specs.Little.{length-little}
 use Rattle.reading.specs.Rules.{null-id}
-use Rattle.numbers.specs.Shortest.{shortest, shortest-is}
+use Rattle.numbers.specs.Shortest.{shortest-is}
 use Rattle.numbers.specs.Padded.{numberOf, past, padOf}
-use Rattle.places.specs.Places.{numbered, idPlaces, rawPlace, countPlaces, rowsPlaces, behindEntry, entriesPlaces, entriesEnd, listsPlaces, filePlaces}
+use Rattle.places.specs.Places.{idPlaces, rawPlace, countPlaces, rowsPlaces, behindEntry, entriesPlaces, entriesEnd, listsPlaces, filePlaces}
 use Rattle.places.specs.Padding as padding
-use Rattle.shortest.specs.Short.{body, raw-form, form-numbered}
+use Rattle.shortest.specs.Short.{raw-form, form-numbered}
 use Rattle.shortest.specs.Places.{number-is, split}
 use Rattle.profile.specs.Offences.{wrongAt, padded}
 use Rattle.fault_places.specs.Places.{firstPlace, Lowest, Among, among-append, append-among, wrong-among, among-wrong}

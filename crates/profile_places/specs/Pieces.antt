@@ -8,8 +8,7 @@ use lib.ListN.{length, drop}
 use Rattle.layout.specs.Number.{Seven, little}
 use Rattle.layout.specs.Tree.{Trees, none, tree, count}
 use Rattle.layout.specs.File.{FileTree, sharedOf}
-use Rattle.places.specs.Places.{numbered}
-use Rattle.shortest.specs.Short.{body}
+use Rattle.layout.specs.Shortest.{numbered, body}
 
 pub data Piece : Type 0 where
   plain : List ℕ → Piece

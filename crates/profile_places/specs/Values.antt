@@ -13,9 +13,9 @@ use Rattle.laws.specs.Small.{differ, both}
 use Rattle.layout.specs.Tree.{Trees, none, tree, count, size, kindAt}
 use Rattle.layout.specs.Rows.{Row, row}
 use Rattle.reading.specs.Same.{same, same-sound, same-complete}
-use Rattle.profile.specs.Profile.{Every, ownAt}
+use Rattle.profile.specs.Profile.{Every, ownAt, firstOf}
 use Rattle.profile.specs.Stand.{textOf, IsRow, Stand}
-use Rattle.profile.specs.Offences.{wrongAt, next, skip, kindOf, detailOf, firstOf, keyRows, twin, repeats, twins, repeated, noPage, nextless}
+use Rattle.profile.specs.Offences.{wrongAt, next, skip, kindOf, detailOf, keyRows, twin, repeats, twins, repeated, noPage, nextless}
 use Rattle.profile.specs.Rules.{or-right}
 use Rattle.profile.specs.Keys.{stand-length, stand-next, stand-detail}
 use Rattle.fault_places.specs.Places.{firstPlace, lowestPlace, Lowest, lowest-alike, Among, among-append, append-among, wrong-among, among-wrong, is-lowest}

@@ -16,12 +16,12 @@ use Rattle.layout.specs.Slot.{Slot, raw, object, reference, leaf, Plan, stop, p
 use Rattle.layout.specs.Layout.{Raw, Value, Lays}
 use Rattle.layout.specs.Resource.{Resource}
 use Rattle.layout.specs.File.{FileTree, sharedOf, header, objectsPlan, Entries, FileLays}
+use Rattle.layout.specs.Shortest.{numbered, body}
 use Rattle.reading.specs.Seven.{sevenAt}
 use Rattle.reading.specs.Rules.{null-id}
 use Rattle.numbers.specs.Padded.{past}
-use Rattle.places.specs.Places.{numbered}
 use Rattle.places.specs.Padding.{reference-numbered}
-use Rattle.shortest.specs.Short.{body, Form, plain as plain-form, text, raw-form, form-numbered, leaf-body}
+use Rattle.shortest.specs.Short.{Form, plain as plain-form, text, raw-form, form-numbered, leaf-body}
 use Rattle.shortest.specs.Places.{number-is, split}
 use Rattle.profile_places.specs.Pieces.{Piece, plain, number, Written, idPieces, bodyPieces, treePieces, entriesPieces, filePieces}
 

@@ -12,6 +12,7 @@ use Rattle.layout.specs.Target.{Target}
 use Rattle.layout.specs.Name.{Name, text, Formed}
 use Rattle.layout.specs.EnumList.{EnumEntry}
 use Rattle.layout.specs.Named.{Typed, unknown as no-type, known as has-type, readerOf, named}
+use Rattle.layout.specs.Complaint.{readerFaults, leftmost}
 use Rattle.names.specs.Parse.{Read, broken, name, nameOf}
 use Rattle.names.specs.Complete.{length-write}
 use Rattle.names.specs.Laws.{text-is-read, read-is-text}
@@ -20,7 +21,6 @@ use Rattle.names.specs.Heading.{headings}
 use Rattle.names.specs.Contract as N
 use Rattle.names.specs.Contract.{placed, ending}
 use Rattle.targets.specs.declared.Resolved.{Resolved}
-use Rattle.targets.specs.Complaint.{readerFaults, leftmost}
 use Rattle.targets.specs.Complaints.{leftmost-within}
 use Rattle.targets.specs.Contract.{told, judged, resolution, Resolves}
 use Rattle.reading.specs.File.{Named, unknown, known, Judges}

@@ -22,7 +22,7 @@ use Rattle.reading.specs.Walk.{Outcome, done, before, point, point-is, s
 use Rattle.reading.specs.Drafts.{Below, rawDrafts, valueDrafts, draftsOf}
 
 leaf-kind : (x : Leaf) (kind : ℕ) (own bs : List ℕ) → Leafed x kind own bs → (kind ≡ leafKind x) × Leafed x (leafKind x) own bs
-unfolding Leafed leafKind
+unfolding Leafed
 leaf-kind (level z) kind own bs w = (w .0, (refl, w .1, w .2, w .3))
 leaf-kind (blob z) kind own bs w = (w .0, (refl, w .1, w .2))
 leaf-kind (numeric f z rule) kind own bs w = (w .0, (refl, w .1, w .2, w .3))

@@ -1,14 +1,15 @@
 -- What loading a file answers: the first fault in file order with its number and place, or the rows, the number of readers and the shared count (01, "File header", "The row table" and "Refusals"). Assumes nothing.
 use mathlib.Core.Path.{_≡_}
 use mathlib.Core.Bool.{Bool, _||_}
-use mathlib.Core.List.{List, [], _∷_, _++_}
-use Prim.Native.Nat.{ℕ, zero, suc, _*_, _-_, _/_, min}
+use mathlib.Core.List.{List, [], _∷_}
+use Prim.Native.Nat.{ℕ, zero, suc, _-_}
 use lib.Dec.{ltb, leb, eqb}
 use lib.ListN.{length, take, drop, getD, replicate}
 use Rattle.layout.specs.Target.{Target}
 use Rattle.layout.specs.File.{FileTree, objectsPlan}
-use Rattle.layout.specs.Rows.{flat, Row, width}
+use Rattle.layout.specs.Rows.{Row}
 use Rattle.layout.specs.Number.{valueOf}
+use Rattle.layout.specs.Table.{roomOf, Shape, byRows, table}
 use Rattle.reading.specs.Answer.{Answer, refused, read, bind, check, several, within}
 use Rattle.reading.specs.Reads.{some}
 use Rattle.reading.specs.Seven.{sevenAt}
@@ -122,15 +123,15 @@ unfoldable pub toLoad : Answer Loaded → Load
 toLoad (refused number place) = refusal number place
 toLoad (read a e) = accepted (bare (a .rows)) (a .readers) (a .shared)
 
--- 01: "Room is the number of whole rows in the words, at most 65,536"
-unfoldable pub roomOf : (words : ℕ) → ℕ
-roomOf words = min (words / width) 65536
-
 -- what loading answers for a file, where so many words are lent
 unfoldable pub loadOf : (ℕ → List ℕ → Named) → (file : List ℕ) (words : ℕ) → Load
 loadOf nameOf file words = toLoad (fileAt nameOf file (roomOf words))
 
--- what loading leaves in the words lent; 01: "Every word not in a used row is zero"
-unfoldable pub tableOf : Load → (words : ℕ) → List ℕ
-tableOf (refusal number place) words = replicate words 0
-tableOf (accepted rows readers shared) words = flat rows ++ replicate (words - width * length rows) 0
+-- what loading leaves in the words lent, by rows or in columns: the table of the rows, and only zeros after a refusal
+unfoldable pub tableIn : Shape → Load → (words : ℕ) → List ℕ
+tableIn s (refusal number place) words = replicate words 0
+tableIn s (accepted rows readers shared) words = table s rows words
+
+-- by rows
+abbrev pub tableOf : Load → (words : ℕ) → List ℕ
+tableOf x words = tableIn byRows x words

@@ -23,19 +23,19 @@ use Rattle.reading.specs.File.{isPlatform, headerAt, Named, unknown, kno
 -- ---- the header
 
 platform-sound : (b : ℕ) → isPlatform b ≡ true → Platform b
-unfolding isPlatform Platform ascii
+unfolding isPlatform Platform
 platform-sound b t = go (eqb b 0x77) (eqb b 0x6D) (eqb b 0x78) refl refl refl t where
   go : (p q r : Bool) → eqb b 0x77 ≡ p → eqb b 0x6D ≡ q → eqb b 0x78 ≡ r → (p || (q || r)) ≡ true → Platform b
-  go true q r ep eq er e = inl (ap (λ (n : ℕ). n ∷ []) (eqb-true b 0x77 ep))
-  go false true r ep eq er e = inr (inl (ap (λ (n : ℕ). n ∷ []) (eqb-true b 0x6D eq)))
-  go false false true ep eq er e = inr (inr (ap (λ (n : ℕ). n ∷ []) (eqb-true b 0x78 er)))
+  go true q r ep eq er e = inl (eqb-true b 0x77 ep)
+  go false true r ep eq er e = inr (inl (eqb-true b 0x6D eq))
+  go false false true ep eq er e = inr (inr (eqb-true b 0x78 er))
   go false false false ep eq er e = differ cc
 
 platform-complete : (b : ℕ) → Platform b → isPlatform b ≡ true
-unfolding isPlatform Platform ascii
-platform-complete b (inl e) = rw (ap (λ (l : List ℕ). getD l 0 0) e)
-platform-complete b (inr (inl e)) = rw (ap (λ (l : List ℕ). getD l 0 0) e)
-platform-complete b (inr (inr e)) = rw (ap (λ (l : List ℕ). getD l 0 0) e)
+unfolding isPlatform Platform
+platform-complete b (inl e) = rw e
+platform-complete b (inr (inl e)) = rw e
+platform-complete b (inr (inr e)) = rw e
 
 flags-sound : (b : ℕ) → b ≤ 1 → (b ≡ 0) ⊎ (b ≡ 1)
 flags-sound zero h = inl refl

@@ -10,19 +10,7 @@ use lib.ListN.{length, getD, set, length-set}
 use lib.Seq.{set-comm, set-set, getD-set-same, getD-set-other}
 use borrow.Author.Tests.{ltb-true, ltb-false}
 use Rattle.layout.specs.Rows.{width}
-
-pub data Shape : Type 0 where
-  byRows byColumns : Shape
-
--- the shape of a table, by whether it is in columns
-abbrev pub shapeOf : (columns : Bool) → Shape
-shapeOf false = byRows
-shapeOf true = byColumns
-
--- where word j of row i stands in a table with room for so many rows
-unfoldable pub cell : Shape → (room i j : ℕ) → ℕ
-cell byRows room i j = width * i + j
-cell byColumns room i j = i + room * j
+use Rattle.layout.specs.Table.{Shape, byRows, byColumns, cell}
 
 module _ (s : Shape) (room : ℕ) where
   -- words stored from word j of row i on

@@ -179,7 +179,7 @@ module _ (file : List ℕ) where
       (λ o bs w. (w .0, (w .1, w .3), refl, opening o [] (each (slots (w .0))) (w .2) (w .4)))
 
   pub leaf-reads : (x : Leaf) → Reads file (λ own bs. Leafed x (leafKind x) own bs) (leafAt x)
-  unfolding leafAt Leafed leafKind
+  unfolding leafAt Leafed
   leaf-reads (level z) =
       convert file (bind-reads file (here-reads file (λ p. little-reads file 4 p)) (λ n at. check-reads file (eqb n z) 15 at (some-reads file n at)))
       (λ own bs s w. let q : w .0 ≡ z = eqb-true (w .0) z (w .5 .0) in

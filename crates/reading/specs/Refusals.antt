@@ -16,7 +16,8 @@ use Rattle.layout.specs.Slot.{Leaf, level, blob, numeric, Slot, raw, reference,
 use Rattle.layout.specs.File.{objectsPlan}
 use Rattle.layout.specs.Rows.{row}
 use Rattle.layout.specs.Tree.{toldOf}
-use Rattle.reading.specs.Numbers.{LoadNumber}
+use Rattle.layout.specs.Refusals.{LoadNumber}
+use Rattle.layout.specs.Table.{roomOf}
 use Rattle.reading.specs.Answer.{Answer, refused, read, bind, check, several}
 use Rattle.reading.specs.Reads.{some, field}
 use Rattle.reading.specs.Seven.{group, groups, sevenAt}
@@ -26,7 +27,7 @@ use Rattle.reading.specs.Fixed.{fixedAt}
 use Rattle.reading.specs.Rules.{Found, missing, found, reader}
 use Rattle.reading.specs.Heads.{ownAt, whole, fixedHeadAt, textAt, flagAt, countAt, imageAt, leafAt, headAt}
 use Rattle.reading.specs.Walk.{Taken, Outcome, sequence, rawAt, byReader, objectAt, valueAt, walk}
-use Rattle.reading.specs.File.{headerAt, Named, unknown, known, judge, judged, Loaded, objectsAt, finished, readerAt, readersAt, listsAt, fileAt, refusal, toLoad, roomOf, loadOf}
+use Rattle.reading.specs.File.{headerAt, Named, unknown, known, judge, judged, Loaded, objectsAt, finished, readerAt, readersAt, listsAt, fileAt, refusal, toLoad, loadOf}
 use Rattle.reading.specs.Drafts.{Draft}
 
 -- ---- what an answer tells
@@ -63,7 +64,7 @@ is-number n q = go (leb n 9) (leb n 20) (eqb n 22) (leb n 38) refl refl refl ref
   go false false false false w x y z q = differ cc
 
 -- a refusal of such a number, at a place up to `most`
-pub record Fault (most number place : ℕ) : Type 0 where
+pub record Placed (most number place : ℕ) : Type 0 where
   pub number-is : LoadNumber number
   pub placed : place ≤ most
 
@@ -79,10 +80,10 @@ firsts-append (one-more h f) g = one-more h (firsts-append f g)
 module _ (file : List ℕ) (most : ℕ) (fits : length file ≤ most) where
   -- a refusal is at most at `most`, and a next byte is inside the file
   abbrev Inside : {A : Type 0} → Answer A → Type 0
-  Inside x = Tells (Fault most) (λ a e. e ≤ length file) x
+  Inside x = Tells (Placed most) (λ a e. e ≤ length file) x
 
   -- a refusal at a place inside the file
-  fault : (n : ℕ) {p : ℕ} → isNumber n ≡ true → p ≤ length file → Fault most n p
+  fault : (n : ℕ) {p : ℕ} → isNumber n ≡ true → p ≤ length file → Placed most n p
   fault n q h = record { number-is = is-number n q; placed = omega arith }
 
   -- ---- numbers and bytes
@@ -188,7 +189,7 @@ module _ (file : List ℕ) (most : ℕ) (fits : length file ≤ most) where
   Rows a e = (e ≤ length file) × Firsts (length file) (a .1)
 
   abbrev Walks : Outcome → Type 0
-  Walks x = Tells (Fault most) Rows x
+  Walks x = Tells (Placed most) Rows x
 
   sequence-inside : (step : Slot → ℕ → ℕ → Outcome) → ((x : Slot) (at used : ℕ) → at ≤ length file → Walks (step x at used))
       → (plan : Plan) (at used : ℕ) → at ≤ length file → Walks (sequence step plan at used)
@@ -234,7 +235,7 @@ module _ (file : List ℕ) (most : ℕ) (fits : length file ≤ most) where
 
   -- 17 is at a row's first byte
   judged-inside : {A : Type 0} {Q : A → ℕ → Type 0} {rows : List Draft} (shared : List ℕ) (x : Answer A)
-      → Firsts (length file) rows → Tells (Fault most) Q x → Tells (Fault most) Q (judged shared rows x)
+      → Firsts (length file) rows → Tells (Placed most) Q x → Tells (Placed most) Q (judged shared rows x)
   unfolding judged
   judged-inside shared x no-rows g = g
   judged-inside shared x (one-more {d = d} h f) g = tells-check _ 17 (d .row .first) _ (fault 17 refl h) (λ t. judged-inside shared x f g)
@@ -253,7 +254,7 @@ WithinName nameOf = (first : ℕ) (name : List ℕ) (number place : ℕ) → nam
 
 -- a file that is too long is refused at 0; after that the length of the file is within `most`
 header-inside : (file : List ℕ) (most : ℕ) → (length file ≤ 16777216 → length file ≤ most)
-    → Tells (Fault most) (λ h e. (e ≤ length file) × (length file ≤ most)) (headerAt file)
+    → Tells (Placed most) (λ h e. (e ≤ length file) × (length file ≤ most)) (headerAt file)
 unfolding headerAt
 header-inside file most fits =
     tells-check (leb (length file) 16777216) 9 0 _ (record { number-is = is-number 9 refl; placed = omega arith }) (λ t.
@@ -278,13 +279,13 @@ module _ (nameOf : ℕ → List ℕ → Named) (numbers : WithinName nameOf) (fi
       q : ((number ≡ 11) ⊎ ((33 ≤ number) × (number ≤ 38))) × (place ≤ first + length name)
       q = numbers first name number place e
 
-      by-number : (number ≡ 11) ⊎ ((33 ≤ number) × (number ≤ 38)) → Fault most number place
+      by-number : (number ≡ 11) ⊎ ((33 ≤ number) × (number ≤ 38)) → Placed most number place
       by-number (inl i) = record { number-is = inr (inl (omega arith, omega arith)); placed = omega (arith, q .1) }
       by-number (inr i) = record { number-is = inr (inr (inr i)); placed = omega (arith, q .1) }
     judge-inside first name (known t) at e z h = of-read h
 
     -- a part of the file, and where it ends
-    part-inside : (n at first : ℕ) → at ≤ length file → first ≤ length file → Tells (Fault most) (λ bs e. (e ≤ length file) × (e ≡ first + length bs)) (some file n at first)
+    part-inside : (n at first : ℕ) → at ≤ length file → first ≤ length file → Tells (Placed most) (λ bs e. (e ≤ length file) × (e ≡ first + length bs)) (some file n at first)
     unfolding some
     part-inside n at first h k =
         tells-check (leb n (length (drop first file))) 1 at _ (fault file most fits 1 refl h) (λ t.
@@ -310,7 +311,7 @@ module _ (nameOf : ℕ → List ℕ → Named) (numbers : WithinName nameOf) (fi
         tells-bind (readers-inside n e k) (λ l shared g. tells-bind (seven-inside file most fits shared g) (λ s next f.
         tells-check _ 9 shared _ (fault file most fits 9 refl g) (λ t. of-read f)))))
 
-  file-inside : (most room : ℕ) → (length file ≤ 16777216 → length file ≤ most) → Tells (Fault most) (λ a e. e ≤ length file) (fileAt nameOf file room)
+  file-inside : (most room : ℕ) → (length file ≤ 16777216 → length file ≤ most) → Tells (Placed most) (λ a e. e ≤ length file) (fileAt nameOf file room)
   unfolding fileAt objectsAt
   file-inside most room fits =
       tells-bind (header-inside file most fits) (λ h at k. let m = k .1 in
@@ -321,10 +322,10 @@ module _ (nameOf : ℕ → List ℕ → Named) (numbers : WithinName nameOf) (fi
   -- ---- what a refusal of loading tells
 
   module _ (words number place : ℕ) (refuses : loadOf nameOf file words ≡ refusal number place) where
-    faulty : (most : ℕ) → (length file ≤ 16777216 → length file ≤ most) → Fault most number place
+    faulty : (most : ℕ) → (length file ≤ 16777216 → length file ≤ most) → Placed most number place
     unfolding loadOf toLoad
     faulty most fits = go (fileAt nameOf file (roomOf words)) (file-inside most (roomOf words) fits) refuses where
-      go : (x : Answer Loaded) → Tells (Fault most) (λ a e. e ≤ length file) x → toLoad x ≡ refusal number place → Fault most number place
+      go : (x : Answer Loaded) → Tells (Placed most) (λ a e. e ≤ length file) x → toLoad x ≡ refusal number place → Placed most number place
       go (refused n p) (of-refused f) e =
           let a : n ≡ number = cc in
           let b : p ≡ place = cc in

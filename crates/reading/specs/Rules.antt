@@ -122,7 +122,7 @@ reader-sound (t ∷ readers) (suc (suc i)) u e =
     let p : suc i ≡ suc (r .0) = r .1 in
     (suc (r .0), ap suc p, omega arith, r .3)
 
-at-complete : (readers : List Target) (i : ℕ) (u : Target) → i < length readers → getD readers i u ≡ u → invoked u ≡ found u → reader readers (suc i) ≡ found u
+at-complete : (readers : List Target) (i : ℕ) (u : Target) → i < length readers → getD readers i object ≡ u → invoked u ≡ found u → reader readers (suc i) ≡ found u
 unfolding reader
 at-complete [] i u h e v = absurd (omega arith)
 at-complete (t ∷ readers) zero u h e v = rw e v

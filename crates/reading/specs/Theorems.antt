@@ -15,11 +15,12 @@ use Rattle.layout.specs.Layout.{Lays}
 use Rattle.layout.specs.Resource.{Within}
 use Rattle.layout.specs.File.{FileTree, sharedOf, header, FileLays, fileRows}
 use Rattle.layout.specs.Rows.{Row, flat, width}
+use Rattle.layout.specs.Table.{roomOf}
 use Rattle.reading.specs.Answer.{Answer, refused, read, Ok}
 use Rattle.reading.specs.Reads.{Small}
 use Rattle.reading.specs.Little.{value-little}
 use Rattle.reading.specs.Unique.{unique}
-use Rattle.reading.specs.File.{Named, Judges, Loaded, fileAt, Load, refusal, accepted, toLoad, roomOf, loadOf, tableOf}
+use Rattle.reading.specs.File.{Named, Judges, Loaded, fileAt, Load, refusal, accepted, toLoad, loadOf, tableOf, tableIn}
 use Rattle.reading.specs.References.{length-flat}
 use Rattle.reading.specs.Accepts.{loadedOf, rows-count, file-complete, IsFile, file-sound, file-bare}
 use Rattle.reading.specs.Drafts.{bare}
@@ -117,12 +118,12 @@ module _ (named : List ℕ → Target → Type 0) (nameOf : ℕ → List ℕ →
 
     -- and the table is the rows' words, and then, 01: "Every word not in a used row is zero"
     pub table-is : (f : Fitting named file words) → tableOf (loadOf nameOf file words) words ≡ flat (rowsIn named f) ++ replicate (words - width * length (rowsIn named f)) 0
-    unfolding tableOf
+    unfolding tableIn
     table-is f = rw (rows-are file words f)
 
     -- a refusal leaves the table all zero
     pub refusal-clears : (number place : ℕ) → loadOf nameOf file words ≡ refusal number place → tableOf (loadOf nameOf file words) words ≡ replicate words 0
-    unfolding tableOf
+    unfolding tableIn
     refusal-clears number place e = rw e
 
     -- where no file tree fits, the answer is one refusal's number and place, and the table is all zero
@@ -137,7 +138,7 @@ module _ (named : List ℕ → Target → Type 0) (nameOf : ℕ → List ℕ →
 
     -- the table always has as many words as were lent
     pub table-length : Small file → length (tableOf (loadOf nameOf file words) words) ≡ words
-    unfolding tableOf
+    unfolding tableIn
     table-length small = go (loadOf nameOf file words) refl where
       go : (x : Load) → loadOf nameOf file words ≡ x → length (tableOf x words) ≡ words
       go (refusal number place) e = length-replicate words 0

@@ -9,7 +9,7 @@ use lib.ListN.{getD, drop, set}
 use lib.Seq.{getD-set-other}
 use borrow.Author.Tests.{eqb-true}
 use Rattle.laws.specs.Small.{differ}
-use Rattle.reading.specs.Grid.{Shape, byRows, byColumns, shapeOf, cell}
+use Rattle.layout.specs.Table.{Shape, byRows, byColumns, shapeOf, cell}
 use Rattle.reading.specs.Drafts.{resource}
 use Rattle.reading.specs.Resource.{suit, suits}
 use Rattle.ids.specs.declared.Grid.{Grid}

@@ -8,7 +8,8 @@ use lib.ListN.{length, getD, set, length-append}
 use lib.Seq.{getD-at, set-at}
 use borrow.Author.Tests.{eq-eqb, ne-eqb}
 use Rattle.layout.specs.Rows.{Row, words, width}
-use Rattle.reading.specs.Grid.{shapeOf, writtenRows, Wide, rows-at, set-row}
+use Rattle.layout.specs.Table.{shapeOf}
+use Rattle.reading.specs.Grid.{writtenRows, Wide, rows-at, set-row}
 use Rattle.reading.specs.Drafts.{Wants, nothing, resource}
 use Rattle.reading.specs.Resource.{suits}
 use Rattle.ids.specs.declared.Grid.{Grid}

@@ -5,9 +5,10 @@ use mathlib.Core.List.{List, [], _∷_, map}
 use Prim.Native.Nat.{ℕ, _*_, _≤_}
 use lib.ListN.{length}
 use Rattle.layout.specs.Rows.{width, words}
+use Rattle.layout.specs.Table.{shapeOf}
 use Rattle.reading.specs.Answer.{Answer, refused, check}
 use Rattle.reading.specs.Resource.{suits}
-use Rattle.reading.specs.Grid.{shapeOf, writtenRows}
+use Rattle.reading.specs.Grid.{writtenRows}
 use Rattle.reading.specs.Drafts.{Draft, bare}
 use Rattle.reading.specs.File.{rootKinds, judged}
 use Rattle.ids.specs.declared.Grid.{Grid}

@@ -359,7 +359,7 @@ module _ (readers : List Target) (refers : ℕ → ℕ → Type 0) (lawful : (id
 module _ (es : List EnumEntry) where
   readers-lawful : (names : List (List ℕ)) (readers : List Target) (bs : List ℕ) → Entries (named es) names readers bs → (id : ℕ) (u : Target) → Reader readers id u → Lawful u
   unfolding Reader
-  readers-lawful names readers bs w id u r = subst Lawful (r .3) (entries-lawful es names readers bs w (r .0) u (r .2))
+  readers-lawful names readers bs w id u r = subst Lawful (r .3) (entries-lawful es names readers bs w (r .0) anything (r .2))
 
   objects-stringless : (shared : ℕ) → StringlessPlan (objectsPlan shared)
   unfolding objectsPlan StringlessSlot

@@ -9,6 +9,7 @@ use lib.ListN.{length, getD, take, drop, length-drop, length-take}
 use lib.Seq.{ext-getD, getD-drop, getD-take}
 use Rattle.layout.specs.Target.{Target}
 use Rattle.layout.specs.File.{objectsPlan}
+use Rattle.layout.specs.Table.{roomOf}
 use Rattle.reading.specs.Answer.{Answer, refused, read, bind, check, several, within}
 use Rattle.reading.specs.Reads.{Small, some}
 use Rattle.reading.specs.Seven.{sevenAt}
@@ -17,7 +18,7 @@ use Rattle.reading.specs.Resource.{suits}
 use Rattle.reading.specs.Drafts.{Draft}
 use Rattle.reading.specs.Walk.{Taken, walk}
 use Rattle.reading.specs.Front.{header-sound}
-use Rattle.reading.specs.File.{headerAt, Named, unknown, known, judge, rootKinds, judged, Loaded, objectsAt, finished, readerAt, readersAt, listsAt, fileAt, toLoad, roomOf, loadOf}
+use Rattle.reading.specs.File.{headerAt, Named, unknown, known, judge, rootKinds, judged, Loaded, objectsAt, finished, readerAt, readersAt, listsAt, fileAt, toLoad, loadOf}
 use Rattle.retyped.specs.Texts.{Span, SequenceText, WalkText, FileText, In, InText, Retyped, EachRead}
 use Rattle.retyped.specs.Twin.{Behind, ends-at, no-end, WasRead, SameBy, both-refused, both-read, same-equal, Covered, typed as covers, behind, Stands, Agree, Overlap, Twin, Wordless, Quiet, wordless, twin-read, twin-refused, twin-then, then-twin, quiet-check, quiet-bind, tail-same, plainly}
 use Rattle.retyped.specs.Leaves.{some-twin, seven-twin, little-twin}

@@ -18,6 +18,7 @@ use Rattle.layout.specs.Tree.{Trees, none, tree, count, toldOf}
 use Rattle.layout.specs.Slot.{leafKind, Slot, raw, object, reference, leaf, Plan, stop, put}
 use Rattle.layout.specs.File.{objectsPlan}
 use Rattle.layout.specs.Rows.{Row, row}
+use Rattle.layout.specs.Table.{roomOf}
 use Rattle.reading.specs.Answer.{Answer, refused, read, Ok, not-read, is-read, ok-bind, ok-check}
 use Rattle.reading.specs.Reads.{Small, next-of}
 use Rattle.reading.specs.Seven.{sevenAt}
@@ -26,7 +27,7 @@ use Rattle.reading.specs.Font.{fontOk}
 use Rattle.reading.specs.Heads.{Opening, headAt, leafAt, head-reads}
 use Rattle.reading.specs.Drafts.{Draft, drafted, wanting, bare}
 use Rattle.reading.specs.Walk.{Taken, Outcome, done, point, before, sequence, rawAt, byReader, objectAt, valueAt, walk}
-use Rattle.reading.specs.File.{Named, headerAt, listsAt, objectsAt, rootKinds, finished, Loaded, fileAt, accepted, toLoad, roomOf, loadOf}
+use Rattle.reading.specs.File.{Named, headerAt, listsAt, objectsAt, rootKinds, finished, Loaded, fileAt, accepted, toLoad, loadOf}
 use Rattle.reading.specs.References.{judged-sound}
 use Rattle.retyped.specs.Texts.{Span, SequenceText, HeadText, RawText, ReaderText, ObjectText, ValueText, WalkText, FileText, InText, Retyped}
 use Rattle.retyped.specs.Twin.{Twin, is-behind}

@@ -12,16 +12,16 @@ use Rattle.layout.specs.Target.{Target}
 use Rattle.layout.specs.Tree.{Trees, none, tree, count}
 use Rattle.layout.specs.File.{sharedOf}
 use Rattle.layout.specs.Rows.{Row}
+use Rattle.layout.specs.Table.{roomOf}
+use Rattle.layout.specs.Shortest.{shortest, idBytes, body, short, shortLists, shortBody, shortFile}
 use Rattle.reading.specs.Answer.{Answer, read}
 use Rattle.reading.specs.Reads.{Small}
-use Rattle.reading.specs.File.{Named, Judges, Loaded, fileAt, roomOf, accepted, loadOf}
+use Rattle.reading.specs.File.{Named, Judges, Loaded, fileAt, accepted, loadOf}
 use Rattle.reading.specs.Accepts.{loadedOf, file-complete}
 use Rattle.reading.specs.Theorems.{Fitting, rowsIn, accepted-is}
 use Rattle.reading.specs.Output.{Rewritten, refusal, written, fitted}
-use Rattle.numbers.specs.Shortest.{shortest}
 use Rattle.places.specs.Padding.{filePadding}
-use Rattle.shortest.specs.Short.{idBytes, body, short}
-use Rattle.shortest.specs.File.{shortLists, shortBody, shortFile, length-file}
+use Rattle.shortest.specs.File.{length-file}
 use Rattle.shortest.specs.Rewrite.{byLoad, rewriteOf}
 use Rattle.shortest.specs.Theorems.{padding-is}
 use Rattle.retyped.specs.Texts.{FileText, Retyped}

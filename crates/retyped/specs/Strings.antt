@@ -16,6 +16,7 @@ use Rattle.layout.specs.Tree.{Trees, none, tree, count, toldOf}
 use Rattle.layout.specs.Slot.{Leaf, level, blob, numeric, boneField, codeField, uintField, fieldKind, leafKind, Slot, raw, object, reference, leaf, Plan, stop, put}
 use Rattle.layout.specs.File.{objectsPlan}
 use Rattle.layout.specs.Rows.{Row, row}
+use Rattle.layout.specs.Table.{roomOf}
 use Rattle.reading.specs.Answer.{Answer, refused, read, check, Ok, not-read, is-read, ok-bind, ok-check}
 use Rattle.reading.specs.Reads.{Small, next-of}
 use Rattle.reading.specs.Seven.{sevenAt, seven-next}
@@ -25,7 +26,7 @@ use Rattle.reading.specs.Heads.{Opening, fixedHeadAt, headAt, leafAt, head-read
 use Rattle.reading.specs.Drafts.{Draft, drafted, wanting, bare}
 use Rattle.reading.specs.Walk.{Taken, Outcome, done, point, before, sequence, rawAt, byReader, objectAt, valueAt, walk}
 use Rattle.reading.specs.References.{judged-sound}
-use Rattle.reading.specs.File.{Named, headerAt, listsAt, objectsAt, rootKinds, finished, Loaded, fileAt, accepted, toLoad, roomOf, loadOf}
+use Rattle.reading.specs.File.{Named, headerAt, listsAt, objectsAt, rootKinds, finished, Loaded, fileAt, accepted, toLoad, loadOf}
 use Rattle.retyped.specs.Texts.{Span, SequenceText, HeadText, RawText, ReaderText, ObjectText, ValueText, WalkText, FileText}
 use Rattle.retyped.specs.Parts.{Each, each-map, each-append, with-read, was-read}
 
@@ -46,7 +47,7 @@ unfolding Each
 alone T d e used ts other = is-read {a = (used, d ∷ [], ts)} ((λ k. absurd (other k)), tt)
 
 leaf-other : (l : Leaf) → leafKind l ≡ 13 → ⊥
-unfolding leafKind fieldKind
+unfolding fieldKind
 leaf-other (level z) e = omega arith
 leaf-other (blob z) e = omega arith
 leaf-other (numeric boneField z r) e = omega arith

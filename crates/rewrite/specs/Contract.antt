@@ -8,7 +8,8 @@ use lib.Dec.{leb}
 use borrow.Author.Tests.{le-leb, lt-leb}
 use lib.ListN.{length, take, drop, length-append}
 use Rattle.layout.specs.File.{FileTree, header}
-use Rattle.shortest.specs.File.{shortBody, shortFile, length-file, length-header}
+use Rattle.layout.specs.Shortest.{shortBody, shortFile}
+use Rattle.shortest.specs.File.{length-file, length-header}
 use Rattle.shortest.specs.Rewrites.{Rewrites}
 use Rattle.places.specs.Places.{listsPlaces}
 use Rattle.fill.specs.Fill.{cleared}

@@ -7,9 +7,11 @@ use Rattle.laws.specs.Small.{differ}
 use Rattle.layout.specs.Rows.{Row, flat, width}
 use Rattle.layout.specs.EnumList.{EnumEntry}
 use Rattle.layout.specs.Named.{named}
+use Rattle.layout.specs.Table.{roomOf}
+use Rattle.layout.specs.Shortest.{shortFile}
 use Rattle.reading.specs.Answer.{Answer, refused, read}
 use Rattle.reading.specs.Reads.{Small}
-use Rattle.reading.specs.File.{Load, refusal, accepted, Loaded as FileLoaded, toLoad, roomOf, tableOf}
+use Rattle.reading.specs.File.{Load, refusal, accepted, Loaded as FileLoaded, toLoad, tableOf, tableIn}
 use Rattle.reading.specs.Theorems.{rowsIn, accepted-is}
 use Rattle.load.specs.declared.Loading.the-variants.{Refused, Loaded}
 use Rattle.enums.specs.Judge.{lawful, enumsAt}
@@ -17,7 +19,7 @@ use Rattle.enums.specs.Judge.{refused as list-refused}
 use Rattle.reading.specs.Output as output
 use Rattle.load.specs.Under.{underList, fileUnder, loadUnder, load-lawful, accepted-list}
 use Rattle.load.specs.Loads as load
-use Rattle.shortest.specs.File.{shortFile, header-is}
+use Rattle.shortest.specs.File.{header-is}
 use Rattle.places.specs.Places.{filePlaces}
 use Rattle.places.specs.Padding.{filePadding}
 use Rattle.shortest.specs.Lists.{file-rewrites}
@@ -47,7 +49,7 @@ module _ (enums file : List ℕ) (words : ℕ) where
       → (rewriting.Refused n p ≡ answerOf (rewriteUnder enums file words (length out)))
       × (out ≡ outputOf (rewriteUnder enums file words (length out)) out)
       × (tableOf (loadUnder enums file words) words ≡ wordsOf (rewriteUnder enums file words (length out)) (tableOf (loadUnder enums file words) words))
-  unfolding loadUnder rewriteUnder toLoad byLoad tableOf outputOf wordsOf
+  unfolding loadUnder rewriteUnder toLoad byLoad tableIn outputOf wordsOf
   load-refused {n} {p} out e = go (fileUnder enums file (roomOf words)) e where
     go : (x : Answer FileLoaded) → Refused n p ≡ load.answerOf file (toLoad x)
         → (rewriting.Refused n p ≡ answerOf (byLoad x (length out))) × (out ≡ outputOf (byLoad x (length out)) out)
@@ -59,7 +61,7 @@ module _ (enums file : List ℕ) (words : ℕ) where
     go (read a f) e = differ cc
 
   accepted-table : (rs : List Row) (rd sh : ℕ) → tableOf (accepted rs rd sh) words ≡ flat rs ++ replicate (words - width * length rs) 0
-  unfolding tableOf
+  unfolding tableIn
   accepted-table rs rd sh = refl
 
   -- the file is ready, and rewriting it answers what its tree's shortest bytes say

@@ -12,9 +12,10 @@ use Rattle.laws.specs.Small.{differ}
 use Rattle.layout.specs.Number.{little}
 use Rattle.layout.specs.Text.{ascii}
 use Rattle.layout.specs.File.{header}
+use Rattle.layout.specs.Shortest.{shortest}
 use Rattle.reading.specs.Answer.{read}
 use Rattle.reading.specs.Seven.{sevenAt}
-use Rattle.numbers.specs.Shortest.{shortest, placedAt, writtenAt}
+use Rattle.numbers.specs.Shortest.{placedAt, writtenAt}
 use Rattle.numbers.specs.declared.shortest.Placed.{Placed}
 use Rattle.numbers.specs.declared.shortest.Placed.the-variants.{Next, NoRoom}
 use Rattle.fill.specs.Fill.{inside, pasted, copied}

@@ -7,12 +7,13 @@ use native.Mathlib.Omega.{arith}
 use lib.Dec.{eqb}
 use lib.ListN.{length, getD}
 use borrow.Author.Tests.{eq-eqb, ne-eqb}
+use Rattle.layout.specs.Shortest.{numbered}
 use Rattle.ids.specs.declared.Grid.{Grid}
 use Rattle.ids.specs.Position.{cellOf}
 use Rattle.words.specs.Grids.{rowsGrid}
 use Rattle.reading.specs.Seven.{sevenAt}
 use Rattle.numbers.specs.Padded.{numberOf, past}
-use Rattle.places.specs.Places.{numbered, idPlaces, rawPlace, countPlaces, behindEntry, entriesPlaces, entriesEnd}
+use Rattle.places.specs.Places.{idPlaces, rawPlace, countPlaces, behindEntry, entriesPlaces, entriesEnd}
 use Rattle.rewrite.specs.Table.{rowPlaces, placesIn, tablePlaces}
 
 module _ (file : List ℕ) where

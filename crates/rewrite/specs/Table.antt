@@ -5,7 +5,7 @@ use Prim.Native.Nat.{ℕ, zero, suc, _+_, _*_}
 use native.Mathlib.Omega.{arith}
 use lib.ListN.{length, getD, length-append}
 use Rattle.layout.specs.Rows.{Row, words, width, flat}
-use Rattle.reading.specs.Grid.{cell}
+use Rattle.layout.specs.Table.{cell}
 use Rattle.ids.specs.Position.{cellOf}
 use Rattle.words.specs.Grids.{rowsGrid}
 use Rattle.places.specs.Places.{idPlaces, rawPlace, countPlaces, rowsPlaces, listsPlaces, filePlaces}

@@ -2,7 +2,8 @@
 use mathlib.Core.List.{List}
 use lib.ListN.{length}
 use Prim.Native.Nat.{ℕ}
-use Rattle.reading.specs.File.{roomOf, tableOf}
+use Rattle.layout.specs.Table.{roomOf}
+use Rattle.reading.specs.File.{tableOf}
 use Rattle.load.specs.Under.{fileUnder, loadUnder}
 use Rattle.reading.specs.Output.{Rewritten, outputOf}
 use Rattle.shortest.specs.Rewrite.{byLoad, wordsOf}

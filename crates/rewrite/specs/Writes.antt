@@ -3,8 +3,8 @@ use mathlib.Core.Path.{_≡_}
 use mathlib.Core.List.{List, [], _∷_, _++_}
 use Prim.Native.Nat.{ℕ, _+_, _-_, _≤_}
 use lib.ListN.{length, drop}
+use Rattle.layout.specs.Shortest.{shortFile}
 use Rattle.reading.specs.Seven.{sevenAt}
-use Rattle.shortest.specs.File.{shortFile}
 use Rattle.numbers.specs.Padded.{numberOf, past}
 use Rattle.places.specs.Places.{entriesPlaces, entriesEnd, listsPlaces}
 use Rattle.rewrite.specs.declared.Cursor.{Cursor}

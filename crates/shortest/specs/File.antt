@@ -10,28 +10,9 @@ use Rattle.layout.specs.Target.{Target}
 use Rattle.layout.specs.Tree.{count}
 use Rattle.layout.specs.Resource.{Resource}
 use Rattle.layout.specs.File.{FileTree, sharedOf, header, objectsPlan, Entry, Entries, Lists, FileLays}
-use Rattle.numbers.specs.Shortest.{shortest, Shortens, shortest-is}
-use Rattle.shortest.specs.Short.{short, same-shortens, shortens-append, lays-short}
-
--- a reader: the length of its name, the name, and the version 0
-unfoldable pub shortEntry : List ℕ → List ℕ
-shortEntry name = shortest (length name) ++ (name ++ little 4 0)
-
-unfoldable pub shortEntries : List (List ℕ) → List ℕ
-shortEntries [] = []
-shortEntries (name ∷ names) = shortEntry name ++ shortEntries names
-
--- the reader count, the readers and the shared count
-unfoldable pub shortLists : (names : List (List ℕ)) (shared : ℕ) → List ℕ
-shortLists names shared = shortest (length names) ++ (shortEntries names ++ shortest shared)
-
--- all behind the header
-unfoldable pub shortBody : FileTree → List ℕ
-shortBody ft = shortLists (ft .names) (count (sharedOf (ft .objects))) ++ short (ft .objects)
-
--- the header, with the length of these bytes, and all behind it
-unfoldable pub shortFile : FileTree → List ℕ
-shortFile ft = header (ft .platform) (ft .flags) (10 + length (shortBody ft)) ++ shortBody ft
+use Rattle.layout.specs.Shortest.{shortest, Shortens, short, shortEntry, shortEntries, shortLists, shortBody, shortFile}
+use Rattle.numbers.specs.Shortest.{shortest-is}
+use Rattle.shortest.specs.Short.{same-shortens, shortens-append, lays-short}
 
 pub length-header : (platform flags n : ℕ) → length (header platform flags n) ≡ 10
 unfolding header ascii little

@@ -11,12 +11,10 @@ use Rattle.layout.specs.Tree.{count}
 use Rattle.layout.specs.Resource.{Resource}
 use Rattle.layout.specs.Rows.{Row}
 use Rattle.layout.specs.File.{FileTree, sharedOf, header, objectsPlan, Entry, Entries, FileLays, fileRows}
+use Rattle.layout.specs.Shortest.{shortest, short, shortEntry, shortEntries, shortLists, shortBody}
 use Rattle.reading.specs.Reads.{seam}
 use Rattle.reading.specs.Seven.{sevenAt}
 use Rattle.reading.specs.Little.{length-little}
-use Rattle.numbers.specs.Shortest.{shortest}
-use Rattle.shortest.specs.Short.{short}
-use Rattle.shortest.specs.File.{shortEntry, shortEntries, shortLists, shortBody}
 use Rattle.numbers.specs.Padded.{numberOf, past}
 use Rattle.places.specs.Places.{behindEntry, rowsPlaces, entriesPlaces, entriesEnd, listsPlaces, filePlaces}
 use Rattle.shortest.specs.Places.{Shortened, copied, number, joined, number-is, split, lays-shortened}

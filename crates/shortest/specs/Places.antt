@@ -13,15 +13,15 @@ use Rattle.layout.specs.Tree.{Trees, none, tree, count, size, told}
 use Rattle.layout.specs.Slot.{Slot, raw, object, reference, leaf, Plan, stop, put}
 use Rattle.layout.specs.Layout.{Raw, Value, Lays}
 use Rattle.layout.specs.Rows.{Row, rawRows, valueRows, notedRows, rowsOf}
+use Rattle.layout.specs.Shortest.{shortest, numbered, idBytes, body, short}
 use Rattle.reading.specs.Answer.{read}
 use Rattle.reading.specs.Reads.{seam}
 use Rattle.reading.specs.Seven.{sevenAt, seven-reads}
 use Rattle.reading.specs.Rules.{null-id}
-use Rattle.numbers.specs.Shortest.{shortest}
 use Rattle.numbers.specs.Padded.{past}
-use Rattle.places.specs.Places.{numbered, idPlaces, rawPlace, countPlaces, rowsPlaces}
+use Rattle.places.specs.Places.{idPlaces, rawPlace, countPlaces, rowsPlaces}
 use Rattle.places.specs.Padding.{places-append, reference-numbered}
-use Rattle.shortest.specs.Short.{idBytes, body, short, Form, plain, text, raw-form, form-numbered, leaf-body}
+use Rattle.shortest.specs.Short.{Form, plain, text, raw-form, form-numbered, leaf-body}
 
 module _ (file : List ℕ) where
   -- the file's bytes from `at` to `end` have numbers at these places, and with each in its shortest form they are `bs`

@@ -2,10 +2,11 @@
 use mathlib.Core.List.{List}
 use Prim.Native.Nat.{ℕ}
 use lib.ListN.{length, replicate}
+use Rattle.layout.specs.Table.{roomOf}
+use Rattle.layout.specs.Shortest.{shortFile}
 use Rattle.reading.specs.Answer.{Answer, refused, read}
 use Rattle.reading.specs.Output.{Rewritten, refusal, written, fitted}
-use Rattle.reading.specs.File.{Named, Loaded, fileAt, roomOf}
-use Rattle.shortest.specs.File.{shortFile}
+use Rattle.reading.specs.File.{Named, Loaded, fileAt}
 
 -- 01: "21 comes after every load fault"; what is written is the shortest bytes of the file tree that was read
 unfoldable pub byLoad : Answer Loaded → (out : ℕ) → Rewritten

@@ -5,10 +5,11 @@ use Prim.Native.Nat.{ℕ, _+_, _-_, _<_, _≤_, _^_}
 use native.Mathlib.Omega.{arith}
 use lib.ListN.{length, take, drop, length-append, length-drop}
 use lib.Seq.{drop-drop, take-append-seam, take-add, take-all, length-take-le}
+use Rattle.layout.specs.Shortest.{shortest}
 use Rattle.reading.specs.Answer.{read}
 use Rattle.reading.specs.Reads.{Small}
 use Rattle.reading.specs.Seven.{sevenAt, seven-reads, some-bytes}
-use Rattle.numbers.specs.Shortest.{shortest, shortest-is}
+use Rattle.numbers.specs.Shortest.{shortest-is}
 use Rattle.numbers.specs.Padded.{padOf}
 use Rattle.places.specs.Padding.{padding}
 use Rattle.shortest.specs.Places.{Shortened, copied, number, joined, number-is}

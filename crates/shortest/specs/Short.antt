@@ -1,6 +1,6 @@
 -- The shortest bytes of trees (01, "Seven-bit numbers": the rewriter changes "these numbers, each to its shortest form"). Assumes nothing.
 use mathlib.Core.Path.{_≡_, refl, sym, ap, _∙_}
-use mathlib.Core.Bool.{false, cond, _||_}
+use mathlib.Core.Bool.{false}
 use mathlib.Core.List.{List, [], _∷_, _++_, append-nil}
 use mathlib.Core.Logic.{inl, inr}
 use Prim.Native.Nat.{ℕ, zero, suc, _+_, _*_, _/_, _≤_, max}
@@ -15,29 +15,11 @@ use Rattle.layout.specs.Fixed.{sizes}
 use Rattle.layout.specs.Image.{levels}
 use Rattle.layout.specs.Head.{Head, Textual, Counted, Pictured}
 use Rattle.layout.specs.Layout.{Leafed, Raw, Value, Lays}
+use Rattle.layout.specs.Shortest.{shortest, Shortens, numbered, idBytes, body, short}
 use Rattle.reading.specs.Rules.{null-id}
 use Rattle.reading.specs.References.{slots-count}
-use Rattle.numbers.specs.Shortest.{shortest, Shortens, shortest-is}
-use Rattle.places.specs.Places.{numbered}
+use Rattle.numbers.specs.Shortest.{shortest-is}
 use Rattle.places.specs.Padding.{reference-numbered, sized-not, sized-plain}
-
--- the id of a value that starts with one
-unfoldable pub idBytes : (kind id : ℕ) → List ℕ
-idBytes kind id = cond (numbered kind id) (shortest id) []
-
--- what a value of a kind has between its id and its n children: its own bytes, with a text's count, a level's size, or a count of children
-unfoldable pub body : (kind : ℕ) (own : List ℕ) (n : ℕ) → List ℕ
-body kind own n =
-    cond (eqb kind 13) (shortest (length own) ++ own)
-    (cond (eqb kind 35) (little 4 (length own) ++ own)
-    (cond (eqb kind 17 || eqb kind 18) (little 4 n)
-    (cond (eqb kind 19) (little 4 (n / 2))
-    (cond (eqb kind 32) (own ++ little 4 n) own))))
-
--- the shortest bytes of trees one after the other
-unfoldable pub short : Trees → List ℕ
-short none = []
-short (tree kind id own cs rest) = (idBytes kind id ++ (body kind own (count cs) ++ short cs)) ++ short rest
 
 pub same-shortens : (P : List ℕ → Type 0) (s b : List ℕ) → s ≡ b → P b → Shortens P s b
 same-shortens P s b e w = rw e (record { form = w; no-longer = omega arith; same = λ l. refl })

@@ -8,18 +8,19 @@ use lib.ListN.{length, take, length-append}
 use Rattle.laws.specs.Small.{differ}
 use Rattle.layout.specs.Target.{Target}
 use Rattle.layout.specs.File.{FileLays}
+use Rattle.layout.specs.Table.{roomOf}
+use Rattle.layout.specs.Shortest.{Shortens, shortBody, shortFile}
 use lib.Dec.{leb}
 use Rattle.reading.specs.Answer.{Answer, refused, read}
 use Rattle.reading.specs.Reads.{Small}
 use Rattle.reading.specs.File as load
-use Rattle.reading.specs.File.{Named, Judges, Loaded, accepted, fileAt, toLoad, roomOf, loadOf}
+use Rattle.reading.specs.File.{Named, Judges, Loaded, accepted, fileAt, toLoad, loadOf}
 use Rattle.reading.specs.Drafts.{bare}
 use Rattle.reading.specs.Numbers.{last-number}
 use Rattle.reading.specs.Refusals.{WithinName, refusal-number, refusal-place}
 use Rattle.reading.specs.Accepts.{file-complete}
 use Rattle.reading.specs.Theorems.{Fitting, rowsIn, accepted-is}
-use Rattle.numbers.specs.Shortest.{Shortens}
-use Rattle.shortest.specs.File.{shortBody, shortFile, length-file, length-header, header-is, file-short}
+use Rattle.shortest.specs.File.{length-file, length-header, header-is, file-short}
 use Rattle.places.specs.Padding.{filePadding}
 use Rattle.shortest.specs.Rewrites.{rewrites-padding}
 use Rattle.shortest.specs.Lists.{file-rewrites}

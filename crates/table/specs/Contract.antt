@@ -6,8 +6,9 @@ use native.Mathlib.Omega.{arith}
 use lib.ListN.{length}
 use borrow.Author.Tests.{lt-ltb}
 use Rattle.layout.specs.Rows.{width}
+use Rattle.layout.specs.Table.{shapeOf}
 use Rattle.reading.specs.Answer.{Answer, refused, read}
-use Rattle.reading.specs.Grid.{shapeOf, cell-inside}
+use Rattle.reading.specs.Grid.{cell-inside}
 use Rattle.reading.specs.Drafts.{Draft, bare}
 use Rattle.reading.specs.Walk.{Outcome}
 use Rattle.places.specs.Word.{inWord}

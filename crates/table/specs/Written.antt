@@ -7,8 +7,9 @@ use native.Mathlib.Omega.{arith}
 use lib.Dec.{ltb}
 use lib.ListN.{length, set}
 use Rattle.layout.specs.Rows.{Row, row, words}
+use Rattle.layout.specs.Table.{shapeOf}
 use Rattle.reading.specs.Grid as grid
-use Rattle.reading.specs.Grid.{shapeOf, puts, writtenRows, Wide}
+use Rattle.reading.specs.Grid.{puts, writtenRows, Wide}
 use Rattle.reading.specs.Drafts.{Wants, nothing, resource, Draft}
 use Rattle.ids.specs.declared.Grid.{Grid}
 use Rattle.ids.specs.Position.{cellOf}

@@ -10,17 +10,17 @@ use lib.ListN.{length}
 use borrow.Author.Tests.{eqb-true, eqb-false, eq-eqb, ne-eqb, lt-ltb, le-ltb, ltb-true, lt-leb, le-leb}
 use Rattle.laws.specs.Small.{both}
 use Rattle.layout.specs.Target.{enum, kindOf, meshKind, isValue}
-use Rattle.layout.specs.Name.{Name, simple, one, two}
+use Rattle.layout.specs.Name.{Name, simple, one, two, long}
 use Rattle.layout.specs.Number.{between}
-use Rattle.layout.specs.Kind.{Entry, entry, alike, lookup, target, targets, reader, readers}
+use Rattle.layout.specs.Kind.{alike, lookup, target, targets, reader, readers, KindEntry, kindEntry}
 use Rattle.layout.specs.EnumList.{EnumEntry, EnumSize, sizeIn}
 use Rattle.layout.specs.Named.{unknown, known, fixedKind, meshed, plain, listedEnum, typeOf, sizeOrFour, enumOf}
+use Rattle.layout.specs.Complaint.{isKnown, valuable, fitting, unless, typeFaults, readerFaults}
 use Rattle.names.specs.Codes.{kind-is-small, codes-append}
-use Rattle.names.specs.Heading.{long, headings}
+use Rattle.names.specs.Heading.{headings}
 use Rattle.names.specs.Kind.{node, word, enumKind, kindIn, codes}
 use Rattle.targets.specs.Finite.{allBelow, below-is, agrees, agree}
 use Rattle.targets.specs.Judge.{listedKind, headOk, valueOk, badArguments, badEnum, badReader}
-use Rattle.targets.specs.Complaint.{isKnown, valuable, fitting, unless, typeFaults, readerFaults}
 use Rattle.targets.specs.Word.{word-node, word-place}
 use Rattle.targets.specs.Coded.{kind-taken}
 
@@ -35,7 +35,7 @@ value-tested : ℕ → Bool
 value-tested k = agrees (valuable (plain k)) (valueOk k)
 
 value-test : (k : ℕ) → k < 60 → valueOk k ≡ valuable (plain k)
-unfolding value-tested agrees allBelow valuable valueOk listedKind meshed plain fixedKind isValue kindOf meshKind
+unfolding value-tested agrees allBelow valueOk listedKind meshed plain fixedKind isValue kindOf meshKind
 value-test k h = agree (valuable (plain k)) (valueOk k) (below-is value-tested 60 k refl h)
 
 eqb-as : (a b c d : ℕ) (x : Bool) → (a ≡ b → c ≡ d) → (c ≡ d → a ≡ b) → eqb c d ≡ x → eqb a b ≡ x
@@ -110,18 +110,18 @@ no-and true = refl
 no-and false = refl
 
 -- no target name and no reader has a kind of 60 or more
-below-60 : List Entry → Bool
+below-60 : List KindEntry → Bool
 below-60 [] = true
-below-60 (entry h k ∷ es) = ltb k 60 && below-60 es
+below-60 (kindEntry h k ∷ es) = ltb k 60 && below-60 es
 
 found-below : (b : Bool) (k m : ℕ) → k < 60 → m < 60 → cond b k m < 60
 found-below true k m h g = h
 found-below false k m h g = g
 
-lookup-below : (h : List ℕ) (es : List Entry) → below-60 es ≡ true → lookup h es < 60
+lookup-below : (h : List ℕ) (es : List KindEntry) → below-60 es ≡ true → lookup h es < 60
 unfolding lookup below-60
 lookup-below h [] e = omega arith
-lookup-below h (entry n k ∷ es) e =
+lookup-below h (kindEntry n k ∷ es) e =
     let q = both (ltb k 60) (below-60 es) e in
     found-below (alike h n) k (lookup h es) (ltb-true k 60 (q .0)) (lookup-below h es (q .1))
 
@@ -136,7 +136,7 @@ reader-below h = lookup-below h readers refl
 -- a head that is no target name, with no argument: a listed enum type, or nothing known
 listed-judged : (after : Bool) (h : List ℕ) (z : ℕ) → (z ≡ 0) ⊎ EnumSize z
     → (cond after (valueOk (node (enumKind z) 0)) (headOk (node (enumKind z) 0)) ≡ fitting after (listedEnum h z)) × ((eqb (node (enumKind z) 0) 0 || listedKind (node (enumKind z) 0)) ≡ true)
-unfolding EnumSize listedEnum enumKind fitting isKnown valuable isValue kindOf meshed plain fixedKind headOk valueOk listedKind
+unfolding EnumSize listedEnum enumKind isKnown isValue kindOf meshed plain fixedKind headOk valueOk listedKind
 listed-judged true h z (inl w) = rw w (refl, refl)
 listed-judged false h z (inl w) = rw w (refl, refl)
 listed-judged true h z (inr (inl w)) = rw w (refl, refl)
@@ -150,7 +150,6 @@ listed-judged false h z (inr (inr (inr (inr w)))) = rw w (refl, refl)
 
 simple-judged : (after : Bool) (h : List ℕ) (k z : ℕ) → k < 60 → (z ≡ 0) ⊎ EnumSize z → (b : Bool)
     → cond after (valueOk (node (cond b (enumKind z) k) 0)) (headOk (node (cond b (enumKind z) k) 0)) ≡ fitting after (cond b (listedEnum h z) (plain k))
-unfolding fitting
 simple-judged after h k z s w true = listed-judged after h z w .0
 simple-judged after h k z s w false = rw (none-value k s, none-head k s)
 
@@ -175,7 +174,7 @@ module _ (es : List EnumEntry) (sized : (h : List ℕ) → (sizeIn es h ≡ 0 �
 
   -- the codes of an argument's heads are complained of where the heads are
   pub argument-judged : (n : Name) (p : ℕ) (after : Bool) (r : List ℕ) → badArguments after (codes es false (headings p n) ++ r) ≡ typeFaults es after p n ++ badArguments false r
-  unfolding badArguments headings codes typeOf typeFaults fitting kindIn
+  unfolding badArguments headings codes typeOf typeFaults kindIn
   argument-judged (simple h t) p after r =
       let k = kindIn es false h 0 in
       let s : k < 64 = kind-is-small es false h 0 in

@@ -8,6 +8,7 @@ use lib.Dec.{eqb}
 use lib.ListN.{length, take, drop, getD, set, length-drop, drop-of-length-le}
 use borrow.Author.Tests.{eq-eqb, ne-eqb, le-leb, lt-leb}
 use Rattle.layout.specs.Name.{headByte}
+use Rattle.layout.specs.Complaint.{unless}
 use Rattle.names.specs.Parse.{span}
 use Rattle.names.specs.Sound.{span-le}
 use Rattle.names.proofs.Laws.{cons-at, rest}
@@ -16,7 +17,6 @@ use Rattle.targets.specs.Place.{arity, extent, sameCode, agree}
 use Rattle.targets.specs.Judge.{listedKind, headOk, valueOk, badArguments, badEnum, badReader, complaint}
 use Rattle.targets.specs.declared.Judged.{Judged}
 use Rattle.targets.specs.declared.Judged.the-variants.{Fine, Wrong}
-use Rattle.targets.specs.Complaint.{unless}
 use Rattle.targets.specs.Contract.{enumWord}
 use Rattle.targets.specs.Settling.{isEnums, Settles}
 use Rattle.targets.specs.Extent.{no-extent, no-agree}

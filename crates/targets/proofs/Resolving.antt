@@ -12,6 +12,7 @@ use Rattle.laws.specs.Small.{differ, both}
 use Rattle.layout.specs.Name.{Name, simple, one, two, write}
 use Rattle.layout.specs.EnumList.{EnumEntry, EnumSize, sizeIn}
 use Rattle.layout.specs.Named.{Typed, unknown, known, readerOf}
+use Rattle.layout.specs.Complaint.{isKnown, readerFaults, leftmost}
 use Rattle.names.specs.declared.parse.Named.{Named}
 use Rattle.names.specs.declared.parse.Named.the-variants.{Codes, Broken as Named-broken, NoRoom as Named-no-room}
 use Rattle.names.specs.Parse.{Read, broken, name, nameOf}
@@ -26,7 +27,6 @@ use Rattle.targets.specs.Coded.{Ok, Leaves, reader-coded}
 use Rattle.targets.specs.Extent.{code-size}
 use Rattle.targets.specs.Judge.{badReader, complaint}
 use Rattle.targets.specs.declared.Judged.the-variants.{Fine, Wrong}
-use Rattle.targets.specs.Complaint.{isKnown, readerFaults, leftmost}
 use Rattle.targets.specs.Complaints.{fine, reader-fine}
 use Rattle.targets.specs.Contract.{judged, resolution, enumWord, settled, settledSize, left, content, Resolves}
 use Rattle.targets.specs.Settling.{isEnums, Settles}

@@ -15,13 +15,13 @@ use Rattle.laws.specs.Ok as law
 use Rattle.laws.specs.Ok.{ok-pick}
 use Rattle.layout.specs.Text.{ascii}
 use Rattle.layout.specs.Target.{Target, fixed, char, string, object, texture, texture2D, spriteFont, page, Mesh, indexBuffer, vertexDeclaration, vertexBuffer, model, mesh, meshKind, enum, nullable, array, list, dictionary, kindOf, isValue}
-use Rattle.layout.specs.Name.{Tail, Name, simple, one, two, headByte, Head, writeTail, write, Formed}
+use Rattle.layout.specs.Name.{Tail, Name, simple, one, two, headByte, writeTail, write, Formed, NameHead, long}
 use Rattle.layout.specs.Kind.{lookup, targets, readers}
 use Rattle.layout.specs.EnumList.{EnumEntry, EnumSize, sizeIn}
 use Rattle.layout.specs.Named.{Typed, unknown, known, fixedKind, meshed, plain, nullableOf, wrapped, paired, listedEnum, typeOf, sizeOrFour, enumOf, arrayOf, readerOf}
 use Rattle.names.specs.Parse.{span}
 use Rattle.names.specs.Complete.{bracket, span-all, tail-opens, further}
-use Rattle.names.specs.Heading.{long, headings}
+use Rattle.names.specs.Heading.{headings}
 use Rattle.names.specs.Codes.{codes-append, lookup-is-small}
 use Rattle.names.specs.Kind.{codes, listed, word, enumKind, kindIn}
 use Rattle.targets.specs.Code.{headAt, Alone, Before, Coded, Lawful}
@@ -85,7 +85,7 @@ ok-array {r = unknown} o f = none
 ok-array {r = known t} o f = some (f t (o .got refl))
 
 -- a head that what follows does not go on stands where it was written
-pub head-stands : (file : List ℕ) (place : ℕ) (h r : List ℕ) → Head h → span headByte r ≡ 0 → drop place file ≡ h ++ r → headAt file place ≡ h
+pub head-stands : (file : List ℕ) (place : ℕ) (h r : List ℕ) → NameHead h → span headByte r ≡ 0 → drop place file ≡ h ++ r → headAt file place ≡ h
 unfolding headAt
 head-stands file place h r w e q = rw (q, span-all headByte h r (w .bytes) e, take-append-seam h r)
 

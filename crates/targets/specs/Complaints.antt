@@ -8,12 +8,11 @@ use lib.Dec.{eqb}
 use lib.ListN.{length}
 use Rattle.laws.specs.Small.{differ}
 use Rattle.layout.specs.Target.{Target, nullable, list, dictionary, kindOf, isValue}
-use Rattle.layout.specs.Name.{Tail, Name, simple, one, two}
+use Rattle.layout.specs.Name.{Tail, Name, simple, one, two, long, longTail}
 use Rattle.layout.specs.Kind.{lookup, targets, readers}
 use Rattle.layout.specs.EnumList.{EnumEntry}
 use Rattle.layout.specs.Named.{Typed, unknown, known, plain, nullableOf, wrapped, paired, typeOf, enumOf, arrayOf, readerOf}
-use Rattle.names.specs.Heading.{long, longTail}
-use Rattle.targets.specs.Complaint.{isKnown, valuable, fitting, unless, typeFaults, readerFaults, leftmost}
+use Rattle.layout.specs.Complaint.{isKnown, valuable, fitting, unless, typeFaults, readerFaults, leftmost}
 
 -- nothing is complained of
 unfoldable pub fine : List ℕ → Bool
@@ -31,12 +30,12 @@ fine-unless true p = refl
 fine-unless false p = refl
 
 nullable-known : (v : Bool) (t : Target) → (isKnown (cond v (known (nullable t)) unknown) ≡ v) × (valuable (cond v (known (nullable t)) unknown) ≡ false)
-unfolding isKnown valuable isValue kindOf
+unfolding isKnown isValue kindOf
 nullable-known true t = (refl, refl)
 nullable-known false t = (refl, refl)
 
 one-known : (after p q : Bool) (t : Target) → (cond after false (cond p true q) && fitting p (known t)) ≡ fitting after (cond p (nullableOf t) (cond q (known (list t)) unknown))
-unfolding fitting nullableOf valuable isKnown isValue kindOf
+unfolding nullableOf isKnown isValue kindOf
 one-known true true q t = sym (nullable-known (isValue t && not (eqb (kindOf t) 16)) t .1)
 one-known true false true t = refl
 one-known true false false t = refl
@@ -50,7 +49,7 @@ and-false true = refl
 and-false false = refl
 
 no-type : (after : Bool) → fitting after unknown ≡ false
-unfolding fitting valuable isKnown
+unfolding isKnown
 no-type true = refl
 no-type false = refl
 
@@ -60,7 +59,7 @@ one-is after k unknown = rw (no-type (eqb k 16), no-type after) (and-false (cond
 one-is after k (known t) = one-known after (eqb k 16) (eqb k 18) t
 
 two-known : (after p : Bool) (t u : Target) → (cond after false p && (fitting false (known t) && fitting false (known u))) ≡ fitting after (cond p (known (dictionary t u)) unknown)
-unfolding fitting valuable isKnown isValue kindOf
+unfolding isKnown isValue kindOf
 two-known true true t u = refl
 two-known true false t u = refl
 two-known false true t u = refl

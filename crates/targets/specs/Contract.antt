@@ -8,6 +8,7 @@ use lib.ListN.{length}
 use lib.Seq.{sets}
 use Rattle.layout.specs.EnumList.{EnumEntry}
 use Rattle.layout.specs.Named.{Typed, unknown, known, readerOf}
+use Rattle.layout.specs.Complaint.{readerFaults, leftmost}
 use Rattle.names.specs.Parse.{Read, broken, name, nameOf}
 use Rattle.names.specs.Contract.{Answer, coded, refused, no-room, placed, ending}
 use Rattle.names.specs.Kind.{node, codes}
@@ -15,7 +16,6 @@ use Rattle.names.specs.Heading.{headings}
 use Rattle.targets.specs.declared.Resolved.{Resolved}
 use Rattle.targets.specs.declared.Resolved.the-variants.{Target as Resolved-target, Broken, Unknown, NoRoom}
 use Rattle.targets.specs.Code.{codeSize}
-use Rattle.targets.specs.Complaint.{readerFaults, leftmost}
 
 -- 01: "A head that is not listed, or a wrong argument count: 11"; 02: "10 becomes 33 to 38"
 abbrev pub told : Resolved → Answer

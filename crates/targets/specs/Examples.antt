@@ -5,14 +5,14 @@ use Prim.Native.Nat.{ℕ}
 use Prim.Native.String.{String}
 use Rattle.layout.specs.Text.{ascii}
 use Rattle.layout.specs.Target.{Target, fixed, char, string, object, texture, texture2D, spriteFont, page, enum, nullable, array, list, dictionary, kindOf, isValue}
-use Rattle.layout.specs.Name.{headByte, tailByte}
+use Rattle.layout.specs.Name.{headByte, tailByte, long, longTail}
 use Rattle.layout.specs.Kind.{lookup, alike, reader, readers, target as target-entry, targets}
 use Rattle.layout.specs.Named.{Typed, unknown, known, fixedKind, meshed, plain, nullableOf, wrapped, paired, listedEnum, typeOf, sizeOrFour, enumOf, arrayOf, readerOf}
 use Rattle.layout.specs.EnumList.{sizeIn}
+use Rattle.layout.specs.Complaint.{isKnown, unless, typeFaults, readerFaults, leftmost}
 use Rattle.names.specs.Parse.{Read, broken, name, span, starts, common, tailSize, tailOf, wrongBy, wrong, behind, closed, opening, unopenedNumber, unopenedAt, onOnly, onSecond, onFirst, afterHead, headed, nameIn, whole, nameOf}
-use Rattle.names.specs.Heading.{headings, long, longTail}
+use Rattle.names.specs.Heading.{headings}
 use Rattle.names.specs.Kind.{listed}
-use Rattle.targets.specs.Complaint.{isKnown, unless, typeFaults, readerFaults, leftmost}
 
 -- refused with a number and a place, or the reader's target
 pub data Outcome : Type 0 where

@@ -5,10 +5,10 @@ use Prim.Native.Nat.{ℕ, _/_, _%_}
 use lib.Dec.{eqb, ltb}
 use Rattle.layout.specs.Number.{between}
 use Rattle.layout.specs.Named.{fixedKind, plain}
+use Rattle.layout.specs.Complaint.{isKnown, unless}
 use Rattle.names.specs.Kind.{node}
 use Rattle.targets.specs.declared.Judged.{Judged}
 use Rattle.targets.specs.declared.Judged.the-variants.{Fine, Wrong}
-use Rattle.targets.specs.Complaint.{isKnown, unless}
 
 -- a listed enum type's kind, with no argument
 unfoldable pub listedKind : ℕ → Bool

@@ -1,7 +1,6 @@
 -- Types as places in an array of codes. The modules stand in the order in which a reader meets the rules.
 pub mod Code
 pub mod Place
-pub mod Complaint
 pub mod Complaints
 pub mod Judge
 pub mod Finite

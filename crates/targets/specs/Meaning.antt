@@ -11,23 +11,23 @@ use lib.Seq.{sets}
 use borrow.Author.Tests.{leb-true, leb-false, le-leb}
 use Rattle.laws.specs.Small.{differ}
 use Rattle.layout.specs.Target.{Target}
-use Rattle.layout.specs.Name.{Name, text, Formed}
+use Rattle.layout.specs.Name.{Name, text, Formed, long}
 use Rattle.layout.specs.EnumList.{EnumEntry, EnumSize, sizeIn}
 use Rattle.layout.specs.Named.{Typed, unknown, known, readerOf}
+use Rattle.layout.specs.Fault.{Fault}
+use Rattle.layout.specs.Complaint.{readerFaults, leftmost}
 use Rattle.names.specs.Parse.{Read, broken, name, nameOf}
 use Rattle.names.specs.Complete.{write-append, length-write}
 use Rattle.names.specs.Laws.{read-is-text, broken-is-no-text}
-use Rattle.names.specs.Fault.{Fault}
 use Rattle.names.specs.Faults.{faults, fault-number}
 use Rattle.names.specs.Codes.{read-is-few, codes-length}
 use Rattle.names.specs.Contract.{coded, refused, no-room, placed, ending}
-use Rattle.names.specs.Heading.{headings, long}
+use Rattle.names.specs.Heading.{headings}
 use Rattle.names.specs.Kind.{codes}
 use Rattle.targets.specs.declared.Resolved.{Resolved}
 use Rattle.targets.specs.Code.{codeSize, Stands}
 use Rattle.targets.specs.Coded.{reader-coded}
 use Rattle.targets.specs.Laws.{written-stands}
-use Rattle.targets.specs.Complaint.{readerFaults, leftmost}
 use Rattle.targets.specs.Complaints.{leftmost-within}
 use Rattle.targets.specs.Contract.{told, judged, resolution, enumWord, settled, left, content, Resolves}
 

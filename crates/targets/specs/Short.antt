@@ -11,30 +11,29 @@ use Rattle.laws.specs.Small.{differ, both}
 use Rattle.laws.specs.Ok.{ok-pick}
 use Rattle.layout.specs.Text.{ascii}
 use Rattle.layout.specs.Target.{Target, Mesh, indexBuffer, vertexDeclaration, vertexBuffer, model, meshKind}
-use Rattle.layout.specs.Name.{Name, simple, one, two, text, Formed}
-use Rattle.layout.specs.Kind.{Entry, entry, alike, lookup, reader, readers, target, targets}
+use Rattle.layout.specs.Name.{Name, simple, one, two, text, Formed, long, longTail}
+use Rattle.layout.specs.Kind.{alike, lookup, reader, readers, target, targets, KindEntry, kindEntry}
 use Rattle.layout.specs.EnumList.{EnumEntry, sizeIn}
 use Rattle.layout.specs.Named.{Typed, known, fixedKind, plain, wrapped, paired, listedEnum, typeOf, enumOf, arrayOf, readerOf}
 use Rattle.names.specs.Complete.{length-write}
 use Rattle.names.specs.Codes.{alike-then, some-head}
-use Rattle.names.specs.Heading.{long, longTail}
 use Rattle.targets.specs.Code.{codeSize}
 use Rattle.targets.specs.Coded.{Ok, none, some, ok-either, ok-plain, ok-wrapped, ok-paired, ok-array}
 
 -- every head of a table has as many bytes as its kind asks for
-longs : (ℕ → ℕ) → List Entry → Bool
+longs : (ℕ → ℕ) → List KindEntry → Bool
 longs need [] = true
-longs need (entry h k ∷ es) = leb (need k) (length h) && longs need es
+longs need (kindEntry h k ∷ es) = leb (need k) (length h) && longs need es
 
 found-long : (need : ℕ → ℕ) (h n : List ℕ) (k other : ℕ) (x : Bool) → alike h n ≡ x → need k ≤ length n → ((other ≡ 0 → ⊥) → need other ≤ length h) → (cond x k other ≡ 0 → ⊥) → need (cond x k other) ≤ length h
 found-long need h n k other true e l f z = omega (arith, ap length (alike-then h n e))
 found-long need h n k other false e l f z = f z
 
 -- a head that is listed is as long
-lookup-long : (need : ℕ → ℕ) (h : List ℕ) (es : List Entry) → longs need es ≡ true → (lookup h es ≡ 0 → ⊥) → need (lookup h es) ≤ length h
+lookup-long : (need : ℕ → ℕ) (h : List ℕ) (es : List KindEntry) → longs need es ≡ true → (lookup h es ≡ 0 → ⊥) → need (lookup h es) ≤ length h
 unfolding lookup longs
 lookup-long need h [] e z = absurd (z refl)
-lookup-long need h (entry n k ∷ es) e z =
+lookup-long need h (kindEntry n k ∷ es) e z =
     let q = both (leb (need k) (length n)) (longs need es) e in
     found-long need h n k (lookup h es) (alike h n) refl (leb-true (need k) (length n) (q .0)) (lookup-long need h es (q .1)) z
 

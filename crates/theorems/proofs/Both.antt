@@ -6,18 +6,16 @@ use Prim.Native.Nat.{ℕ, _+_, _*_, _-_, _<_}
 use native.Mathlib.Omega.{arith}
 use lib.ListN.{length, getD, replicate}
 use Rattle.layout.specs.Rows.{width}
+use Rattle.layout.specs.Table.{roomOf, cell, table, byColumns, byRows}
 use Rattle.load.specs.Under.{fileUnder, loadUnder}
 use Rattle.enums.specs.Lists.{Bytes}
 use Rattle.reading.specs.Reads.{Small}
-use Rattle.reading.specs.File.{roomOf, refusal, tableOf, toLoad}
-use Rattle.reading.specs.Grid.{cell}
+use Rattle.reading.specs.File.{refusal, tableOf, toLoad, tableIn}
 use Rattle.ids.specs.Position.{cellOf}
 use Rattle.theorems.specs.Fits.{Fitting, rowsIn}
-use Rattle.columns.specs.Columns.{columnsTableOf}
 use Rattle.columns.specs.Words.{row-word, column-word}
 use Rattle.words.specs.Grids.{rowsGrid, columnsGrid}
 use Rattle.words.specs.Same.{SameRows}
-use Rattle.theorems.specs.Exact.{table}
 use Rattle.theorems.specs.Standing.{zero-words}
 use Rattle.theorems.specs.Fitted.{rows-room}
 use Rattle.theorems.specs.Laws.{Ends, fits, refuses, bad-list, ends, table-in, cleared-in}
@@ -28,7 +26,7 @@ unfolding loadUnder
 same-load enums file n m e = ap (λ (room : ℕ). toLoad (fileUnder enums file room)) e
 
 module _ (enums file : List ℕ) (n m : ℕ) (bytes : Bytes enums) (small : Small file) (room : roomOf n ≡ roomOf m) {v w : List ℕ}
-    (by-rows : v ≡ tableOf (loadUnder enums file n) n) (by-columns : w ≡ columnsTableOf (loadUnder enums file m) m) where
+    (by-rows : v ≡ tableOf (loadUnder enums file n) n) (by-columns : w ≡ tableIn byColumns (loadUnder enums file m) m) where
   -- a file tree that fits either fits the other
   abbrev moved : Fitting enums file n → Fitting enums file m
   moved f = record { es = f .es; lawful = f .lawful; listed = f .listed; tree = f .tree; lays = f .lays; room = omega (arith, f .room, room) }
@@ -43,8 +41,8 @@ module _ (enums file : List ℕ) (n m : ℕ) (bytes : Bytes enums) (small : Smal
   unfolding cell
   same-word (fits f) i j h k =
       let rows = rowsIn f in
-      let a : v ≡ table false rows n = by-rows ∙ table-in f false in
-      let b : w ≡ table true rows m = by-columns ∙ table-in (moved f) true in
+      let a : v ≡ table byRows rows n = by-rows ∙ table-in f false in
+      let b : w ≡ table byColumns rows m = by-columns ∙ table-in (moved f) true in
       ap (λ (l : List ℕ). getD l (width * i + j) 0) a ∙ row-word rows (n - width * length rows) i j k
       ∙ sym (ap (λ (l : List ℕ). getD l (cellOf (columnsGrid m) i j) 0) b ∙ column-word (roomOf m) rows (rows-room (moved f)) (replicate (m - width * roomOf m) 0) i j (omega arith) k)
   same-word (refuses es l b p q e i₀) i j h k = no-word p q e i j

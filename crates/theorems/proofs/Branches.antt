@@ -1,23 +1,22 @@
 -- A file that is loaded, and a row that is skipped with all below it. Assumes nothing.
 use mathlib.Core.Path.{_≡_, _∙_}
-use mathlib.Core.Bool.{false, true}
+use mathlib.Core.Bool.{true}
 use mathlib.Core.List.{List}
 use Prim.Native.Nat.{ℕ, _+_, _<_, _≤_}
 use native.Mathlib.Omega.{arith}
 use lib.Dec.{ltb, leb}
 use lib.ListN.{length, getD}
 use borrow.Author.Tests.{lt-ltb, le-leb}
-use Rattle.reading.specs.File.{roomOf}
-use Rattle.reading.specs.Grid.{byRows, cell}
+use Rattle.layout.specs.Table.{roomOf, byRows, cell}
 use Rattle.branches.specs.Rule.{branch-ends}
 use Rattle.branches.specs.Next.{branchIn, nextOf, rowsNext}
 use Rattle.load.specs.declared.Loading.{Loading}
 use Rattle.load.specs.declared.Loading.the-variants.{Loaded}
 use Rattle.theorems.specs.Fits.{rowsIn}
-use Rattle.theorems.specs.Exact.{Exact}
+use Rattle.theorems.specs.Loading.{Loads}
 use Rattle.theorems.specs.Fitted.{rows-room}
 
-module _ {enums file : List ℕ} {words : ℕ} {left : List ℕ} {l : Loading} (x : Exact false enums file words left l) {used readers shared padding : ℕ} (e : l ≡ Loaded used readers shared padding) where
+module _ {enums file : List ℕ} {words : ℕ} {left : List ℕ} {l : Loading} (x : Loads byRows enums file words left l) {used readers shared padding : ℕ} (e : l ≡ Loaded used readers shared padding) where
   used-room : used ≤ roomOf words
   used-room =
       let f = x .accepts .0 (rw e tt) in

@@ -11,14 +11,13 @@ use Rattle.reading.specs.File as reading
 use Rattle.load.specs.Under.{loadUnder}
 use Rattle.enums.specs.Lists.{Bytes}
 use Rattle.load.specs.Loads as load
-use Rattle.pack_layout.specs.Pack.{Stored, Each}
-use Rattle.pack_layout.specs.Table.{flat, wholes, entries}
+use Rattle.pack_layout.specs.Pack.{Stored, Each, markOf}
+use Rattle.pack_layout.specs.Table.{flat, wholes, entries, Fitting}
+use Rattle.pack_layout.specs.Lookup.{lowered, missing, content}
 use Rattle.pack_reading.specs.Pack.{tableFor}
 use Rattle.pack_reading.specs.Theorems as T
-use Rattle.pack_reading.specs.Theorems.{Fitting}
 use Rattle.pack_reading.specs.Lookup as lookup
-use Rattle.pack_reading.specs.Lookup.{lowered, missing, content, wanted, Found, absent, found, findIn, findOf, absent-exactly, first-exactly, looks-up}
-use Rattle.pack_records.specs.Records.{markOf}
+use Rattle.pack_reading.specs.Lookup.{wanted, Found, absent, found, findIn, findOf, absent-exactly, first-exactly, looks-up}
 use Rattle.pack_lookup.specs.declared.Found as code
 use Rattle.pack_lookup.specs.declared.Found.the-variants.{Absent}
 use Rattle.pack_lookup.specs.Lookup.{foundAs, data-inside}

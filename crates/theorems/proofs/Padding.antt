@@ -11,26 +11,26 @@ use borrow.Author.Tests.{leb-true, leb-false}
 use Rattle.laws.specs.Small.{differ}
 use Rattle.layout.specs.Tree.{count}
 use Rattle.layout.specs.File.{sharedOf}
+use Rattle.layout.specs.Shortest.{shortFile}
 use Rattle.reading.specs.Reads.{Small}
 use Rattle.reading.specs.File.{refusal}
 use Rattle.enums.specs.Lists.{Bytes}
 use Rattle.load.specs.Under.{loadUnder}
 use Rattle.rewrite.specs.Whole.{rewriteUnder}
-use Rattle.shortest.specs.File.{shortFile}
 use Rattle.load.specs.declared.Loading.{Loading}
 use Rattle.load.specs.declared.Loading.the-variants.{Refused, Loaded}
 use Rattle.load.specs.Loads.{answerOf}
 use Rattle.rewrite.specs.Contract as contract
 use Rattle.rewrite.specs.declared.Rewriting.{Rewriting}
 use Rattle.rewrite.specs.declared.Rewriting.the-variants as rewriting
-use Rattle.theorems.specs.Rewriting as R
+use Rattle.theorems.specs.Rewriting.{Rewrites}
 use Rattle.theorems.specs.Padding.{Shortest}
 use Rattle.theorems.specs.Fitted.{least, same-tree}
 use Rattle.theorems.specs.Fits.{Fitting, rowsIn}
 use Rattle.theorems.specs.Laws.{Ends, fits, refuses, bad-list, ends, loads, handed-on}
 
 module _ (enums file : List ℕ) (words : ℕ) (bytes : Bytes enums) (small : Small file) {left out end : List ℕ} {l : Loading} {r : Rewriting}
-    (answers : l ≡ answerOf file (loadUnder enums file words)) (x : R.Exact enums file words left out end r)
+    (answers : l ≡ answerOf file (loadUnder enums file words)) (x : Rewrites enums file words left out end r)
     (rewrites : r ≡ contract.answerOf (rewriteUnder enums file words (length out))) where
   -- the file was loaded: a file tree fits, and the padding is what its shortest bytes save
   record Told (padding : ℕ) : Type 0 where

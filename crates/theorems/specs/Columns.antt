@@ -1,28 +1,27 @@
 -- Req 08 of the code: what is demanded of a table in columns beside one by rows. Each record is the contract of a function that calls the code. Assumes nothing.
 use mathlib.Core.Path.{_≡_}
-use mathlib.Core.Bool.{true, false}
 use mathlib.Core.List.{List}
 use Prim.Native.Nat.{ℕ}
 use lib.ListN.{length}
+use Rattle.layout.specs.Table.{roomOf, byRows, byColumns}
 use Rattle.ids.specs.declared.Grid.{Grid}
 use Rattle.lookups.specs.Parts.{partOf}
 use Rattle.lookups.specs.Texts.{textOf}
 use Rattle.lookups.specs.Signs.{signedOf}
 use Rattle.lookups.specs.Times.{timeOf}
 use Rattle.branches.specs.Next.{nextOf}
-use Rattle.reading.specs.File.{roomOf}
 use Rattle.words.specs.Grids.{rowsGrid, columnsGrid}
 use Rattle.words.specs.Same.{SameRows}
-use Rattle.theorems.specs.Exact.{Exact}
-use Rattle.theorems.specs.declared.columned.Loads.{Loads}
+use Rattle.theorems.specs.Loading.{Loads}
+use Rattle.theorems.specs.declared.columned.LoadedBoth.{LoadedBoth}
 use Rattle.theorems.specs.declared.columned.Lookups.{Lookups}
 use Rattle.theorems.specs.declared.columned.Looked.{Looked}
 
 -- For a file that is loaded by rows and in columns: the lent list of enum types, the file, the numbers of words lent, the words as they are left, and the answers.
-pub record Both (enums file : List ℕ) (words columns : ℕ) (left in-columns : List ℕ) (r : Loads) : Type 0 where
+pub record LoadsBoth (enums file : List ℕ) (words columns : ℕ) (left in-columns : List ℕ) (r : LoadedBoth) : Type 0 where
   -- each answer and each table is what is demanded of a load
-  pub by-rows : Exact false enums file words left (r .rows)
-  pub by-columns : Exact true enums file columns in-columns (r .columns)
+  pub by-rows : Loads byRows enums file words left (r .rows)
+  pub by-columns : Loads byColumns enums file columns in-columns (r .columns)
   -- "Prove that, lent the same room, it gives the same answer and holds the same row at each number as 01's table for every file"
   pub same : roomOf words ≡ roomOf columns → (r .rows ≡ r .columns) × SameRows (rowsGrid words) (columnsGrid columns) left in-columns
 

@@ -7,7 +7,7 @@ use Rattle.layout.specs.Tree.{size}
 use Rattle.layout.specs.Rows.{Row}
 use Rattle.layout.specs.File.{FileTree, FileLays, fileRows}
 use Rattle.layout.specs.Named.{named}
-use Rattle.reading.specs.File.{roomOf}
+use Rattle.layout.specs.Table.{roomOf}
 
 -- 02: "demand 3 is stated for each lent list that 32 doesn't refuse; under a refused one no file is accepted": the lent bytes are those of a lawful list, and
 -- under it "some file tree, as 01 has it, may have it as its bytes and the table has room for a row for each value in that tree"

@@ -9,13 +9,13 @@ use Rattle.layout.specs.Tree.{count}
 use Rattle.layout.specs.Rows.{flat, width}
 use Rattle.layout.specs.File.{FileTree, sharedOf, FileLays}
 use Rattle.layout.specs.Named.{named}
+use Rattle.layout.specs.Table.{roomOf}
+use Rattle.layout.specs.Shortest.{Shortens, shortFile}
 use Rattle.places.specs.Padding.{filePadding}
 use Rattle.reading.specs.Reads.{Small}
-use Rattle.reading.specs.File.{Load, refusal, accepted, roomOf, loadOf, tableOf}
+use Rattle.reading.specs.File.{Load, refusal, accepted, loadOf, tableOf, tableIn}
 use Rattle.reading.specs.Theorems as T
 use Rattle.reading.specs.Output.{fitted}
-use Rattle.numbers.specs.Shortest.{Shortens}
-use Rattle.shortest.specs.File.{shortFile}
 use Rattle.shortest.specs.Theorems as S
 use Rattle.readers.specs.Judged.{judgedName, judges}
 use Rattle.enums.specs.Judge.{lawful, enumsAt}
@@ -73,7 +73,7 @@ pub same-tree : {enums file : List ℕ} {words : ℕ} (f g : Fitting enums file 
 same-tree {enums} {file} f g = one-tree file (f .es) (g .es) (f .tree) (g .tree) (same-list f g) (f .lays) (g .lays)
 
 no-rows : (words number place : ℕ) → length (tableOf (refusal number place) words) ≡ words
-unfolding tableOf
+unfolding tableIn
 no-rows words number place = length-replicate words 0
 
 -- as many words are left as were lent

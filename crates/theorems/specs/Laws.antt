@@ -13,29 +13,28 @@ use Rattle.laws.specs.Small.{differ}
 use Rattle.layout.specs.Tree.{count}
 use Rattle.layout.specs.Rows.{width}
 use Rattle.layout.specs.File.{sharedOf}
-use Rattle.layout.specs.EnumList.{EnumEntry, writeEnums, Enums}
+use Rattle.layout.specs.EnumList.{EnumEntry, writeEnums, Enums, FirstBad, Unlawful}
 use Rattle.layout.specs.Named.{named}
-use Rattle.enums.specs.First.{FirstBad}
+use Rattle.layout.specs.Refusals.{LoadNumber}
+use Rattle.layout.specs.Table.{roomOf, byRows, byColumns, shapeOf, table}
+use Rattle.layout.specs.Branches.{TableSkips, TableRoots}
+use Rattle.layout.specs.Shortest.{shortFile}
 use Rattle.enums.specs.Judge.{Judgement, enumsAt}
 use Rattle.enums.specs.Judge.{refused as list-refused, lawful as list-lawful}
-use Rattle.enums.specs.Lists.{Unlawful, Bytes, Says, judged-list, enums-sound}
+use Rattle.enums.specs.Lists.{Bytes, Says, judged-list, enums-sound}
 use Rattle.load.specs.Under.{fileUnder, loadUnder, load-lawful, load-refused-list}
 use Rattle.rewrite.specs.Whole.{rewriteUnder}
 use Rattle.places.specs.Padding.{filePadding}
-use Rattle.reading.specs.Numbers.{LoadNumber}
 use Rattle.reading.specs.Answer.{Answer, refused, read}
 use Rattle.reading.specs.Reads.{Small}
 use Rattle.reading.specs.File as reading
-use Rattle.reading.specs.File.{Load, refusal, accepted, toLoad, roomOf, loadOf, tableOf}
-use Rattle.reading.specs.Grid.{byRows, byColumns, shapeOf}
-use Rattle.columns.specs.Columns.{columnsTableOf, tableIn}
-use Rattle.branches.specs.Table.{TableSkips, TableRoots, Stand, rows-stand, file-skips, file-roots}
+use Rattle.reading.specs.File.{Load, refusal, accepted, toLoad, loadOf, tableOf, tableIn}
+use Rattle.branches.specs.Table.{Stand, rows-stand, file-skips, file-roots}
 use Rattle.theorems.specs.Standing.{columns-stand}
 use Rattle.theorems.specs.Fits.{Fitting, rowsIn}
 use Rattle.theorems.specs.Fitted.{rows-are, table-is, rows-room, rewrite-is, least, again, stays, padding-is, table-length}
 use Rattle.reading.specs.Refusals.{refusal-number, refusal-place}
 use Rattle.reading.specs.Theorems as T
-use Rattle.shortest.specs.File.{shortFile}
 use Rattle.reading.specs.Output as output
 use Rattle.reading.specs.Output.{fitted, outputOf}
 use Rattle.shortest.specs.Rewrite.{byLoad, wordsOf}
@@ -45,8 +44,8 @@ use Rattle.load.specs.Loads.{answerOf}
 use Rattle.rewrite.specs.declared.Rewriting.{Rewriting}
 use Rattle.rewrite.specs.declared.Rewriting.the-variants as rewriting
 use Rattle.rewrite.specs.Contract as contract
-use Rattle.theorems.specs.Exact.{Accepted, table, Exact}
-use Rattle.theorems.specs.Rewriting as R
+use Rattle.theorems.specs.Loading.{IsLoaded, Loads}
+use Rattle.theorems.specs.Rewriting.{Written, Rewrites, LoadsAgain, RewritesTwice}
 use Rattle.readers.specs.Judged.{judgedName, judges, within-name}
 
 -- the range of a refusal under a lawful list
@@ -55,7 +54,7 @@ Placed file number place = LoadNumber number × (place ≤ length file)
 
 -- how a load ends: with 32 for the list, with one refusal, placed in the file, or with a file tree that fits
 pub data Ends (enums file : List ℕ) (words : ℕ) : Type 0 where
-  bad-list : (place : ℕ) → FirstBad enums 32 place → Unlawful enums → loadUnder enums file words ≡ refusal 32 place → Ends enums file words
+  bad-list : (place : ℕ) → FirstBad enums place → Unlawful enums → loadUnder enums file words ≡ refusal 32 place → Ends enums file words
   refuses : (es : List EnumEntry) → Enums es → enums ≡ writeEnums es → (number place : ℕ) → loadUnder enums file words ≡ refusal number place → Placed file number place → Ends enums file words
   fits : Fitting enums file words → Ends enums file words
 
@@ -78,32 +77,32 @@ pub ends : (enums file : List ℕ) (words : ℕ) → Bytes enums → Small file 
 ends enums file words bytes small = go (enumsAt enums) refl (enums-sound enums bytes) where
   go : (j : Judgement) → enumsAt enums ≡ j → Says enums j → Ends enums file words
   go (list-refused n i) e w =
-      let z : n ≡ 32 = w .number-is in
-      bad-list i (rw z at w) (λ es l b. let q = judged-list enums es l b in differ cc) (rw z at (load-refused-list enums file words e))
+      let z : n ≡ 32 = w .0 in
+      bad-list i (w .1) (λ es l b. let q = judged-list enums es l b in differ cc) (rw z at (load-refused-list enums file words e))
   go (list-lawful es) e w = ends-under enums file words small es (w .0) (w .1)
 
 -- what a load leaves, where a file tree fits and where it refuses, in either shape
-pub table-in : {enums file : List ℕ} {words : ℕ} (f : Fitting enums file words) (columns : Bool) → tableIn columns (loadUnder enums file words) words ≡ table columns (rowsIn f) words
-unfolding columnsTableOf
+pub table-in : {enums file : List ℕ} {words : ℕ} (f : Fitting enums file words) (columns : Bool) → tableIn (shapeOf columns) (loadUnder enums file words) words ≡ table (shapeOf columns) (rowsIn f) words
+unfolding tableIn
 table-in f false = table-is f
 table-in f true = rw (rows-are f)
 
-pub cleared-in : (enums file : List ℕ) (words m q : ℕ) → loadUnder enums file words ≡ refusal m q → (columns : Bool) → tableIn columns (loadUnder enums file words) words ≡ replicate words 0
-unfolding tableOf columnsTableOf
+pub cleared-in : (enums file : List ℕ) (words m q : ℕ) → loadUnder enums file words ≡ refusal m q → (columns : Bool) → tableIn (shapeOf columns) (loadUnder enums file words) words ≡ replicate words 0
+unfolding tableIn
 cleared-in enums file words m q e false = rw e
 cleared-in enums file words m q e true = rw e
 
 -- the rows of a file tree that fits stand in its table
-table-stands : {enums file : List ℕ} {words : ℕ} (f : Fitting enums file words) (columns : Bool) {left : List ℕ} → left ≡ table columns (rowsIn f) words → Stand (shapeOf columns) (roomOf words) left (rowsIn f)
+table-stands : {enums file : List ℕ} {words : ℕ} (f : Fitting enums file words) (columns : Bool) {left : List ℕ} → left ≡ table (shapeOf columns) (rowsIn f) words → Stand (shapeOf columns) (roomOf words) left (rowsIn f)
 table-stands {words = words} f false e = rw e (rows-stand (roomOf words) (rowsIn f) (replicate (words - width * length (rowsIn f)) 0))
 table-stands {words = words} f true e = rw e (columns-stand (roomOf words) (rowsIn f) (rows-room f) (replicate (words - width * roomOf words) 0))
 
 -- so the rule of the seventh word holds of it, and its objects' rows follow each other
-table-skips : {enums file : List ℕ} {words : ℕ} (f : Fitting enums file words) (columns : Bool) {left : List ℕ} → left ≡ table columns (rowsIn f) words
+table-skips : {enums file : List ℕ} {words : ℕ} (f : Fitting enums file words) (columns : Bool) {left : List ℕ} → left ≡ table (shapeOf columns) (rowsIn f) words
     → TableSkips (shapeOf columns) (roomOf words) left (length (rowsIn f))
 table-skips {enums} {file} {words} f columns {left} e = file-skips (named (f .es)) (shapeOf columns) (roomOf words) (f .tree) file (f .lays) left (table-stands f columns e)
 
-table-roots : {enums file : List ℕ} {words : ℕ} (f : Fitting enums file words) (columns : Bool) {left : List ℕ} → left ≡ table columns (rowsIn f) words
+table-roots : {enums file : List ℕ} {words : ℕ} (f : Fitting enums file words) (columns : Bool) {left : List ℕ} → left ≡ table (shapeOf columns) (rowsIn f) words
     → TableRoots (shapeOf columns) (roomOf words) left (length (rowsIn f)) (suc (count (sharedOf (f .tree .objects))))
 table-roots {enums} {file} {words} f columns {left} e = file-roots (named (f .es)) (shapeOf columns) (roomOf words) (f .tree) file (f .lays) left (table-stands f columns e)
 
@@ -118,16 +117,16 @@ loads {enums} {file} {words} f =
 
 module _ (enums file : List ℕ) (words : ℕ) (columns : Bool) {left : List ℕ} {r : Loading} (bytes : Bytes enums) (small : Small file)
     (answers : r ≡ answerOf file (loadUnder enums file words))
-    (leaves : left ≡ tableIn columns (loadUnder enums file words) words) where
+    (leaves : left ≡ tableIn (shapeOf columns) (loadUnder enums file words) words) where
   loaded : (f : Fitting enums file words)
-      → (r ≡ Loaded (length (rowsIn f)) (length (f .tree .names)) (count (sharedOf (f .tree .objects))) (length file - length (shortFile (f .tree)))) × (left ≡ table columns (rowsIn f) words)
+      → (r ≡ Loaded (length (rowsIn f)) (length (f .tree .names)) (count (sharedOf (f .tree .objects))) (length file - length (shortFile (f .tree)))) × (left ≡ table (shapeOf columns) (rowsIn f) words)
   loaded f =
       (answers ∙ loads f, leaves ∙ table-in f columns)
 
   refused-is : {m q : ℕ} → loadUnder enums file words ≡ refusal m q → r ≡ Refused m q
   refused-is e = answers ∙ ap (answerOf file) e
 
-  only : Ends enums file words → Accepted r → Fitting enums file words
+  only : Ends enums file words → IsLoaded r → Fitting enums file words
   only (fits f) a = f
   only (refuses es l b m q e i) a = absurd (rw (refused-is e) at a)
   only (bad-list i b n e) a = absurd (rw (refused-is e) at a)
@@ -138,7 +137,7 @@ module _ (enums file : List ℕ) (words : ℕ) (columns : Bool) {left : List ℕ
   refused-as (refuses es l b m q e i) none = (m, q, refused-is e, leaves ∙ cleared-in enums file words m q e columns)
   refused-as (bad-list i b n e) none = (32, i, refused-is e, leaves ∙ cleared-in enums file words 32 i e columns)
 
-  list-first : Ends enums file words → Unlawful enums → (place : ℕ) × (r ≡ Refused 32 place) × FirstBad enums 32 place
+  list-first : Ends enums file words → Unlawful enums → (place : ℕ) × (r ≡ Refused 32 place) × FirstBad enums place
   list-first (fits f) none = absurd (none (f .es) (f .lawful) (f .listed))
   list-first (refuses es l b m q e i) none = absurd (none es l b)
   list-first (bad-list i b n e) none = (i, refused-is e, b)
@@ -179,7 +178,7 @@ module _ (enums file : List ℕ) (words : ℕ) (columns : Bool) {left : List ℕ
       let m : count (sharedOf (f .tree .objects)) ≡ shared = cc in
       rw (k, m) at (table-roots f columns (l .1))
 
-  pub load-exact : Exact columns enums file words left r
+  pub load-exact : Loads (shapeOf columns) enums file words left r
   load-exact =
       let e = ends enums file words bytes small in
       record { accepts = (only e, λ f. rw (loaded f .0) tt); rows = loaded; refuses = refused-as e; list = list-first e; skips = skipped e; roots = rooted e; inside = placed e }
@@ -198,15 +197,15 @@ handed-on enums file words out n p e = go (fileUnder enums file (roomOf words)) 
   go (read a next) e = differ cc
 
 -- the shortest bytes of the tree that fits
-new-file : {enums file : List ℕ} {words : ℕ} (f : Fitting enums file words) → R.Written f (shortFile (f .tree))
-new-file f = record { shortest = least f; again = (again f, refl); stays = stays f; padding-is = padding-is f }
+new-file : {enums file : List ℕ} {words : ℕ} (f : Fitting enums file words) → Written f (shortFile (f .tree))
+new-file f = record { shortest = least f; again = (again f, refl); stays = stays f }
 
 module _ (enums file : List ℕ) (words : ℕ) (out : List ℕ) {left end : List ℕ} {r : Rewriting} (bytes : Bytes enums) (small : Small file)
     (answers : r ≡ contract.answerOf (rewriteUnder enums file words (length out)))
     (writes : end ≡ outputOf (rewriteUnder enums file words (length out)) out)
     (leaves : left ≡ wordsOf (rewriteUnder enums file words (length out)) (tableOf (loadUnder enums file words) words)) where
   rewritten : (f : Fitting enums file words) → length (shortFile (f .tree)) ≤ length out
-      → (r ≡ rewriting.Rewritten (length (shortFile (f .tree)))) × (end ≡ shortFile (f .tree) ++ drop (length (shortFile (f .tree))) out) × (left ≡ table false (rowsIn f) words)
+      → (r ≡ rewriting.Rewritten (length (shortFile (f .tree)))) × (end ≡ shortFile (f .tree) ++ drop (length (shortFile (f .tree))) out) × (left ≡ table byRows (rowsIn f) words)
   unfolding fitted outputOf wordsOf
   rewritten f h =
       let is = rewrite-is f (length out) in
@@ -239,7 +238,7 @@ module _ (enums file : List ℕ) (words : ℕ) (out : List ℕ) {left end : List
       let h = handed 32 i e in
       (32, i, h .0, h .1, h .2)
 
-  rewrite-list : Ends enums file words → Unlawful enums → (place : ℕ) × (r ≡ rewriting.Refused 32 place) × FirstBad enums 32 place
+  rewrite-list : Ends enums file words → Unlawful enums → (place : ℕ) × (r ≡ rewriting.Refused 32 place) × FirstBad enums place
   rewrite-list (fits f) none = absurd (none (f .es) (f .lawful) (f .listed))
   rewrite-list (refuses es l b m q e i) none = absurd (none es l b)
   rewrite-list (bad-list i b n e) none = (i, handed 32 i e .0, b)
@@ -263,7 +262,7 @@ module _ (enums file : List ℕ) (words : ℕ) (out : List ℕ) {left end : List
         differ cc
     go false t = same-refusal (too-long f (leb-false _ _ t) .0) e (inr refl, least f file (f .lays) .no-longer)
 
-  begins : Ends enums file words → (n : ℕ) → r ≡ rewriting.Rewritten n → (f : Fitting enums file words) × (n ≤ length end) × R.Written f (take n end)
+  begins : Ends enums file words → (n : ℕ) → r ≡ rewriting.Rewritten n → (f : Fitting enums file words) × (n ≤ length end) × Written f (take n end)
   begins (refuses es l b m q g i) n e =
       let h = handed m q g .0 in
       differ cc
@@ -271,7 +270,7 @@ module _ (enums file : List ℕ) (words : ℕ) (out : List ℕ) {left end : List
       let h = handed 32 i g .0 in
       differ cc
   begins (fits f) n e = go (leb (length (shortFile (f .tree))) (length out)) refl where
-    go : (t : Bool) → leb (length (shortFile (f .tree))) (length out) ≡ t → (f : Fitting enums file words) × (n ≤ length end) × R.Written f (take n end)
+    go : (t : Bool) → leb (length (shortFile (f .tree))) (length out) ≡ t → (f : Fitting enums file words) × (n ≤ length end) × Written f (take n end)
     go true t =
         let new = shortFile (f .tree) in
         let l = rewritten f (leb-true _ _ t) in
@@ -298,14 +297,14 @@ module _ (enums file : List ℕ) (words : ℕ) (out : List ℕ) {left end : List
         let l = too-long f (leb-false _ _ t) .0 in
         differ cc
 
-  pub rewrite-exact : R.Exact enums file words left out end r
+  pub rewrite-exact : Rewrites enums file words left out end r
   rewrite-exact =
       let e = ends enums file words bytes small in
       record { rewrites = rewritten; too-small = too-long; refuses = not-rewritten e; list = rewrite-list e; inside = rewrite-placed e; skips = rewrite-skipped; roots = rewrite-rooted; written = begins e }
 
 -- ---- A file that is rewritten, and then loaded or rewritten again
 
-module _ {enums file : List ℕ} {words : ℕ} {left out end : List ℕ} {r : Rewriting} (x : R.Exact enums file words left out end r) where
+module _ {enums file : List ℕ} {words : ℕ} {left out end : List ℕ} {r : Rewriting} (x : Rewrites enums file words left out end r) where
   -- a first rewrite that is refused is none of a tree that fits
   first-refused : {number place : ℕ} → r ≡ rewriting.Refused number place → (f : Fitting enums file words) → length (shortFile (f .tree)) ≤ length out → ⊥
   first-refused e f h =
@@ -319,26 +318,26 @@ module _ {enums file : List ℕ} {words : ℕ} {left out end : List ℕ} {r : Re
       let k : n ≡ length (shortFile (f .tree)) = cc in
       rw (k, l .1) (take-append-seam (shortFile (f .tree)) (drop (length (shortFile (f .tree))) out))
 
-  pub not-loaded-again : {number place : ℕ} {left₂ : List ℕ} {r₂ : Loading} → r ≡ rewriting.Refused number place → R.Again enums file words left₂ (length out) r₂
+  pub not-loaded-again : {number place : ℕ} {left₂ : List ℕ} {r₂ : Loading} → r ≡ rewriting.Refused number place → LoadsAgain enums file words left₂ (length out) r₂
   not-loaded-again e = record { reads = λ f h. absurd (first-refused e f h) }
 
-  pub loaded-again : {n : ℕ} {left₂ : List ℕ} {r₂ : Loading} → r ≡ rewriting.Rewritten n → length left ≡ words → Exact false enums (take n end) (length left) left₂ r₂ → R.Again enums file words left₂ (length out) r₂
+  pub loaded-again : {n : ℕ} {left₂ : List ℕ} {r₂ : Loading} → r ≡ rewriting.Rewritten n → length left ≡ words → Loads byRows enums (take n end) (length left) left₂ r₂ → LoadsAgain enums file words left₂ (length out) r₂
   loaded-again {n} {left₂} {r₂} e l y = record {
     reads = λ f h.
         let g = again f in
         let p = first-wrote e f h in
-        let z : Exact false enums (shortFile (f .tree)) words left₂ r₂ = rw (l, p) at y in
+        let z : Loads byRows enums (shortFile (f .tree)) words left₂ r₂ = rw (l, p) at y in
         let a = z .rows g in
         let none : length (shortFile (f .tree)) - length (shortFile (g .tree)) ≡ 0 = omega arith in
         (g, refl, rw none at (a .0), a .1);
   }
 
-  pub not-rewritten-again : {number place : ℕ} {second end₂ : List ℕ} {r₂ : Rewriting} → r ≡ rewriting.Refused number place → R.Twice enums file words (length out) second end₂ r₂
+  pub not-rewritten-again : {number place : ℕ} {second end₂ : List ℕ} {r₂ : Rewriting} → r ≡ rewriting.Refused number place → RewritesTwice enums file words (length out) second end₂ r₂
   not-rewritten-again e = record { same = λ f h k. absurd (first-refused e f h); same-refusal = λ f h k. absurd (first-refused e f h) }
 
-  pub rewritten-again : {n : ℕ} {left₂ second end₂ : List ℕ} {r₂ : Rewriting} → r ≡ rewriting.Rewritten n → length left ≡ words → R.Exact enums (take n end) (length left) left₂ second end₂ r₂ → R.Twice enums file words (length out) second end₂ r₂
+  pub rewritten-again : {n : ℕ} {left₂ second end₂ : List ℕ} {r₂ : Rewriting} → r ≡ rewriting.Rewritten n → length left ≡ words → Rewrites enums (take n end) (length left) left₂ second end₂ r₂ → RewritesTwice enums file words (length out) second end₂ r₂
   rewritten-again {n} {left₂} {second} {end₂} {r₂} e l y =
-      let z : (f : Fitting enums file words) → length (shortFile (f .tree)) ≤ length out → R.Exact enums (shortFile (f .tree)) words left₂ second end₂ r₂
+      let z : (f : Fitting enums file words) → length (shortFile (f .tree)) ≤ length out → Rewrites enums (shortFile (f .tree)) words left₂ second end₂ r₂
       = λ f h. let p = first-wrote e f h in rw (l, p) at y in
       record {
         same = λ f h k.

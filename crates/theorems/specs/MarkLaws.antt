@@ -13,12 +13,11 @@ use Rattle.laws.specs.Small.{differ}
 use Rattle.reading.specs.Answer.{Answer, refused, read, Ok}
 use Rattle.reading.specs.Reads.{Small}
 use Rattle.reading.specs.Output.{Rewritten, refusal, written, fitted, outputOf}
-use Rattle.pack_layout.specs.Pack.{Stored, packBytes, PackLays}
+use Rattle.pack_layout.specs.Pack.{Stored, packBytes, PackLays, markOf}
 use Rattle.pack_layout.specs.Numbers.{PackNumber}
 use Rattle.pack_reading.specs.Pack.{packAt}
 use Rattle.pack_reading.specs.Theorems.{pack-sound}
 use Rattle.pack_reading.specs.Faults.{Keeps, no-31}
-use Rattle.pack_records.specs.Records.{markOf}
 use Rattle.pack_writing.specs.Convert.{byPack, convertOf, other-form}
 use Rattle.pack_writing.specs.Convert as C
 use Rattle.marks.specs.declared.Converting.{Converting}

@@ -5,16 +5,15 @@ use mathlib.Core.List.{List, _++_}
 use mathlib.Core.Logic.{_⊎_}
 use Prim.Native.Nat.{ℕ, _<_, _≤_}
 use lib.ListN.{length, take, drop}
-use Rattle.pack_layout.specs.Pack.{Stored, packBytes, PackLays}
+use Rattle.pack_layout.specs.Pack.{Stored, packBytes, PackLays, markOf}
 use Rattle.pack_layout.specs.Numbers.{PackNumber}
-use Rattle.pack_reading.specs.Theorems.{Fitting}
-use Rattle.pack_reading.specs.Lookup.{Content, missing, content}
-use Rattle.pack_records.specs.Records.{markOf}
+use Rattle.pack_layout.specs.Table.{Fitting}
+use Rattle.pack_layout.specs.Lookup.{Content, missing, content}
 use Rattle.pack_lookup.specs.declared.Found.{Found}
 use Rattle.pack_lookup.specs.declared.Found.the-variants.{Absent, At}
 use Rattle.marks.specs.declared.Converting.{Converting}
 use Rattle.marks.specs.declared.Converting.the-variants.{Refused, Converted}
-use Rattle.theorems.specs.declared.converted.Both.{Both}
+use Rattle.theorems.specs.declared.converted.FoundBoth.{FoundBoth}
 use Rattle.theorems.specs.Packs.{Gives}
 
 -- the form of the pack given
@@ -42,8 +41,8 @@ pub record Converts (marked : Bool) (pack out end : List ℕ) (r : Converting) :
   pub written : (n : ℕ) → r ≡ Converted n → (fs : List Stored) × PackLays (markOf (not marked)) fs pack × (n ≤ length end) × PackLays (markOf marked) fs (take n end)
 
 -- For a pack that is converted and then back: the number of bytes lent for the first output, the second as it was lent and as it is left, and the second answer.
-pub record Back (marked : Bool) (pack : List ℕ) (out : ℕ) (second end : List ℕ) (r : Converting) : Type 0 where
-  -- "Both ways round give the original bytes, for every pack the reader of that form accepts"
+pub record ConvertsBack (marked : Bool) (pack : List ℕ) (out : ℕ) (second end : List ℕ) (r : Converting) : Type 0 where
+  -- "FoundBoth ways round give the original bytes, for every pack the reader of that form accepts"
   pub original : {words : ℕ} (f : Given marked pack words) → length (inForm marked (f .files)) ≤ out → length pack ≤ length second
       → (r ≡ Converted (length pack)) × (end ≡ pack ++ drop (length pack) second)
 
@@ -53,7 +52,7 @@ dataAt pack Absent = missing
 dataAt pack (At a n) = content (take n (drop a pack))
 
 -- For a path that is looked up in the pack and in the converted one: the numbers of bytes and of words lent, the output as it is left, and the two answers.
-pub record Same (marked : Bool) (pack : List ℕ) (out words : ℕ) (path end : List ℕ) (r : Both) : Type 0 where
+pub record FindsSame (marked : Bool) (pack : List ℕ) (out words : ℕ) (path end : List ℕ) (r : FoundBoth) : Type 0 where
   -- the first answer is a lookup's in the pack given
   pub in-given : Gives (not marked) pack words path (r .given)
   -- where the output has room, the second is a lookup's in the new pack

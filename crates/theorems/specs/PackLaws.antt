@@ -7,32 +7,31 @@ use lib.ListN.{length}
 use Rattle.laws.specs.Small.{differ}
 use Rattle.reading.specs.Answer.{Answer, refused, read}
 use Rattle.reading.specs.Reads.{Small}
-use Rattle.pack_layout.specs.Pack.{Stored}
+use Rattle.pack_layout.specs.Pack.{Stored, markOf}
 use Rattle.pack_layout.specs.Numbers.{PackNumber}
-use Rattle.pack_layout.specs.Table.{wholes}
-use Rattle.pack_reading.specs.Pack.{packAt, roomOf, Pack, refusal, accepted, toPack, packOf, tableFor}
+use Rattle.pack_layout.specs.Table.{wholes, filesRoom}
+use Rattle.pack_reading.specs.Pack.{packAt, Pack, refusal, accepted, toPack, packOf, tableFor}
 use Rattle.pack_reading.specs.Faults.{Keeps, plain-refusals, marked-refusals}
 use Rattle.pack_reading.specs.Theorems as T
 use Rattle.pack_reading.specs.Theorems.{Accepts}
 use Rattle.pack_reading.specs.Parts.{names}
 use Rattle.pack_reading.specs.Lookup.{Found, absent, found, findIn, findOf, Says, find-says, absent-exactly}
-use Rattle.pack_records.specs.Records.{markOf}
 use Rattle.packs.specs.declared.Reading.{Reading}
 use Rattle.packs.specs.declared.Reading.the-variants.{Refused}
 use Rattle.packs.specs.Files.{answerOf}
 use Rattle.pack_lookup.specs.declared.Found as code
 use Rattle.pack_lookup.specs.declared.Found.the-variants.{Absent, At}
 use Rattle.pack_lookup.specs.Lookup.{foundAs}
-use Rattle.theorems.specs.Packs.{Accepted, Reads, Finds}
+use Rattle.theorems.specs.Packs.{IsRead, Reads, Finds}
 
 -- ---- Reading a pack
 
-told : (x : Pack) → Accepts x → Accepted (answerOf x)
+told : (x : Pack) → Accepts x → IsRead (answerOf x)
 unfolding Accepts
 told (refusal number place) a = a
 told (accepted fs) a = tt
 
-untold : (x : Pack) → Accepted (answerOf x) → Accepts x
+untold : (x : Pack) → IsRead (answerOf x) → Accepts x
 unfolding Accepts
 untold (refusal number place) a = a
 untold (accepted fs) a = tt
@@ -45,7 +44,7 @@ pack-refusals false pack room = plain-refusals pack room
 refused-inside : (marked : Bool) (pack : List ℕ) (words : ℕ) {number place : ℕ} → answerOf (packOf (markOf marked) pack words) ≡ Refused number place
     → PackNumber marked number × (place ≤ length pack)
 unfolding packOf toPack Keeps
-refused-inside marked pack words {number} {place} q = go (packAt (markOf marked) pack (roomOf words)) (pack-refusals marked pack (roomOf words)) q where
+refused-inside marked pack words {number} {place} q = go (packAt (markOf marked) pack (filesRoom words)) (pack-refusals marked pack (filesRoom words)) q where
   go : (x : Answer (List Stored)) → Keeps (PackNumber marked) (length pack) x → answerOf (toPack x) ≡ Refused number place → PackNumber marked number × (place ≤ length pack)
   go (refused n p) k e =
       let a : n ≡ number = cc in
@@ -60,7 +59,7 @@ read-exact marked pack words {left} {r} small answers leaves =
     let x = packOf mark pack words in
     let both = T.accepts mark pack words small in
     record {
-      accepts = (λ a. both .0 (untold x (subst Accepted answers a)), λ f. subst Accepted (sym answers) (told x (both .1 f)));
+      accepts = (λ a. both .0 (untold x (subst IsRead answers a)), λ f. subst IsRead (sym answers) (told x (both .1 f)));
       files = λ f. (answers ∙ ap answerOf (T.files-are mark pack words f), leaves ∙ T.table-is mark pack words f, names mark pack (f .files) (f .lays));
       refuses = λ none. let w = T.refuses mark pack words small none in (w .0, w .1, answers ∙ ap answerOf (w .2), leaves ∙ w .3);
       inside = λ number place q. refused-inside marked pack words (sym answers ∙ q);

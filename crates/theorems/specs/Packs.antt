@@ -1,44 +1,37 @@
 -- Req 01 of the code: what is demanded of reading a pack, of finding a file by its path, and of loading its data. Each record is the contract of a function that calls the code. Assumes nothing.
 use mathlib.Core.Path.{_≡_}
-use mathlib.Core.Bool.{Bool, false}
+use mathlib.Core.Bool.{Bool}
 use mathlib.Core.List.{List, _∷_, _++_}
 use mathlib.Core.Logic.{_↔_}
 use Prim.Native.Nat.{ℕ, _*_, _-_, _≤_}
 use lib.ListN.{length, take, drop, replicate}
+use Rattle.layout.specs.Table.{byRows}
 use Rattle.load.specs.declared.Loading.{Loading}
 use Rattle.load.specs.declared.Loading.the-variants as load
-use Rattle.pack_layout.specs.Pack.{Stored, Each, PackLays}
+use Rattle.pack_layout.specs.Pack.{Stored, Each, markOf}
 use Rattle.pack_layout.specs.Numbers.{PackNumber}
-use Rattle.pack_layout.specs.Table.{flat, wholes, entries}
-use Rattle.pack_reading.specs.Theorems as T
-use Rattle.pack_reading.specs.Theorems.{Fitting}
-use Rattle.pack_reading.specs.Parts.{Part, Names}
-use Rattle.pack_reading.specs.Lookup.{lowered, NoMatch, FirstMatch}
-use Rattle.pack_records.specs.Records.{markOf}
+use Rattle.pack_layout.specs.Table.{flat, wholes, entries, Fitting}
+use Rattle.pack_layout.specs.Parts.{Part, Names}
+use Rattle.pack_layout.specs.Lookup.{lowered, NoMatch, FirstMatch}
 use Rattle.packs.specs.declared.Reading.{Reading}
 use Rattle.packs.specs.declared.Reading.the-variants.{Refused, Read}
 use Rattle.pack_lookup.specs.declared.Found.{Found}
 use Rattle.pack_lookup.specs.declared.Found.the-variants.{Absent, At}
 use Rattle.pack_load.specs.declared.Opened.{Opened}
 use Rattle.pack_load.specs.declared.Opened.the-variants as opened
-use Rattle.theorems.specs.Exact.{Exact}
-
--- ---- Unique reading
-
--- of any two packs of one form: where bytes of the one equal or begin bytes of the other, the packs are the same, and so are the bytes
-pub unique-pack : (marked : Bool) (fs gs : List Stored) (bs cs rest : List ℕ) → PackLays (markOf marked) fs bs → PackLays (markOf marked) gs cs → bs ++ rest ≡ cs → (fs ≡ gs) × (bs ≡ cs)
-unique-pack marked fs gs bs cs rest v w e = T.unique-pack (markOf marked) fs gs bs cs rest v w e
+use Rattle.theorems.specs.Loading.{Loads}
 
 -- ---- Reading a pack
 
-abbrev pub Accepted : Reading → Type 0
-Accepted (Refused number place) = ⊥
-Accepted (Read files) = Unit {0}
+-- the answer is no refusal
+abbrev pub IsRead : Reading → Type 0
+IsRead (Refused number place) = ⊥
+IsRead (Read files) = Unit {0}
 
 -- For the form, the pack, the number of words lent, the words as they are left and the answer. No reading is in it.
 pub record Reads (marked : Bool) (pack : List ℕ) (words : ℕ) (left : List ℕ) (r : Reading) : Type 0 where
   -- a pack is accepted exactly when some files may have these bytes and the table has room for them
-  pub accepts : Accepted r ↔ Fitting (markOf marked) pack words
+  pub accepts : IsRead r ↔ Fitting (markOf marked) pack words
   -- "path start, path length, data start, data length, four 64-bit words a file"; "Unused words .. are zero"; and each entry names its file's path and data
   pub files : (f : Fitting (markOf marked) pack words)
       → (r ≡ Read (length (f .files)))
@@ -69,7 +62,7 @@ pub record Opens (enums pack table path : List ℕ) (words : ℕ) (left : List �
   pub absent : (r ≡ opened.Absent) ↔ NoMatch pack path (wholes table)
   pub zeros : r ≡ opened.Absent → left ≡ replicate words 0
   -- "The XNB loader takes the data as a part of the pack; demands 2 and 3 then hold of that part, with places counted from its start", under the lent list
-  pub part : (a n : ℕ) → FirstMatch pack path (wholes table) a n → (l : Loading) × (r ≡ openedAs l) × Exact false enums (take n (drop a pack)) words left l
+  pub part : (a n : ℕ) → FirstMatch pack path (wholes table) a n → (l : Loading) × (r ≡ openedAs l) × Loads byRows enums (take n (drop a pack)) words left l
 
 -- ---- Finding in the table that reading left: over the pack's own files
 

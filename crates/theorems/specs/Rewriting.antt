@@ -1,29 +1,22 @@
 -- What is demanded of the code of `rewrite`, which is the contract of `rewrite_exact`. `shortFile` goes from a file tree to its shortest bytes, with no file in it. Assumes nothing.
 use mathlib.Core.Path.{_≡_}
-use mathlib.Core.Bool.{false}
 use mathlib.Core.List.{List, _++_}
 use mathlib.Core.Logic.{_⊎_}
 use Prim.Native.Nat.{ℕ, suc, _+_, _<_, _≤_}
 use lib.ListN.{length, take, drop, replicate}
 use Rattle.layout.specs.Tree.{count}
 use Rattle.layout.specs.File.{sharedOf, FileLays}
-use Rattle.layout.specs.EnumList.{EnumEntry, writeEnums, Enums}
+use Rattle.layout.specs.EnumList.{EnumEntry, writeEnums, Enums, FirstBad, Unlawful}
 use Rattle.layout.specs.Named.{named}
-use Rattle.enums.specs.First.{FirstBad}
-use Rattle.enums.specs.Lists.{Unlawful}
-use Rattle.reading.specs.Numbers.{LoadNumber}
-use Rattle.reading.specs.File.{roomOf}
-use Rattle.reading.specs.Grid.{byRows}
-use Rattle.branches.specs.Table.{TableSkips, TableRoots}
+use Rattle.layout.specs.Refusals.{LoadNumber}
+use Rattle.layout.specs.Table.{roomOf, byRows, table}
+use Rattle.layout.specs.Branches.{TableSkips, TableRoots}
+use Rattle.layout.specs.Shortest.{Shortens, shortFile}
 use Rattle.load.specs.declared.Loading.{Loading}
 use Rattle.load.specs.declared.Loading.the-variants.{Loaded}
-use Rattle.numbers.specs.Shortest.{Shortens}
-use Rattle.shortest.specs.File.{shortFile}
-use Rattle.places.specs.Padding.{filePadding}
 use Rattle.rewrite.specs.declared.Rewriting.{Rewriting}
 use Rattle.rewrite.specs.declared.Rewriting.the-variants.{Refused, Rewritten}
 use Rattle.theorems.specs.Fits.{Fitting, rowsIn}
-use Rattle.theorems.specs.Exact.{table}
 
 -- The bytes written, `new`, for a file that a file tree fits.
 pub record Written {enums file : List ℕ} {words : ℕ} (f : Fitting enums file words) (new : List ℕ) : Type 0 where
@@ -33,14 +26,12 @@ pub record Written {enums file : List ℕ} {words : ℕ} (f : Fitting enums file
   pub again : (g : Fitting enums new words) × (g .tree ≡ f .tree)
   -- "a file already shortest comes out byte for byte"
   pub stays : length file ≡ length new → new ≡ file
-  -- "length of the input = length of the output + the padding total": over every number in the file, its bytes beyond its shortest form
-  pub padding-is : length file ≡ length new + filePadding file (length (f .tree .names)) (rowsIn f)
 
--- For the lent list of enum types, a file, the number of words lent, the words as they are left, the output as it was lent and as it is left, and the answer. No reading is in it, but that the padding total takes the numbers as they are read in the file.
-pub record Exact (enums file : List ℕ) (words : ℕ) (left out end : List ℕ) (r : Rewriting) : Type 0 where
+-- For the lent list of enum types, a file, the number of words lent, the words as they are left, the output as it was lent and as it is left, and the answer. No reading is in it.
+pub record Rewrites (enums file : List ℕ) (words : ℕ) (left out end : List ℕ) (r : Rewriting) : Type 0 where
   -- where a file tree fits and the output has room, the shortest bytes of the tree: "out's bytes past it unchanged, the words as the load of the input left them, the answer its length"
   pub rewrites : (f : Fitting enums file words) → length (shortFile (f .tree)) ≤ length out
-      → (r ≡ Rewritten (length (shortFile (f .tree)))) × (end ≡ shortFile (f .tree) ++ drop (length (shortFile (f .tree))) out) × (left ≡ table false (rowsIn f) words)
+      → (r ≡ Rewritten (length (shortFile (f .tree)))) × (end ≡ shortFile (f .tree) ++ drop (length (shortFile (f .tree))) out) × (left ≡ table byRows (rowsIn f) words)
   -- where the output has no room, "21 with the bytes needed, words zero, out untouched"
   pub too-small : (f : Fitting enums file words) → length out < length (shortFile (f .tree))
       → (r ≡ Refused 21 (length (shortFile (f .tree)))) × (end ≡ out) × (left ≡ replicate words 0)
@@ -48,7 +39,7 @@ pub record Exact (enums file : List ℕ) (words : ℕ) (left out end : List ℕ)
   pub refuses : (Fitting enums file words → ⊥)
       → (number : ℕ) × (place : ℕ) × (r ≡ Refused number place) × (end ≡ out) × (left ≡ replicate words 0)
   -- 02, Req 02: 32 "before all else"
-  pub list : Unlawful enums → (place : ℕ) × (r ≡ Refused 32 place) × FirstBad enums 32 place
+  pub list : Unlawful enums → (place : ℕ) × (r ≡ Refused 32 place) × FirstBad enums place
   -- under a lawful list a refusal's number is one of those for a load or 21, and its place is in the file or the bytes needed, which are no more than the file's
   pub inside : (es : List EnumEntry) → Enums es → enums ≡ writeEnums es → (number place : ℕ) → r ≡ Refused number place → (LoadNumber number ⊎ (number ≡ 21)) × (place ≤ length file)
   -- 02, Req 09: "It must hold of every table we leave": the rule of the seventh word
@@ -58,14 +49,14 @@ pub record Exact (enums file : List ℕ) (words : ℕ) (left out end : List ℕ)
   pub written : (n : ℕ) → r ≡ Rewritten n → (f : Fitting enums file words) × (n ≤ length end) × Written f (take n end)
 
 -- For the lent list of enum types and a file that is rewritten and then loaded: the number of words lent, the words as they are left, the number of bytes lent for the output, and the answer.
-pub record Again (enums file : List ℕ) (words : ℕ) (left : List ℕ) (out : ℕ) (r : Loading) : Type 0 where
+pub record LoadsAgain (enums file : List ℕ) (words : ℕ) (left : List ℕ) (out : ℕ) (r : Loading) : Type 0 where
   -- "reading it gives those objects again": the answer and the rows are those of the same file tree, as its values stand in the rewritten file, which has no padding
   pub reads : (f : Fitting enums file words) → length (shortFile (f .tree)) ≤ out
       → (g : Fitting enums (shortFile (f .tree)) words) × (g .tree ≡ f .tree)
-      × (r ≡ Loaded (length (rowsIn g)) (length (g .tree .names)) (count (sharedOf (g .tree .objects))) 0) × (left ≡ table false (rowsIn g) words)
+      × (r ≡ Loaded (length (rowsIn g)) (length (g .tree .names)) (count (sharedOf (g .tree .objects))) 0) × (left ≡ table byRows (rowsIn g) words)
 
 -- For the lent list of enum types and a file that is rewritten and then rewritten again: the number of words lent, the number of bytes lent for the first output, the second as it was lent and as it is left, and the second answer.
-pub record Twice (enums file : List ℕ) (words out : ℕ) (second end : List ℕ) (r : Rewriting) : Type 0 where
+pub record RewritesTwice (enums file : List ℕ) (words out : ℕ) (second end : List ℕ) (r : Rewriting) : Type 0 where
   -- "rewriting twice is rewriting once": the second answer and output are those of a rewrite of the file
   pub same : (f : Fitting enums file words) → length (shortFile (f .tree)) ≤ out → length (shortFile (f .tree)) ≤ length second
       → (r ≡ Rewritten (length (shortFile (f .tree)))) × (end ≡ shortFile (f .tree) ++ drop (length (shortFile (f .tree))) second)

@@ -5,9 +5,7 @@ use mathlib.Core.Logic.{_↔_}
 use Prim.Native.Nat.{ℕ, _*_, _-_, _/_, _<_, _≤_}
 use lib.ListN.{length, take, drop, replicate}
 use Rattle.pack_layout.specs.Pack.{marked, packBytes, PackLays}
-use Rattle.pack_layout.specs.Table.{flat, entries}
-use Rattle.pack_reading.specs.Pack.{roomOf}
-use Rattle.pack_reading.specs.Theorems.{Fitting}
+use Rattle.pack_layout.specs.Table.{flat, entries, filesRoom, Fitting}
 use Rattle.packs.specs.declared.Reading.{Reading}
 use Rattle.packs.specs.declared.Reading.the-variants as reading
 use Rattle.pack_salvage.specs.Scan.{Piece, Scanned, piecesBytes, keptOf}
@@ -62,13 +60,13 @@ pub record Salvages (pack out list end left : List ℕ) (r : Salvaging) : Type 0
       → (r ≡ Salvaged (length pack) 0) × (end ≡ pack ++ drop (length pack) out) × (left ≡ list)
 
 -- For a pack that is salvaged and then read: the output and the list as they were lent, the number of words of the table, the table as it is left, and the reader's answer.
-pub record Reread (pack out list : List ℕ) (room : ℕ) (left : List ℕ) (r : Reading) : Type 0 where
+pub record ReadsSalvaged (pack out list : List ℕ) (room : ℕ) (left : List ℕ) (r : Reading) : Type 0 where
   -- the reader of marked packs accepts what is written, "with the right count", where the table has room
-  pub accepted : (ps : List Piece) → Scan pack ps → Room ps (length out) (length list) → length (keptOf ps) ≤ roomOf room
+  pub accepted : (ps : List Piece) → Scan pack ps → Room ps (length out) (length list) → length (keptOf ps) ≤ filesRoom room
       → (r ≡ reading.Read (length (keptOf ps))) × (left ≡ flat (entries marked 4 (keptOf ps)) ++ replicate (room - 4 * length (keptOf ps)) 0)
 
 -- For a pack that is salvaged and then salvaged again, with one list and into a second output: the first output as it was lent, the list and the second output as they were lent and as they are left, and the second answer.
-pub record Twice (pack out list left second end : List ℕ) (r : Salvaging) : Type 0 where
+pub record SalvagesTwice (pack out list left second end : List ℕ) (r : Salvaging) : Type 0 where
   -- the second time gives the same bytes and skips nothing, so the list is as the first time left it
   pub same : (ps : List Piece) → Scan pack ps → Room ps (length out) (length list) → length (newOf ps) ≤ length second
       → (r ≡ Salvaged (length (newOf ps)) 0)

@@ -5,8 +5,7 @@ use Prim.Native.Nat.{ℕ, _≤_}
 use native.Mathlib.Omega.{arith}
 use lib.ListN.{length, getD, replicate}
 use Rattle.layout.specs.Rows.{Row}
-use Rattle.reading.specs.Grid.{byColumns}
-use Rattle.columns.specs.Columns.{columnsOf}
+use Rattle.layout.specs.Table.{byColumns, columnsOf}
 use Rattle.columns.specs.Words.{zero-word, column-word}
 use Rattle.branches.specs.Table.{Stand}
 

@@ -9,10 +9,10 @@ ghost use lib.ListN.{length};
 ghost use Rattle.words.specs.Grids.{rowsGrid, columnsGrid};
 ghost use Rattle.load.specs.Under.{loadUnder};
 ghost use Rattle.load.specs.Loads.{answerOf};
-ghost use Rattle.theorems.specs.Columns.{Both, LooksUp, lookedUp};
+ghost use Rattle.theorems.specs.Columns.{LoadsBoth, LooksUp, lookedUp};
 
 // The answers of a load by rows and of one in columns.
-pub struct Loads {
+pub struct LoadedBoth {
     pub rows: Loading,
     pub columns: Loading,
 }
@@ -33,15 +33,15 @@ pub struct Looked {
 }
 
 // A file that is loaded by rows and in columns, under one list of enum types.
-fn load_both(file: &[u8], enums: &[u8], words: &mut [u32], columns: &mut [u32]) -> Loads
-    ensures { λ r. ⌜ Both (now (enums .entry)) (now (file .entry)) (length (now (words .entry))) (length (now (columns .entry)))
+fn load_both(file: &[u8], enums: &[u8], words: &mut [u32], columns: &mut [u32]) -> LoadedBoth
+    ensures { λ r. ⌜ LoadsBoth (now (enums .entry)) (now (file .entry)) (length (now (words .entry))) (length (now (columns .entry)))
         (now (words .exit)) (now (columns .exit)) r ⌝ }
     ensures { λ r. ⌜ r .rows ≡ answerOf (now (file .entry)) (loadUnder (now (enums .entry)) (now (file .entry)) (length (now (words .entry)))) ⌝ }
     ensures { λ r. ⌜ r .columns ≡ answerOf (now (file .entry)) (loadUnder (now (enums .entry)) (now (file .entry)) (length (now (columns .entry)))) ⌝ }
 {
     let by_rows = load::load(file, enums, words);
     let by_columns = load::load_columns(file, enums, columns);
-    Loads {
+    LoadedBoth {
         rows: by_rows,
         columns: by_columns,
     }

@@ -4,7 +4,7 @@ use pack_lookup::Found;
 ghost use mathlib.Core.Path.{_≡_};
 ghost use lib.ListN.{length};
 ghost use Rattle.marks.specs.Converting.{converted, answerOf};
-ghost use Rattle.theorems.specs.Marks.{Converts, Back, Same};
+ghost use Rattle.theorems.specs.Marks.{Converts, ConvertsBack, FindsSame};
 
 // A pack that is converted to the form `marked`: the demand, and the answer of the code, which fixes a refusal.
 pub fn convert_exact(pack: &[u8], out: &mut [u8], marked: bool) -> Converting
@@ -16,7 +16,7 @@ pub fn convert_exact(pack: &[u8], out: &mut [u8], marked: bool) -> Converting
 
 // A pack that is converted to the form `marked` and then back, into a second output.
 fn there_and_back(pack: &[u8], out: &mut [u8], second: &mut [u8], marked: bool) -> Converting
-    ensures { λ r. ⌜ Back marked (now (pack .entry)) (length (now (out .entry))) (now (second .entry)) (now (second .exit)) r ⌝ }
+    ensures { λ r. ⌜ ConvertsBack marked (now (pack .entry)) (length (now (out .entry))) (now (second .entry)) (now (second .exit)) r ⌝ }
 {
     match convert_exact(pack, out, marked) {
         Converting::Refused { number, place } => Converting::Refused { number, place },
@@ -25,14 +25,14 @@ fn there_and_back(pack: &[u8], out: &mut [u8], second: &mut [u8], marked: bool) 
 }
 
 // Where the data of a path stands in a pack, and where in the converted one.
-pub struct Both {
+pub struct FoundBoth {
     given: Found,
     new: Found,
 }
 
 // A file that is looked up in a pack, and in the same pack converted to the form `marked`.
-fn find_both(pack: &[u8], out: &mut [u8], table: &mut [u64], path: &[u8], marked: bool) -> Both
-    ensures { λ r. ⌜ Same marked (now (pack .entry)) (length (now (out .entry))) (length (now (table .entry))) (now (path .entry)) (now (out .exit)) r ⌝ }
+fn find_both(pack: &[u8], out: &mut [u8], table: &mut [u64], path: &[u8], marked: bool) -> FoundBoth
+    ensures { λ r. ⌜ FindsSame marked (now (pack .entry)) (length (now (out .entry))) (length (now (table .entry))) (now (path .entry)) (now (out .exit)) r ⌝ }
 {
     packs::read(pack, table, !marked);
     let given = pack_lookup::find(pack, table, path);
@@ -40,14 +40,14 @@ fn find_both(pack: &[u8], out: &mut [u8], table: &mut [u64], path: &[u8], marked
         Converting::Refused {
             number: _,
             place: _,
-        } => Both {
+        } => FoundBoth {
             given,
             new: Found::Absent,
         },
         Converting::Converted { length: n } => {
             packs::read(&out[..n], table, marked);
             let new = pack_lookup::find(&out[..n], table, path);
-            Both { given, new }
+            FoundBoth { given, new }
         }
     }
 }

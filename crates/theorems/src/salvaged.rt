@@ -2,7 +2,7 @@
 use packs::Reading;
 use salvage::Salvaging;
 ghost use lib.ListN.{length};
-ghost use Rattle.theorems.specs.Salvage.{Salvages, Reread, Twice};
+ghost use Rattle.theorems.specs.Salvage.{Salvages, ReadsSalvaged, SalvagesTwice};
 
 // A damaged marked pack that is salvaged.
 pub fn salvage_exact(pack: &[u8], out: &mut [u8], list: &mut [u64]) -> Salvaging
@@ -13,7 +13,7 @@ pub fn salvage_exact(pack: &[u8], out: &mut [u8], list: &mut [u64]) -> Salvaging
 
 // A pack that is salvaged and then read.
 fn salvage_and_read(pack: &[u8], out: &mut [u8], list: &mut [u64], table: &mut [u64]) -> Reading
-    ensures { λ r. ⌜ Reread (now (pack .entry)) (now (out .entry)) (now (list .entry)) (length (now (table .entry))) (now (table .exit)) r ⌝ }
+    ensures { λ r. ⌜ ReadsSalvaged (now (pack .entry)) (now (out .entry)) (now (list .entry)) (length (now (table .entry))) (now (table .exit)) r ⌝ }
 {
     match salvage_exact(pack, out, list) {
         Salvaging::Refused { number, place } => Reading::Refused { number, place },
@@ -26,7 +26,7 @@ fn salvage_and_read(pack: &[u8], out: &mut [u8], list: &mut [u64], table: &mut [
 
 // A pack that is salvaged and then salvaged again, into a second output.
 fn salvage_twice(pack: &[u8], out: &mut [u8], list: &mut [u64], second: &mut [u8]) -> Salvaging
-    ensures { λ r. ⌜ Twice (now (pack .entry)) (now (out .entry)) (now (list .entry)) (now (list .exit)) (now (second .entry)) (now (second .exit)) r ⌝ }
+    ensures { λ r. ⌜ SalvagesTwice (now (pack .entry)) (now (out .entry)) (now (list .entry)) (now (list .exit)) (now (second .entry)) (now (second .exit)) r ⌝ }
 {
     match salvage_exact(pack, out, list) {
         Salvaging::Refused { number, place } => Salvaging::Refused { number, place },

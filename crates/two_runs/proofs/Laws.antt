@@ -9,17 +9,16 @@ use lib.ListN.{length, getD, replicate, length-append, length-replicate}
 use Rattle.layout.specs.Rows.{Row, words, width}
 use Rattle.layout.specs.EnumList.{EnumEntry}
 use Rattle.layout.specs.Named.{named}
+use Rattle.layout.specs.Table.{roomOf, cell, columnsOf, shapeOf}
 use Rattle.enums.specs.Judge.{Judgement, enumsAt, lawful}
 use Rattle.enums.specs.Judge.{refused as list-refused}
 use Rattle.enums.specs.Lists.{Bytes, enums-sound}
 use Rattle.reading.specs.Reads.{Small}
-use Rattle.reading.specs.File.{Load, refusal, accepted, roomOf, loadOf, tableOf}
-use Rattle.reading.specs.Grid.{cell}
+use Rattle.reading.specs.File.{Load, refusal, accepted, loadOf, tableOf, tableIn}
 use Rattle.reading.specs.Theorems as R
 use Rattle.reading.specs.Output.{Rewritten}
 use Rattle.shortest.specs.Rewrite.{rewriteOf}
 use Rattle.readers.specs.Judged.{judgedName, judges}
-use Rattle.columns.specs.Columns.{columnsOf, columnsTableOf, tableIn}
 use Rattle.columns.specs.Cells.{rowWord, seven-columns, length-columns}
 use Rattle.columns.specs.Words.{zero-word, row-word, column-word}
 use Rattle.ids.specs.Position.{cellOf}
@@ -101,8 +100,8 @@ unfoldable Fits : (room : ℕ) → Load → Type 0
 Fits room (refusal k p) = Unit {0}
 Fits room (accepted rows readers shared) = length rows ≤ room
 
-table-word : (columns : Bool) (x : Load) (n i j : ℕ) → Fits (roomOf n) x → i < roomOf n → j < width → getD (tableIn columns x n) (cellOf (gridOf n columns) i j) 0 ≡ wordAt x i j
-unfolding cell tableOf columnsTableOf wordAt Fits
+table-word : (columns : Bool) (x : Load) (n i j : ℕ) → Fits (roomOf n) x → i < roomOf n → j < width → getD (tableIn (shapeOf columns) x n) (cellOf (gridOf n columns) i j) 0 ≡ wordAt x i j
+unfolding cell tableIn wordAt Fits
 table-word false (refusal k p) n i j fits h l = zero-word n (width * i + j)
 table-word true (refusal k p) n i j fits h l = zero-word n (i + roomOf n * j)
 table-word false (accepted rows readers shared) n i j fits h l = row-word rows (n - width * length rows) i j l
@@ -122,7 +121,7 @@ fits-room enums f n small = go (loadUnder enums f n) refl where
 
 -- every word of every row
 pub same-rows : (columns : Bool) (enums f g : List ℕ) (n m : ℕ) → Bytes enums → Small f → Small g → SameButTexts enums (roomOf n) f g → roomOf n ≡ roomOf m → {v w : List ℕ}
-    → v ≡ tableIn columns (loadUnder enums f n) n → w ≡ tableIn columns (loadUnder enums g m) m → SameRows (gridOf n columns) (gridOf m columns) v w
+    → v ≡ tableIn (shapeOf columns) (loadUnder enums f n) n → w ≡ tableIn (shapeOf columns) (loadUnder enums g m) m → SameRows (gridOf n columns) (gridOf m columns) v w
 same-rows columns enums f g n m bytes small small′ r room {v} {w} p q = record {
   room = room;
   rows = λ i j h k. ap (λ (l : List ℕ). getD l (cellOf (gridOf n columns) i j) 0) p
@@ -133,9 +132,9 @@ same-rows columns enums f g n m bytes small small′ r room {v} {w} p q = record
 }
 
 pub same-words : (columns : Bool) (enums f g : List ℕ) (n m : ℕ) → Bytes enums → Small f → SameButTexts enums (roomOf n) f g → {v w : List ℕ}
-    → v ≡ tableIn columns (loadUnder enums f n) n → w ≡ tableIn columns (loadUnder enums g m) m → n ≡ m → v ≡ w
+    → v ≡ tableIn (shapeOf columns) (loadUnder enums f n) n → w ≡ tableIn (shapeOf columns) (loadUnder enums g m) m → n ≡ m → v ≡ w
 same-words columns enums f g n m bytes small r p q e =
-    p ∙ ap (λ (x : Load). tableIn columns x n) (same-load enums f g n m bytes small r (ap roomOf e)) ∙ ap (tableIn columns (loadUnder enums g m)) e ∙ sym q
+    p ∙ ap (λ (x : Load). tableIn (shapeOf columns) x n) (same-load enums f g n m bytes small r (ap roomOf e)) ∙ ap (tableIn (shapeOf columns) (loadUnder enums g m)) e ∙ sym q
 
 -- ---- Rows
 
@@ -146,23 +145,23 @@ each-row P [] i j w h = absurd (omega arith)
 each-row P (r ∷ rows) zero j w h = (r, w .0, λ k. refl)
 each-row P (r ∷ rows) (suc i) j w h = each-row P rows i j (w .1) h
 
-no-rows : (columns : Bool) (words number place : ℕ) → length (tableIn columns (refusal number place) words) ≡ words
-unfolding tableOf columnsTableOf
+no-rows : (columns : Bool) (words number place : ℕ) → length (tableIn (shapeOf columns) (refusal number place) words) ≡ words
+unfolding tableIn
 no-rows false words number place = length-replicate words 0
 no-rows true words number place = length-replicate words 0
 
-rows-length : (columns : Bool) (rows : List Row) (readers shared n : ℕ) → length rows ≤ roomOf n → length (tableIn columns (accepted rows readers shared) n) ≡ n
-unfolding tableOf columnsTableOf roomOf
+rows-length : (columns : Bool) (rows : List Row) (readers shared n : ℕ) → length rows ≤ roomOf n → length (tableIn (shapeOf columns) (accepted rows readers shared) n) ≡ n
+unfolding tableIn roomOf
 rows-length false rows readers shared n h = rw (length-append, length-flat rows, length-replicate) (omega arith)
 rows-length true rows readers shared n h =
     length-append (columnsOf (roomOf n) rows) (replicate (n - width * roomOf n) 0)
     ∙ omega (arith, ap length (seven-columns (roomOf n) rows), length-columns (roomOf n) rows h 0 width, length-replicate {A = ℕ} (n - width * roomOf n) 0)
 
 -- as many words are left as were lent
-pub table-length : (columns : Bool) (enums f : List ℕ) (n : ℕ) → Small f → length (tableIn columns (loadUnder enums f n) n) ≡ n
+pub table-length : (columns : Bool) (enums f : List ℕ) (n : ℕ) → Small f → length (tableIn (shapeOf columns) (loadUnder enums f n) n) ≡ n
 unfolding Fits
 table-length columns enums f n small = go (loadUnder enums f n) (fits-room enums f n small) where
-  go : (x : Load) → Fits (roomOf n) x → length (tableIn columns x n) ≡ n
+  go : (x : Load) → Fits (roomOf n) x → length (tableIn (shapeOf columns) x n) ≡ n
   go (refusal k p) h = no-rows columns n k p
   go (accepted rows readers shared) h = rows-length columns rows readers shared n h
 
@@ -170,7 +169,7 @@ table-length columns enums f n small = go (loadUnder enums f n) (fits-room enums
 pub read-text : (enums : List ℕ) → Bytes enums → (room : ℕ) (file : List ℕ) (x : Span) (es : List EnumEntry) → enumsAt enums ≡ lawful es → FileText (judgedName es) room file x → Read enums room file x
 read-text enums bytes room file x es e t = let s = rw e at (enums-sound enums bytes) in record { es = es; lawful = s .0; listed = s .1; text = t }
 
-module _ (columns : Bool) (enums f : List ℕ) (n : ℕ) (bytes : Bytes enums) (small : Small f) {v : List ℕ} (p : v ≡ tableIn columns (loadUnder enums f n) n) where
+module _ (columns : Bool) (enums f : List ℕ) (n : ℕ) (bytes : Bytes enums) (small : Small f) {v : List ℕ} (p : v ≡ tableIn (shapeOf columns) (loadUnder enums f n) n) where
   abbrev wordIn : (row j : ℕ) → ℕ
   wordIn row j = getD v (cellOf (gridOf n columns) row j) 0
 

@@ -11,12 +11,12 @@ use lib.ListN.{length, getD, take, drop, length-take, length-drop}
 use Rattle.laws.specs.Small.{differ}
 use Rattle.layout.specs.Rows.{Row, words}
 use Rattle.layout.specs.EnumList.{EnumEntry}
+use Rattle.layout.specs.Table.{roomOf, shapeOf}
 use Rattle.enums.specs.Judge.{enumsAt, lawful}
 use Rattle.enums.specs.Lists.{Bytes}
 use Rattle.reading.specs.Reads.{Small}
-use Rattle.reading.specs.File.{roomOf}
+use Rattle.reading.specs.File.{tableIn}
 use Rattle.readers.specs.Judged.{judgedName, judges}
-use Rattle.columns.specs.Columns.{tableIn}
 use Rattle.words.specs.Grids.{gridOf}
 use Rattle.words.specs.Same.{SameRows}
 use Rattle.load.specs.Under.{loadUnder}
@@ -98,7 +98,7 @@ as-long : (f g : List ℕ) → length f ≡ length g → (first size : ℕ) → 
 as-long f g e first size = rw (length-take size (drop first f), length-take size (drop first g), length-drop first f, length-drop first g, e)
 
 module _ (columns : Bool) (enums f g : List ℕ) (n m : ℕ) (bytes : Bytes enums) (small : Small f) (small′ : Small g) (r : SameButTexts enums (roomOf n) f g) (room : roomOf n ≡ roomOf m) {v w : List ℕ}
-    (p : v ≡ tableIn columns (loadUnder enums f n) n) (q : w ≡ tableIn columns (loadUnder enums g m) m) where
+    (p : v ≡ tableIn (shapeOf columns) (loadUnder enums f n) n) (q : w ≡ tableIn (shapeOf columns) (loadUnder enums g m) m) where
   abbrev grid : Grid
   grid = gridOf n columns
 

@@ -6,7 +6,7 @@ use mathlib.Core.List.{List, []}
 use mathlib.Core.Logic.{_⊎_}
 use Prim.Native.Nat.{ℕ, _+_, _<_, _≤_}
 use lib.ListN.{getD}
-use Rattle.reading.specs.File.{roomOf}
+use Rattle.layout.specs.Table.{roomOf}
 use Rattle.ids.specs.declared.Grid.{Grid}
 use Rattle.ids.specs.Position.{cellOf}
 use Rattle.words.specs.Grids.{gridOf}

@@ -4,9 +4,9 @@ use mathlib.Core.List.{List}
 use mathlib.Core.Logic.{_⊎_, inl, inr}
 use Prim.Native.Nat.{ℕ}
 use lib.ListN.{getD}
-use Rattle.layout.specs.EnumList.{EnumEntry, writeEnums, Enums}
+use Rattle.layout.specs.EnumList.{EnumEntry, writeEnums, Enums, Unlawful}
 use Rattle.enums.specs.Judge.{enumsAt, lawful}
-use Rattle.enums.specs.Lists.{Unlawful, judged-list}
+use Rattle.enums.specs.Lists.{judged-list}
 use Rattle.reading.specs.Reads.{Small}
 use Rattle.readers.specs.Judged.{judgedName}
 use Rattle.retyped.specs.Texts.{Span, FileText, In, InText, Retyped, EachRead, BothRead}

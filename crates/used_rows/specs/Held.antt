@@ -9,7 +9,8 @@ use lib.Seq.{drop-nil}
 use Rattle.layout.specs.Rows.{Row, words, width}
 use Rattle.ids.specs.declared.Grid.{Grid}
 use Rattle.ids.specs.Position.{cellOf}
-use Rattle.profile.specs.Offences.{next, skip, kindOf, detailOf, firstOf}
+use Rattle.profile.specs.Offences.{next, skip, kindOf, detailOf}
+use Rattle.profile.specs.Profile.{firstOf}
 use Rattle.fault_places.specs.declared.Place.{Place}
 use Rattle.fault_places.specs.Places.{firstPlace}
 

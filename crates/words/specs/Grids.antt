@@ -1,7 +1,7 @@
 -- The shape of a table in so many words. Assumes nothing.
 use mathlib.Core.Bool.{Bool, true, false}
 use Prim.Native.Nat.{ℕ}
-use Rattle.reading.specs.File.{roomOf}
+use Rattle.layout.specs.Table.{roomOf}
 use Rattle.ids.specs.declared.Grid.{Grid}
 
 abbrev pub gridOf : (words : ℕ) (columns : Bool) → Grid

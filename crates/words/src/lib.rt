@@ -4,7 +4,7 @@ use ids::RowNumber;
 use ids::WIDTH;
 ghost use mathlib.Core.Path.{_≡_};
 ghost use lib.ListN.{getD};
-ghost use Rattle.reading.specs.File.{roomOf};
+ghost use Rattle.layout.specs.Table.{roomOf};
 ghost use Rattle.ids.specs.Position.{cellOf};
 ghost use Rattle.words.specs.Grids.{gridOf, rowsGrid, columnsGrid};
 

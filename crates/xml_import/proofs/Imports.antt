@@ -11,11 +11,10 @@ use Rattle.layout.specs.Number.{little}
 use Rattle.layout.specs.Text.{ascii}
 use Rattle.layout.specs.Tree.{none, tree, count}
 use Rattle.layout.specs.File.{sharedOf, header}
+use Rattle.layout.specs.Shortest.{shortest, fewest, short, shortEntry, shortEntries, shortLists, shortBody, shortFile}
 use Rattle.fill.specs.Fill.{copied}
 use Rattle.reading.specs.Output.{Rewritten, refusal, written, fitted, outputOf}
-use Rattle.numbers.specs.Shortest.{shortest, fewest}
-use Rattle.shortest.specs.Short.{short}
-use Rattle.shortest.specs.File.{shortEntry, shortEntries, shortLists, shortBody, shortFile, length-file}
+use Rattle.shortest.specs.File.{length-file}
 use Rattle.xml_layout.specs.Tree.{arrayName, stringName, textTrees, treeOf}
 use Rattle.xml_reading.specs.Match.{other, document}
 use Rattle.xml_reading.specs.Import.{textsOf}

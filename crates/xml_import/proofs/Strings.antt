@@ -11,11 +11,9 @@ use borrow.Author.Tests.{le-leb}
 use Rattle.laws.specs.Small.{differ}
 use Rattle.layout.specs.Text.{ascii}
 use Rattle.layout.specs.Tree.{none}
+use Rattle.layout.specs.Shortest.{shortest, fewest, numbered, idBytes, body, short, shortFile}
 use Rattle.fill.specs.Fill.{copied}
-use Rattle.numbers.specs.Shortest.{shortest, fewest, writtenAt}
-use Rattle.places.specs.Places.{numbered}
-use Rattle.shortest.specs.Short.{idBytes, body, short}
-use Rattle.shortest.specs.File.{shortFile}
+use Rattle.numbers.specs.Shortest.{writtenAt}
 use Rattle.xml_layout.specs.Xml.{itemStart, itemEnd, documentStart, documentEnd}
 use Rattle.xml_layout.specs.Tree.{textTrees, treeOf}
 use Rattle.xml_reading.specs.Match.{Match, fails, takes, Told, failed, taken as taken-of, shifted, literal, literal-matches, followed, mapped, until, Document, other, document, whole}

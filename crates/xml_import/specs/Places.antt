@@ -7,7 +7,7 @@ use Prim.Native.Nat.{ℕ, _+_, _-_, _≤_, _<_}
 use lib.Dec.{leb, eqb}
 use lib.ListN.{length, take, drop, getD}
 use Rattle.layout.specs.Number.{between}
-use Rattle.shortest.specs.File.{shortFile}
+use Rattle.layout.specs.Shortest.{shortFile}
 use Rattle.reading.specs.Output.{Rewritten, refusal, written}
 use Rattle.xml_layout.specs.Tree.{treeOf}
 use Rattle.xml_layout.specs.Xml.{itemEnd}

@@ -6,11 +6,9 @@ use Prim.Native.Nat.{ℕ, _+_, _≤_}
 use lib.ListN.{length, take, drop}
 use Rattle.layout.specs.Number.{little}
 use Rattle.layout.specs.Text.{ascii}
+use Rattle.layout.specs.Shortest.{shortest, short, shortLists, shortFile}
 use Rattle.fill.specs.Fill.{copied}
 use Rattle.reading.specs.Output.{Rewritten, refusal, written}
-use Rattle.numbers.specs.Shortest.{shortest}
-use Rattle.shortest.specs.Short.{short}
-use Rattle.shortest.specs.File.{shortLists, shortFile}
 use Rattle.xml_layout.specs.Xml.{itemEnd}
 use Rattle.xml_layout.specs.Tree.{arrayName, stringName, textTrees, treeOf}
 use Rattle.xml_reading.specs.Match.{Match, fails, takes, document, until}

@@ -10,7 +10,7 @@ use lib.Dec.{eqb}
 use borrow.Author.Tests.{eq-eqb, ne-eqb}
 use Rattle.laws.specs.Small.{differ}
 use Rattle.layout.specs.Text.{Utf8s}
-use Rattle.layout.specs.Target.{Target, string, array, kindOf}
+use Rattle.layout.specs.Target.{Target, string, object as anything, array, kindOf}
 use Rattle.layout.specs.Tree.{Trees, none, tree, count, kindAt}
 use Rattle.layout.specs.Layout.{Reader}
 use Rattle.layout.specs.EnumList.{EnumEntry}
@@ -98,7 +98,7 @@ module _ (es : List EnumEntry) (nameOf : ℕ → List ℕ → Named) (judges : J
       let r = a .reader in
       let i = r .0 in
       let n : named es (getD (ft .names) i []) (array string)
-      = rw (r .3) at (entry-named es (ft .names) (w .readers) (w .lists .entries) (w .lists .listed) i (array string) (r .2)) in
+      = rw (r .3) at (entry-named es (ft .names) (w .readers) (w .lists .entries) (w .lists .listed) i anything (r .2)) in
       let k : nameOf 0 (getD (ft .names) i []) ≡ known (array string) = judges .known-complete 0 (getD (ft .names) i []) (array string) n in
       let o : ft .objects ≡ tree 17 (suc i) (a .own) (a .children) none = a .objects ∙ ap (λ (j : ℕ). tree 17 j (a .own) (a .children) none) (r .1) in
       ap (primary nameOf (ft .names)) o ∙ rw (k, same-refl (array string))

@@ -18,13 +18,12 @@ use Rattle.layout.specs.Resource.{Resource}
 use Rattle.layout.specs.EnumList.{EnumEntry}
 use Rattle.layout.specs.Named.{named}
 use Rattle.layout.specs.File.{FileTree, sharedOf, header, objectsPlan, Entry, Entries, Lists, FileLays}
+use Rattle.layout.specs.Shortest.{fewest, shortest, numbered, idBytes, body, short, shortEntry, shortEntries, shortLists, shortBody, shortFile}
 use Rattle.reading.specs.Rules.{decided, same, same-true, same-refl, serves, serves-complete}
 use Rattle.reading.specs.Seven.{some-bytes}
 use Rattle.reading.specs.Little.{length-little}
-use Rattle.numbers.specs.Shortest.{fewest, shortest, shortest-is}
-use Rattle.places.specs.Places.{numbered}
-use Rattle.shortest.specs.Short.{idBytes, body, short}
-use Rattle.shortest.specs.File.{shortEntry, shortEntries, shortLists, shortBody, shortFile, length-file, length-header}
+use Rattle.numbers.specs.Shortest.{shortest-is}
+use Rattle.shortest.specs.File.{length-file, length-header}
 use Rattle.xml_layout.specs.Xml.{Each}
 use Rattle.xml_layout.specs.Tree.{arrayName, stringName, textTrees, treeOf, Strings, TextFile, TextArray}
 use Rattle.xml_reading.specs.Names.{array-long, string-long}
@@ -157,17 +156,12 @@ module _ (readers : List Target) (refers : ℕ → ℕ → Type 0) where
 
 -- ---- The Array
 
-getD-in : (l : List Target) (i : ℕ) (t u : Target) → i < length l → getD l i t ≡ getD l i u
-getD-in [] i t u h = absurd (omega arith)
-getD-in (x ∷ l) zero t u h = refl
-getD-in (x ∷ l) (suc i) t u h = getD-in l i t u (omega arith)
-
 -- a type id names one target
 pub one-reader : (readers : List Target) (id : ℕ) (t u : Target) → Reader readers id t → Reader readers id u → t ≡ u
 unfolding Reader
 one-reader readers id t u v w =
     let e : v .0 ≡ w .0 = omega (arith, v .1, w .1) in
-    sym (v .3) ∙ getD-in readers (v .0) t u (v .2) ∙ ap (λ (i : ℕ). getD readers i u) e ∙ w .3
+    sym (v .3) ∙ ap (λ (i : ℕ). getD readers i anything) e ∙ w .3
 
 module _ (readers : List Target) (refers : ℕ → ℕ → Type 0) where
   -- the primary's children, and how many bytes stand before them
@@ -219,13 +213,13 @@ unfoldable total : List Target → ℕ
 total [] = 0
 total (t ∷ readers) = weight t + total readers
 
-one-weight : (readers : List Target) (i : ℕ) (t : Target) → i < length readers → getD readers i t ≡ t → weight t ≤ total readers
+one-weight : (readers : List Target) (i : ℕ) (t : Target) → i < length readers → getD readers i anything ≡ t → weight t ≤ total readers
 unfolding total
 one-weight [] i t h e = absurd (omega arith)
 one-weight (u ∷ readers) zero t h e = omega (arith, ap weight e)
 one-weight (u ∷ readers) (suc i) t h e = omega (arith, one-weight readers i t (omega arith) e)
 
-two-weights : (readers : List Target) (i j : ℕ) (t u : Target) → i < length readers → j < length readers → getD readers i t ≡ t → getD readers j u ≡ u → (t ≡ u → ⊥) → weight t + weight u ≤ total readers
+two-weights : (readers : List Target) (i j : ℕ) (t u : Target) → i < length readers → j < length readers → getD readers i anything ≡ t → getD readers j anything ≡ u → (t ≡ u → ⊥) → weight t + weight u ≤ total readers
 unfolding total
 two-weights [] i j t u h k e f d = absurd (omega arith)
 two-weights (x ∷ readers) zero zero t u h k e f d = absurd (d (sym e ∙ f))

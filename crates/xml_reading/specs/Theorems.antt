@@ -18,13 +18,14 @@ use Rattle.layout.specs.Resource.{Resource}
 use Rattle.layout.specs.EnumList.{EnumEntry}
 use Rattle.layout.specs.Named.{named}
 use Rattle.layout.specs.File.{FileTree, sharedOf, objectsPlan, Entries, FileLays}
+use Rattle.layout.specs.Table.{roomOf}
+use Rattle.layout.specs.Shortest.{shortFile}
 use Rattle.reading.specs.Answer.{Answer, refused, read, Ok}
 use Rattle.reading.specs.Reads.{Small}
 use Rattle.reading.specs.Output.{Rewritten, refusal, written, fitted}
 use Rattle.reading.specs.Rules.{same, same-true, same-refl}
-use Rattle.reading.specs.File.{Named, unknown, known, Judges, Loaded, fileAt, roomOf}
+use Rattle.reading.specs.File.{Named, unknown, known, Judges, Loaded, fileAt}
 use Rattle.reading.specs.Accepts.{loadedOf, IsFile, file-complete, file-sound}
-use Rattle.shortest.specs.File.{shortFile}
 use Rattle.xml_layout.specs.Xml.{Writable, Each, exported, Exports}
 use Rattle.xml_layout.specs.Tree.{arrayName, stringName, textTrees, treeOf, Strings, TextFile}
 use Rattle.xml_reading.specs.Match.{Document, other, document}
@@ -134,7 +135,7 @@ module _ (es : List EnumEntry) (nameOf : ℕ → List ℕ → Named) (judges : J
       let r = primary-reader (w .readers) refers k kind i own cs (w .values) (subst (λ (ts : Trees). Lays (w .readers) refers (objectsPlan k) ts (w .values)) e (w .laid)) in
       let j : r .1 .0 ≡ i = omega (arith, r .1 .1) in
       let n : named es (getD (ft .names) i []) (r .0)
-      = rw (r .1 .3, j) at (entry-named es (ft .names) (w .readers) (w .lists .entries) (w .lists .listed) (r .1 .0) (r .0) (r .1 .2)) in
+      = rw (r .1 .3, j) at (entry-named es (ft .names) (w .readers) (w .lists .entries) (w .lists .listed) (r .1 .0) anything (r .1 .2)) in
       let s : known (r .0) ≡ known t = sym (judges .known-complete 0 (getD (ft .names) i []) (r .0) n) ∙ q in
       let u : r .0 ≡ t = cc in
       subst (λ (v : Target). Reader (w .readers) (suc i) v × (kind ≡ kindOf v)) u (r .1, r .2)
@@ -150,7 +151,7 @@ module _ (es : List EnumEntry) (nameOf : ℕ → List ℕ → Named) (judges : J
       let i = r .0 in
       let names = f .tree-of .names in
       let n : named es (getD names i []) (array string)
-      = rw (r .3) at (entry-named es names (f .lays .readers) (f .lays .lists .entries) (f .lays .lists .listed) i (array string) (r .2)) in
+      = rw (r .3) at (entry-named es names (f .lays .readers) (f .lays .lists .entries) (f .lays .lists .listed) i anything (r .2)) in
       let k : nameOf 0 (getD names i []) ≡ known (array string) = judges .known-complete 0 (getD names i []) (array string) n in
       let o : f .tree-of .objects ≡ tree 17 (suc i) (f .own) (f .children) none = f .objects ∙ ap (λ (j : ℕ). tree 17 j (f .own) (f .children) none) (r .1) in
       let g : gathered 1 (f .children) ≡ texts ts = gathered-complete 1 ts (f .children) (f .strings) (all-pass ts w) in

@@ -12,12 +12,13 @@ use Rattle.layout.specs.Tree.{Trees, tree, none, count, kindAt}
 use Rattle.layout.specs.Rows.{Row, flat, width}
 use Rattle.layout.specs.File.{FileLays, sharedOf, fileRows}
 use Rattle.layout.specs.Named.{named}
+use Rattle.layout.specs.Table.{byRows, roomOf, table, wordIn}
+use Rattle.layout.specs.Branches.{TableSkips}
 use Rattle.reading.specs.Answer.{Answer, refused, read}
 use Rattle.reading.specs.Reads.{Small}
 use Rattle.reading.specs.Drafts.{Draft, bare}
-use Rattle.reading.specs.Grid.{byRows}
 use Rattle.reading.specs.File as reading
-use Rattle.reading.specs.File.{Load, Loaded, fileAt, toLoad, roomOf, loadOf, tableOf}
+use Rattle.reading.specs.File.{Load, Loaded, fileAt, toLoad, loadOf, tableOf}
 use Rattle.reading.specs.References.{length-flat}
 use Rattle.reading.specs.Accepts.{loadedOf, fileDrafts, file-complete, file-bare}
 use Rattle.reading.specs.Theorems as T
@@ -27,13 +28,12 @@ use Rattle.enums.specs.Judge.{Judgement, lawful, enumsAt}
 use Rattle.enums.specs.Judge.{refused as list-refused}
 use Rattle.enums.specs.Lists.{Bytes, enums-complete, enums-sound}
 use Rattle.readers.specs.Judged.{judgedName, judges}
-use Rattle.branches.specs.Table.{TableSkips, rows-stand, file-skips}
+use Rattle.branches.specs.Table.{rows-stand, file-skips}
 use Rattle.shortest.specs.Rewrite.{wordsOf}
 use Rattle.load.specs.declared.Loading.the-variants as loading
 use Rattle.load.specs.Loads as load
 use Rattle.load.specs.Under.{underList, fileUnder, loadUnder, load-lawful}
 use Rattle.theorems.specs.Fits.{Fitting, rowsIn}
-use Rattle.theorems.specs.Exact.{table}
 use Rattle.xml_layout.specs.Xml.{exported, Exports}
 use Rattle.xml_layout.specs.Tree.{FirstFault}
 use Rattle.xml_reading.specs.Answers.{Gathered, texts, something-else, bad, gathered, told, primary, byLoad, exportOf}
@@ -41,13 +41,12 @@ use Rattle.xml_reading.specs.Answers as answers
 use Rattle.xml_reading.specs.Strings.{array-holds, texts-rows}
 use Rattle.xml_reading.specs.Theorems.{gathered-complete, all-pass, exported-is}
 use Rattle.xml_reading.specs.Primaries.{Sorted, fault-told, texts-or-fault, array-primary, other-primary}
-use Rattle.xml_export.specs.Rows.{wordIn}
 use Rattle.xml_export.specs.Contract.{answerOf, Ready}
 use Rattle.xml_export.specs.Judging.{RefusedRow, refused-row}
 use Rattle.xml_export.specs.Under.{byList, exportUnder}
 use Rattle.xml_export.specs.declared.Exporting.{Exporting}
 use Rattle.xml_export.specs.declared.Exporting.the-variants.{Refused, Exported}
-use Rattle.xml_theorems.specs.Export.{TextsIn, Holds, firstByte, RowOf, Exact}
+use Rattle.xml_theorems.specs.Export.{TextsIn, Holds, firstByte, RowOf, ExportsFile}
 use Rattle.xml_theorems.proofs.Imported.{fits-in, fits-not, left-of, left-as-it-was, begins-with}
 
 first-row : (ds : List Draft) → answers.firstByte ds ≡ firstByte (bare ds)
@@ -87,16 +86,16 @@ module _ {enums file : List ℕ} {words : ℕ} (f : Fitting enums file words) wh
   by-primary : (g : Gathered) → says ≡ g → (out : ℕ) → exportUnder enums file words out ≡ told g (firstByte (rowsIn f)) out
   by-primary g e out = export-is out ∙ ap (λ (y : Gathered). told y (firstByte (rowsIn f)) out) e
 
-  table-is : tableOf (loadUnder enums file words) words ≡ table false (rowsIn f) words
+  table-is : tableOf (loadUnder enums file words) words ≡ table byRows (rowsIn f) words
   table-is =
       ap (λ (x : Load). tableOf x words) (load-lawful enums file words (f .es) list-is) ∙ T.table-is (named (f .es)) (judgedName (f .es)) (judges (f .es)) file words plain
 
-  table-skips : TableSkips byRows (roomOf words) (table false (rowsIn f) words) (length (rowsIn f))
-  table-skips = file-skips (named (f .es)) byRows (roomOf words) (f .tree) file (f .lays) (table false (rowsIn f) words) (rows-stand (roomOf words) (rowsIn f) (replicate (words - width * length (rowsIn f)) 0))
+  table-skips : TableSkips byRows (roomOf words) (table byRows (rowsIn f) words) (length (rowsIn f))
+  table-skips = file-skips (named (f .es)) byRows (roomOf words) (f .tree) file (f .lays) (table byRows (rowsIn f) words) (rows-stand (roomOf words) (rowsIn f) (replicate (words - width * length (rowsIn f)) 0))
 
   -- ---- The row of a text
 
-  table-long : length (table false (rowsIn f) words) ≡ words
+  table-long : length (table byRows (rowsIn f) words) ≡ words
   table-long =
       let n = T.rows-fit (named (f .es)) (judgedName (f .es)) (judges (f .es)) file words plain .1 in
       let rest : List ℕ = replicate (words - width * length (rowsIn f)) 0 in
@@ -106,7 +105,7 @@ module _ {enums file : List ℕ} {words : ℕ} (f : Fitting enums file words) wh
   ready : (fs : List EnumEntry) → fs ≡ f .es → (w : FileLays (named fs) (f .tree) file) × (fileRows (named fs) (f .tree) file w ≡ rowsIn f)
   ready fs e = subst (λ (es : List EnumEntry). (w : FileLays (named es) (f .tree) file) × (fileRows (named es) (f .tree) file w ≡ rowsIn f)) (sym e) (f .lays, refl)
 
-  abbrev loaded : Ready enums file (table false (rowsIn f) words) (length (rowsIn f)) (count (sharedOf (f .tree .objects)))
+  abbrev loaded : Ready enums file (table byRows (rowsIn f) words) (length (rowsIn f)) (count (sharedOf (f .tree .objects)))
   loaded =
       let v = ready (enumsOf enums) entries-are in
       let rest : List ℕ = replicate (words - width * length (rowsIn f)) 0 in
@@ -189,7 +188,7 @@ module _ (enums file : List ℕ) (words : ℕ) (out : List ℕ) {left end : List
     (writes : end ≡ outputOf (exportUnder enums file words (length out)) out)
     (leaves : left ≡ wordsOf (exportUnder enums file words (length out)) (tableOf (loadUnder enums file words) words)) where
   exports : (f : Fitting enums file words) (a : TextsIn f) (ts : List (List ℕ)) → Holds f a ts → length (exported ts) ≤ length out
-      → (r ≡ Exported (length (exported ts))) × (end ≡ exported ts ++ drop (length (exported ts)) out) × (left ≡ table false (rowsIn f) words)
+      → (r ≡ Exported (length (exported ts))) × (end ≡ exported ts ++ drop (length (exported ts)) out) × (left ≡ table byRows (rowsIn f) words)
   unfolding told
   exports f a ts h fit =
       let q = by-primary f (texts ts) (holds-says f a ts h) (length out) ∙ fits-in (exported ts) (length out) fit in (
@@ -227,7 +226,7 @@ module _ (enums file : List ℕ) (words : ℕ) (out : List ℕ) {left end : List
   skips : (n : ℕ) → r ≡ Exported n → (f : Fitting enums file words) → TableSkips byRows (roomOf words) left (length (rowsIn f))
   skips n e f =
       let w = written-is n e (exportUnder enums file words (length out)) refl in
-      let l : left ≡ table false (rowsIn f) words
+      let l : left ≡ table byRows (rowsIn f) words
       = leaves ∙ words-kept (exportUnder enums file words (length out)) (w .0) (tableOf (loadUnder enums file words) words) (w .1) ∙ table-is f in
       rw l (table-skips f)
 
@@ -239,7 +238,7 @@ module _ (enums file : List ℕ) (words : ℕ) (out : List ℕ) {left end : List
       (writes ∙ left-as-it-was (exportUnder enums file words (length out)) m p out q, c ∙ ap (λ (n : ℕ). replicate n 0) k)
   unchanged number place e (written xml) q = let z : r ≡ Exported (length xml) = answers ∙ ap answerOf q in differ cc
 
-  pub export-exact : Exact enums file words left out end r
+  pub export-exact : ExportsFile enums file words left out end r
   export-exact = record {
     exports = exports;
     only = only;

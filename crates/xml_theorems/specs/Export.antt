@@ -1,6 +1,5 @@
 -- What is demanded of the code of `export` (02, Req 13), which is the contract of `export_exact`. `exported` and `Exports` go from texts to XML; no reading is in it. Assumes nothing.
 use mathlib.Core.Path.{_≡_}
-use mathlib.Core.Bool.{false}
 use mathlib.Core.List.{List, [], _∷_, _++_}
 use mathlib.Core.Logic.{_⊎_}
 use Prim.Native.Nat.{ℕ, suc, _≤_, _<_}
@@ -8,15 +7,12 @@ use lib.ListN.{length, take, drop, replicate}
 use Rattle.layout.specs.Tree.{kindAt}
 use Rattle.layout.specs.Rows.{Row}
 use Rattle.layout.specs.Named.{named}
-use Rattle.reading.specs.Grid.{byRows}
-use Rattle.reading.specs.File.{roomOf}
-use Rattle.branches.specs.Table.{TableSkips}
+use Rattle.layout.specs.Table.{byRows, roomOf, table, wordIn}
+use Rattle.layout.specs.Branches.{TableSkips}
 use Rattle.load.specs.declared.Loading.the-variants as loading
 use Rattle.theorems.specs.Fits.{Fitting, rowsIn}
-use Rattle.theorems.specs.Exact.{table}
 use Rattle.xml_layout.specs.Xml.{Writable, Each, exported, Exports}
 use Rattle.xml_layout.specs.Tree.{Strings, TextArray, FirstFault}
-use Rattle.xml_export.specs.Rows.{wordIn}
 use Rattle.xml_export.specs.declared.Exporting.{Exporting}
 use Rattle.xml_export.specs.declared.Exporting.the-variants.{Refused, Exported}
 use Rattle.xml_theorems.specs.declared.Judged.{Judged}
@@ -36,14 +32,14 @@ firstByte (r ∷ rows) = r .first
 
 -- "at its row number": in the table that a load of the file leaves, the row of the text at position j has this number; the text's kind stands in the row, and the Array's row is its parent
 pub record RowOf {enums file : List ℕ} {words : ℕ} (f : Fitting enums file words) (a : TextsIn f) (j number : ℕ) : Type 0 where
-  pub kind : wordIn (table false (rowsIn f) words) number 0 ≡ kindAt j (a .children)
-  pub parent : wordIn (table false (rowsIn f) words) number 4 ≡ 1
+  pub kind : wordIn (table byRows (rowsIn f) words) number 0 ≡ kindAt j (a .children)
+  pub parent : wordIn (table byRows (rowsIn f) words) number 4 ≡ 1
 
 -- For the lent list of enum types, a file, the number of words lent, the words as they are left, the output as it was lent and as it is left, and the answer.
-pub record Exact (enums file : List ℕ) (words : ℕ) (left out end : List ℕ) (r : Exporting) : Type 0 where
+pub record ExportsFile (enums file : List ℕ) (words : ℕ) (left out end : List ℕ) (r : Exporting) : Type 0 where
   -- "Export a file whose primary object is an Array of String, with no shared objects" as the XML of its texts; output bytes past it stay, and the table is as a load leaves it
   pub exports : (f : Fitting enums file words) (a : TextsIn f) (ts : List (List ℕ)) → Holds f a ts → length (exported ts) ≤ length out
-      → (r ≡ Exported (length (exported ts))) × (end ≡ exported ts ++ drop (length (exported ts)) out) × (left ≡ table false (rowsIn f) words)
+      → (r ≡ Exported (length (exported ts))) × (end ≡ exported ts ++ drop (length (exported ts)) out) × (left ≡ table byRows (rowsIn f) words)
   -- what is exported is such a file, and the output then begins with the XML of its texts
   pub only : (n : ℕ) → r ≡ Exported n
       → (f : Fitting enums file words) × (a : TextsIn f) × (ts : List (List ℕ)) × Holds f a ts × (n ≤ length end) × Exports ts (take n end)

@@ -6,8 +6,7 @@ use lib.ListN.{length, take, drop}
 use Rattle.layout.specs.EnumList.{EnumEntry}
 use Rattle.layout.specs.Named.{named}
 use Rattle.layout.specs.File.{FileLays}
-use Rattle.numbers.specs.Shortest.{Shortens}
-use Rattle.shortest.specs.File.{shortFile}
+use Rattle.layout.specs.Shortest.{Shortens, shortFile}
 use Rattle.xml_layout.specs.First.{FirstWrong}
 use Rattle.xml_layout.specs.Xml.{Exports}
 use Rattle.xml_layout.specs.Tree.{treeOf, TextFile}

@@ -5,8 +5,8 @@ use xml_export::Exporting;
 use xml_import::Importing;
 ghost use lib.ListN.{length};
 ghost use Rattle.xml_theorems.specs.Import.{Imports};
-ghost use Rattle.xml_theorems.specs.Export.{Exact, Behind};
-ghost use Rattle.xml_theorems.specs.Trips.{Kept, Same};
+ghost use Rattle.xml_theorems.specs.Export.{ExportsFile, Behind};
+ghost use Rattle.xml_theorems.specs.Trips.{KeepsTexts, ExportsSame};
 
 // XML that is imported.
 pub fn import_exact(xml: &[u8], out: &mut [u8]) -> Importing
@@ -17,7 +17,7 @@ pub fn import_exact(xml: &[u8], out: &mut [u8]) -> Importing
 
 // A file that is exported, under a list of enum types.
 pub fn export_exact(file: &[u8], enums: &[u8], words: &mut [u32], out: &mut [u8]) -> Exporting
-    ensures { λ r. ⌜ Exact (now (enums .entry)) (now (file .entry)) (length (now (words .entry))) (now (words .exit))
+    ensures { λ r. ⌜ ExportsFile (now (enums .entry)) (now (file .entry)) (length (now (words .entry))) (now (words .exit))
         (now (out .entry)) (now (out .exit)) r ⌝ }
 {
     xml_export::export(file, enums, words, out)
@@ -46,7 +46,7 @@ fn export_then_import(
     out: &mut [u8],
     second: &mut [u8],
 ) -> Importing
-    ensures { λ r. ⌜ Kept (now (enums .entry)) (now (file .entry)) (length (now (words .entry))) (length (now (out .entry)))
+    ensures { λ r. ⌜ KeepsTexts (now (enums .entry)) (now (file .entry)) (length (now (words .entry))) (length (now (out .entry)))
         (now (second .entry)) (now (second .exit)) r ⌝ }
 {
     match export_exact(file, enums, words, out) {
@@ -63,7 +63,7 @@ fn import_then_export(
     out: &mut [u8],
     second: &mut [u8],
 ) -> Exporting
-    ensures { λ r. ⌜ Same (now (enums .entry)) (now (xml .entry)) (length (now (words .entry))) (length (now (out .entry)))
+    ensures { λ r. ⌜ ExportsSame (now (enums .entry)) (now (xml .entry)) (length (now (words .entry))) (length (now (out .entry)))
         (now (second .entry)) (now (second .exit)) r ⌝ }
 {
     match import_exact(xml, out) {

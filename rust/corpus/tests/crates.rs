@@ -144,3 +144,57 @@ fn the_page_of_crates_says_what_the_list_says() {
     let kept = fs::read_to_string(root().join("docs/CRATES.md")).expect("docs/CRATES.md");
     assert_eq!(kept, page(&crates_txt()));
 }
+
+/// The modules whose records say what is demanded of files, packs and XML with no reading in them.
+const DEMANDS: [&str; 15] = [
+    "theorems/specs/Fits.antt",
+    "theorems/specs/Loading.antt",
+    "theorems/specs/Rewriting.antt",
+    "theorems/specs/Branches.antt",
+    "theorems/specs/Packs.antt",
+    "theorems/specs/Marks.antt",
+    "theorems/specs/Salvage.antt",
+    "entry_theorems/specs/Told.antt",
+    "pack_entry_theorems/specs/Numbers.antt",
+    "full_tables/specs/Full.antt",
+    "name_faults/specs/Names.antt",
+    "driver_theorems/specs/Driver.antt",
+    "xml_theorems/specs/Import.antt",
+    "xml_theorems/specs/Export.antt",
+    "xml_theorems/specs/Trips.antt",
+];
+
+/// Modules that state a request beside the layouts: the driver's profile, and the scan of a damaged pack.
+const STATED: [&str; 5] = [
+    "profile/specs/Profile.antt",
+    "profile_places/specs/Broken.antt",
+    "profile_places/specs/Pieces.antt",
+    "pack_salvage/specs/Scan.antt",
+    "pack_salvage/specs/Stretches.antt",
+];
+
+/// The module that an import names, as its file below `crates/`; the layouts and the types of code have none here.
+fn imported(line: &str) -> Option<String> {
+    let path = line.strip_prefix("use Rattle·")?;
+    let path = path.split([' ', '{']).next()?.trim_end_matches('.');
+    let (from, module) = path.split_once(".specs.")?;
+    let from = from.split('·').next()?;
+    let of_layout = ["layout", "pack_layout", "xml_layout"].contains(&from);
+    let of_code = module.starts_with("declared.");
+    (!of_layout && !of_code).then(|| format!("{from}/specs/{module}.antt"))
+}
+
+#[test]
+fn demands_name_layouts_and_types_of_code_alone() {
+    for module in DEMANDS.into_iter().chain(STATED) {
+        let text = fs::read_to_string(root().join("crates").join(module)).expect(module);
+        assert!(text.contains("use Rattle·"), "{module} imports nothing");
+        for named in text.lines().filter_map(imported) {
+            let named = named.as_str();
+            assert!(
+                DEMANDS.contains(&named) || STATED.contains(&named),
+                "{module} imports {named}"
+            );
+        }
+    }
+}

@@ -3,7 +3,7 @@ use native.Mathlib.Omega.{arith}
 use lib.ListN.{length}
 use Rattle.reading.specs.Reads.{small-by-index}
 use Rattle.enums.specs.Lists.{Bytes}
-use Rattle.entry_theorems.proofs.Laws.{load-told, number-told, load-fills}
+use Rattle.entry_theorems.proofs.Laws.{load-told, refusal-told, number-told, load-fills}
 use borrow.Author.Needs.{needs}
 use Rattle.entry_theorems.proofs.load_rows_told.Statement.{statement}
 use Rattle.entry_theorems.proofs.load_rows_told.Tie as tie
@@ -23,7 +23,8 @@ returns c =
     let bytes : Bytes enums = λ i h. omega (arith, c .before .before .before .before .before .before .before .before .shared-slice-known2 .given i) in
     let small = small-by-index file (λ i h. omega (arith, c .before .before .before .before .before .before .before .before .before .shared-slice-known .given i)) in
     let told = c .before .before .xnb-load-rows .ensures in
-    (load-told enums file n bytes small (number-told enums file n false bytes small (told .0) (told .1)), load-fills enums file n false bytes small (told .0) (told .1))
+    let e = number-told enums file n false bytes small (told .0) (told .1) in
+    (load-told enums file n bytes small e, (refusal-told enums file n bytes small e, load-fills enums file n false bytes small (told .0) (told .1)))
 
 pub load-rows-told-spec : {M : Type 1} → statement M
 load-rows-told-spec = tie.close (tie.spec xnb-load-rows-requires same-length returns)

@@ -2,7 +2,7 @@ use native.Mathlib.Omega.{arith}
 use lib.ListN.{length}
 use Rattle.reading.specs.Reads.{small-by-index}
 use Rattle.enums.specs.Lists.{Bytes}
-use Rattle.entry_theorems.proofs.Laws.{rewrite-told}
+use Rattle.entry_theorems.proofs.Laws.{rewrite-told, rewrite-refusal-told}
 use borrow.Author.Needs.{needs}
 use Rattle.entry_theorems.proofs.rewrite_told.Statement.{statement}
 use Rattle.entry_theorems.proofs.rewrite_told.Tie as tie
@@ -24,7 +24,9 @@ returns c =
     let bytes : Bytes enums = λ i h. omega (arith, c .before .before .before .before .before .before .before .before .before .shared-slice-known2 .given i) in
     let small = small-by-index file (λ i h. omega (arith, c .before .before .before .before .before .before .before .before .before .before .shared-slice-known .given i)) in
     let told = c .before .before .before .before .xnb-rewrite .ensures in
-    rewrite-told enums file (length (a .words .now)) (a .out .now) bytes small (told .0) (told .1 .0) (told .1 .1)
+    let n = length (a .words .now) in
+    let out = a .out .now in
+    (rewrite-told enums file n out bytes small (told .0) (told .1 .0) (told .1 .1), rewrite-refusal-told enums file n out bytes small (told .0) (told .1 .0) (told .1 .1))
 
 pub rewrite-told-spec : {M : Type 1} → statement M
 rewrite-told-spec = tie.close (tie.spec xnb-rewrite-requires same-length same-length-2 returns)

@@ -1,5 +1,5 @@
 use borrow.Author.Tests.{ne-eqb}
-use Rattle.enums.specs.Judge.{isSize}
+use Rattle.names.specs.Entries.{isSize}
 use Rattle.enums.proofs.is_size.Statement.{statement}
 use Rattle.enums.proofs.is_size.Tie as tie
 

@@ -1,6 +1,6 @@
 use borrow.Author.Needs.{needs}
 use native.Mathlib.Omega.{arith}
-use Rattle.reading.specs.File.{roomOf}
+use Rattle.layout.specs.Table.{roomOf}
 use Rattle.load_part.specs.Part.{firstWords}
 use Rattle.load_part.proofs.first_words.Statement.{statement}
 use Rattle.load_part.proofs.first_words.Tie as tie

@@ -1,8 +1,8 @@
 use mathlib.Core.Path.{sym, ap, _∙_}
 use native.Mathlib.Omega.{arith}
+use Rattle.pack_layout.specs.Pack.{markOf}
 use Rattle.answers.specs.Told.{told}
 use Rattle.reading.specs.Reads.{small-by-index}
-use Rattle.pack_records.specs.Records.{markOf}
 use Rattle.packs.specs.Walk.{count-refused, count-many, count-few}
 use Rattle.marks.proofs.Answers.{walk-refused}
 use borrow.Author.Needs.{needs}

@@ -4,8 +4,7 @@ use mathlib.Core.List.{List, []}
 use Prim.Native.Nat.{_-_}
 use native.Mathlib.Omega.{arith}
 use Rattle.reading.specs.Reads.{small-by-index}
-use Rattle.pack_layout.specs.Pack.{Stored}
-use Rattle.pack_records.specs.Records.{markOf}
+use Rattle.pack_layout.specs.Pack.{Stored, markOf}
 use Rattle.packs.specs.Walk.{Walked, start, got, none, refuse, turn, left-over, ended}
 use Rattle.marks.proofs.Answers.{walk-refused, walk-read}
 use borrow.Author.Needs.{needs}

@@ -1,6 +1,6 @@
 use mathlib.Core.Path.{_∙_, ap}
 use borrow.Author.Tests.{eq-eqb, ne-eqb}
-use Rattle.meshes.specs.Stages.{numberOf, toldAt}
+use Rattle.meshes.specs.Stages.{toldAt, wordOf}
 use borrow.Author.Needs.{needs}
 use Rattle.meshes.proofs.told_at.Statement.{statement}
 use Rattle.meshes.proofs.told_at.Tie as tie
@@ -13,7 +13,7 @@ number-of-requires c κs = search needs
 
 returns : tie.Need-returns
 unfolding toldAt
-returns c = rw (eq-eqb _ 0 (c .before .before .if1 .taken)) (c .number-of .ensures ∙ ap numberOf (c .before .little1 .ensures))
+returns c = rw (eq-eqb _ 0 (c .before .before .if1 .taken)) (c .number-of .ensures ∙ ap wordOf (c .before .little1 .ensures))
 
 little4-requires : tie.Need-little4-requires
 little4-requires c κs = search needs
@@ -23,7 +23,7 @@ number-of-requires-2 c κs = search needs
 
 returns-2 : tie.Need-returns-2
 unfolding toldAt
-returns-2 c = rw (ne-eqb _ 0 (c .before .before .if1 .left)) (c .number-of2 .ensures ∙ ap numberOf (c .before .little4 .ensures))
+returns-2 c = rw (ne-eqb _ 0 (c .before .before .if1 .left)) (c .number-of2 .ensures ∙ ap wordOf (c .before .little4 .ensures))
 
 pub told-at-spec : {M : Type 1} → statement M
 told-at-spec =

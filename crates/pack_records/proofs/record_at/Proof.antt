@@ -1,8 +1,8 @@
 use mathlib.Core.Path.{sym, ap, _∙_}
 use native.Mathlib.Omega.{arith}
+use Rattle.pack_layout.specs.Pack.{markOf}
 use Rattle.answers.specs.Told.{told}
 use Rattle.reading.specs.Reads.{small-by-index}
-use Rattle.pack_records.specs.Records.{markOf}
 use Rattle.pack_records.proofs.Parts.{pathed-is, record-unmarked, record-unnamed, record-there}
 use borrow.Author.Needs.{needs}
 use Rattle.pack_records.proofs.record_at.Statement.{statement}

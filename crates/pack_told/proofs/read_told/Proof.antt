@@ -1,6 +1,6 @@
 use mathlib.Core.Path.{sym, _∙_}
 use lib.ListN.{length}
-use Rattle.pack_records.specs.Records.{markOf}
+use Rattle.pack_layout.specs.Pack.{markOf}
 use Rattle.pack_reading.specs.Pack.{packOf}
 use Rattle.pack_told.proofs.Laws.{pack-refused, pack-read}
 use borrow.Author.Needs.{needs}

@@ -1,7 +1,8 @@
 use native.Mathlib.Omega.{arith}
 use lib.ListN.{length}
-use Rattle.pack_reading.specs.Pack.{packAt, roomOf, packOf}
-use Rattle.pack_records.specs.Records.{markOf}
+use Rattle.pack_layout.specs.Table.{filesRoom}
+use Rattle.pack_layout.specs.Pack.{markOf}
+use Rattle.pack_reading.specs.Pack.{packAt, packOf}
 use Rattle.packs.proofs.Whole.{fills-fit, told-refused, told-read}
 use borrow.Author.Needs.{needs}
 use Rattle.packs.proofs.read.Statement.{statement}
@@ -22,7 +23,7 @@ enum-known-files c = search needs
 mul-clear64 : tie.Need-mul-clear64
 mul-clear64 c =
     let a = c .before .before .before .before .before .before .before .before .before .before .args in
-    let x = packAt (markOf (a .marked)) (a .pack .now) (roomOf (length (a .table .now))) in
+    let x = packAt (markOf (a .marked)) (a .pack .now) (filesRoom (length (a .table .now))) in
     omega (arith, fills-fit (markOf (a .marked)) x _ _ (rw (c .before .before .files .given .1) at (c .before .before .before .before .before .before .read-counted .ensures)))
 
 clear64-requires-2 : tie.Need-clear64-requires-2
@@ -35,7 +36,7 @@ returns : tie.Need-returns
 unfolding packOf
 returns c =
     let a = c .before .before .before .before .before .before .before .before .before .before .before .before .before .args in
-    let x = packAt (markOf (a .marked)) (a .pack .now) (roomOf (length (a .table .now))) in
+    let x = packAt (markOf (a .marked)) (a .pack .now) (filesRoom (length (a .table .now))) in
     let t = told-refused (markOf (a .marked)) x _ (length (a .table .now)) (search needs) (rw (c .before .before .before .before .before .number .given .1) at (c .before .before .before .before .before .before .before .before .before .read-counted .ensures)) in
     (t .answers, rw (c .before .before .clear64 .ensures) (t .leaves))
 
@@ -46,7 +47,7 @@ returns-2 : tie.Need-returns-2
 unfolding packOf
 returns-2 c =
     let a = c .before .before .before .before .before .before .before .before .before .before .before .before .before .args in
-    let x = packAt (markOf (a .marked)) (a .pack .now) (roomOf (length (a .table .now))) in
+    let x = packAt (markOf (a .marked)) (a .pack .now) (filesRoom (length (a .table .now))) in
     let t = told-read (markOf (a .marked)) x _ (length (a .table .now)) (search needs) (rw (c .before .before .before .before .before .files .given .1) at (c .before .before .before .before .before .before .before .before .before .read-counted .ensures)) in
     (t .answers, rw (c .before .before .clear642 .ensures) (t .leaves))
 

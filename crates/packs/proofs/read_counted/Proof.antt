@@ -1,10 +1,10 @@
 use mathlib.Core.Path.{refl, sym, ap, _∙_}
 use native.Mathlib.Omega.{arith}
 use lib.ListN.{length}
+use Rattle.pack_layout.specs.Table.{filesRoom}
+use Rattle.pack_layout.specs.Pack.{markOf}
 use Rattle.answers.specs.Told.{told}
 use Rattle.reading.specs.Reads.{small-by-index}
-use Rattle.pack_reading.specs.Pack.{roomOf}
-use Rattle.pack_records.specs.Records.{markOf}
 use Rattle.packs.specs.Walk.{count-refused, count-many, count-few}
 use borrow.Author.Needs.{needs}
 use Rattle.packs.proofs.read_counted.Statement.{statement}
@@ -22,7 +22,7 @@ enum-known-n c = search needs
 returns : tie.Need-returns
 returns c =
     let a = c .before .before .before .before .before .before .before .args in
-    rw (count-many (markOf (a .marked)) (a .pack .now) (roomOf (length (a .table .now))) (sym (c .before .before .before .before .little4 .ensures) ∙ ap told (c .before .before .n .given .1)) (c .if1 .taken)) refl
+    rw (count-many (markOf (a .marked)) (a .pack .now) (filesRoom (length (a .table .now))) (sym (c .before .before .before .before .little4 .ensures) ∙ ap told (c .before .before .n .given .1)) (c .if1 .taken)) refl
 
 read-files-requires : tie.Need-read-files-requires
 read-files-requires c κs = search needs
@@ -30,7 +30,7 @@ read-files-requires c κs = search needs
 returns-2 : tie.Need-returns-2
 returns-2 c =
     let a = c .before .before .before .before .before .before .args in
-    rw (count-refused (markOf (a .marked)) (a .pack .now) (roomOf (length (a .table .now))) (sym (c .before .before .before .little4 .ensures) ∙ ap told (c .before .number .given .1))) refl
+    rw (count-refused (markOf (a .marked)) (a .pack .now) (filesRoom (length (a .table .now))) (sym (c .before .before .before .little4 .ensures) ∙ ap told (c .before .number .given .1))) refl
 
 same-length : tie.Need-same-length
 same-length c = search needs
@@ -39,7 +39,7 @@ returns-3 : tie.Need-returns-3
 returns-3 c =
     let a = c .before .before .before .before .before .before .before .before .before .before .before .args in
     let small = small-by-index (a .pack .now) (λ i h. omega (arith, c .before .before .before .before .before .before .before .before .before .before .shared-slice-known .given i)) in
-    rw (count-few (markOf (a .marked)) (a .pack .now) (roomOf (length (a .table .now))) small (sym (c .before .before .before .before .before .before .before .before .little4 .ensures) ∙ ap told (c .before .before .before .before .before .before .n .given .1)) (c .before .before .before .before .if1 .left))
+    rw (count-few (markOf (a .marked)) (a .pack .now) (filesRoom (length (a .table .now))) small (sym (c .before .before .before .before .before .before .before .before .little4 .ensures) ∙ ap told (c .before .before .before .before .before .before .n .given .1)) (c .before .before .before .before .if1 .left))
     (c .before .before .read-files .ensures)
 
 pub read-counted-spec : {M : Type 1} → statement M

@@ -3,9 +3,9 @@ use mathlib.Core.Path.{_≡_, refl, sym, _∙_}
 use Prim.Native.Nat.{_-_}
 use native.Mathlib.Omega.{arith}
 use lib.ListN.{length}
+use Rattle.pack_layout.specs.Table.{filesRoom}
+use Rattle.pack_layout.specs.Pack.{markOf}
 use Rattle.reading.specs.Reads.{small-by-index}
-use Rattle.pack_reading.specs.Pack.{roomOf}
-use Rattle.pack_records.specs.Records.{markOf}
 use Rattle.packs.specs.Walk.{got, none, no-room, refuse, left-over}
 use Rattle.packs.proofs.Turns.{Reached, begin, fills-refused, next, filled}
 use borrow.Author.Needs.{needs}
@@ -13,13 +13,13 @@ use Rattle.packs.proofs.read_files.Statement.{statement}
 use Rattle.packs.proofs.read_files.Tie as tie
 
 abbrev Inv-loop : tie.InvT-loop
-Inv-loop pack table₀ marked n room i₀ at₀ table i at = (length table ≡ length table₀) × (room ≡ roomOf (length table₀)) × Reached (markOf marked) pack n room table i at
+Inv-loop pack table₀ marked n room i₀ at₀ table i at = (length table ≡ length table₀) × (room ≡ filesRoom (length table₀)) × Reached (markOf marked) pack n room table i at
 
 abbrev μ-loop : tie.MeasureT-loop
 μ-loop pack table₀ marked n room i₀ at₀ table i at = n - i
 
 loop-holds : tie.Need-loop-holds Inv-loop μ-loop
-unfolding roomOf
+unfolding filesRoom
 loop-holds c = (refl, refl, begin _ _ _ _ _)
 
 same-length : tie.Need-same-length Inv-loop μ-loop
@@ -59,11 +59,11 @@ sub-count : tie.Need-sub-count Inv-loop μ-loop
 sub-count c = search needs
 
 mul-put-entry : tie.Need-mul-put-entry Inv-loop μ-loop
-unfolding roomOf
+unfolding filesRoom
 mul-put-entry c = search needs
 
 put-entry-requires : tie.Need-put-entry-requires Inv-loop μ-loop
-unfolding roomOf
+unfolding filesRoom
 put-entry-requires c κs = search needs
 
 add-at : tie.Need-add-at Inv-loop μ-loop
@@ -106,11 +106,11 @@ enum-known-start : tie.Need-enum-known-start Inv-loop μ-loop
 enum-known-start c = search needs
 
 mul-put-entry-2 : tie.Need-mul-put-entry-2 Inv-loop μ-loop
-unfolding roomOf
+unfolding filesRoom
 mul-put-entry-2 c = search needs
 
 put-entry-requires-2 : tie.Need-put-entry-requires-2 Inv-loop μ-loop
-unfolding roomOf
+unfolding filesRoom
 put-entry-requires-2 c κs = search needs
 
 add-at-2 : tie.Need-add-at-2 Inv-loop μ-loop

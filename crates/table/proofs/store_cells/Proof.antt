@@ -5,7 +5,8 @@ use native.Mathlib.Omega.{arith}
 use lib.Dec.{ltb}
 use lib.ListN.{length, length-set}
 use borrow.Author.Tests.{lt-ltb}
-use Rattle.reading.specs.Grid.{shapeOf, cell-grows}
+use Rattle.layout.specs.Table.{shapeOf}
+use Rattle.reading.specs.Grid.{cell-grows}
 use Rattle.ids.specs.declared.Grid.{Grid}
 use Rattle.ids.specs.Position.{cellOf}
 use Rattle.table.specs.Written.{putRow, seven}

@@ -4,7 +4,8 @@ use Prim.Native.Nat.{ℕ, suc, _+_, _*_, _-_, _≤_}
 use native.Mathlib.Omega.{arith}
 use native.Mathlib.Numerals.{add-one}
 use lib.ListN.{length}
-use Rattle.reading.specs.Grid.{shapeOf, cell-inside}
+use Rattle.layout.specs.Table.{shapeOf}
+use Rattle.reading.specs.Grid.{cell-inside}
 use Rattle.places.specs.Word.{inWord, word-sum}
 use Rattle.table.specs.Runs.{putRun, run-first, run-more}
 use borrow.Author.Needs.{needs}

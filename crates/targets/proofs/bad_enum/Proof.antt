@@ -1,7 +1,7 @@
 use native.Mathlib.Omega.{arith}
 use mathlib.Core.Path.{sym, ap, _∙_}
 use borrow.Author.Tests.{eq-eqb, ne-eqb}
-use Rattle.targets.specs.Complaint.{unless}
+use Rattle.layout.specs.Complaint.{unless}
 use Rattle.targets.specs.Judge.{listedKind, complaint}
 use Rattle.targets.proofs.Loops.{enum-none, enum-some}
 use borrow.Author.Needs.{needs}

@@ -7,8 +7,8 @@ use lib.Dec.{eqb}
 use lib.ListN.{getD}
 use mathlib.Core.List.{List}
 use Prim.Native.Nat.{ℕ}
+use Rattle.layout.specs.Complaint.{unless}
 use Rattle.names.proofs.Laws.{rest}
-use Rattle.targets.specs.Complaint.{unless}
 use Rattle.targets.specs.Judge.{badEnum, badArguments, complaint}
 use Rattle.targets.proofs.Loops.{reader-none, reader-some}
 use borrow.Author.Needs.{needs}

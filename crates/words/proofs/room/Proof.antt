@@ -1,6 +1,6 @@
 use native.Mathlib.Omega.{arith}
-use Rattle.reading.specs.File.{roomOf}
 use borrow.Author.Needs.{needs}
+use Rattle.layout.specs.Table.{roomOf}
 use Rattle.words.proofs.room.Statement.{statement}
 use Rattle.words.proofs.room.Tie as tie
 

@@ -1,5 +1,5 @@
 use borrow.Author.Needs.{needs}
-use Rattle.reading.specs.Grid.{cell}
+use Rattle.layout.specs.Table.{cell}
 use Rattle.ids.proofs.RowNumber.cell.Statement.{statement}
 use Rattle.ids.proofs.RowNumber.cell.Tie as tie
 

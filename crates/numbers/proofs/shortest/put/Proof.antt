@@ -3,7 +3,8 @@ use Prim.Native.Nat.{_+_}
 use native.Mathlib.Omega.{arith}
 use lib.ListN.{length, length-set}
 use lib.Seq.{sets}
-use Rattle.numbers.specs.Shortest.{shortest, Rest, rest-room, rest-more, rest-last}
+use Rattle.layout.specs.Shortest.{shortest}
+use Rattle.numbers.specs.Shortest.{Rest, rest-room, rest-more, rest-last}
 use Rattle.numbers.proofs.shortest.put.Statement.{statement}
 use Rattle.numbers.proofs.shortest.put.Tie as tie
 

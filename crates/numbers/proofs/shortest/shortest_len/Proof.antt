@@ -1,7 +1,7 @@
 use Prim.Native.Nat.{_/_}
 use native.Mathlib.Omega.{arith}
 use borrow.Author.Tests.{lt-ltb, le-ltb}
-use Rattle.numbers.specs.Shortest.{shortest, fewest}
+use Rattle.layout.specs.Shortest.{shortest, fewest}
 use Rattle.numbers.proofs.shortest.shortest_len.Statement.{statement}
 use Rattle.numbers.proofs.shortest.shortest_len.Tie as tie
 

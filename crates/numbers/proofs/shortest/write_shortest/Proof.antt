@@ -6,8 +6,8 @@ use lib.Dec.{leb}
 use lib.ListN.{length}
 use lib.Seq.{sets-eq}
 use borrow.Author.Tests.{le-leb, lt-leb}
-use Rattle.numbers.specs.Shortest.{shortest}
 use borrow.Author.Needs.{needs}
+use Rattle.layout.specs.Shortest.{shortest}
 use Rattle.numbers.proofs.shortest.write_shortest.Statement.{statement}
 use Rattle.numbers.proofs.shortest.write_shortest.Tie as tie
 

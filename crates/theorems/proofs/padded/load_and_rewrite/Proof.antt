@@ -1,5 +1,6 @@
 use native.Mathlib.Omega.{arith}
 use Rattle.reading.specs.Reads.{small-by-index}
+use Rattle.theorems.specs.Fitted.{padding-is}
 use Rattle.theorems.specs.Laws.{load-exact, rewrite-exact}
 use Rattle.theorems.proofs.Padding.{total, needed, none, refused}
 use Rattle.enums.specs.Lists.{Bytes}
@@ -31,7 +32,7 @@ returns c =
     let k = rw (← n) at (c .before .before .before .before .before .before .before .before .before .load-in .ensures .1) in
     let e = c .before .before .before .before .rewrite .ensures in
     let x = rewrite-exact enums file _ (a .out .now) bytes small (e .0) (e .1 .0) (e .1 .1) in
-    rw (← n) (record { between = _; loads = load-exact enums file _ _ bytes small l k; rewrites = x; total = total enums file _ bytes small l x (e .0); needed = needed enums file _ bytes small l x (e .0); none = none enums file _ bytes small l x (e .0); refused = refused enums file _ bytes small l x (e .0) })
+    rw (← n) (record { between = _; loads = load-exact enums file _ (a .columns) bytes small l k; rewrites = x; total = total enums file _ bytes small l x (e .0); counted = λ f. padding-is f; needed = needed enums file _ bytes small l x (e .0); none = none enums file _ bytes small l x (e .0); refused = refused enums file _ bytes small l x (e .0) })
 
 pub load-and-rewrite-spec : {M : Type 1} → statement M
 load-and-rewrite-spec =

@@ -4,12 +4,11 @@ use mathlib.Core.List.{List, [], _∷_, _++_}
 use Prim.Native.Nat.{ℕ, _+_}
 use lib.Dec.{eqb}
 use lib.ListN.{length}
 use Rattle.layout.specs.Target.{kindOf, isValue}
-use Rattle.layout.specs.Name.{Name, simple, one, two}
+use Rattle.layout.specs.Name.{Name, simple, one, two, long}
 use Rattle.layout.specs.Kind.{lookup, targets, readers}
 use Rattle.layout.specs.EnumList.{EnumEntry}
 use Rattle.layout.specs.Named.{Typed, unknown, known, plain, typeOf, enumOf}
-use Rattle.names.specs.Heading.{long}
 
 -- a name has a target
 unfoldable pub isKnown : Typed → Bool

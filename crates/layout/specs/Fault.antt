@@ -1,4 +1,4 @@
--- What 33 to 38 say of a reader's name, and where (02, Req 04). Faults.antt proves it of what the parser answers. Assumes nothing.
+-- What 33 to 38 say of a reader's name, and where (02, Req 04). Assumes nothing.
 use mathlib.Core.Path.{_≡_}
 use mathlib.Core.Bool.{Bool, cond}
 use mathlib.Core.List.{List}
@@ -6,8 +6,7 @@ use mathlib.Core.Logic.{_⊎_}
 use Prim.Native.Nat.{ℕ, suc, _+_, _≤_, _<_}
 use lib.Dec.{eqb}
 use lib.ListN.{length, take}
-use Rattle.layout.specs.Name.{Tail, none, some, Name, simple, one, two, text, Formed}
-use Rattle.names.specs.Heading.{long}
+use Rattle.layout.specs.Name.{Tail, none, some, Name, simple, one, two, text, Formed, long}
 
 -- 02: "empty head, bad byte in a head, digit not 1 or 2, argument brackets out of form or followed by a wrong byte, bad byte in a tail": what a place in a name is
 pub data Part : Type 0 where
@@ -44,12 +43,12 @@ pub data Place : (level : ℕ) → Part → Name → (i : ℕ) → Type 0 where
 
 -- the number of a fault by what its place is, and whether the name ends there too soon.
 -- 02: "10 becomes 33 to 38 in the order named"; "a level-9 part is faulted where it starts, even at the name's end"; "or the name's end if it ends too soon (36 if a bracket is due there)"
-unfoldable pub numberOf : (level : ℕ) → Part → (ended : Bool) → ℕ
-numberOf level head-start ended = cond (eqb level 9) 38 33
-numberOf level head-end ended = cond ended 36 34
-numberOf level digit ended = 35
-numberOf level brackets ended = 36
-numberOf level tail-end ended = cond ended 36 37
+unfoldable pub faultNumber : (level : ℕ) → Part → (ended : Bool) → ℕ
+faultNumber level head-start ended = cond (eqb level 9) 38 33
+faultNumber level head-end ended = cond ended 36 34
+faultNumber level digit ended = 35
+faultNumber level brackets ended = 36
+faultNumber level tail-end ended = cond ended 36 37
 
 -- the bytes s of a reader's name are faulty at the place i from their first, with this number
 pub record Fault (s : List ℕ) (number i : ℕ) : Type 0 where
@@ -63,7 +62,7 @@ pub record Fault (s : List ℕ) (number i : ℕ) : Type 0 where
   pub level : ℕ
   pub part : Part
   pub place : Place level part n i
-  pub is : number ≡ numberOf level part (eqb i (length s))
+  pub is : number ≡ faultNumber level part (eqb i (length s))
   -- 02: "the leftmost place decides, at one place 38": where that name has a level-9 part, it starts behind the place, or there if the number is 38
   pub leftmost : (j : ℕ) → Place 9 head-start n j → (i < j) ⊎ ((i ≡ j) × (number ≡ 38))
   -- with the byte at the place, or with the end that stands there, no name of any number of levels begins so; 38 alone says nothing of what stands there
