@@ -1,12 +1,17 @@
 -- The judge's loop: the entries that were passed, and what is left to say of the bytes behind them. Assumes nothing.
 use mathlib.Core.Path.{_≡_, refl, sym, ap, _∙_}
-use mathlib.Core.Bool.{true, false}
+use mathlib.Core.Bool.{Bool, true, false, cond}
 use mathlib.Core.List.{List, [], _∷_, _++_}
 use Prim.Native.Nat.{ℕ, zero, suc, _+_, _-_, _≤_, _<_}
 use native.Mathlib.Omega.{arith}
 use lib.ListN.{length, take, drop, getD, length-drop, length-append, drop-of-length-le}
 use lib.Seq.{length-take-le, take-add, take-at}
 use borrow.Author.Tests.{lt-ltb, le-ltb, eq-eqb, ne-eqb}
+use Rattle.laws.specs.Small.{differ}
+use Rattle.layout.specs.Kind.{alike}
+use Rattle.names.specs.Codes.{alike-then}
+use Rattle.seen_names.specs.Seen.{isNoted, noted}
+use Rattle.seen_names.specs.Laws.{noted-now, noted-still}
 use Rattle.layout.specs.EnumList.{EnumEntry, entry, writeEnums, sizeIn}
 use Rattle.names.specs.Entries.{entriesOf, entries-written}
 use Rattle.enums.specs.declared.Judged.the-variants.{Lawful, Refused}
@@ -14,6 +19,7 @@ use Rattle.enums.specs.Judge.{Judgement, refused, lawful, isEnumType, ch
 use Rattle.enums.specs.Laws.{write-append}
 use Rattle.enums.specs.Lists.{first-written}
 use Rattle.enums.specs.Contract.{answerOf}
+use Rattle.enums.specs.Noted.{AllNoted}
 use Rattle.enums.proofs.Laws.{at-place, endAt, nameAt, name-is, size-is, rest-is}
 
 -- more room for entries than there are bytes makes no difference
@@ -55,19 +61,45 @@ module _ (earlier : List EnumEntry) (n : ℕ) (s : List ℕ) where
           rw (lt-ltb n (length s) h, b, eq-eqb _ _ e)
           (from-same (length s) (length (drop (suc n) s)) (earlier ++ (entry (take n s) (getD s n 0) ∷ [])) (drop (suc n) s) (omega arith) (omega arith))
 
--- the entries before a place, and as many as the code counts
-pub record Judging (s : List ℕ) (at count : ℕ) : Type 0 where
+-- one entry more, whose name was noted just now
+all-still : (seen name : List ℕ) (es : List EnumEntry) → AllNoted seen es → AllNoted (noted seen name) es
+unfolding AllNoted
+all-still seen name [] w = tt
+all-still seen name (entry n z ∷ es) w = (noted-still seen name n (w .0), all-still seen name es (w .1))
+
+all-append : (seen name : List ℕ) (size : ℕ) (es : List EnumEntry) → AllNoted seen es → isNoted seen name ≡ true → AllNoted seen (es ++ (entry name size ∷ []))
+unfolding AllNoted
+all-append seen name size [] w n = (n, tt)
+all-append seen name size (entry m z ∷ es) w n = (w .0, all-append seen name size es (w .1) n)
+
+all-more : (seen name : List ℕ) (size : ℕ) (es : List EnumEntry) → AllNoted seen es → AllNoted (noted seen name) (es ++ (entry name size ∷ []))
+all-more seen name size es w = all-append (noted seen name) name size es (all-still seen name es w) (noted-now seen name)
+
+-- a name that is not noted is none of theirs
+pub new-unlisted : (seen name : List ℕ) (es : List EnumEntry) → isNoted seen name ≡ false → AllNoted seen es → sizeIn es name ≡ 0
+unfolding AllNoted sizeIn
+new-unlisted seen name [] e w = refl
+new-unlisted seen name (entry n z ∷ es) e w = go (new-unlisted seen name es e (w .1)) (alike name n) refl where
+  go : sizeIn es name ≡ 0 → (b : Bool) → alike name n ≡ b → cond b z (sizeIn es name) ≡ 0
+  go r true q =
+      let y : isNoted seen name ≡ true = rw (alike-then name n q) (w .0) in
+      differ cc
+  go r false q = r
+
+-- the entries before a place, as many as the code counts, each with its name noted in a table of marks
+pub record Judging (s seen : List ℕ) (at count : ℕ) : Type 0 where
   pub earlier : List EnumEntry
   pub passed : take at s ≡ writeEnums earlier
   pub counted : count ≡ length earlier
   pub few : count ≤ at
   pub left : enumsAt s ≡ behind earlier (drop at s)
+  pub all-noted : AllNoted seen earlier
 
-pub judging-start : (s : List ℕ) → Judging s 0 0
-unfolding enumsAt writeEnums
-judging-start s = record { earlier = []; passed = refl; counted = refl; few = omega arith; left = refl }
+pub judging-start : (s seen : List ℕ) → Judging s seen 0 0
+unfolding enumsAt writeEnums AllNoted
+judging-start s seen = record { earlier = []; passed = refl; counted = refl; few = omega arith; left = refl; all-noted = tt }
 
-module _ {s : List ℕ} {at count : ℕ} (j : Judging s at count) where
+module _ {s seen : List ℕ} {at count : ℕ} (j : Judging s seen at count) where
   says : {number : ℕ} → behind (j .earlier) (drop at s) ≡ refused number (length (j .earlier)) → Refused number count ≡ answerOf (enumsAt s)
   says {number} e = rw (j .counted) (ap answerOf (sym (j .left ∙ e)))
 
@@ -80,6 +112,10 @@ module _ {s : List ℕ} {at count : ℕ} (j : Judging s at count) where
   -- the sizes that the code sees in the bytes before the place are those of the earlier entries
   sizes-before : (name : List ℕ) → sizeIn (entriesOf (take at s)) name ≡ sizeIn (j .earlier) name
   sizes-before name = ap (λ (l : List ℕ). sizeIn (entriesOf l) name) (j .passed) ∙ ap (λ (l : List EnumEntry). sizeIn l name) (entries-written (j .earlier))
+
+  -- the entries that the code sees there are all noted
+  pub noted-before : AllNoted seen (entriesOf (take at s))
+  noted-before = rw (j .passed, entries-written (j .earlier)) (j .all-noted)
 
   module _ (h : at < length s) where
     pub judged-cut : length s - (at + 1) ≤ getD s at 0 → Refused 32 count ≡ answerOf (enumsAt s)
@@ -101,7 +137,7 @@ module _ {s : List ℕ} {at count : ℕ} (j : Judging s at count) where
             says (rw (at-place s at h) (behind-again (j .earlier) (getD s at 0) (drop (at + 1) s) inside good
             (λ q. e (rw (name-is s at h) (sizes-before (take (getD s at 0) (drop (at + 1) s)) ∙ q)))))
 
-        pub judged-next : sizeIn (entriesOf (take at s)) (nameAt s at) ≡ 0 → Judging s (endAt s at + 1) (count + 1)
+        pub judged-next : sizeIn (entriesOf (take at s)) (nameAt s at) ≡ 0 → Judging s (noted seen (nameAt s at)) (endAt s at + 1) (count + 1)
         unfolding writeEnums
         judged-next e =
             let n = getD s at 0 in
@@ -119,4 +155,5 @@ module _ {s : List ℕ} {at count : ℕ} (j : Judging s at count) where
               counted = omega (arith, j .counted, length-append (j .earlier) (this ∷ []));
               few = omega (arith, j .few);
               left = j .left ∙ ap (behind (j .earlier)) (at-place s at h) ∙ behind-next (j .earlier) n r inside good f ∙ ap (behind (j .earlier ++ (this ∷ []))) (sym (rest-is s at h));
+              all-noted = rw (name-is s at h) (all-more seen (take n r) (getD r n 0) (j .earlier) (j .all-noted));
             }

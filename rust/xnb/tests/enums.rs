@@ -9,6 +9,7 @@ use xnb::{
 };
 
 const LISTS: u64 = 20_000;
+const LONG_LISTS: u64 = 500;
 
 /// The refusal of a list of these names and sizes: entry, name and fault.
 fn refused(types: &[(&str, u8)]) -> (usize, String, Option<EnumFault>) {
@@ -251,4 +252,50 @@ fn generated_lists_are_refused_as_by_the_second_program() {
     println!("{lawful} lists are lawful; faults: {:?}", faults.values());
     // All faults but the name that is too long for bytes.
     assert_eq!((lawful > LISTS / 2, faults.len()), (true, 6));
+}
+
+/// What a load of the empty file is refused with under a list, by the library and by the second program.
+fn both_refusals(enums: &[u8]) -> [(u32, usize); 2] {
+    let second = second::load(&[], enums, &mut []).expect_err("an empty file");
+    let loader = Loader::new().with_enum_bytes(enums);
+    let mut words = [7; WORDS_PER_ROW];
+    let library = loader.load_words(Shape::Rows, &[], &mut words);
+    let Refused { refusal, place } = library.expect_err("an empty file");
+    [
+        (refusal.number(), place as usize),
+        (second.number, second.place),
+    ]
+}
+
+/// Lists of up to 20,000 entries, with and without a repeat or another fault, at the end and elsewhere.
+#[test]
+fn long_lists_are_judged_as_by_the_second_program() {
+    let (mut lawful, mut refused, mut entries) = (0, 0, 0);
+    for seed in 0..LONG_LISTS {
+        let list = fuzz::enums::long_list(seed);
+        let expected = list.refused.map_or((1, 0), |entry| (32, entry));
+        assert_eq!(both_refusals(&list.enums), [expected; 2], "seed {seed}");
+        match list.refused {
+            None => lawful += 1,
+            Some(entry) => (refused, entries) = (refused + 1, entries + entry),
+        }
+    }
+    println!("{lawful} lists are lawful, {refused} refused after {entries} entries");
+    assert!(lawful > 100 && refused > 200 && entries > 100_000);
+}
+
+/// Marks that are all the same decide nothing: each name is looked for among the earlier ones.
+#[test]
+fn names_with_the_same_marks_are_told_apart() {
+    let names = fuzz::enums::alike(3_000);
+    assert_eq!(names.len(), 3_000);
+    let mut list = Vec::new();
+    for name in &names {
+        list.extend(entry(name.as_bytes(), 1));
+    }
+    assert_eq!(both_refusals(&list), [(1, 0); 2]);
+    for again in [0, 1_500, 2_999] {
+        let twice = [list.clone(), entry(names[again].as_bytes(), 1)].concat();
+        assert_eq!(both_refusals(&twice), [(32, 3_000); 2], "{again}");
+    }
 }

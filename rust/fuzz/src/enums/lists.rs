@@ -28,7 +28,7 @@ const NAMES: [&str; 18] = [
     "9",
 ];
 
-const HEAD_BYTES: &[u8; 65] = b"ABCDEFGHIJKLMNOPQRSTUVWXYZabcdefghijklmnopqrstuvwxyz0123456789._+";
+pub const HEAD_BYTES: &[u8; 65] = b"ABCDEFGHIJKLMNOPQRSTUVWXYZabcdefghijklmnopqrstuvwxyz0123456789._+";
 
 /// Some lawful entries.
 pub fn some_enums(random: &mut Random) -> Vec<Listed> {

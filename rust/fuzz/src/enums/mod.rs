@@ -2,11 +2,13 @@
 
 mod limits;
 mod lists;
+mod long;
 mod sizes;
 mod types;
 
 pub use limits::{limits, EnumLimit};
 pub(crate) use lists::{bytes_of, damaged, some_enums};
+pub use long::{alike, long_list, LongList};
 
 use crate::maker::{make, Made, Planted};
 use crate::random::Random;

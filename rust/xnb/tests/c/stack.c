@@ -23,7 +23,10 @@ static uint32_t readers, shared, padding, ticks;
 static uint64_t at, more;
 static int64_t value, seconds;
 static size_t first, count;
-static const uint8_t no_enums[1];
+/* So many enum types that the largest table of marks is made for them. */
+#define ENTRIES 2100
+static uint8_t enums[8 * ENTRIES];
+static size_t listed;
 
 #define WORDS (sizeof words / sizeof *words)
 #define TABLE (sizeof table / sizeof *table)
@@ -32,21 +35,21 @@ static const uint8_t no_enums[1];
 #define EACH_ENTRY(X) \
     X(xnb_version, xnb_version()) \
     X(xnb_load, xnb_load(file, length)) \
-    X(xnb_load_rows, xnb_load_rows(file, length, no_enums, 0, words, WORDS, &readers, &shared, &padding)) \
+    X(xnb_load_rows, xnb_load_rows(file, length, enums, listed, words, WORDS, &readers, &shared, &padding)) \
     X(xnb_part, xnb_part(file, length, words, WORDS, 0, &first, &count)) \
     X(xnb_text, xnb_text(file, length, words, WORDS, 0, &first, &count)) \
     X(xnb_signed, xnb_signed(file, length, words, WORDS, 0, &value)) \
     X(xnb_time, xnb_time(file, length, words, WORDS, 0, &seconds, &ticks)) \
     X(xnb_next, xnb_next(words, WORDS, 0)) \
-    X(xnb_load_columns, xnb_load_columns(file, length, no_enums, 0, columns, WORDS, &readers, &shared, &padding)) \
+    X(xnb_load_columns, xnb_load_columns(file, length, enums, listed, columns, WORDS, &readers, &shared, &padding)) \
     X(xnb_columns_part, xnb_columns_part(file, length, columns, WORDS, 0, &first, &count)) \
     X(xnb_columns_text, xnb_columns_text(file, length, columns, WORDS, 0, &first, &count)) \
     X(xnb_columns_signed, xnb_columns_signed(file, length, columns, WORDS, 0, &value)) \
     X(xnb_columns_time, xnb_columns_time(file, length, columns, WORDS, 0, &seconds, &ticks)) \
     X(xnb_columns_next, xnb_columns_next(columns, WORDS, 0)) \
-    X(xnb_load_driver, xnb_load_driver(file, length, no_enums, 0, words, WORDS, &readers, &shared, &padding)) \
-    X(xnb_rewrite, xnb_rewrite(file, length, no_enums, 0, words, WORDS, out, sizeof out)) \
-    X(xnb_export_xml, xnb_export_xml(file, length, no_enums, 0, words, WORDS, out, sizeof out)) \
+    X(xnb_load_driver, xnb_load_driver(file, length, enums, listed, words, WORDS, &readers, &shared, &padding)) \
+    X(xnb_rewrite, xnb_rewrite(file, length, enums, listed, words, WORDS, out, sizeof out)) \
+    X(xnb_export_xml, xnb_export_xml(file, length, enums, listed, words, WORDS, out, sizeof out)) \
     X(xnb_import_xml, xnb_import_xml(file, length, out, sizeof out, &at)) \
     X(xnb_pack_read, xnb_pack_read(file, length, table, TABLE, &at)) \
     X(xnb_pack_find, xnb_pack_find(file, length, table, TABLE, path, sizeof path - 1, &at, &more)) \
@@ -54,8 +57,24 @@ static const uint8_t no_enums[1];
     X(xnb_pack_mark, xnb_pack_mark(file, length, out, sizeof out, &at)) \
     X(xnb_pack_unmark, xnb_pack_unmark(file, length, out, sizeof out, &at)) \
     X(xnb_pack_salvage, xnb_pack_salvage(file, length, out, sizeof out, list, LIST, &at, &more)) \
-    X(xnb_report_add, xnb_report_add(file, length, no_enums, 0, table, TABLE, words, WORDS, report, &at)) \
+    X(xnb_report_add, xnb_report_add(file, length, enums, listed, table, TABLE, words, WORDS, report, &at)) \
     X(xnb_report_sum, xnb_report_sum(other, report))
+
+/* Writes the list of enum types: each has a name of six bytes and the size 1. */
+static void list_enums(void) {
+    size_t entry;
+    for (entry = 0; entry < ENTRIES; entry++) {
+        uint8_t *at = enums + listed;
+        at[0] = 6;
+        memcpy(at + 1, "E.0000", 6);
+        at[3] = (uint8_t)('0' + entry / 1000);
+        at[4] = (uint8_t)('0' + entry / 100 % 10);
+        at[5] = (uint8_t)('0' + entry / 10 % 10);
+        at[6] = (uint8_t)('0' + entry % 10);
+        at[7] = 1;
+        listed += 8;
+    }
+}
 
 static void *nothing(void *unused) { return unused; }
 #define RUN(entry, call) \
@@ -98,6 +117,7 @@ int main(void) {
     stack = mmap(NULL, STACK, PROT_READ | PROT_WRITE, MAP_PRIVATE | MAP_ANONYMOUS, -1, 0);
     if (stack == MAP_FAILED)
         return 2;
+    list_enums();
     memset(stack, PAINT, STACK);
     used(nothing);
     before = used(nothing);

@@ -1,0 +1,4 @@
+-- Marks of names in a table.
+pub mod Sum
+pub mod Seen
+pub mod Laws
