@@ -126,7 +126,7 @@ namespace Xnb
         }
     }
 
-    /// <summary>A value of a file: where it stands and how it hangs together.</summary>
+    /// <summary>A value of a file: where it is and how it hangs together.</summary>
     public struct Row
     {
         public Kind Kind;

@@ -131,7 +131,7 @@ class Refused(Exception):
 
 
 class Row(NamedTuple):
-    """A value of a file: where it stands and how it hangs together."""
+    """A value of a file: where it is and how it hangs together."""
 
     kind: Kind
     first: int

@@ -62,7 +62,7 @@ enum xnb_word {
     X(XNB_KIND_BOOLEAN, 11, "true or false") \
     X(XNB_KIND_CHAR, 12, "a character of one to three bytes of UTF-8") \
     X(XNB_KIND_STRING, 13, "a text in UTF-8 behind its number of bytes") \
-    X(XNB_KIND_ENUM, 15, "a whole number that stands for a name") \
+    X(XNB_KIND_ENUM, 15, "a whole number that means a name") \
     X(XNB_KIND_NULLABLE, 16, "a value that may be missing") \
     X(XNB_KIND_ARRAY, 17, "elements of one type behind their number") \
     X(XNB_KIND_LIST, 18, "elements of one type behind their number") \
@@ -317,7 +317,7 @@ uint32_t xnb_pack_find(const uint8_t *pack, size_t pack_length, const uint64_t *
 
 /* The two entries below are for text lists as XML: <?xml version="1.0" encoding="utf-8"?><XnaContent><Asset Type="string[]">,
    then <Item>, the text and </Item> for each text, then </Asset></XnaContent>, with nothing between. In a text the characters
-   &, <, > and " stand as &amp; &lt; &gt; &quot; and every other one as its UTF-8 bytes. */
+   &, <, > and " are written &amp; &lt; &gt; &quot; and every other one as its UTF-8 bytes. */
 
 /* Loads an XNB file as xnb_load_rows does, and writes the XML of its texts to the start of `out`; bytes of `out` past it stay,
    and the words are left as loading leaves them. The answer is packed, with the length of the XML in place of the number of

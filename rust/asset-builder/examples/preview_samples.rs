@@ -128,7 +128,7 @@ fn console() -> Vec<u8> {
             page(title, rectangle(area), reference(picture), reference(next)),
         )
     };
-    // The length of the first title stands in three bytes.
+    // The length of the first title is in three bytes.
     let stops = padded(3, title("Next stop: Central"));
     let primary = one(stops, [0, 0, 320, 180], 1, 3);
     let shared = vec![

@@ -1,4 +1,4 @@
-//! The list of enum types that a command lends, from a text.
+//! The list of enum types that a command gives to the library, from a text.
 
 use crate::input::{Input, Inputs, ONCE};
 use crate::names::escaped;
@@ -8,10 +8,10 @@ use xnb::{EnumFault, EnumList, EnumsRefused};
 
 #[derive(clap::Args)]
 pub struct Enums {
-    /// Lend the enum types that FILE lists, each with its size
+    /// Use the enum types that FILE lists, each with its size
     ///
     /// A line of FILE has the name of an enum type and its size in bytes, 1, 2, 4 or 8, as in `Coach.Door 1`.
-    /// Empty lines and what stands behind a # are left out. FILE may be - for standard input.
+    /// Empty lines and what is behind a # are ignored. FILE may be - for standard input.
     #[arg(long = "enums", value_name = "FILE", value_hint = clap::ValueHint::FilePath)]
     file: Option<PathBuf>,
 }

@@ -9,7 +9,7 @@ use xnb::{Kind, Table};
 #[derive(Clone, Default)]
 pub struct Field {
     pub name: Option<String>,
-    /// What its number stands for.
+    /// What its number means.
     pub meaning: Option<String>,
 }
 

@@ -2,13 +2,13 @@
 
 use crate::names::shown;
 use crate::progress::Progress;
-use crate::room::Room;
+use crate::room::{read_at_most, Room};
 use crate::run::Run;
 use crate::system;
 use memmap2::Mmap;
 use std::ffi::OsStr;
 use std::fs::{File, Metadata};
-use std::io::{self, Read};
+use std::io;
 use std::ops::Deref;
 use std::os::unix::fs::MetadataExt;
 use std::path::{Path, PathBuf};
@@ -212,14 +212,12 @@ impl Input {
     /// Its bytes, up to so many.
     pub fn read_at_most(&self, most: u64) -> io::Result<Vec<u8>> {
         self.check_listed()?;
-        let mut bytes = Vec::new();
         if self.is_stdin() {
-            io::stdin().take(most).read_to_end(&mut bytes)?;
-        } else {
-            let file = File::open(&self.path)?;
-            file.take(most).read_to_end(&mut bytes)?;
+            return read_at_most(io::stdin(), most, 0);
         }
-        Ok(bytes)
+        let file = File::open(&self.path)?;
+        let length = file.metadata()?.len();
+        read_at_most(file, most, length)
     }
 
     /// The bytes of an XNB file, up to one more than the loader takes; what cannot be read is reported.

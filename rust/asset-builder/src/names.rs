@@ -30,7 +30,7 @@ pub fn escaped(bytes: &[u8]) -> String {
     out
 }
 
-/// Text that stands in quotes: as it is, with an escape for the quote, for `\\`, and for what would not be shown in its
+/// Text in quotes: as it is, with an escape for the quote, for `\\`, and for what would not be shown in its
 /// place. Marks that join a letter, and signs that join letters, stay.
 pub fn shown_text(text: &str, quote: char) -> String {
     let mut out = String::new();

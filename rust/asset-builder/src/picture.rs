@@ -8,7 +8,7 @@ const PIECE: usize = 1 << 16;
 
 /// Writes a level as PNG in pieces, and answers how many bytes that took.
 pub fn write_png(level: &Level, out: &mut dyn Write) -> io::Result<usize> {
-    write_pixels(level.width, level.height, &level.rgba8(), out)
+    write_pixels(level.width, level.height, &level.rgba8()?, out)
 }
 
 /// The same of pixels with red, green, blue and alpha in a byte each.

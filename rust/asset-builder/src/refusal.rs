@@ -159,7 +159,7 @@ impl<'f> Told<'f> {
         self.line(paint) + &self.other_lines(paint)
     }
 
-    /// Every line behind the first; a name with a mark in it stands above what is found there.
+    /// Every line behind the first; a name with a mark in it comes before what is found there.
     fn other_lines(&self, paint: Paint) -> String {
         let found = self
             .found

@@ -13,6 +13,8 @@ use std::path::{Path, PathBuf};
 const FEW: usize = 1 << 24;
 /// The bytes that are written at once.
 const PIECE: usize = 1 << 22;
+/// The bytes that are asked for at least where more are read than were expected.
+const LEAST: usize = 1 << 16;
 
 /// Bytes of this run alone.
 pub enum Room {
@@ -125,8 +127,27 @@ fn grow(file: &File, length: usize) -> io::Result<()> {
     }
 }
 
+/// All that can be read, up to so many bytes; as many as are expected take no more memory than that.
+pub fn read_at_most(input: impl Read, most: u64, expected: u64) -> io::Result<Vec<u8>> {
+    let mut input = input.take(most);
+    let mut bytes = Vec::new();
+    // One more, in which the end is found.
+    reserve(&mut bytes, expected.min(most) as usize + 1)?;
+    loop {
+        let room = bytes.capacity() - bytes.len();
+        let read = input.by_ref().take(room as u64).read_to_end(&mut bytes)?;
+        if read == 0 {
+            return Ok(bytes);
+        }
+        if bytes.len() == bytes.capacity() {
+            let more = bytes.len().max(LEAST);
+            reserve(&mut bytes, more)?;
+        }
+    }
+}
+
 /// So many zeros, or an error that says how many they were.
-fn zeros(length: usize) -> io::Result<Vec<u8>> {
+pub fn zeros(length: usize) -> io::Result<Vec<u8>> {
     let mut bytes = Vec::new();
     reserve(&mut bytes, length)?;
     bytes.resize(length, 0);

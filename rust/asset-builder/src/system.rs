@@ -6,7 +6,7 @@
 //! - Cut, its bytes are gone, and whoever reads them gets SIGBUS. The handler says so in one line and ends the run with
 //!   status 2; no file with a name is on its way then, since outputs are made in files without one.
 //! - Changed, a byte may be read twice and differ. The entries hold each place and length that they read to the length of
-//!   the slice, which stays; the commands lend outputs that are long enough for whatever is read; and a file that has
+//!   the slice, which stays; the commands give outputs that are long enough for whatever is read; and a file that has
 //!   changed by the end (`input`) is reported, with nothing written.
 #![allow(unsafe_code)]
 

@@ -5,7 +5,7 @@ use serde::Serialize;
 use std::fmt::{self, Debug, Display, Formatter};
 use xnb::{Table, Time};
 
-/// What stands behind the kind of a row.
+/// What is shown behind the kind of a row.
 #[derive(Clone, Debug, PartialEq, Serialize)]
 #[serde(untagged)]
 pub enum Value {
@@ -137,7 +137,7 @@ impl From<xnb::Value<'_>> for Value {
                 bone: bone.map(u64::from),
             },
             SharedReference(shared) => Value::Resource { shared },
-            // Their fields stand below them.
+            // Their fields are below them.
             _ => Value::Nothing,
         }
     }

@@ -75,8 +75,7 @@ fn what_breaks_a_rule_is_named() {
         lines[0].contains(" a reader has the target of an earlier one"),
         "{lines:?}"
     );
-    let found =
-        "  reader 2 reads Coach.Console.Page, as reader 1 does, whose name stands at byte 12";
+    let found = "  reader 2 reads Coach.Console.Page, as reader 1 does, whose name is at byte 12";
     assert_eq!(lines[1], found);
     assert_eq!(lines[2], format!("  {PAGE}"));
 

@@ -387,7 +387,12 @@ fn every_level_of_the_kept_files_is_shown() {
                 let shown = shown(&top.join(&file.name).join(&name));
                 let size = (shown.width, shown.height);
                 assert_eq!(size, (level.width, level.height), "{}", file.name);
-                assert_eq!(shown.pixels.concat(), level.rgba8(), "{}", file.name);
+                assert_eq!(
+                    shown.pixels.concat(),
+                    level.rgba8().expect("memory"),
+                    "{}",
+                    file.name
+                );
                 expected.push(name);
             }
         }
@@ -596,6 +601,34 @@ fn memory_is_taken_for_one_level() {
     let shown = shown(&top.join("pictures/row-11-level-0.png"));
     assert_eq!((shown.width, shown.height), (width, height));
     assert!(shown.pixels.iter().all(|pixel| *pixel == [0, 0, 0, 255]));
+}
+
+/// A file of 8 MB whose picture takes 64: the memory that is asked for is named, and nothing is written.
+#[test]
+fn memory_that_is_refused_is_reported() {
+    let top = scratch("image-refused-memory");
+    let side = 4096;
+    let blocks = vec![0; (side * side / 2) as usize];
+    let large = textures(vec![texture_of(4, side, side, vec![level(&blocks)])]);
+    let bytes = large.len();
+    fs::write(top.join("large.xnb"), large).expect("a file");
+    let limited = "ulimit -d 40000; asset-builder image large.xnb -o out.png";
+    let ran = shell(&top, limited);
+    let why = "no memory for 67108864 bytes";
+    let line = format!("out.png: {why}\n");
+    assert_eq!(reported(&ran), ("", &line[..], Some(2)));
+    assert_eq!(names(&top), ["large.xnb"]);
+    let ran = shell(&top, &format!("{limited} --json"));
+    let expected = json!({
+        "schema": 1, "file": "large.xnb", "bytes": bytes, "pictures": [
+            {"row": 1, "level": 0, "width": side, "height": side, "format": 4, "name": "Dxt1",
+                "unwritten": {"why": why}},
+        ],
+    });
+    assert_eq!((json_of(&ran.out), ran.status), (expected, Some(2)));
+    // With the memory it is written.
+    let ran = shell(&top, "asset-builder image large.xnb -qo out.png");
+    assert_eq!(reported(&ran), ("", "", Some(0)));
 }
 
 #[test]

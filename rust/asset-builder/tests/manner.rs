@@ -137,6 +137,9 @@ fn texts_are_shown_as_they_are_written() {
         let written = corpus::writer::write(&file(&[STRING], object(1, text(title)), vec![]));
         let ran = run_in(&top, &["tree", "-"], &written.bytes);
         assert_eq!(ran.out, format!("primary: String \"{title}\"\n"));
+        let ran = run_in(&top, &["tree", "--json", "-"], &written.bytes);
+        let tree: serde_json::Value = serde_json::from_str(&ran.out).expect("JSON");
+        assert_eq!(tree["objects"][0]["value"], title);
     }
     let moving = "a\u{202E}b\u{2028}\u{85}\u{1B}[2J\n";
     let written = corpus::writer::write(&file(&[STRING], object(1, text(moving)), vec![]));

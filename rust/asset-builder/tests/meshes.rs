@@ -162,7 +162,7 @@ fn json_has_bones_data_and_meanings() {
     assert_eq!(buffer[2]["value"], json!({"bytes": 80}));
 }
 
-/// Each code of document 000 by its name.
+/// Each code of the format by its name.
 #[test]
 fn codes_are_reported_by_name() {
     let formats = [

@@ -2,14 +2,14 @@
 
 mod common;
 
-use common::{names, run_in, sample, scratch, Ran, COMMAND};
+use common::{names, run_in, sample, scratch, shell, Ran, COMMAND};
 use corpus::folder::folder;
 use corpus::meshes::{data as mesh_data, declaration, gauge_file, number, Element};
 use corpus::readers::{
     enum_of, list_of, CHAR, PAGE, RECTANGLE, SPRITE_FONT, STRING, TEXTURE2D, VECTOR3, VERTEX_BUFFER,
 };
 use corpus::values::*;
-use corpus::writer::{write, Part, Role};
+use corpus::writer::{write, Part, Role, Value as Written};
 use serde_json::Value as Json;
 use sha2::{Digest, Sha256};
 use std::collections::BTreeSet;
@@ -426,7 +426,7 @@ fn pictures_have_the_pixels_of_the_library() {
         let textures = (0..table.loaded().rows as u32).filter_map(|row| table.picture(row).ok());
         let levels: Vec<Vec<u8>> = textures
             .flat_map(|it| it.levels())
-            .map(|it| it.rgba8())
+            .map(|it| it.rgba8().expect("memory"))
             .collect();
         assert_eq!(shown, levels, "{name}");
         pictures += levels.len();
@@ -485,21 +485,25 @@ fn pages_and_their_rings_are_shown() {
     assert!(page.contains("40 by 20 at 8, 9"));
 }
 
-/// A font of two glyphs of two by two pixels, side by side in its texture.
-#[test]
-fn a_font_has_its_glyphs_and_a_line() {
-    let numbers: Vec<u8> = (1..=8).flat_map(|number| [number, 0, 0, 255]).collect();
-    let size = number_field(Role::LevelSize, numbers.len() as u32);
-    let level = value(35, vec![size, Part::Data(numbers)]);
-    let rectangles = |all: [[i32; 4]; 2]| bound_object(3, list(all.map(rectangle).to_vec()));
+/// The file of a font with this texture, and with these characters and their parts of it.
+fn font_file(texture: Written, glyphs: &[(char, [i32; 4])]) -> Vec<u8> {
+    let rectangles = |all: Vec<[i32; 4]>| {
+        let all = all.into_iter().map(rectangle);
+        bound_object(3, list(all.collect()))
+    };
+    let parts: Vec<[i32; 4]> = glyphs.iter().map(|(_, part)| *part).collect();
+    let sizes = parts.iter().map(|part| [0, 0, part[2], part[3]]).collect();
+    let characters = glyphs.iter().map(|(it, _)| character(*it)).collect();
+    let kerning = |part: &[i32; 4]| vector3([0.0, part[2] as f32, 0.0]);
+    let kernings = parts.iter().map(kerning).collect();
     let font = font(Font {
-        texture: bound_object(2, texture_of(0, 4, 2, vec![level])),
-        glyphs: rectangles([[0, 0, 2, 2], [2, 0, 2, 2]]),
-        cropping: rectangles([[0, 0, 2, 2]; 2]),
-        characters: bound_object(4, list(vec![character('a'), character('b')])),
+        texture: bound_object(2, texture),
+        glyphs: rectangles(parts),
+        cropping: rectangles(sizes),
+        characters: bound_object(4, list(characters)),
         line_spacing: int32(3),
         spacing: single(1.0),
-        kerning: bound_object(5, list(vec![vector3([0.0, 2.0, 0.0]); 2])),
+        kerning: bound_object(5, list(kernings)),
         default_character: nothing(),
     });
     let readers = [
@@ -512,7 +516,48 @@ fn a_font_has_its_glyphs_and_a_line() {
         CHAR.to_string(),
         VECTOR3.to_string(),
     ];
-    let bytes = write(&file(&readers, object(1, font), vec![])).bytes;
+    write(&file(&readers, object(1, font), vec![])).bytes
+}
+
+/// A level of these bytes.
+fn level(bytes: Vec<u8>) -> Written {
+    let size = number_field(Role::LevelSize, bytes.len() as u32);
+    value(35, vec![size, Part::Data(bytes)])
+}
+
+/// Thirty-two glyphs, each the whole of a texture: each takes 4 MB, and 40 MB are to be had.
+#[test]
+fn memory_that_is_refused_is_reported() {
+    let top = scratch("preview-refused-memory");
+    let side = 1024;
+    let texture = texture_of(
+        4,
+        side,
+        side,
+        vec![level(vec![0; (side * side / 2) as usize])],
+    );
+    let whole = [0, 0, side as i32, side as i32];
+    let glyphs: Vec<(char, [i32; 4])> = ('A'..='`').map(|it| (it, whole)).collect();
+    assert_eq!(glyphs.len(), 32);
+    fs::write(top.join("font.xnb"), font_file(texture, &glyphs)).expect("a file");
+    let ran = shell(
+        &top,
+        "ulimit -d 40000; asset-builder preview font.xnb -o page.html",
+    );
+    let why = "page.html: no memory for 4194304 bytes\n";
+    assert_eq!(
+        (ran.out.as_str(), ran.err.as_str(), ran.status),
+        ("", why, Some(2))
+    );
+    assert_eq!(names(&top), ["font.xnb"]);
+}
+
+/// A font of two glyphs of two by two pixels, side by side in its texture.
+#[test]
+fn a_font_has_its_glyphs_and_a_line() {
+    let numbers: Vec<u8> = (1..=8).flat_map(|number| [number, 0, 0, 255]).collect();
+    let texture = texture_of(0, 4, 2, vec![level(numbers)]);
+    let bytes = font_file(texture, &[('a', [0, 0, 2, 2]), ('b', [2, 0, 2, 2])]);
     let top = scratch("preview-font");
     let (page, ran) = page(&top, &["-"], &bytes);
     assert_eq!(ran.status, Some(0), "{page}");

@@ -3,6 +3,9 @@
 mod common;
 
 use common::{names, run_in, scratch, shell, Ran, COMMAND};
+use corpus::readers::{array_of, STRING};
+use corpus::values::{array, bound_object, file, object, text_bytes};
+use corpus::writer::write;
 use std::fs::{self, File, OpenOptions};
 use std::io::{Seek, SeekFrom, Write};
 use std::path::Path;
@@ -150,6 +153,33 @@ fn memory_that_is_refused_is_reported() {
         assert_eq!(ran.err.lines().count(), 1, "{line}: {}", ran.err);
     }
     assert_eq!(names(&top), ["in.marked"]);
+}
+
+/// The same of what is made of files and of XML: a list of one text of 12 MB.
+#[test]
+fn memory_that_is_refused_is_reported_of_files() {
+    let top = scratch("refused-memory-file");
+    let readers = [array_of("System.String"), STRING.to_string()];
+    let long = bound_object(2, text_bytes(&vec![b'a'; 12 << 20]));
+    let file = write(&file(&readers, object(1, array(vec![long])), vec![])).bytes;
+    let asked = [file.len(), 2 * file.len()];
+    fs::write(top.join("long.xnb"), file).expect("a file");
+    let ran = shell(&top, "asset-builder export long.xnb -qo long.xml");
+    taken(&ran);
+    let xml = fs::metadata(top.join("long.xml")).expect("a file").len();
+    let [shortened, exported] = asked;
+    for (line, limit, asked) in [
+        ("shorten long.xnb -o out", 20_000, shortened),
+        ("export long.xnb -o out", 34_000, exported),
+        ("import long.xml -o out", 12_000, xml as usize + 39),
+    ] {
+        let ran = shell(&top, &format!("ulimit -d {limit}; asset-builder {line}"));
+        let input = line.split(' ').nth(1).expect("an input");
+        let why = format!("{input}: no memory for {asked} bytes\n");
+        let reported = (ran.out.as_str(), ran.err.as_str(), ran.status);
+        assert_eq!(reported, ("", &why[..], Some(2)), "{line}");
+        assert_eq!(names(&top), ["long.xml", "long.xnb"]);
+    }
 }
 
 /// Another program cuts the pack while it is read: one line says so, the status is 2, and nothing is written.

@@ -191,12 +191,12 @@ fn wrong_xml_is_reported_by_line_and_column() {
     assert_eq!(
         of("\n  <Item>one</Item>"),
         "line 1, column 74: found 0A, expected <Item> or </Asset></XnaContent>; \
-        nothing stands between items or behind the end, no space and no line break"
+        nothing is between items or behind the end, no space and no line break"
     );
     assert_eq!(
         of(&format!("{END}\n")),
         "line 1, column 95: found 0A, expected nothing more; \
-        nothing stands between items or behind the end, no space and no line break"
+        nothing is between items or behind the end, no space and no line break"
     );
     assert_eq!(
         of("<Item>one</Item"),

@@ -9,7 +9,7 @@ fn main() -> Result<(), Box<dyn Error>> {
     let path = std::env::args().nth(1).ok_or("name a pack")?;
     let bytes = std::fs::read(path)?;
     let pack = Pack::read(&bytes)?;
-    // One table is lent to every load; each leaves in it the rows of its own file.
+    // One table serves every load; each leaves in it the rows of its own file.
     let mut words = vec![0; WORDS_PER_ROW * MOST_ROWS];
     for file in pack.files() {
         match Shape::Rows.load(file.data, &mut words) {

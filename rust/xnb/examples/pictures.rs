@@ -17,7 +17,7 @@ fn main() -> Result<(), Box<dyn Error>> {
             let (width, height) = (level.width, level.height);
             let sides = format!("WIDTH {width}\nHEIGHT {height}");
             let header = format!("P7\n{sides}\nDEPTH 4\nMAXVAL 255\nTUPLTYPE RGB_ALPHA\nENDHDR\n");
-            let bytes = [header.into_bytes(), level.rgba8()].concat();
+            let bytes = [header.into_bytes(), level.rgba8()?].concat();
             let name = format!("row{row}-level{number}.pam");
             std::fs::write(folder.join(&name), bytes)?;
             println!("{name}: {width} by {height}, {}", level.format);

@@ -2,7 +2,7 @@
 
 use crate::loader::Loader;
 use crate::raw;
-use crate::refusal::Refused;
+use crate::refusal::{FileError, Refused};
 use crate::shape::Shape;
 
 /// What an accepted file holds.
@@ -43,12 +43,12 @@ pub fn rewrite(file: &[u8], words: &mut [u32], out: &mut [u8]) -> Result<usize, 
 }
 
 /// The shortest form of a file: it is shorter by the file's [`padding`](crate::Grid::padding).
-pub fn shorten(file: &[u8]) -> Result<Vec<u8>, Refused> {
+pub fn shorten(file: &[u8]) -> Result<Vec<u8>, FileError> {
     Loader::new().shorten(file)
 }
 
 impl Shape {
-    /// Loads a file into lent words, [`WORDS_PER_ROW`](crate::WORDS_PER_ROW) to a row; every other word is zero,
+    /// Loads a file into given words, [`WORDS_PER_ROW`](crate::WORDS_PER_ROW) to a row; every other word is zero,
     /// and all are after a refusal.
     pub fn load(self, file: &[u8], words: &mut [u32]) -> Result<Loaded, Refused> {
         Loader::new().load_words(self, file, words)

@@ -18,7 +18,7 @@ pub struct Decimal {
     pub negative: bool,
     /// All its digits as one whole number, below 2 to the 96.
     pub digits: u128,
-    /// How many of them stand behind the point, 0 to 28.
+    /// How many of them are behind the point, 0 to 28.
     pub places: u8,
 }
 

@@ -1,4 +1,4 @@
-//! Lists of enum types, which are lent with a file.
+//! Lists of enum types, which are given with a file.
 
 use crate::explain::is_target_name;
 use crate::raw;
@@ -6,9 +6,9 @@ use crate::refusal::{Refusal, Refused};
 use crate::shape::Shape;
 use std::fmt::{self, Display, Formatter};
 
-/// A list of enum types and their sizes in bytes, to be lent by a [`Loader`](crate::Loader).
+/// A list of enum types and their sizes in bytes, to be given to a [`Loader`](crate::Loader).
 ///
-/// A listed enum has the size that stands here, and it may be the argument of a reader, as in a list of enums.
+/// A listed enum has the size that is given here, and it may be the argument of a reader, as in a list of enums.
 /// An enum that is not listed has four bytes and is no argument.
 ///
 /// ```
@@ -177,7 +177,7 @@ fn started_name(bytes: &[u8], entry: usize) -> &[u8] {
     }
 }
 
-/// What is wrong with an entry, in the order of document 02.
+/// What is wrong with an entry, in the order in which it is judged.
 fn fault(bytes: &[u8], entry: usize) -> Option<EnumFault> {
     let Some((name, size)) = entries(bytes).nth(entry) else {
         return Some(EnumFault::CutShort);

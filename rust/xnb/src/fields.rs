@@ -30,7 +30,7 @@ impl<'t, 'f> View<'t, 'f> {
         value_part(self.file, row)
     }
 
-    /// The fields of a value, which stand behind its row.
+    /// The fields of a value, which are behind its row.
     pub fn fields(self, number: u32) -> Fields<'t, 'f> {
         Fields {
             view: self,

@@ -17,9 +17,9 @@ use crate::value::{character, Rectangle};
 pub struct Font {
     /// The row number of its texture.
     pub texture: u32,
-    /// How far a line stands below the one before.
+    /// How far a line is below the one before.
     pub line_spacing: i32,
-    /// How far glyphs stand apart, besides their own distances.
+    /// How far glyphs are apart, besides their own distances.
     pub spacing: f32,
     /// The character that is set in place of one that is missing.
     pub default: Option<char>,
@@ -36,7 +36,7 @@ pub struct Glyph {
     pub character: char,
     /// Its part of the texture.
     pub bounds: Rectangle,
-    /// Where that part stands in the character's own area, and the size of that area.
+    /// Where that part is in the character's own area, and the size of that area.
     pub cropping: Rectangle,
     /// How far the pen goes.
     pub kerning: Kerning,
@@ -60,9 +60,9 @@ pub struct Kerning {
 pub struct Placed {
     /// The glyph, which may be that of the default character.
     pub glyph: Glyph,
-    /// How far right of the text's start its picture stands.
+    /// How far right of the text's start its picture is.
     pub x: f32,
-    /// How far below the text's upper side its picture stands.
+    /// How far below the text's upper side its picture is.
     pub y: f32,
 }
 
@@ -150,7 +150,7 @@ impl Font {
             let Some(glyph) = self.glyph_or_default(character) else {
                 continue;
             };
-            // The first glyph of a line stands no further left than the line.
+            // The first glyph of a line is no further left than the line.
             let left = glyph.kerning.left;
             x += if starts {
                 left.max(0.0)
@@ -211,7 +211,7 @@ mod tests {
 
     #[test]
     fn a_text_is_set_as_xna_sets_it() {
-        // The first glyph of a line stands at max(left, 0); the pen then goes width and right on, and spacing and left.
+        // The first glyph of a line is at max(left, 0); the pen then goes width and right on, and spacing and left.
         let expected = [
             ('a', 1.0, 2.0),
             ('b', 20.0, 2.0),

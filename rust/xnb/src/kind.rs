@@ -4,7 +4,7 @@ use std::fmt::{self, Display, Formatter};
 
 macro_rules! kinds {
     ($($number:literal $name:ident $($size:literal)?: $words:literal;)*) => {
-        /// The kind of a row, by its number in documents 01 and 02.
+        /// The kind of a row, by its number.
         ///
         /// ```
         /// use xnb::Kind;
@@ -74,7 +74,7 @@ kinds! {
     11 Boolean 1: "true or false";
     12 Char: "a character of one to three bytes of UTF-8";
     13 String: "a text in UTF-8 behind its number of bytes";
-    15 Enum: "a whole number that stands for a name";
+    15 Enum: "a whole number that means a name";
     16 Nullable: "a value that may be missing";
     17 Array: "elements of one type behind their number";
     18 List: "elements of one type behind their number";
@@ -140,7 +140,7 @@ mod tests {
         assert_eq!(Kind::all().len(), 41);
     }
 
-    /// The sizes of document 01, by kind number; none where a value has its own size.
+    /// The sizes of fixed values, by kind number; none where a value has its own size.
     #[test]
     fn sizes_are_those_of_document_01() {
         let sizes = [

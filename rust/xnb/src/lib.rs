@@ -57,9 +57,9 @@
 //! # More than loading
 //!
 //! - [`shorten`] writes a file with every number in its shortest form; [`padding`](Grid::padding) says what that saves.
-//! - [`Loader`] lends a list of enum types ([`EnumList`]) to a load, for enums that have not four bytes.
+//! - [`Loader`] gives a list of enum types ([`EnumList`]) to a load, for enums that have not four bytes.
 //! - [`Columns`] is a table with each word of all rows in one slice, for searches.
-//! - [`Shape`] and [`Grid::load_into`] load into memory that you lend, and allocate none.
+//! - [`Shape`] and [`Grid::load_into`] load into memory that you give, and allocate none.
 //! - [`Loader::load_driver`] loads with the rules of the driver's own screen besides.
 //! - [`xml`] writes a list of texts as XML for translators, and takes it back.
 //! - [`Pack`] reads a pack of files; [`marks`] converts packs to marked ones and back, [`salvage`] keeps what a damaged
@@ -115,11 +115,11 @@ pub use font::{Font, Glyph, Kerning, Placed};
 pub use header::{Header, Platform, Profile, Reader, Target};
 pub use kind::Kind;
 pub use loader::Loader;
-pub use memory::OutOfMemory;
+pub use memory::{NotMade, OutOfMemory};
 pub use pack::Pack;
 pub use page::Page;
 pub use picture::{Level, Picture, SurfaceFormat, Texture};
-pub use refusal::{Place, Refusal, Refused};
+pub use refusal::{FileError, Place, Refusal, Refused};
 pub use report::Report;
 pub use row::{Detail, Row, MOST_ROWS, WORDS_PER_ROW};
 pub use shape::{ByColumns, ByRows, Shape, Shaped};

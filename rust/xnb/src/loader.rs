@@ -1,18 +1,19 @@
-//! Loads and rewrites with a lent list of enum types.
+//! Loads and rewrites with a list of enum types.
 
 use crate::calls::{unpacked, Loaded};
 use crate::enums::EnumList;
 use crate::explain::{explain_with, Explanation};
+use crate::memory::zeros;
 use crate::raw;
-use crate::refusal::Refused;
-use crate::row::{full_words, LONGEST_FILE};
+use crate::refusal::{FileError, Refused};
+use crate::row::{full_room, LONGEST_FILE};
 use crate::shape::{Shape, Shaped};
 use crate::table::{Columns, Grid, Table};
 
 /// How files are loaded and rewritten: with which list of enum types.
 ///
 /// The plain functions, such as [`Table::load`](crate::Table) and [`shorten`](crate::shorten), are those of
-/// `Loader::new()`, which lends an empty list.
+/// `Loader::new()`, which has an empty list.
 ///
 /// ```
 /// use xnb::{EnumList, Kind, Loader, Table};
@@ -41,7 +42,7 @@ pub struct Loader<'e> {
 }
 
 impl<'e> Loader<'e> {
-    /// A loader that lends an empty list of enum types.
+    /// A loader with an empty list of enum types.
     pub fn new() -> Loader<'static> {
         Loader { enums: &[] }
     }
@@ -74,7 +75,7 @@ impl<'e> Loader<'e> {
 
     /// Loads a file in the shape of the type that is asked for, with room for all its rows.
     pub(crate) fn load_grid<'f, S: Shaped>(self, file: &'f [u8]) -> Result<Grid<'f, S>, Refused> {
-        let grid = self.load_into(file, full_words(file))?;
+        let grid = self.load_into(file, vec![0; full_room(file)])?;
         Ok(grid.without_room_left())
     }
 
@@ -100,7 +101,7 @@ impl<'e> Loader<'e> {
         Ok(Grid::of(file, words, loaded))
     }
 
-    /// Loads a file into lent words as [`Shape::load`] does.
+    /// Loads a file into given words as [`Shape::load`] does.
     pub fn load_words(
         self,
         shape: Shape,
@@ -140,7 +141,7 @@ impl<'e> Loader<'e> {
     /// # Ok::<(), xnb::Refused>(())
     /// ```
     pub fn load_driver<'f>(self, file: &'f [u8]) -> Result<Table<'f>, Refused> {
-        let table = self.load_driver_into(file, full_words(file))?;
+        let table = self.load_driver_into(file, vec![0; full_room(file)])?;
         Ok(table.without_room_left())
     }
 
@@ -163,15 +164,16 @@ impl<'e> Loader<'e> {
     }
 
     /// The shortest form of a file.
-    pub fn shorten(self, file: &[u8]) -> Result<Vec<u8>, Refused> {
+    pub fn shorten(self, file: &[u8]) -> Result<Vec<u8>, FileError> {
         // It is never longer than the file, and a longer file than the longest is refused.
-        let mut out = vec![0; file.len().min(LONGEST_FILE)];
-        let length = self.rewrite(file, &mut full_words(file), &mut out)?;
+        let mut out = zeros(file.len().min(LONGEST_FILE))?;
+        let mut words = zeros(full_room(file))?;
+        let length = self.rewrite(file, &mut words, &mut out)?;
         out.truncate(length);
         Ok(out)
     }
 
-    /// What stands at the place of a refusal by this loader, as [`explain`](crate::explain) gives it.
+    /// What is at the place of a refusal by this loader, as [`explain`](crate::explain) gives it.
     pub fn explain(self, file: &[u8], refused: Refused, room: usize) -> Option<Explanation<'_>> {
         explain_with(self.enums, file, refused, room)
     }

@@ -15,10 +15,10 @@ use crate::memory::zeros;
 use crate::pack::{claimed_files, PackError, PackRefused};
 use crate::raw;
 
-/// What stands before each record of a marked pack.
+/// What is before each record of a marked pack.
 pub const MARK: [u8; 2] = [0xFD, 0xFE];
 
-/// Reads a marked pack into lent words, as `pack::read` does.
+/// Reads a marked pack into given words, as `pack::read` does.
 pub fn read(pack: &[u8], table: &mut [u64]) -> Result<usize, PackRefused> {
     PackRefused::number(raw::marks::read(pack, table))
 }

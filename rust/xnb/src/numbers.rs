@@ -1,6 +1,6 @@
 //! Numbers in the bytes of a value, little endian.
 
-/// A number that stands in as many bytes as it has.
+/// A number in as many bytes as it has.
 pub trait Number: Copy {
     /// The number in these bytes, which must be as many as it has.
     fn of_bytes(bytes: &[u8]) -> Self;

@@ -12,7 +12,7 @@
 //!
 //! let door = pack.load("door").expect("the door is there").expect("it is a lawful file");
 //! assert_eq!(door.loaded().rows, 1);
-//! # Ok::<(), xnb::pack::PackRefused>(())
+//! # Ok::<(), xnb::pack::PackError>(())
 //! ```
 
 mod explain;
@@ -20,7 +20,7 @@ mod explain;
 pub use explain::explain;
 
 use crate::marks;
-use crate::memory::OutOfMemory;
+use crate::memory::{zeros, NotMade, OutOfMemory};
 use crate::raw;
 use crate::refusal::{Refusal, Refused};
 use crate::table::Table;
@@ -75,24 +75,8 @@ impl Display for PackRefused {
 
 impl std::error::Error for PackRefused {}
 
-/// Why there is no new pack: the old one breaks a rule, or there is no memory for the new one.
-#[derive(Clone, Copy, Debug, PartialEq, Eq)]
-pub enum PackError {
-    /// The pack breaks a rule, or the output is too small.
-    Refused(PackRefused),
-    /// The system has no memory for the output.
-    OutOfMemory(OutOfMemory),
-}
-
-impl PackError {
-    /// The rule that the pack breaks, if it breaks one.
-    pub fn refused(self) -> Option<PackRefused> {
-        match self {
-            PackError::Refused(refused) => Some(refused),
-            PackError::OutOfMemory(_) => None,
-        }
-    }
-}
+/// Why a pack was not read or made: it breaks a rule, or there is no memory for what is made of it.
+pub type PackError = NotMade<PackRefused>;
 
 impl From<PackRefused> for PackError {
     fn from(refused: PackRefused) -> PackError {
@@ -100,24 +84,7 @@ impl From<PackRefused> for PackError {
     }
 }
 
-impl From<OutOfMemory> for PackError {
-    fn from(error: OutOfMemory) -> PackError {
-        PackError::OutOfMemory(error)
-    }
-}
-
-impl Display for PackError {
-    fn fmt(&self, out: &mut Formatter) -> fmt::Result {
-        match self {
-            PackError::Refused(refused) => refused.fmt(out),
-            PackError::OutOfMemory(error) => error.fmt(out),
-        }
-    }
-}
-
-impl std::error::Error for PackError {}
-
-/// Reads a pack into lent words, four to a file, and answers the number of files.
+/// Reads a pack into given words, four to a file, and answers the number of files.
 ///
 /// Words past its files are zero, and all after a refusal.
 ///
@@ -164,7 +131,7 @@ pub struct PackFile<'p> {
     pub data: &'p [u8],
 }
 
-/// A pack and the places of its files, in words of its own or in lent ones.
+/// A pack and the places of its files, in words of its own or in given ones.
 #[derive(Clone, Debug)]
 pub struct Pack<'p, W = Vec<u64>> {
     bytes: &'p [u8],
@@ -174,19 +141,19 @@ pub struct Pack<'p, W = Vec<u64>> {
 
 impl<'p> Pack<'p> {
     /// Reads a pack with room for all its files.
-    pub fn read(bytes: &'p [u8]) -> Result<Pack<'p>, PackRefused> {
-        Pack::read_into(bytes, words_for(bytes))
+    pub fn read(bytes: &'p [u8]) -> Result<Pack<'p>, PackError> {
+        Ok(Pack::read_into(bytes, words_for(bytes)?)?)
     }
 
     /// Reads a marked pack with room for all its files.
-    pub fn read_marked(bytes: &'p [u8]) -> Result<Pack<'p>, PackRefused> {
-        Pack::read_by(marks::read, bytes, words_for(bytes))
+    pub fn read_marked(bytes: &'p [u8]) -> Result<Pack<'p>, PackError> {
+        Ok(Pack::read_by(marks::read, bytes, words_for(bytes)?)?)
     }
 }
 
 /// Words for all files of a pack: 128 KB at most, whatever it claims.
-fn words_for(pack: &[u8]) -> Vec<u64> {
-    vec![0; WORDS_PER_FILE * claimed_files(pack)]
+fn words_for(pack: &[u8]) -> Result<Vec<u64>, OutOfMemory> {
+    zeros(WORDS_PER_FILE * claimed_files(pack))
 }
 
 /// The number of files that a pack claims to have, or the most there can be.

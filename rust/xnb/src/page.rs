@@ -44,7 +44,7 @@ use crate::value::Rectangle;
 pub struct Page<'f> {
     /// Its title, unless it is null.
     pub title: Option<&'f str>,
-    /// Where it stands on the screen.
+    /// Where it is on the screen.
     pub area: Rectangle,
     /// The resource id of its texture, unless the reference is null.
     pub texture_id: Option<u32>,

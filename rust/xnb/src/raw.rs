@@ -159,7 +159,7 @@ pub struct LoadAnswer {
     pub padding: u32,
 }
 
-/// Loads into lent words, with a list of enum types.
+/// Loads into given words, with a list of enum types.
 pub fn load_table(shape: Shape, file: &[u8], enums: &[u8], words: &mut [u32]) -> LoadAnswer {
     let entry = match shape {
         Shape::Rows => entries::xnb_load_rows,
@@ -168,7 +168,7 @@ pub fn load_table(shape: Shape, file: &[u8], enums: &[u8], words: &mut [u32]) ->
     call_load(entry, file, enums, words)
 }
 
-/// Loads a file for the driver's own screen into lent words, by rows.
+/// Loads a file for the driver's own screen into given words, by rows.
 pub fn load_driver(file: &[u8], enums: &[u8], words: &mut [u32]) -> LoadAnswer {
     call_load(entries::xnb_load_driver, file, enums, words)
 }

@@ -1,10 +1,11 @@
 //! Refusals, each once: its number, its name, what its place is, and its rule in words.
 
+use crate::memory::NotMade;
 use std::fmt::{self, Display, Formatter};
 
 macro_rules! refusals {
     ($($number:literal $name:ident at $place:ident: $words:literal;)*) => {
-        /// The rule that a file or a question breaks, by its number in documents 01 and 02.
+        /// The rule that a file or a question breaks, by its number.
         ///
         /// ```
         /// use xnb::{Place, Refusal};
@@ -148,7 +149,7 @@ impl Place {
 }
 
 impl Refusal {
-    /// The number in the documents.
+    /// The number.
     #[inline]
     pub fn number(self) -> u32 {
         self as u32
@@ -194,7 +195,7 @@ impl Refused {
         if number == 0 {
             return Ok(());
         }
-        let refusal = Refusal::of_number(number).expect("the library answers with 01's numbers");
+        let refusal = Refusal::of_number(number).expect("the library answers with known numbers");
         Err(Refused { refusal, place })
     }
 }
@@ -210,6 +211,15 @@ impl Display for Refused {
 }
 
 impl std::error::Error for Refused {}
+
+/// Why nothing was made of a file: it breaks a rule, or there is no memory for what is made.
+pub type FileError = NotMade<Refused>;
+
+impl From<Refused> for FileError {
+    fn from(refused: Refused) -> FileError {
+        FileError::Refused(refused)
+    }
+}
 
 #[cfg(test)]
 mod tests {

@@ -188,14 +188,14 @@ impl Default for Counter<'static> {
 }
 
 impl Counter<'static> {
-    /// A counter that lends an empty list of enum types.
+    /// A counter with an empty list of enum types.
     pub fn new() -> Counter<'static> {
         Counter::by(Loader::new())
     }
 }
 
 impl<'e> Counter<'e> {
-    /// A counter that lends the list of a loader; under a refused list each XNB file counts as refused with 32.
+    /// A counter with the list of a loader; under a refused list each XNB file counts as refused with 32.
     pub fn by(loader: Loader<'e>) -> Counter<'e> {
         Counter {
             loader,

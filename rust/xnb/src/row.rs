@@ -5,7 +5,7 @@ use crate::kind::Kind;
 /// No longer file is taken.
 pub(crate) const LONGEST_FILE: usize = 16_777_216;
 
-/// The words of a row in a table; lent words have room for as many rows as they hold whole ones.
+/// The words of a row in a table; words have room for as many rows as they hold whole ones.
 pub const WORDS_PER_ROW: usize = 7;
 /// A table has never room for more rows.
 pub const MOST_ROWS: usize = 65_536;
@@ -70,7 +70,7 @@ impl Row {
     }
 }
 
-/// Words with room for every row of a file: each value has a byte of its own.
-pub(crate) fn full_words(file: &[u8]) -> Vec<u32> {
-    vec![0; WORDS_PER_ROW * file.len().min(MOST_ROWS)]
+/// How many words have room for every row of a file: each value has a byte of its own, and 1.8 MB are enough for all.
+pub(crate) fn full_room(file: &[u8]) -> usize {
+    WORDS_PER_ROW * file.len().min(MOST_ROWS)
 }

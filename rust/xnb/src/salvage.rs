@@ -1,6 +1,6 @@
 //! What a damaged marked pack still holds.
 
-use crate::memory::zeros;
+use crate::memory::{with_room, zeros};
 use crate::pack::{claimed_files, PackError, PackRefused, COUNT_BYTES, MOST_FILES};
 use crate::raw;
 
@@ -44,7 +44,7 @@ impl Salvaged {
     }
 }
 
-/// What a salvage wrote to lent buffers.
+/// What a salvage wrote to given buffers.
 #[derive(Clone, Copy, Debug, PartialEq, Eq)]
 pub struct Written {
     /// The length of the new pack.
@@ -54,7 +54,7 @@ pub struct Written {
 }
 
 impl Written {
-    /// The stretches that stand in the list.
+    /// The stretches of the list.
     pub fn skipped(self, list: &[u64]) -> impl Iterator<Item = Stretch> + '_ {
         stretches(list).take(self.stretches)
     }
@@ -83,10 +83,9 @@ pub fn salvage(pack: &[u8]) -> Result<Salvaged, PackError> {
     let mut list = zeros(WORDS_PER_STRETCH * MOST_STRETCHES.min(pack.len()))?;
     let written = salvage_into(pack, &mut out, &mut list)?;
     out.truncate(written.length);
-    Ok(Salvaged {
-        pack: out,
-        skipped: written.skipped(&list).collect(),
-    })
+    let mut skipped = with_room(written.stretches)?;
+    skipped.extend(written.skipped(&list));
+    Ok(Salvaged { pack: out, skipped })
 }
 
 /// Writes the kept records to the start of the output and the stretches to the start of the list.

@@ -1,8 +1,8 @@
-//! How the words of a table stand.
+//! How the words of a table are ordered.
 
 use crate::row::{MOST_ROWS, WORDS_PER_ROW};
 
-/// How the words of a table stand; its methods load into lent words and look up in words of any content.
+/// How the words of a table are ordered; its methods load into given words and look up in words of any content.
 ///
 /// ```
 /// use xnb::{Shape, WORDS_PER_ROW};
@@ -61,7 +61,7 @@ pub(crate) fn room(words: &[u32]) -> usize {
 
 /// A shape as a type: [`ByRows`] or [`ByColumns`].
 pub trait Shaped: sealed::Sealed {
-    /// The shape that this type stands for.
+    /// The shape that this type means.
     const SHAPE: Shape;
 }
 

@@ -23,7 +23,7 @@ use std::marker::PhantomData;
 /// assert!(table.children(0).eq([1, 2, 3]));
 /// let list = table.row(0).expect("the primary object");
 /// assert_eq!((list.children, list.rows), (3, 4));
-/// // Behind the list and all below it stands the shared object; behind that there is no row.
+/// // Behind the list and all below it is the shared object; behind that there is no row.
 /// assert_eq!(table.next(0), Some(4));
 /// assert_eq!(table.next(4), Some(5));
 /// assert_eq!(table.row(5), None);
@@ -58,7 +58,7 @@ pub type Table<'f, W = Vec<u32>> = Grid<'f, ByRows, W>;
 /// ```
 pub type Columns<'f, W = Vec<u32>> = Grid<'f, ByColumns, W>;
 
-/// A file and the rows of its values, in words of its own or in lent ones: a [`Table`] or [`Columns`].
+/// A file and the rows of its values, in words of its own or in given ones: a [`Table`] or [`Columns`].
 #[derive(Clone, Debug)]
 pub struct Grid<'f, S, W = Vec<u32>> {
     file: &'f [u8],
@@ -139,7 +139,7 @@ impl<'f, S: Shaped, W: AsRef<[u32]>> Grid<'f, S, W> {
     /// let shortest = xnb::shorten(&file)?;
     /// assert_eq!(shortest.len(), file.len() - table.padding());
     /// assert_eq!(xnb::Table::load(&shortest)?.padding(), 0);
-    /// # Ok::<(), xnb::Refused>(())
+    /// # Ok::<(), xnb::FileError>(())
     /// ```
     pub fn padding(&self) -> usize {
         self.loaded.padding
@@ -158,7 +158,7 @@ impl<'f, S: Shaped, W: AsRef<[u32]>> Grid<'f, S, W> {
         })
     }
 
-    /// Every row in file order: a value stands before all below it.
+    /// Every row in file order: a value is before all below it.
     pub fn rows(&self) -> impl Iterator<Item = Row> + '_ {
         (0..self.loaded.rows as u32).map(|number| self.used_row(number))
     }

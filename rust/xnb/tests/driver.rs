@@ -233,7 +233,7 @@ fn refusals_are_reported_in_words() {
     assert_eq!(reported("ok-kind-34-page"), "no type id names reader 3");
     assert_eq!(
         reported("ok-driver-equal-readers"),
-        "reader 2 reads Coach.Console.Page, as reader 1 does, whose name stands at byte 12"
+        "reader 2 reads Coach.Console.Page, as reader 1 does, whose name is at byte 12"
     );
     assert_eq!(
         reported("ok-kind-00-null"),

@@ -54,7 +54,8 @@ impl Picture {
         let bytes = write(&file(&[TEXTURE2D], object(1, texture), vec![])).bytes;
         let table = Table::load(&bytes).expect("a lawful file");
         let picture = table.picture(0).expect("a texture");
-        picture.level(0).expect("a level").rgba8()
+        let level = picture.level(0).expect("a level");
+        level.rgba8().expect("memory")
     }
 
     /// The same blocks behind a DDS header.

@@ -146,7 +146,7 @@ fn a_refused_list_refuses_every_file() {
             loader.load_columns(file).map(|it| it.loaded()),
             Err(refused)
         );
-        assert_eq!(loader.shorten(file), Err(refused));
+        assert_eq!(loader.shorten(file), Err(refused.into()));
         assert_eq!(loader.rewrite(file, &mut [], &mut []), Err(refused));
         let explanation = loader.explain(file, refused, 0).expect("an explanation");
         let words = "entry 1 of the enum list, Coach.Door: the name is listed before, as entry 0";

@@ -316,7 +316,7 @@ fn what_is_found_is_reported() {
         ),
         (
             "bad-22-falling-characters",
-            "the characters do not rise: U+0061 stands behind U+20AC",
+            "the characters do not rise: U+0061 comes behind U+20AC",
         ),
     ];
     for (name, expected) in reported {

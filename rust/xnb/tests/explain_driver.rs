@@ -103,7 +103,9 @@ fn words(written: &Written, number: u32, place: usize) -> String {
             let first = names[earlier].end;
             let before = earlier + 1;
             // What both read is looked at by its place in the words alone.
-            format!("reader {later} reads *, as reader {before} does, whose name stands at byte {first}")
+            format!(
+                "reader {later} reads *, as reader {before} does, whose name is at byte {first}"
+            )
         }
         45 => {
             let is_key = |row: &Row| row[0] == 13 && row[1] as usize == place;

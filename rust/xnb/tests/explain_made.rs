@@ -510,7 +510,7 @@ fn planted_words(broken: &Broken, number: u32, place: usize) -> String {
                 panic!("two characters");
             };
             let (one, two) = (u32::from(*one), u32::from(*two));
-            format!("the characters do not rise: U+{two:04X} stands behind U+{one:04X}")
+            format!("the characters do not rise: U+{two:04X} comes behind U+{one:04X}")
         }
         _ => panic!("{number} is not planted"),
     }

@@ -10,8 +10,8 @@ use xnb::{
     WORDS_PER_ROW,
 };
 
-fn refused<T>(refusal: Refusal, place: u32) -> Result<T, Refused> {
-    Err(Refused { refusal, place })
+fn refused<T, E: From<Refused>>(refusal: Refusal, place: u32) -> Result<T, E> {
+    Err(Refused { refusal, place }.into())
 }
 
 /// A list of a text and three numbers.
@@ -225,7 +225,7 @@ fn refusals_are_reported() {
     let answer = Table::load(&file).expect_err("a wrong length");
     let words = "the header's length is not the file's length, at byte 6";
     assert_eq!(answer.to_string(), words);
-    assert_eq!(xnb::shorten(&file), Err(answer));
+    assert_eq!(xnb::shorten(&file), Err(answer.into()));
     assert_eq!(xnb::shorten(&[]), refused(Refusal::PastEnd, 0));
 }
 

@@ -199,7 +199,7 @@ fn floats(numbers: &[f32]) -> Field<'static> {
     Bytes(numbers.iter().flat_map(|it| it.to_le_bytes()).collect())
 }
 
-/// The fields of a model in the order of document 000, by the iterators.
+/// The fields of a model in the order of the format, by the iterators.
 fn fields<'f>(model: &Model<'_, 'f>) -> Vec<Field<'f>> {
     let mut fields = vec![Number(model.bones().len() as u32)];
     for bone in model.bones() {

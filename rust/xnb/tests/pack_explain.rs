@@ -2,7 +2,7 @@
 
 use corpus::packs::folder::{kept_marked_packs, kept_packs};
 use fuzz::packs;
-use xnb::pack::explain;
+use xnb::pack::{explain, PackError};
 use xnb::Pack;
 
 const MARK: &[u8] = &xnb::marks::MARK;
@@ -13,7 +13,7 @@ fn found(pack: &[u8], marked: bool) -> Option<String> {
         true => Pack::read_marked(pack),
         false => Pack::read(pack),
     };
-    explain(pack, read.err()?, marked)
+    explain(pack, read.err()?.refused()?, marked)
 }
 
 #[test]
@@ -106,7 +106,7 @@ fn every_refused_pack_is_explained() {
             true => Pack::read_marked(&pack),
             false => Pack::read(&pack),
         };
-        let Err(refused) = read else {
+        let Some(refused) = read.err().and_then(PackError::refused) else {
             continue;
         };
         let words = explain(&pack, refused, is_marked).unwrap_or_default();
@@ -121,7 +121,8 @@ fn every_refused_pack_is_explained() {
 fn any_place_may_be_asked_for() {
     for seed in 0..2_000 {
         let pack = packs::case(&[], seed).bytes;
-        let Err(mut refused) = Pack::read(&pack) else {
+        let refused = Pack::read(&pack).err().and_then(PackError::refused);
+        let Some(mut refused) = refused else {
             continue;
         };
         for place in [0, 1, 4, 5, pack.len() as u64, u64::MAX] {

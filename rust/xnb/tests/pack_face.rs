@@ -18,8 +18,8 @@ fn files() -> Vec<Stored> {
     ]
 }
 
-fn refused<T>(refusal: Refusal, place: u64) -> Result<T, PackRefused> {
-    Err(PackRefused { refusal, place })
+fn refused<T, E: From<PackRefused>>(refusal: Refusal, place: u64) -> Result<T, E> {
+    Err(PackRefused { refusal, place }.into())
 }
 
 #[test]

@@ -44,6 +44,83 @@ fn every_crate_says_which_rust_it_needs_and_its_licence() {
     }
 }
 
+/// Each line of the sources of a crate with its file, without comments and without what is only for tests.
+fn source_lines(member: &str) -> Vec<(String, String)> {
+    let top = root().join("rust").join(member).join("src");
+    let mut folders = vec![top.clone()];
+    let mut lines = Vec::new();
+    while let Some(folder) = folders.pop() {
+        for entry in fs::read_dir(folder).expect("a folder") {
+            let path = entry.expect("an entry").path();
+            if path.is_dir() {
+                folders.push(path);
+                continue;
+            }
+            let name = path.strip_prefix(&top).expect("a source").display();
+            let Ok(text) = fs::read_to_string(&path) else {
+                continue;
+            };
+            let text = text.split("#[cfg(test)]\nmod tests").next();
+            let code = text.expect("a text").lines().map(str::trim);
+            let code = code.filter(|it| !it.starts_with("//"));
+            lines.extend(code.map(|it| (name.to_string(), it.to_string())));
+        }
+    }
+    lines
+}
+
+/// Only the module of the C entries and that of mapped files have unsafe code; the compiler denies it to the others.
+#[test]
+fn unsafe_code_is_in_two_modules_alone() {
+    for (member, start, own) in [
+        ("xnb", "lib.rs", &["raw.rs", "raw/"][..]),
+        ("asset-builder", "main.rs", &["system.rs"]),
+    ] {
+        let lines = source_lines(member);
+        let denied = (start.to_string(), "#![deny(unsafe_code)]".to_string());
+        assert!(lines.contains(&denied), "{member}");
+        let allowed = lines
+            .iter()
+            .filter(|it| it.1.contains("allow(unsafe_code)"));
+        assert_eq!(allowed.count(), 1, "{member}");
+        let is_own = |file: &str| own.iter().any(|it| file.starts_with(it));
+        let others = lines.iter().filter(|it| !is_own(&it.0));
+        let code = others.filter(|it| !it.1.starts_with('#'));
+        let found: Vec<_> = code.filter(|it| it.1.contains("unsafe")).collect();
+        assert!(found.is_empty(), "{member}: {found:?}");
+    }
+}
+
+/// In the library, memory whose length an input decides is asked for in `memory.rs`, which answers a refusal of the
+/// system's as an error. The other vectors of zeros have room for as many rows as a file has bytes, at most 65,536, and
+/// for the files and rows of any pack.
+#[test]
+fn memory_that_an_input_decides_is_asked_for_in_one_place() {
+    let asks = |line: &str| {
+        let ways = ["vec![0", "with_capacity(", ".resize(", "reserve"];
+        ways.iter().any(|it| line.contains(it))
+    };
+    let lines = source_lines("xnb").into_iter();
+    let mut elsewhere: Vec<_> = lines
+        .filter(|(file, line)| file != "memory.rs" && asks(line))
+        .collect();
+    elsewhere.sort();
+    let expected = [
+        (
+            "loader.rs",
+            "let grid = self.load_into(file, vec![0; full_room(file)])?;",
+        ),
+        (
+            "loader.rs",
+            "let table = self.load_driver_into(file, vec![0; full_room(file)])?;",
+        ),
+        ("report.rs", "table: vec![0; WORDS_PER_FILE * MOST_FILES],"),
+        ("report.rs", "words: vec![0; ROW_WORDS],"),
+    ];
+    let expected = expected.map(|(file, line)| (file.to_string(), line.to_string()));
+    assert_eq!(elsewhere, expected);
+}
+
 /// A copy of the Rust sources in a folder of its own, with packages from a folder.
 struct Copy {
     folder: PathBuf,

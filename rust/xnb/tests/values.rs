@@ -427,7 +427,7 @@ fn check_put_together<S: Shaped>(table: &Grid<S>, number: u32, kind: Kind) {
     for level in picture.iter().flat_map(|it| it.levels()) {
         assert_eq!(table.value(level.row), Ok(Value::ImageLevel(level.data)));
         let pixels = level.width as usize * level.height as usize;
-        assert_eq!(level.rgba8().len(), 4 * pixels);
+        assert_eq!(level.rgba8().map(|it| it.len()), Ok(4 * pixels));
     }
 }
 
@@ -463,7 +463,7 @@ fn values_of_kept_and_generated_files_agree_with_the_proved_lookups() {
     }
 }
 
-/// What the place of a refusal is, by its number in documents 01 and 02.
+/// What the place of a refusal is, by its number.
 #[test]
 fn every_place_is_what_the_documents_say() {
     for refusal in Refusal::all() {

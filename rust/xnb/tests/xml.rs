@@ -10,8 +10,8 @@ use lent::Lent;
 use second::Refusal;
 use std::collections::BTreeMap;
 use xnb::raw;
-use xnb::xml::{Expected, XmlRefused};
-use xnb::{Loader, WORDS_PER_ROW};
+use xnb::xml::{Expected, XmlError, XmlRefused};
+use xnb::{FileError, Loader, WORDS_PER_ROW};
 
 /// How many cases are tried of each direction; FUZZ_FILES in the environment asks for another number.
 fn cases() -> u64 {
@@ -108,7 +108,7 @@ fn compare_exports(random: &mut Random, counts: &mut Counts, of: Exported, words
             assert!(xml.as_bytes() == &out[..length], "{}", of.name);
             check_way_back(of.name, &xml);
         }
-        (Err(refused), Err(refusal)) => {
+        (Err(FileError::Refused(refused)), Err(refusal)) => {
             let reported = (refused.refusal.number(), refused.place as usize);
             assert_eq!(reported, (refusal.number, refusal.place), "{}", of.name);
         }
@@ -191,7 +191,10 @@ fn corpus_files_give_the_second_programs_answers() {
         };
         let reported = match xnb::xml::export(&file.bytes) {
             Ok(xml) => xml.into_bytes(),
-            Err(refused) => refusal_line(refused.refusal.number(), refused.place.into()),
+            Err(FileError::Refused(refused)) => {
+                refusal_line(refused.refusal.number(), refused.place.into())
+            }
+            Err(error) => panic!("{error}"),
         };
         assert_eq!(reported, *kept, "{}", file.name);
     }
@@ -238,7 +241,7 @@ fn compare_imports(random: &mut Random, counts: &mut Counts, (name, xml): (&str,
     let expected = second::xml::import(xml, &mut out);
     match (xnb::xml::import(xml), expected) {
         (Ok(file), Ok(length)) => assert!(file == out[..length], "{name}"),
-        (Err(XmlRefused { refusal, place }), Err(expected)) => {
+        (Err(XmlError::Refused(XmlRefused { refusal, place })), Err(expected)) => {
             let reported = (refusal.number(), place as usize);
             assert_eq!(reported, (expected.number, expected.place), "{name}");
             if refusal == xnb::Refusal::NotExported {
@@ -312,7 +315,10 @@ fn corpus_xml_gives_its_answers() {
         compare_imports(&mut random, &mut counts, (name, xml));
         let reported = match xnb::xml::import(xml) {
             Ok(file) => file,
-            Err(refused) => refusal_line(refused.refusal.number(), refused.place),
+            Err(XmlError::Refused(refused)) => {
+                refusal_line(refused.refusal.number(), refused.place)
+            }
+            Err(error) => panic!("{error}"),
         };
         assert_eq!(reported, sample.answer, "{name}");
     }
@@ -324,7 +330,8 @@ fn what_is_expected_is_reported_in_words() {
     let start = "<?xml version=\"1.0\" encoding=\"utf-8\"?><XnaContent><Asset Type=\"string[]\">";
     let reported = |rest: &str| {
         let xml = format!("{start}{rest}");
-        let refused = xnb::xml::import(&xml).expect_err("wrong XML");
+        let refused = xnb::xml::import(&xml).expect_err("wrong XML").refused();
+        let refused = refused.expect("a rule is broken");
         assert_eq!(refused.refusal, xnb::Refusal::NotExported, "{rest}");
         Expected::at(&xml, refused.place as usize).to_string()
     };

@@ -13,8 +13,8 @@ use xnb::{Loaded, Loader, Refused, Table};
 
 /// Say whether the asset builder takes each file, and why not
 ///
-/// The answer is that of document 01's asset builder, which has room for 1024 rows
-/// and lends no enum types.
+/// The answer is that of the C entry xnb_load: there is room for 1024 rows unless
+/// --rows gives more, and there are no enum types unless --enums gives them.
 /// A file that is taken has one line, with its padding: how many bytes its seven-bit
 /// numbers have more than their shortest forms, which `shorten` leaves out. A refusal
 /// names the rule, what was found, and the bytes around the place. The last line sums
@@ -29,7 +29,7 @@ pub struct Check {
     #[command(flatten)]
     inputs: Inputs,
 
-    /// Lend room for N rows instead
+    /// Give room for N rows instead
     #[arg(long, value_name = "N", default_value_t = BUILDER_ROWS,
         value_parser = at_most_all_rows())]
     rows: u32,

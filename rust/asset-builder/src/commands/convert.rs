@@ -52,7 +52,7 @@ struct Places {
     json: bool,
 }
 
-/// Converts a pack into a lent output, and answers the length of the new one.
+/// Converts a pack into a given output, and answers the length of the new one.
 type Conversion = fn(&[u8], &mut [u8]) -> Result<usize, PackRefused>;
 
 impl Mark {

@@ -9,16 +9,16 @@ use crate::refusal::Told;
 use crate::run::{End, Run};
 use std::path::PathBuf;
 use xnb::Refusal::{NotInXml, NotTextArray, NullText};
-use xnb::{Kind, Loader, Refused, Table};
+use xnb::{FileError, Kind, Loader, Refused, Table};
 
 /// The mark before each text.
-const ITEM: &str = "<Item>";
+pub const ITEM: &str = "<Item>";
 
 /// Write the texts of a file as XML, for translators
 ///
 /// The file's primary object is an Array of String, and it has no shared objects.
-/// Each text stands between <Item> and </Item>, with nothing between items; the
-/// characters & < > and " stand as &amp; &lt; &gt; and &quot;. `import` takes the XML
+/// Each text is written between <Item> and </Item>, with nothing between items; the
+/// characters & < > and " are written &amp; &lt; &gt; and &quot;. `import` takes the XML
 /// back. The output takes its place when it is whole; a file that is there is
 /// overwritten only with -f. A refused file leaves the output as it is; the refusal
 /// goes to standard error.
@@ -67,7 +67,13 @@ impl Export {
         };
         let xml = match loader.export_xml(&file) {
             Ok(xml) => xml,
-            Err(refused) => return writing.refused(run, told(loader, &file, refused)),
+            Err(FileError::Refused(refused)) => {
+                return writing.refused(run, told(loader, &file, refused));
+            }
+            Err(FileError::OutOfMemory(error)) => {
+                run.fail(input.shown(), error);
+                return writing.unwritten(run, Some(file.len()));
+            }
         };
         if !output.write(run, xml.as_bytes(), Form::Raw, existing)? {
             return writing.unwritten(run, Some(file.len()));
@@ -125,7 +131,7 @@ fn what_is_in_the_text(table: &Table, row: u32) -> String {
     }
 }
 
-/// The number of a row below the primary object: text 1 stands in row 1.
+/// The number of a row below the primary object: text 1 is row 1.
 fn counted_from_one(row: u32) -> String {
     let ending = match (row % 10, row % 100) {
         (_, 11..=13) => "th",

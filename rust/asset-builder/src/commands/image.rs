@@ -44,7 +44,7 @@ pub struct Image {
     #[arg(long, value_name = "N")]
     level: Option<usize>,
 
-    /// Lend room for N rows instead
+    /// Give room for N rows instead
     #[arg(long, value_name = "N", default_value_t = MOST_ROWS,
         value_parser = at_most_all_rows())]
     rows: u32,

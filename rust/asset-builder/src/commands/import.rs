@@ -1,18 +1,19 @@
 //! `import`: a file from the XML of its texts.
 
+use super::export::ITEM;
 use super::{counted, unread, Writing};
 use crate::input::Input;
 use crate::output::{Force, Form, Output};
 use crate::refusal::{shown_byte, Told};
 use crate::run::{End, Run};
 use std::path::PathBuf;
-use xnb::xml::{import, Expected, XmlRefused};
-use xnb::{Refusal, Table};
+use xnb::xml::{import, Expected, XmlError, XmlRefused};
+use xnb::Refusal;
 
-/// Write the file of texts that stand in XML
+/// Write the file of the texts in XML
 ///
-/// The XML is taken exactly as `export` writes it: nothing stands between items, and
-/// & < > and " stand in a text as &amp; &lt; &gt; and &quot;. Where it differs, the line
+/// The XML is taken exactly as `export` writes it: nothing is between items, and
+/// & < > and " are written &amp; &lt; &gt; and &quot; in a text. Where it differs, the line
 /// and the column are reported, what was found there and what is expected. The file is
 /// the shortest one with these texts.
 /// The output takes its place when it is whole; a file that is there is overwritten
@@ -55,13 +56,18 @@ impl Import {
         };
         let file = match run.progress().during("importing", || import(&xml[..])) {
             Ok(file) => file,
-            Err(refused) => return writing.refused(run, told(&xml, refused)),
+            Err(XmlError::Refused(refused)) => return writing.refused(run, told(&xml, refused)),
+            Err(XmlError::OutOfMemory(error)) => {
+                run.fail(input.shown(), error);
+                return writing.unwritten(run, Some(xml.len()));
+            }
         };
         if !input.is_unchanged(run, &xml) || !output.write(run, &file, Form::Raw, existing)? {
             return writing.unwritten(run, Some(xml.len()));
         }
-        let texts = Table::load(&file).map_or(0, |table| table.loaded().rows - 1);
-        let texts = counted(texts, "text", "texts");
+        // A text has no <, so each item has one mark.
+        let items = xml.windows(ITEM.len()).filter(|it| *it == ITEM.as_bytes());
+        let texts = counted(items.count(), "text", "texts");
         let bytes = counted(file.len(), "byte", "bytes");
         let words = format!("{texts}, a file of {bytes}");
         writing.written_as(run, xml.len(), file.len(), &words)
@@ -79,7 +85,7 @@ fn told(xml: &[u8], refused: XmlRefused) -> Told<'_> {
     }
 }
 
-/// The line and the column, what stands there, what is expected, and what people mostly mean.
+/// The line and the column, what is there, what is expected, and what people mostly mean.
 fn what_is_wrong(xml: &[u8], place: usize) -> String {
     let (line, column) = line_and_column(xml, place);
     let expected = Expected::at(xml, place);
@@ -99,7 +105,7 @@ fn line_and_column(xml: &[u8], place: usize) -> (usize, usize) {
     let lines = before.iter().filter(|byte| **byte == b'\n').count();
     let start = before.iter().rposition(|byte| *byte == b'\n');
     let line = &before[start.map_or(0, |newline| newline + 1)..];
-    // A character that is begun before the place is the one that stands at it.
+    // A character that is begun before the place is the one at it.
     let characters = line.utf8_chunks().map(|it| it.valid().chars().count());
     (lines + 1, characters.sum::<usize>() + 1)
 }
@@ -112,7 +118,7 @@ fn advice(xml: &[u8], expected: Expected, found: Option<u8>) -> Option<&'static 
         (Expected::Text, b'"') => Some("\" is written as &quot;"),
         (Expected::Text, 0..=0x1F) => Some("a text has no line break and no control character"),
         (Expected::ItemOrEnd { before: 0 } | Expected::End, b' ' | b'\t' | b'\r' | b'\n') => {
-            Some("nothing stands between items or behind the end, no space and no line break")
+            Some("nothing is between items or behind the end, no space and no line break")
         }
         (Expected::Markup { before: 0, .. }, _) if xml.starts_with(b"\xEF\xBB\xBF") => {
             Some("the XML begins with a byte order mark, save it without one")

@@ -27,7 +27,7 @@ use clap::{Parser, Subcommand};
 use std::path::Path;
 use xnb::{Loader, Table, WORDS_PER_ROW};
 
-/// The rows that 01's asset builder has room for.
+/// The rows that the C entry `xnb_load` has room for.
 const BUILDER_ROWS: u32 = 1024;
 /// The rows that a table has at most.
 const MOST_ROWS: u32 = xnb::MOST_ROWS as u32;

@@ -158,7 +158,7 @@ fn bytes(text: &str) -> String {
     counted(text.len(), "byte", "bytes")
 }
 
-/// The file with this text at the end of a row's part, where its own text of the same length stands.
+/// The file with this text at the end of a row's part, in place of its own text of the same length.
 fn with_text(file: &[u8], row: &Row, text: &str) -> Vec<u8> {
     let end = row.first + row.length;
     let mut new = file.to_vec();

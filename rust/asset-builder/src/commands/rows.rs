@@ -19,7 +19,7 @@ use xnb::{Loader, Refused, Table, WORDS_PER_ROW};
 /// files, each begins with `==> NAME <==`.
 ///
 /// The program `rows` differs: it reads standard input alone, refuses more than
-/// 32768 bytes (9 at 0), has room for 1024 rows and lends no enum types. This
+/// 32768 bytes (9 at 0), has room for 1024 rows and no enum types. This
 /// command takes what the loader takes: 16777216 bytes and 65536 rows.
 #[derive(clap::Args)]
 #[command(verbatim_doc_comment)]
@@ -27,7 +27,7 @@ pub struct Rows {
     #[command(flatten)]
     inputs: Inputs,
 
-    /// Lend room for N rows instead
+    /// Give room for N rows instead
     #[arg(long, value_name = "N", default_value_t = MOST_ROWS,
         value_parser = at_most_all_rows())]
     rows: u32,

@@ -10,9 +10,9 @@ use crate::run::{End, Run, Status};
 use serde::Serialize;
 use std::io;
 use std::path::{Path, PathBuf};
-use xnb::pack::PackRefused;
+use xnb::pack::{PackError, PackRefused};
 use xnb::salvage::{salvage_into, Stretch, MOST_STRETCHES, WORDS_PER_STRETCH};
-use xnb::Pack;
+use xnb::{OutOfMemory, Pack};
 
 /// The bytes of a pack's file count.
 const COUNT: usize = 4;
@@ -100,7 +100,14 @@ impl Salvage {
             Ok(pack) => pack,
             Err(why) => return unread(run, &input, &why, self.json),
         };
-        if is_without_marks(&pack) {
+        let is_without_marks = match is_without_marks(&pack) {
+            Ok(is_without_marks) => is_without_marks,
+            Err(error) => {
+                run.fail(input.shown(), error);
+                return self.unwritten(run, &input, Some(pack.len()));
+            }
+        };
+        if is_without_marks {
             run.mark(Status::Refused);
             run.note(&format!("{}: {WITHOUT_MARKS}\n", input.shown()));
             let bytes = Some(pack.len());
@@ -201,8 +208,12 @@ impl Salvage {
 }
 
 /// Whether a pack reads as one without marks, and has files.
-fn is_without_marks(pack: &[u8]) -> bool {
-    Pack::read(pack).is_ok_and(|pack| !pack.is_empty())
+fn is_without_marks(pack: &[u8]) -> Result<bool, OutOfMemory> {
+    match Pack::read(pack) {
+        Ok(pack) => Ok(!pack.is_empty()),
+        Err(PackError::Refused(_)) => Ok(false),
+        Err(PackError::OutOfMemory(error)) => Err(error),
+    }
 }
 
 /// Salvages a pack to room for an output, or nowhere if there is none, and lists what is skipped.

@@ -11,7 +11,7 @@ use clap::ArgGroup;
 use std::collections::HashSet;
 use std::fs;
 use std::path::{Path, PathBuf};
-use xnb::Loader;
+use xnb::{FileError, Loader};
 
 /// Write each file in its shortest form
 ///
@@ -63,10 +63,13 @@ impl Shorten {
             };
             match loader.shorten(file) {
                 Ok(shortest) => self.write(run, input, file, &shortest, &mut taken),
-                Err(refused) => {
+                Err(FileError::Refused(refused)) => {
                     let refused = Told::of_file(loader, file, refused, MOST_ROWS as usize);
                     let output = self.named_output();
                     self.writing(input, &output).refused(run, refused)
+                }
+                Err(FileError::OutOfMemory(error)) => {
+                    self.unwritten(run, input, file, &error.to_string())
                 }
             }
         })

@@ -22,7 +22,7 @@ pub struct Tree {
     #[command(flatten)]
     inputs: Inputs,
 
-    /// Lend room for N rows instead
+    /// Give room for N rows instead
     #[arg(long, value_name = "N", default_value_t = MOST_ROWS,
         value_parser = at_most_all_rows())]
     rows: u32,
@@ -61,7 +61,7 @@ struct Node {
     resource_id: Option<u32>,
     #[serde(skip_serializing_if = "Value::is_nothing")]
     value: Value,
-    /// What the value stands for, if document 000 names it.
+    /// What the value means, if the format names it.
     #[serde(skip_serializing_if = "Option::is_none")]
     meaning: Option<String>,
     #[serde(skip_serializing_if = "Vec::is_empty")]

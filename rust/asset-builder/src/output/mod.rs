@@ -63,7 +63,7 @@ impl Force {
         self.force
     }
 
-    /// What becomes of a file that stands at the output's place.
+    /// What becomes of a file that is at the output's place.
     pub fn existing(self) -> Existing {
         match self.force {
             true => Existing::Force,
@@ -72,7 +72,7 @@ impl Force {
     }
 }
 
-/// What becomes of a file that stands at an output's place.
+/// What becomes of a file that is at an output's place.
 #[derive(Clone, Copy, Debug, PartialEq, Eq)]
 pub enum Existing {
     /// It stays, and the output is refused.
@@ -109,7 +109,7 @@ impl Output {
         }
     }
 
-    /// Whether it may be written; what stands in its way is reported.
+    /// Whether it may be written; what is in its way is reported.
     pub fn is_free(&self, run: &mut Run, form: Form, existing: Existing) -> bool {
         let free = match self {
             Output::Standard => free_terminal(form, existing, run.prints_to_terminal()),
@@ -256,7 +256,7 @@ pub fn write_pieces(
     Ok(())
 }
 
-/// The system cannot read what is to be written: the mapped file that it stands in was cut.
+/// The system cannot read what is to be written: the mapped file that holds it was cut.
 pub fn cut(error: io::Error) -> io::Error {
     match error.raw_os_error() {
         Some(libc::EFAULT) => io::Error::other("what is written was cut while it was read"),
@@ -280,11 +280,11 @@ fn free_terminal(form: Form, existing: Existing, is_terminal: bool) -> io::Resul
     Ok(())
 }
 
-/// Whether a place is free, or what stands there may be replaced.
+/// Whether a place is free, or what is there may be replaced.
 fn free_place(path: &Path, existing: Existing) -> io::Result<()> {
     match fs::metadata(path) {
         Ok(there) if there.is_file() => part::may_replace(path, &there, existing),
-        // What is no plain file is written as it stands.
+        // What is no plain file is written as it is.
         Ok(_) => Ok(()),
         Err(_) if path.is_symlink() => {
             Err(io::Error::other("it is a link to a file that is not there"))
@@ -293,7 +293,7 @@ fn free_place(path: &Path, existing: Existing) -> io::Result<()> {
     }
 }
 
-/// Writes a file whole, and answers what there is to remark. What is no plain file, as a device, is written as it stands.
+/// Writes a file whole, and answers what there is to remark. What is no plain file, as a device, is written as it is.
 fn write_whole(
     path: &Path,
     form: Form,
@@ -326,7 +326,7 @@ fn is_plain_or_new(path: &Path) -> bool {
     fs::metadata(path).map_or(true, |there| there.is_file())
 }
 
-/// What stands at the path if it is no plain file, as a device or a pipe.
+/// What is at the path if it is no plain file, as a device or a pipe.
 fn open_device(path: &Path) -> io::Result<Option<File>> {
     match fs::metadata(path) {
         Ok(there) if !there.is_file() => OpenOptions::new().write(true).open(path).map(Some),

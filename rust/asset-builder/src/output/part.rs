@@ -25,12 +25,12 @@ pub struct Part {
 }
 
 impl Part {
-    /// Starts a file that shall stand at the path; a link stays, and the file that it names is written.
+    /// Starts a file for the path; a link stays, and the file that it names is written.
     pub fn create(path: &Path, existing: Existing) -> io::Result<Part> {
         Part::at(place_of(path)?, existing)
     }
 
-    /// A file without a name, in the folder of the path, that shall stand there.
+    /// A file without a name, in the folder of the path, for that path.
     pub fn of_unnamed(file: File, path: &Path, existing: Existing) -> io::Result<Part> {
         Ok(Part {
             file,
@@ -41,7 +41,7 @@ impl Part {
         })
     }
 
-    /// Starts a file that shall stand just at this place.
+    /// Starts a file for just this place.
     pub fn at(place: PathBuf, existing: Existing) -> io::Result<Part> {
         let (file, name) = match unnamed_in(folder_of(&place)) {
             Some(file) => (file, None),
@@ -85,7 +85,7 @@ impl Part {
         Ok(remark)
     }
 
-    /// Gives it the name of its place, where nothing stands.
+    /// Gives it the name of its place, where nothing is.
     fn put(&self) -> io::Result<()> {
         let put = match &self.name {
             None => link(&self.file, &self.place),
@@ -104,7 +104,7 @@ impl Part {
         })
     }
 
-    /// Takes the place of the file that stands there.
+    /// Takes the place of the file that is there.
     fn replace(&self) -> io::Result<()> {
         // No signal ends the run between the two names.
         let mut parts = parts();

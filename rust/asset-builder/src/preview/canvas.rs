@@ -1,6 +1,9 @@
 //! Pictures of a page: pixels of textures, parts of them, and lines of text set in a font.
 
 use crate::picture::write_pixels;
+use crate::room::zeros;
+use base64::write::EncoderWriter;
+use std::io::{self, Write};
 use xnb::{Font, Level, Rectangle};
 
 /// A line that is set has at most so many pixels to each side.
@@ -16,40 +19,43 @@ pub struct Canvas {
 }
 
 impl Canvas {
-    fn new(width: u32, height: u32) -> Canvas {
-        Canvas {
+    fn new(width: u32, height: u32) -> io::Result<Canvas> {
+        Ok(Canvas {
             width,
             height,
-            pixels: vec![0; 4 * width as usize * height as usize],
-        }
+            pixels: zeros(4 * width as usize * height as usize)?,
+        })
     }
 
     /// The pixels of a level.
-    pub fn of_level(level: &Level) -> Canvas {
-        Canvas {
+    pub fn of_level(level: &Level) -> io::Result<Canvas> {
+        Ok(Canvas {
             width: level.width,
             height: level.height,
-            pixels: level.rgba8(),
-        }
+            pixels: level.rgba8()?,
+        })
     }
 
     /// A part of it, as far as it lies in it; nothing if it does not.
-    pub fn part(&self, part: Rectangle) -> Option<Canvas> {
+    pub fn part(&self, part: Rectangle) -> io::Result<Option<Canvas>> {
         let (width, height) = (i64::from(self.width), i64::from(self.height));
         let inside = |from: i32, size: i32, most: i64| {
             let end = (i64::from(from) + i64::from(size)).min(most);
             let start = i64::from(from).max(0);
             (start < end).then_some((start as u32, end as u32))
         };
-        let (left, right) = inside(part.x, part.width, width)?;
-        let (top, bottom) = inside(part.y, part.height, height)?;
-        let mut cut = Canvas::new(right - left, bottom - top);
+        let across = inside(part.x, part.width, width);
+        let down = inside(part.y, part.height, height);
+        let Some(((left, right), (top, bottom))) = across.zip(down) else {
+            return Ok(None);
+        };
+        let mut cut = Canvas::new(right - left, bottom - top)?;
         for y in top..bottom {
             for x in left..right {
                 cut.set(x - left, y - top, self.pixel(x, y));
             }
         }
-        Some(cut)
+        Ok(Some(cut))
     }
 
     fn place(&self, x: u32, y: u32) -> usize {
@@ -81,22 +87,22 @@ impl Canvas {
         }
     }
 
-    /// It as PNG.
-    pub fn png(&self) -> Vec<u8> {
-        let mut out = Vec::new();
-        let written = write_pixels(self.width, self.height, &self.pixels, &mut out);
-        written.expect("a vector takes all");
-        out
+    /// Writes it as the address of a picture, in pieces.
+    pub fn write_address(&self, out: &mut dyn Write) -> io::Result<()> {
+        write!(out, "data:image/png;base64,")?;
+        let mut out = EncoderWriter::new(out, base64::STANDARD);
+        write_pixels(self.width, self.height, &self.pixels, &mut out)?;
+        out.finish().map(|_| ())
     }
 }
 
 /// A line of text as the library sets it in the font; nothing if no pixel of it is there.
-pub fn line(font: &Font, texture: &Canvas, text: &str) -> Option<Canvas> {
+pub fn line(font: &Font, texture: &Canvas, text: &str) -> io::Result<Option<Canvas>> {
     let mut parts = Vec::new();
     let (mut width, mut height) = (0_i64, 0_i64);
     for placed in font.set(text) {
         let (left, top) = (placed.x.round() as i64, placed.y.round() as i64);
-        let Some(part) = texture.part(placed.glyph.bounds) else {
+        let Some(part) = texture.part(placed.glyph.bounds)? else {
             continue;
         };
         width = width.max(left.saturating_add(part.width.into()));
@@ -104,11 +110,14 @@ pub fn line(font: &Font, texture: &Canvas, text: &str) -> Option<Canvas> {
         parts.push((part, left, top));
     }
     let side = |side: i64| (side > 0).then_some(side.min(LONGEST_SIDE) as u32);
-    let mut line = Canvas::new(side(width)?, side(height)?);
+    let Some((width, height)) = side(width).zip(side(height)) else {
+        return Ok(None);
+    };
+    let mut line = Canvas::new(width, height)?;
     for (part, left, top) in parts {
         line.lay(&part, left, top);
     }
-    Some(line)
+    Ok(Some(line))
 }
 
 #[cfg(test)]
@@ -137,7 +146,7 @@ mod tests {
     fn a_part_is_cut_out_as_far_as_it_is_there() {
         let canvas = numbered(4, 3);
         let numbers = |part| {
-            let part = canvas.part(rectangle(part))?;
+            let part = canvas.part(rectangle(part)).expect("memory")?;
             let numbers: Vec<u8> = part.pixels.chunks(4).map(|it| it[0]).collect();
             Some((part.width, part.height, numbers))
         };
@@ -157,7 +166,7 @@ mod tests {
     #[test]
     fn a_clear_pixel_covers_nothing() {
         let mut canvas = numbered(2, 1);
-        let mut over = Canvas::new(2, 1);
+        let mut over = Canvas::new(2, 1).expect("memory");
         over.set(0, 0, [9, 9, 9, 255]);
         canvas.lay(&over, 0, 0);
         assert_eq!(canvas.pixels, [9, 9, 9, 255, 1, 0, 0, 255]);

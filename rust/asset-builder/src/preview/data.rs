@@ -16,7 +16,7 @@ pub const MOST_BYTES: usize = 1 << 20;
 /// So many characters of a value are shown.
 const MOST_CHARACTERS: usize = 2_000;
 
-/// A row: its words, what it is to the value above it, its value, what that stands for, and how many bytes it pads.
+/// A row: its words, what it is to the value above it, its value, what that means, and how many bytes it pads.
 struct Shown<'t> {
     words: &'t [u32],
     texts: [Option<String>; 3],

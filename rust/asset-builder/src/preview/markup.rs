@@ -1,4 +1,4 @@
-//! Words and numbers as they stand in a page: no byte of a file becomes markup.
+//! Words and numbers as a page has them: no byte of a file becomes markup.
 
 use crate::names::shown_text;
 use std::borrow::Cow;
@@ -59,12 +59,6 @@ pub fn coordinate(number: f64) -> String {
     }
 }
 
-/// Writes bytes as the address of a picture.
-pub fn write_png_address(out: &mut dyn Write, png: &[u8]) -> io::Result<()> {
-    write!(out, "data:image/png;base64,")?;
-    write_base64(out, png)
-}
-
 pub fn write_base64(out: &mut dyn Write, bytes: &[u8]) -> io::Result<()> {
     // Pieces of whole groups of three bytes, so that only the last is padded.
     for piece in bytes.chunks(3 << 14) {
@@ -105,8 +99,8 @@ mod tests {
             .into_iter()
             .collect();
         assert_eq!(grouped, ["0", "999", "1,000", "65,536", "16,777,216"]);
-        let told = [-0.001, 1.5, 100.0, -2.345].map(coordinate);
-        assert_eq!(told, ["0", "1.5", "100", "-2.35"].map(String::from));
+        let written = [-0.001, 1.5, 100.0, -2.345].map(coordinate);
+        assert_eq!(written, ["0", "1.5", "100", "-2.35"].map(String::from));
         assert_eq!(start_of("สถานี", 2), ("สถ", true));
         assert_eq!(start_of("สถ", 2), ("สถ", false));
     }

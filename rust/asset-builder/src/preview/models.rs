@@ -29,7 +29,7 @@ struct Drawing {
     all_points: usize,
 }
 
-/// Writes the models, and the buffers that stand alone.
+/// Writes the models, and the buffers that are in no model.
 pub fn write_models(out: &mut dyn Write, shown: &Shown) -> io::Result<()> {
     let models = rows(shown.table, Kind::Model);
     for row in models.iter().take(MOST_MODELS) {
@@ -222,7 +222,7 @@ fn drawing(model: &Model) -> Drawing {
     drawing
 }
 
-/// Where a bone stands in the model: its own transform, then that of each above it.
+/// Where a bone is in the model: its own transform, then that of each above it.
 fn in_model(bones: &[(Matrix, Option<usize>)], bone: usize) -> Matrix {
     let (mut matrix, mut above) = match bones.get(bone) {
         Some((matrix, parent)) => (*matrix, *parent),

@@ -30,7 +30,7 @@ pub struct Source {
 pub struct Page<'p> {
     pub maker: Maker<'p>,
     pub sources: &'p [Source],
-    /// The number that a served page is told apart by.
+    /// The number that a served page is known by.
     pub version: Option<u64>,
 }
 
@@ -67,7 +67,7 @@ impl Write for Counting<'_> {
 }
 
 impl Page<'_> {
-    /// Writes the page. The bytes of each input are read again, which lends them to what shows them; they are checked to be
+    /// Writes the page. The bytes of each input are read again, which gives them to what shows them; they are checked to be
     /// answered as before.
     pub fn write(
         &self,
@@ -242,7 +242,10 @@ impl Page<'_> {
                 write_refused_pack(out, section, &source.name, bytes, &told)?;
             }
             Content::Pack { files, .. } => {
-                let opened = pack::open(bytes, false).map_err(|_| super::changed())?;
+                let opened = pack::open(bytes, false).map_err(|unopened| match unopened {
+                    pack::Unopened::Refused(_) => super::changed(),
+                    pack::Unopened::Failed(why) => io::Error::other(why),
+                })?;
                 if opened.files.len() != files.len() {
                     return Err(super::changed());
                 }

@@ -1,8 +1,8 @@
-//! Pages of the console: where each stands with its title and texture, and which leads to which.
+//! Pages of the console: where each is, with its title and texture, and which leads to which.
 
 use super::canvas::line;
 use super::links::Links;
-use super::markup::{counted, quoted_or_null, safe, start_of, write_cut, write_png_address};
+use super::markup::{counted, quoted_or_null, safe, start_of, write_cut};
 use super::pictures::{picture_id, rows, shown_level, Face};
 use super::section::Shown;
 use crate::names::shown_text;
@@ -66,7 +66,10 @@ pub fn write_pages(out: &mut dyn Write, shown: &Shown, pages: &[(u32, Page)]) ->
         return Ok(());
     }
     let faces = rows(shown.table, Kind::SpriteFont);
-    let face = faces.first().and_then(|row| Face::of(shown.table, *row));
+    let face = match faces.first() {
+        Some(row) => Face::of(shown.table, *row)?,
+        None => None,
+    };
     let screens = pages.iter().map(|(_, page)| Screen::of(page.area));
     let all = screens
         .reduce(Screen::with)
@@ -171,7 +174,10 @@ fn write_title(
     let (title, _) = start_of(title, LONGEST_TITLE);
     let (x, y) = (i64::from(page.area.x), i64::from(page.area.y));
     let set = face.filter(|face| face.has_all(title));
-    let set = set.and_then(|face| line(&face.font, &face.texture, title));
+    let set = match set {
+        Some(face) => line(&face.font, &face.texture, title)?,
+        None => None,
+    };
     if let Some(line) = set.filter(|it| shown.takes(it.width, it.height)) {
         write!(
             out,
@@ -181,7 +187,7 @@ fn write_title(
             line.width,
             line.height
         )?;
-        write_png_address(out, &line.png())?;
+        line.write_address(out)?;
         return writeln!(out, "\"/>");
     }
     let size = (screen.height() as f64 / 12.0).max(screen.width() as f64 / 26.0);
@@ -195,7 +201,7 @@ fn write_title(
     )
 }
 
-/// The width and height of a page's box in the drawing of links, and what stands between two.
+/// The width and height of a page's box in the drawing of links, and what is between two.
 const BOX: (i64, i64) = (300, 36);
 const GAP: i64 = 22;
 

@@ -1,7 +1,7 @@
 //! Textures and fonts of a file as pictures.
 
 use super::canvas::{line, Canvas};
-use super::markup::{counted, grouped, quoted, safe, write_cut, write_png_address};
+use super::markup::{counted, grouped, quoted, safe, write_cut};
 use super::section::{self, Shown};
 use std::io::{self, Write};
 use xnb::{Font, Kind, Level, Table};
@@ -97,7 +97,7 @@ fn write_texture(out: &mut dyn Write, shown: &Shown, row: u32) -> io::Result<()>
             width * scale,
             height * scale
         )?;
-        write_png_address(out, &Canvas::of_level(&level).png())?;
+        Canvas::of_level(&level)?.write_address(out)?;
         write!(out, "\"/></svg><figcaption>")?;
         match number {
             0 => {
@@ -137,16 +137,14 @@ pub struct Face {
 
 impl Face {
     /// The font of a row, if its texture's first level is shown.
-    pub fn of(table: &Table, row: u32) -> Option<Face> {
-        let font = table.font(row).ok()?;
-        let level = table.picture(font.texture).ok()?.level(0)?;
-        if !is_small(&level) {
-            return None;
-        }
-        Some(Face {
-            font,
-            texture: Canvas::of_level(&level),
-        })
+    pub fn of(table: &Table, row: u32) -> io::Result<Option<Face>> {
+        let font = table.font(row).expect("the row of a font");
+        let picture = table.picture(font.texture).expect("the texture of a font");
+        let Some(level) = picture.level(0).filter(is_small) else {
+            return Ok(None);
+        };
+        let texture = Canvas::of_level(&level)?;
+        Ok(Some(Face { font, texture }))
     }
 
     /// Whether every character of a text has a glyph of its own.
@@ -180,7 +178,10 @@ pub fn write_fonts(out: &mut dyn Write, shown: &Shown, titles: &[&str]) -> io::R
 fn write_font(out: &mut dyn Write, shown: &Shown, row: u32, titles: &[&str]) -> io::Result<()> {
     let font = shown.table.font(row).expect("the row of a font");
     let default = match font.default {
-        Some(it) => format!("{} stands for a missing character", quoted(&it.to_string())),
+        Some(it) => format!(
+            "{} is shown for a missing character",
+            quoted(&it.to_string())
+        ),
         None => "a missing character is left out".to_string(),
     };
     writeln!(
@@ -191,7 +192,7 @@ fn write_font(out: &mut dyn Write, shown: &Shown, row: u32, titles: &[&str]) -> 
         font.line_spacing,
         font.spacing
     )?;
-    let Some(face) = Face::of(shown.table, row) else {
+    let Some(face) = Face::of(shown.table, row)? else {
         return writeln!(
             out,
             "<p class=\"cut\">Its texture has more than {} pixels: no glyph is shown.</p></div>",
@@ -199,7 +200,7 @@ fn write_font(out: &mut dyn Write, shown: &Shown, row: u32, titles: &[&str]) -> 
         );
     };
     let sample = face.sample(titles);
-    let line = line(&face.font, &face.texture, &sample);
+    let line = line(&face.font, &face.texture, &sample)?;
     if let Some(line) = line.filter(|it| shown.takes(it.width, it.height)) {
         write!(
             out,
@@ -208,7 +209,7 @@ fn write_font(out: &mut dyn Write, shown: &Shown, row: u32, titles: &[&str]) -> 
             line.height,
             quoted(&sample)
         )?;
-        write_png_address(out, &line.png())?;
+        line.write_address(out)?;
         writeln!(
             out,
             "\"></div><figcaption>{} set in the font</figcaption></figure>",
@@ -224,7 +225,7 @@ fn write_font(out: &mut dyn Write, shown: &Shown, row: u32, titles: &[&str]) -> 
         let name = quoted(&character.to_string());
         let code = u32::from(character);
         write!(out, "<li>")?;
-        let part = face.texture.part(glyph.bounds);
+        let part = face.texture.part(glyph.bounds)?;
         if let Some(part) = part.filter(|it| shown.takes(it.width, it.height)) {
             let scale = (24 / part.height.max(1)).max(1);
             write!(
@@ -233,7 +234,7 @@ fn write_font(out: &mut dyn Write, shown: &Shown, row: u32, titles: &[&str]) -> 
                 part.width * scale,
                 part.height * scale
             )?;
-            write_png_address(out, &part.png())?;
+            part.write_address(out)?;
             write!(out, "\">")?;
         }
         writeln!(out, "<bdi>{name}</bdi> U+{code:04X}</li>")?;

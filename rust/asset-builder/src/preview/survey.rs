@@ -73,7 +73,7 @@ impl Maker<'_> {
                 bytes: bytes.len(),
                 refused: Brief::of(&told),
             },
-            Err(pack::Unopened::Changed) => Content::Unread(crate::input::CHANGED.to_string()),
+            Err(pack::Unopened::Failed(why)) => Content::Unread(why),
         }
     }
 

@@ -14,7 +14,7 @@ use crate::table::Table;
 /// A longer text is shown up to here.
 const LONGEST_SHOWN: usize = 40;
 
-/// What stands at the place of a refusal by the driver's loader, 41 to 47.
+/// What is at the place of a refusal by the driver's loader, 41 to 47.
 pub fn explain<'f>(enums: &[u8], file: &'f [u8], refused: Refused) -> Option<Explanation<'f>> {
     let table = Loader::new().with_enum_bytes(enums).load(file).ok()?;
     let mut cursor = Cursor::new(file, refused);
@@ -75,7 +75,7 @@ fn number_at(
     shared_count: usize,
     place: usize,
 ) -> Option<String> {
-    // The reader count is the first number, and a name's length stands right before the name.
+    // The reader count is the first number, and a name's length is right before the name.
     let mut end = 10 + width(table.file(), 10)?;
     if place < end {
         return Some("the reader count".to_string());
@@ -137,7 +137,7 @@ fn equal_reader(readers: &[Reader], later: &Reader) -> Option<String> {
     let (number, target) = (later.name.number, &later.target);
     let (before, first) = (earlier.number, earlier.first);
     Some(format!(
-        "reader {number} reads {target}, as reader {before} does, whose name stands at byte {first}"
+        "reader {number} reads {target}, as reader {before} does, whose name is at byte {first}"
     ))
 }
 
@@ -147,7 +147,7 @@ fn repeated_key(table: &Table, place: usize) -> Option<String> {
     let (later, row) = numbered(table).find(is_key)?;
     let dictionary = row.parent?;
     let text = table.text(later).ok()?;
-    // Keys and values stand in turn.
+    // Keys and values come in turn.
     let mut keys = table.children(dictionary).step_by(2);
     let earlier = keys.find(|key| table.text(*key) == Ok(text))?;
     let first = table.row(earlier)?.first;
@@ -157,7 +157,7 @@ fn repeated_key(table: &Table, place: usize) -> Option<String> {
     ))
 }
 
-/// The page whose next stands at a place.
+/// The page whose next is at a place.
 fn page_without_next(table: &Table, place: usize) -> Option<String> {
     let is_next = |(_, row): &(u32, Row)| row.kind == Kind::SharedReference && row.first == place;
     let page = numbered(table).find(is_next)?.1.parent?;

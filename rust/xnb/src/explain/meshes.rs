@@ -1,4 +1,4 @@
-//! Index buffers, vertex declarations, vertex buffers and models, field by field as document 000 lays them out.
+//! Index buffers, vertex declarations, vertex buffers and models, field by field as the format lays them out.
 
 use super::cursor::Step;
 use super::types::Type;
@@ -111,7 +111,7 @@ impl<'f> Walk<'_, 'f> {
         self.cursor.take_u32(what)
     }
 
-    /// A number of an element that document 000 lists.
+    /// A number of an element that the format lists.
     fn code(&mut self, what: &str, last: u32, depth: u32) -> Step<'f, ()> {
         let start = self.cursor.at;
         let code = self.number(format_args!("the {what} of an element"), depth)?;

@@ -1,7 +1,7 @@
 //! Refusals explained over the bytes of their file.
 //!
 //! The proved library has judged; this follows the layout from field to field to the place that it
-//! named, and says what stands there. It finds no faults of its own: where the field at the place
+//! named, and says what is there. It finds no faults of its own: where the field at the place
 //! does not show the fault that was named, there is no explanation.
 
 mod cursor;
@@ -45,7 +45,7 @@ impl<'f> Explanation<'f> {
     }
 }
 
-/// What is found, above the name of the reader that is meant; a marked name stands above what is found in it.
+/// What is found, above the name of the reader that is meant; a marked name comes before what is found in it.
 impl Display for Explanation<'_> {
     fn fmt(&self, out: &mut Formatter) -> fmt::Result {
         let found = &self.found;
@@ -64,11 +64,11 @@ pub struct ReaderName<'f> {
     pub number: usize,
     /// The place of its first byte in the file.
     pub first: usize,
-    /// Its bytes as they stand in the file, lawful or not.
+    /// Its bytes as they are in the file, lawful or not.
     pub bytes: &'f [u8],
 }
 
-/// What stands at the place of a refusal by a load with room for so many rows.
+/// What is at the place of a refusal by a load with room for so many rows.
 ///
 /// ```
 /// // A header that claims 14 bytes, in a file of 13.

@@ -9,7 +9,7 @@ const DEEPEST: usize = 8;
 #[derive(Debug)]
 pub struct Name<'f> {
     pub head: &'f [u8],
-    /// Where its head stands in the reader's name.
+    /// Where its head is in the reader's name.
     place: Range<usize>,
     pub arguments: Vec<Name<'f>>,
 }

@@ -5,12 +5,12 @@ use std::ops::Range;
 
 /// The columns of a line: with an indent of two and a mark behind the last, a terminal of 80 does not break it.
 const WIDTH: usize = 76;
-/// No line past this one is shown if the mark does not stand there.
+/// No line past this one is shown if the mark is not there.
 const MOST_LINES: usize = 16;
 
 /// A reader's name in lines for people, with a mark below the part that is wrong.
 ///
-/// A name that is wider than a line goes on in the next, and the mark stands below the line that holds the wrong part.
+/// A name that is wider than a line goes on in the next, and the mark is below the line that holds the wrong part.
 /// No control byte is shown as it is: a byte below 20 or above 7E hex is shown as `\x1B`, and a backslash as `\\`.
 /// Of a name that takes more than 16 lines, those behind the mark are left out.
 #[derive(Clone, Debug, PartialEq, Eq)]

@@ -108,7 +108,7 @@ impl<'f> Type<'f> {
         })
     }
 
-    /// Whether an object of the other type may stand where this one is declared.
+    /// Whether an object of the other type may be where this one is declared.
     pub fn takes(&self, other: &Type) -> bool {
         match self.head {
             Object => true,
@@ -117,7 +117,7 @@ impl<'f> Type<'f> {
         }
     }
 
-    /// Whether values of the type stand raw as elements and fields.
+    /// Whether values of the type are raw as elements and fields.
     pub fn is_value(&self) -> bool {
         self.head.is_value()
     }
@@ -333,7 +333,7 @@ mod tests {
         assert_eq!(other.head, Enum { name, size });
         assert!(is_target_name(b"System.Nullable") && !is_target_name(b"Coach.Door"));
     }
-    /// The head that is complained of stands between guillemets, and `%` is what the names of readers begin with.
+    /// The head that is complained of is between guillemets, and `%` is what the names of readers begin with.
     #[test]
     fn a_wrong_head_is_reported() {
         let reader = "no reader of this name is known";

@@ -176,6 +176,6 @@ pub fn characters_that_do_not_rise(text: &[u8]) -> Option<String> {
     let (one, two) = pairs.into_iter().find(|(one, two)| one >= two)?;
     let (left, right) = (u32::from(one), u32::from(two));
     Some(format!(
-        "the characters do not rise: U+{right:04X} stands behind U+{left:04X}"
+        "the characters do not rise: U+{right:04X} comes behind U+{left:04X}"
     ))
 }

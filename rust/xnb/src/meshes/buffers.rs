@@ -132,7 +132,7 @@ pub struct VertexElement {
 
 impl VertexElement {
     /// The numbers of the element in the bytes of a vertex, 0, 0, 0 and 1 where it has fewer than four; nothing if it
-    /// does not lie in the vertex. Numbers that stand for -1 to 1 are scaled to that, and those of a colour to 0 to 1.
+    /// does not lie in the vertex. Numbers that mean -1 to 1 are scaled to that, and those of a colour to 0 to 1.
     ///
     /// ```
     /// use xnb::meshes::{ElementFormat, ElementUsage, VertexElement};

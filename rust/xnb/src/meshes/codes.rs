@@ -1,4 +1,4 @@
-//! The codes of document 000 for the elements of a vertex, each once: its number, its name and what it is.
+//! The codes for the elements of a vertex, each once: its number, its name and what it is.
 
 use std::fmt::{self, Display, Formatter};
 
@@ -17,7 +17,7 @@ macro_rules! codes {
                 self as i32
             }
 
-            /// What this number stands for; a load takes no other.
+            /// What this number means; a load takes no other.
             pub fn of_code(code: i32) -> Option<$codes> {
                 Some(match code {
                     $($code => $codes::$name,)*
@@ -25,7 +25,7 @@ macro_rules! codes {
                 })
             }
 
-            /// The name in document 000.
+            /// The name in Microsoft's document of the format.
             pub fn name(self) -> &'static str {
                 match self {
                     $($codes::$name => stringify!($name),)*
@@ -42,7 +42,7 @@ macro_rules! codes {
 }
 
 codes! {
-    /// How an element of a vertex is stored, by its code in document 000.
+    /// How an element of a vertex is stored, by its code.
     ElementFormat {
         0 Single: "a Single number";
         1 Vector2: "two Single numbers";
@@ -52,8 +52,8 @@ codes! {
         5 Byte4: "four bytes";
         6 Short2: "two numbers of two bytes";
         7 Short4: "four numbers of two bytes";
-        8 NormalizedShort2: "two numbers of two bytes that stand for -1 to 1";
-        9 NormalizedShort4: "four numbers of two bytes that stand for -1 to 1";
+        8 NormalizedShort2: "two numbers of two bytes that mean -1 to 1";
+        9 NormalizedShort4: "four numbers of two bytes that mean -1 to 1";
         10 HalfVector2: "two floating-point numbers of two bytes";
         11 HalfVector4: "four floating-point numbers of two bytes";
     }
@@ -77,7 +77,7 @@ impl ElementFormat {
 }
 
 codes! {
-    /// What an element of a vertex is for, by its code in document 000.
+    /// What an element of a vertex is for, by its code.
     ElementUsage {
         0 Position: "where the vertex is";
         1 Color: "its colour";

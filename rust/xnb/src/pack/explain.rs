@@ -15,7 +15,7 @@ const LONGEST_PATH: usize = 260;
 /// use xnb::pack::explain;
 ///
 /// let pack = b"\x02\0\0\0\x01a\x02\0\0\0hi\x04Door\x09\0\0\0hi";
-/// let refused = xnb::Pack::read(pack).unwrap_err();
+/// let refused = xnb::Pack::read(pack).unwrap_err().refused().expect("a rule is broken");
 /// let found = explain(pack, refused, false).expect("a byte of the pack");
 /// assert_eq!(found, "file 2 of 2, Door: its data has 9 bytes, the pack only 2 more");
 /// ```
@@ -99,7 +99,7 @@ impl Record {
         text.map_or(String::new(), |text| format!(", {text}"))
     }
 
-    /// What stands at the place.
+    /// What is at the place.
     fn found(&self, pack: &[u8], place: usize) -> Option<String> {
         let left = pack.len().checked_sub(place)?;
         if self.mark == Some(place) {

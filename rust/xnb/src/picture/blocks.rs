@@ -4,6 +4,7 @@
 //! blocks of Dxt3 and Dxt5 begin with eight bytes of alpha. Shares are rounded down, as most decoders do.
 
 use super::pixels::{five, six};
+use crate::memory::{zeros, OutOfMemory};
 use crate::numbers::{unsigned, Number};
 
 /// Red, green, blue and alpha.
@@ -21,8 +22,8 @@ pub fn pixels<const BYTES: usize>(
     data: &[u8],
     (width, height): (usize, usize),
     block: fn(&[u8; BYTES]) -> Block,
-) -> Vec<u8> {
-    let mut out = vec![0; 4 * width * height];
+) -> Result<Vec<u8>, OutOfMemory> {
+    let mut out = zeros(4 * width * height)?;
     let (blocks, _) = data.as_chunks();
     let lines = (0..height).step_by(SIDE);
     let places = lines.flat_map(|top| (0..width).step_by(SIDE).map(move |left| (left, top)));
@@ -34,7 +35,7 @@ pub fn pixels<const BYTES: usize>(
             out[start..start + 4 * columns].copy_from_slice(line[..columns].as_flattened());
         }
     }
-    out
+    Ok(out)
 }
 
 /// Eight bytes of colours, in which the order of the two says whether there are four colours or three and nothing.
@@ -57,7 +58,7 @@ pub fn dxt5(bytes: &[u8; 16]) -> Block {
     with_alpha(bytes, |pixel| alphas[(codes >> (3 * pixel) & 7) as usize])
 }
 
-/// The alphas by code: the two that stand there, and the steps between them.
+/// The alphas by code: the two of the block, and the steps between them.
 fn alphas(first: u8, second: u8) -> [u8; 8] {
     let share = |of_second: u32, steps: u32| {
         let sum = (steps - of_second) * u32::from(first) + of_second * u32::from(second);
@@ -170,6 +171,14 @@ mod tests {
         assert_eq!(alphas(255, 254), [255, 254, 254, 254, 254, 254, 254, 254]);
     }
 
+    /// A side that no file has: the memory is asked for before a pixel is looked at.
+    #[test]
+    fn memory_that_is_refused_is_an_error() {
+        let bytes = 1 << 60;
+        let refused = pixels(&[], (1 << 30, 1 << 28), dxt1);
+        assert_eq!(refused, Err(OutOfMemory { bytes }));
+    }
+
     /// Five by three pixels take two blocks; of the second only its first column counts.
     #[test]
     fn pixels_past_a_side_are_left_out() {
@@ -177,6 +186,6 @@ mod tests {
         let blue = [0x1F, 0x00, 0x00, 0x00, 0, 0, 0, 0];
         let picture = pixels(&[red, blue].concat(), (5, 3), dxt1);
         let line = [RED, RED, RED, RED, BLUE].concat();
-        assert_eq!(picture, line.repeat(3));
+        assert_eq!(picture, Ok(line.repeat(3)));
     }
 }

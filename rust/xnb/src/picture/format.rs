@@ -4,7 +4,7 @@ use std::fmt::{self, Display, Formatter};
 
 macro_rules! formats {
     ($($code:literal $name:ident $bytes:literal $(: $made:literal)?;)*) => {
-        /// How the pixels of a texture are stored, by its code in document 000.
+        /// How the pixels of a texture are stored, by its code.
         ///
         /// ```
         /// use xnb::SurfaceFormat;
@@ -30,7 +30,7 @@ macro_rules! formats {
                 })
             }
 
-            /// The name in document 000.
+            /// The name in Microsoft's document of the format.
             pub fn name(self) -> &'static str {
                 match self {
                     $(SurfaceFormat::$name => stringify!($name),)*
@@ -78,7 +78,7 @@ formats! {
 }
 
 impl SurfaceFormat {
-    /// The code in document 000.
+    /// The code in the file.
     pub fn code(self) -> u32 {
         self as u32
     }
@@ -102,7 +102,7 @@ impl Display for SurfaceFormat {
 mod tests {
     use super::*;
 
-    /// The bytes of document 01: of a pixel for formats 0 to 3 and 7 to 18, of a block for 4 to 6.
+    /// The bytes of a pixel for formats 0 to 3 and 7 to 18, of a block for 4 to 6.
     #[test]
     fn codes_and_bytes_are_those_of_document_01() {
         let bytes = [4, 2, 2, 2, 8, 16, 16, 2, 4, 4, 4, 8, 1, 4, 8, 16, 2, 4, 8];

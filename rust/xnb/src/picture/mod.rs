@@ -9,6 +9,7 @@ pub(crate) use pixels::half;
 
 use crate::fields::Fields;
 use crate::kind::Kind;
+use crate::memory::OutOfMemory;
 use crate::numbers::numbers;
 use crate::refusal::Refused;
 use crate::shape::Shaped;
@@ -47,8 +48,8 @@ pub struct Texture {
 /// assert_eq!(picture.texture().format, xnb::SurfaceFormat::Bgr565);
 /// let level = picture.level(0).expect("a texture has a level");
 /// assert_eq!((level.width, level.height), (2, 1));
-/// assert_eq!(level.rgba8(), [255, 0, 0, 255, 255, 255, 255, 255]);
-/// # Ok::<(), xnb::Refused>(())
+/// assert_eq!(level.rgba8()?, [255, 0, 0, 255, 255, 255, 255, 255]);
+/// # Ok::<(), Box<dyn std::error::Error>>(())
 /// ```
 #[derive(Clone, Copy, Debug)]
 pub struct Picture<'t, 'f> {
@@ -129,7 +130,9 @@ impl Level<'_> {
     /// The pixels as red, green, blue and alpha of a byte each, line by line from the upper left one on.
     ///
     /// [`SurfaceFormat::made`] says what is done to a format that has not just these.
-    pub fn rgba8(&self) -> Vec<u8> {
+    ///
+    /// They take four bytes each, whatever the file spends on them: 64 MB for the largest level that a file can hold.
+    pub fn rgba8(&self) -> Result<Vec<u8>, OutOfMemory> {
         let size = (self.width as usize, self.height as usize);
         match self.format {
             SurfaceFormat::Dxt1 => blocks::pixels(self.data, size, blocks::dxt1),

@@ -1,15 +1,18 @@
-//! Pixels that stand one after the other.
+//! Pixels one after the other.
 
 use super::SurfaceFormat;
+use crate::memory::{with_room, OutOfMemory};
 use crate::numbers::{numbers, Number};
 
 /// Red, green, blue and alpha.
 type Pixel = [u8; 4];
 
 /// The pixels of a format without blocks, line by line.
-pub fn pixels(data: &[u8], format: SurfaceFormat) -> Vec<u8> {
-    let pixels = data.chunks_exact(format.bytes());
-    pixels.flat_map(|bytes| pixel(format, bytes)).collect()
+pub fn pixels(data: &[u8], format: SurfaceFormat) -> Result<Vec<u8>, OutOfMemory> {
+    let stored = data.chunks_exact(format.bytes());
+    let mut out = with_room(4 * stored.len())?;
+    out.extend(stored.flat_map(|bytes| pixel(format, bytes)));
+    Ok(out)
 }
 
 fn pixel(format: SurfaceFormat, bytes: &[u8]) -> Pixel {
@@ -57,7 +60,7 @@ fn pixel(format: SurfaceFormat, bytes: &[u8]) -> Pixel {
             [x, y, 0, 255]
         }
         HalfVector4 => numbers(bytes).map(|it| unit(half(it))),
-        Dxt1 | Dxt3 | Dxt5 => unreachable!("{format} stands in blocks"),
+        Dxt1 | Dxt3 | Dxt5 => unreachable!("{format} is in blocks"),
     }
 }
 
@@ -120,7 +123,7 @@ mod tests {
 
     /// One pixel in its bytes as the file has them, lowest first.
     fn shown(format: SurfaceFormat, bytes: &[u8]) -> Pixel {
-        let pixels = pixels(bytes, format);
+        let pixels = pixels(bytes, format).expect("memory");
         pixels[..].try_into().expect("one pixel")
     }
 

@@ -26,20 +26,20 @@ mod entries {
     }
 }
 
-/// An entry over a pack and one lent buffer.
+/// An entry over a pack and one given buffer.
 type Entry<T> = unsafe extern "C" fn(*const u8, usize, *mut T, usize, *mut u64) -> u32;
 
 /// The refusal or 0, and the number that the entry writes.
-fn call<T>(entry: Entry<T>, pack: &[u8], lent: &mut [T]) -> (u32, u64) {
+fn call<T>(entry: Entry<T>, pack: &[u8], given: &mut [T]) -> (u32, u64) {
     let mut at = u64::MAX;
-    // SAFETY: the pack is a slice that the entry only reads, what is lent one that nothing else holds and that it writes;
+    // SAFETY: the pack is a slice that the entry only reads, what is given one that nothing else holds and that it writes;
     // the number is this function's own. It reads and writes nothing else and keeps no pointer.
     let refusal = unsafe {
         entry(
             pack.as_ptr(),
             pack.len(),
-            lent.as_mut_ptr(),
-            lent.len(),
+            given.as_mut_ptr(),
+            given.len(),
             &mut at,
         )
     };

@@ -10,19 +10,19 @@ const ENTITIES: [&str; 4] = ["&amp;", "&lt;", "&gt;", "&quot;"];
 /// A longer rest of the markup is shown up to here.
 const LONGEST_SHOWN: usize = 24;
 
-/// What may stand at a place of XML, all before it being as an export writes it.
+/// What may be at a place of XML, all before it being as an export writes it.
 #[derive(Clone, Copy, Debug, PartialEq, Eq)]
 pub enum Expected {
     /// The rest of this markup or entity.
     Markup {
         /// The markup or entity.
         whole: &'static str,
-        /// How many of its bytes stand before the place.
+        /// How many of its bytes are before the place.
         before: usize,
     },
     /// The rest of `<Item>` or of `</Asset></XnaContent>`.
     ItemOrEnd {
-        /// How many of its bytes stand before the place.
+        /// How many of its bytes are before the place.
         before: usize,
     },
     /// A character, an entity or `</Item>`.
@@ -31,7 +31,7 @@ pub enum Expected {
     Entity,
     /// The rest of a character.
     Character {
-        /// How many of its bytes stand before the place.
+        /// How many of its bytes are before the place.
         before: usize,
     },
     /// Nothing more.
@@ -41,7 +41,7 @@ pub enum Expected {
 use Expected::*;
 
 impl Expected {
-    /// What may stand at a place that an import refuses with [`NotExported`](crate::Refusal::NotExported).
+    /// What may be at a place that an import refuses with [`NotExported`](crate::Refusal::NotExported).
     pub fn at(xml: impl AsRef<[u8]>, place: usize) -> Expected {
         let xml = xml.as_ref();
         let before = &xml[..place.min(xml.len())];

@@ -19,9 +19,10 @@ pub use expected::Expected;
 
 use crate::calls::unpacked;
 use crate::loader::Loader;
+use crate::memory::{zeros, NotMade};
 use crate::raw;
-use crate::refusal::{Refusal, Refused};
-use crate::row::{full_words, LONGEST_FILE};
+use crate::refusal::{FileError, Refusal, Refused};
+use crate::row::{full_room, LONGEST_FILE};
 use std::fmt::{self, Display, Formatter};
 
 /// A list never has more texts: a table has a row for each, and one for the list.
@@ -33,27 +34,27 @@ const LONGER_THAN_XML: usize = 39;
 ///
 /// ```
 /// let null = b"XNBw\x05\x00\x0D\x00\x00\x00\x00\x00\x00";
-/// let refused = xnb::xml::export(null).unwrap_err();
+/// let refused = xnb::xml::export(null).unwrap_err().refused().expect("a rule is broken");
 /// assert_eq!(refused.refusal, xnb::Refusal::NotTextArray);
 /// assert_eq!(refused.place, 12);
 /// ```
-pub fn export(file: &[u8]) -> Result<String, Refused> {
+pub fn export(file: &[u8]) -> Result<String, FileError> {
     Loader::new().export_xml(file)
 }
 
 impl Loader<'_> {
     /// The XML of a file, as [`xml::export`](crate::xml::export) gives it.
-    pub fn export_xml(self, file: &[u8]) -> Result<String, Refused> {
-        let mut words = full_words(file);
+    pub fn export_xml(self, file: &[u8]) -> Result<String, FileError> {
+        let mut words = zeros(full_room(file))?;
         // Mostly enough; XML with many entities takes more.
-        let mut out = vec![0; 2 * file.len().min(LONGEST_FILE)];
+        let mut out = zeros(2 * file.len().min(LONGEST_FILE))?;
         let mut answer = self.export_xml_into(file, &mut words, &mut out);
         if let Err(Refused {
             refusal: Refusal::OutputTooSmall,
             place,
         }) = answer
         {
-            out.resize(place as usize, 0);
+            out = zeros(place as usize)?;
             answer = self.export_xml_into(file, &mut words, &mut out);
         }
         out.truncate(answer?);
@@ -80,7 +81,7 @@ impl Loader<'_> {
 ///
 /// ```
 /// let xml = "<?xml version=\"1.0\" encoding=\"utf-8\"?><XnaContent><Asset Type=\"string[]\"><Item>A & B";
-/// let refused = xnb::xml::import(xml).unwrap_err();
+/// let refused = xnb::xml::import(xml).unwrap_err().refused().expect("a rule is broken");
 /// assert_eq!(refused.refusal, xnb::Refusal::NotExported);
 /// assert_eq!(refused.place, 82);
 /// assert_eq!(refused.to_string(), "the XML is not of the form that the export writes, at byte 82");
@@ -88,10 +89,10 @@ impl Loader<'_> {
 /// let expected = xnb::xml::Expected::at(xml, 82);
 /// assert_eq!(expected.to_string(), "amp; lt; gt; or quot; behind &");
 /// ```
-pub fn import(xml: impl AsRef<[u8]>) -> Result<Vec<u8>, XmlRefused> {
+pub fn import(xml: impl AsRef<[u8]>) -> Result<Vec<u8>, XmlError> {
     let xml = xml.as_ref();
     let longest = xml.len().saturating_add(LONGER_THAN_XML);
-    let mut out = vec![0; longest.min(LONGEST_FILE)];
+    let mut out = zeros(longest.min(LONGEST_FILE))?;
     let length = import_into(xml, &mut out)?;
     out.truncate(length);
     Ok(out)
@@ -147,3 +148,12 @@ impl Display for XmlRefused {
 }
 
 impl std::error::Error for XmlRefused {}
+
+/// Why there is no file: the XML breaks a rule, or there is no memory for the file.
+pub type XmlError = NotMade<XmlRefused>;
+
+impl From<XmlRefused> for XmlError {
+    fn from(refused: XmlRefused) -> XmlError {
+        XmlError::Refused(refused)
+    }
+}

@@ -13,7 +13,7 @@ use crate::refusal::Told;
 use crate::run::{End, Run, Status};
 use serde::Serialize;
 use xnb::marks::MARK;
-use xnb::pack::WORDS_PER_FILE;
+use xnb::pack::{PackError, WORDS_PER_FILE};
 
 /// List the files of packs, find one, or write all
 #[derive(clap::Args)]
@@ -65,8 +65,8 @@ pub struct Stored {
 /// Why there is no pack.
 pub enum Unopened<'p> {
     Refused(Box<Told<'p>>),
-    /// Another program has changed it while it was read.
-    Changed,
+    /// What went wrong: another program has changed it, or there is no memory.
+    Failed(String),
 }
 
 impl PackForm {
@@ -89,13 +89,16 @@ pub fn open(bytes: &[u8], marked_only: bool) -> Result<Opened<'_>, Unopened<'_>>
     let (pack, marked) = match (plain, xnb::Pack::read_marked(bytes)) {
         (Some(Ok(pack)), _) => (pack, false),
         (_, Ok(pack)) => (pack, true),
+        (Some(Err(PackError::OutOfMemory(error))), _) | (_, Err(PackError::OutOfMemory(error))) => {
+            return Err(Unopened::Failed(error.to_string()));
+        }
         // The refusal of the form that the first record has.
-        (Some(Err(plain)), Err(_)) if bytes.get(4..6) != Some(&MARK) => {
+        (Some(Err(PackError::Refused(plain))), Err(_)) if bytes.get(4..6) != Some(&MARK) => {
             return Err(refused(plain, false));
         }
-        (_, Err(marked)) => return Err(refused(marked, true)),
+        (_, Err(PackError::Refused(marked))) => return Err(refused(marked, true)),
     };
-    let files = stored(&pack).ok_or(Unopened::Changed)?;
+    let files = stored(&pack).ok_or_else(|| Unopened::Failed(CHANGED.to_string()))?;
     Ok(Opened {
         pack,
         marked,
@@ -127,7 +130,7 @@ fn stored(pack: &xnb::Pack) -> Option<Vec<Stored>> {
 /// Reports why a pack was not read.
 fn tell_unopened(run: &mut Run, input: &Input, why: Unopened, json: bool) -> End {
     match why {
-        Unopened::Changed => run.fail(input.shown(), CHANGED),
+        Unopened::Failed(why) => run.fail(input.shown(), why),
         Unopened::Refused(refused) if json => {
             run.mark(Status::Refused);
             let refused = *refused;

@@ -19,7 +19,7 @@ use xnb::Loader;
 /// tree that unfolds and is searched, its bytes beside it, its textures, fonts, pages
 /// with their links, and models as pictures; for a file that is refused why, and the
 /// bytes around the place. A pack's page has an index. Every value is a row of the
-/// loader. A folder stands for the .xnb and .pak files below it; what has another name
+/// loader. A folder means the .xnb and .pak files below it; what has another name
 /// is a pack if it reads as one. Where something is too long it is cut, and the page
 /// says so. An output that is there is overwritten only with -f. The status is 1 if a
 /// file is refused, and the page is written all the same.
@@ -44,7 +44,7 @@ pub struct Preview {
     #[arg(long)]
     driver: bool,
 
-    /// Lend room for N rows instead
+    /// Give room for N rows instead
     #[arg(long, value_name = "N", default_value_t = MOST_ROWS,
         value_parser = at_most_all_rows())]
     rows: u32,

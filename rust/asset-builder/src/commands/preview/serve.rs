@@ -107,7 +107,7 @@ fn is_change(event: &notify::Event, named: &[PathBuf]) -> bool {
     event.paths.is_empty() || event.paths.iter().any(is_named)
 }
 
-/// The folder that tells of changes, and whether those below it count: of a file its own folder, since many programs
+/// The folder whose changes are watched, and whether those below it count: of a file its own folder, since many programs
 /// write a new file and give it the old one's name.
 fn watched(path: &Path) -> (&Path, bool) {
     if path.is_dir() {
