@@ -97,7 +97,7 @@ pub struct Field {
 }
 
 /// A written file and what is known of it.
-#[derive(Clone, Debug)]
+#[derive(Clone, Debug, Default)]
 pub struct Written {
     pub bytes: Vec<u8>,
     pub rows: Vec<Row>,

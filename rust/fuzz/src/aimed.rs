@@ -1,11 +1,15 @@
 //! Damage at one field of a lawful file, with the refusal that it must meet.
 
-use crate::broken::{Broken, Fault};
+use crate::broken::{names, Broken, Fault};
+use crate::enums::bytes_of;
+use crate::limits::alone;
 use crate::maker::{make, Made, Planted, Wish};
 use crate::meshes;
+use crate::names::{wrong_name, Wrong};
 use crate::random::Random;
-use crate::shape::{OBJECT, TEXTURE};
+use crate::shape::{self, Shape, OBJECT, TEXTURE};
 use crate::{Case, Known, GENEROUS_WORDS};
+use corpus::readers::MODEL;
 use corpus::writer::{set_length, seven_bytes, write, Field, Role, Seven, Written, WORDS_PER_ROW};
 
 /// A damaged file whose refusal is known.
@@ -16,16 +20,44 @@ pub fn aimed_case<'l>(random: &mut Random, wish: impl Into<Wish<'l>>) -> Case {
 /// The same with how it was damaged.
 pub fn broken_case<'l>(random: &mut Random, wish: impl Into<Wish<'l>>) -> Broken {
     let wish = wish.into();
-    match random.below(20) {
+    let broken = match random.below(20) {
         0 => planted_case(random, wish, Planted::WrongResource, 17),
         1 => planted_case(random, wish, Planted::BadFont, 22),
         2 => planted_case(random, wish, Planted::TooDeep, 18),
         3 => too_few_rows(random, wish),
         4 => left_over(random, wish),
         5 => bad_header(random, wish),
-        6..=7 => cut(random, wish),
-        _ => bad_field(random, wish),
+        6..=7 => {
+            let lawful = lawful(random, wish);
+            cut(random, lawful)
+        }
+        _ => {
+            let lawful = lawful(random, wish);
+            bad_field(random, wish, lawful)
+        }
+    };
+    Broken {
+        enums: bytes_of(wish.enums),
+        ..broken
     }
+}
+
+/// A model of so many bones that its references have one byte or four, with a bad field or cut.
+pub fn many_bones(random: &mut Random) -> Broken {
+    let count = random.between(250, 260) as usize;
+    let reference = random.between(0, count as u32);
+    let made = Made {
+        file: alone(&[MODEL], meshes::bones(count, reference)),
+        targets: vec![Shape::plain(shape::MODEL)],
+    };
+    let written = write(&made.file);
+    let words = WORDS_PER_ROW * written.rows.len();
+    let mut broken = match random.chance(50) {
+        true => bad_field(random, Wish::MESHES, (made, written)),
+        false => cut(random, (made, written)),
+    };
+    broken.case.words = words;
+    broken
 }
 
 /// A lawful file, with what it is made of.
@@ -136,9 +168,16 @@ fn with_bad_header(random: &mut Random, mut bytes: Vec<u8>) -> Case {
 }
 
 /// 1: the file ends inside a field, or before it.
-fn cut(random: &mut Random, wish: Wish) -> Broken {
-    let (made, written) = lawful(random, wish);
-    let end = 10 + random.below(written.bytes.len() - 10);
+fn cut(random: &mut Random, (made, written): (Made, Written)) -> Broken {
+    // At any byte, of which names have the most, or in any field.
+    let Field {
+        start, data_end, ..
+    } = written.fields[random.below(written.fields.len())];
+    let end = if start < data_end && random.chance(50) {
+        start + random.below(data_end - start)
+    } else {
+        10 + random.below(written.bytes.len() - 10)
+    };
     let holds_end = |field: &Field| field.start <= end && end < field.data_end;
     let field = written.fields.iter().position(holds_end);
     let field = field.expect("every byte belongs to a field");
@@ -155,6 +194,7 @@ fn cut(random: &mut Random, wish: Wish) -> Broken {
 }
 
 /// What stands in a field's place, and what it must be refused with.
+#[derive(Default)]
 pub struct Damage {
     pub bytes: Vec<u8>,
     /// Whether the bytes that the field counts are replaced too.
@@ -162,24 +202,24 @@ pub struct Damage {
     pub number: u32,
     /// How far behind the field's start the refusal is placed.
     pub offset: usize,
+    /// The name behind the field, and what is wrong with it.
+    pub name: Option<(Vec<u8>, Wrong)>,
 }
 
 pub fn damage(bytes: Vec<u8>, number: u32) -> Option<Damage> {
     Some(Damage {
         bytes,
-        with_data: false,
         number,
-        offset: 0,
+        ..Damage::default()
     })
 }
 
 /// Tries fields until one can be damaged with a known outcome.
-fn bad_field(random: &mut Random, wish: Wish) -> Broken {
-    let (made, written) = lawful(random, wish);
+fn bad_field(random: &mut Random, wish: Wish, (made, written): (Made, Written)) -> Broken {
     for _ in 0..200 {
         let number = random.below(written.fields.len());
         let field = written.fields[number];
-        if let Some(damage) = field_damage(random, &made, &written, field) {
+        if let Some(damage) = field_damage(random, wish, &made, &written, field) {
             let end = if damage.with_data {
                 field.data_end
             } else {
@@ -190,9 +230,18 @@ fn bad_field(random: &mut Random, wish: Wish) -> Broken {
             bytes.extend_from_slice(&written.bytes[end..]);
             set_length(&mut bytes, 0);
             let case = case(bytes, damage.number, field.start + damage.offset);
-            let fault = Fault::Field {
-                field: number,
-                bytes: damage.bytes,
+            let fault = match damage.name {
+                Some((name, wrong)) => Fault::Name {
+                    reader: names(&written)
+                        .take_while(|it| it.start <= field.start)
+                        .count(),
+                    name,
+                    wrong,
+                },
+                None => Fault::Field {
+                    field: number,
+                    bytes: damage.bytes,
+                },
             };
             return Broken::new(case, &made, written, Some(fault));
         }
@@ -207,6 +256,7 @@ fn seven_in_any_form(random: &mut Random, value: u32) -> Vec<u8> {
 
 fn field_damage(
     random: &mut Random,
+    wish: Wish,
     made: &Made,
     written: &Written,
     field: Field,
@@ -217,7 +267,7 @@ fn field_damage(
     match field.role {
         Role::ReaderCount => too_large(random, 65),
         Role::SharedCount => too_large(random, 257),
-        Role::NameLength => bad_name(random),
+        Role::NameLength => bad_name(random, wish),
         Role::ReaderVersion => {
             let version = random.between(1, u32::MAX);
             damage(version.to_le_bytes().to_vec(), 12)
@@ -278,23 +328,22 @@ fn too_large(random: &mut Random, least: u32) -> Option<Damage> {
 }
 
 /// 9, 11 or 33 to 38: a name of a wrong length, or a bad name.
-fn bad_name(random: &mut Random) -> Option<Damage> {
+fn bad_name(random: &mut Random, wish: Wish) -> Option<Damage> {
     if random.chance(20) {
         let length = random.pick(&[0, 1025, 2000, u32::MAX]);
         return damage(seven_in_any_form(random, length), 9);
     }
     let number = random.pick(&[11, 33, 34, 35, 36, 37, 38]);
-    let mut names = corpus::names::all();
-    names.retain(|judged| judged.number == number);
-    let judged = &names[random.below(names.len())];
-    let mut bytes = seven_in_any_form(random, judged.name.len() as u32);
-    let offset = bytes.len() + judged.place;
-    bytes.extend_from_slice(judged.name.as_bytes());
+    let (name, wrong) = wrong_name(random, number, wish.enums);
+    let mut bytes = seven_in_any_form(random, name.len() as u32);
+    let offset = bytes.len() + wrong.place;
+    bytes.extend_from_slice(&name);
     Some(Damage {
         bytes,
         with_data: true,
         number,
         offset,
+        name: Some((name, wrong)),
     })
 }
 
@@ -386,7 +435,7 @@ fn bad_text(random: &mut Random, written: &Written, field: Field) -> Option<Dama
         bytes,
         with_data: true,
         number: 15,
-        offset: 0,
+        ..Damage::default()
     })
 }
 

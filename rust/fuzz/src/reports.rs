@@ -154,7 +154,7 @@ fn counted(random: &mut Random) -> ReportCase {
     let (files, figures) = some_files(random, &enums, list_refused);
     let mut lent = bytes_of(&enums);
     if list_refused {
-        lent = damaged(random, &enums).0;
+        lent = damaged(random, &enums).bytes;
     }
     let before = some_report(random, &figures);
     ReportCase {
@@ -231,7 +231,7 @@ fn some_list(random: &mut Random) -> Vec<u8> {
     match random.below(3) {
         0 => vec![],
         1 => bytes_of(&enums),
-        _ => damaged(random, &enums).0,
+        _ => damaged(random, &enums).bytes,
     }
 }
 

@@ -53,7 +53,7 @@ pub fn case(seed: u64) -> TextCase {
     };
     let mut walked = walked_to(planted, &written);
     match random.below(12) {
-        0 if !enums.is_empty() => case.enums = damaged(random, enums).0,
+        0 if !enums.is_empty() => case.enums = damaged(random, enums).bytes,
         0..=5 => {}
         6..=7 => {
             let room = random.below(written.rows.len());

@@ -80,6 +80,15 @@ impl Shape {
         Shape::with(kind, vec![argument])
     }
 
+    /// A listed enum.
+    pub fn listed(listed: &Listed) -> Shape {
+        let listed = Some(listed.clone());
+        Shape {
+            listed,
+            ..Shape::plain(ENUM)
+        }
+    }
+
     pub fn with(kind: u32, arguments: Vec<Shape>) -> Shape {
         let listed = None;
         Shape {
@@ -140,13 +149,14 @@ impl Shape {
     pub fn shown(&self, reader_name: &[u8]) -> String {
         let arguments: Vec<String> = self.arguments.iter().map(|it| it.shown(&[])).collect();
         match (self.kind, &arguments[..]) {
+            (ENUM, _) if self.listed.is_some() => self.target_head().to_string(),
             (ENUM, _) => {
                 let name = String::from_utf8_lossy(reader_name);
                 let argument = name.split("[[").nth(1).unwrap_or_default();
                 let end = argument.find([',', ']']).unwrap_or(argument.len());
-                format!("enum {}", &argument[..end])
+                argument[..end].to_string()
             }
-            (ARRAY, [element]) => format!("array of {element}"),
+            (ARRAY, [element]) => format!("{element}[]"),
             (_, []) => self.target_head().to_string(),
             _ => {
                 let (head, count) = (self.target_head(), arguments.len());

@@ -1,6 +1,6 @@
 //! Lists of enum types, which are given with a file.
 
-use crate::explain::is_target_name;
+use crate::explain::{is_head_byte, is_target_name};
 use crate::raw;
 use crate::refusal::{Refusal, Refused};
 use crate::shape::Shape;
@@ -188,7 +188,7 @@ fn fault(bytes: &[u8], entry: usize) -> Option<EnumFault> {
     if name.is_empty() {
         return Some(EnumFault::EmptyName);
     }
-    if let Some(byte) = name.iter().find(|byte| !is_head_byte(**byte)) {
+    if let Some(byte) = name.iter().find(|byte| !is_head_byte(byte)) {
         return Some(EnumFault::NameByte(*byte));
     }
     if is_target_name(name) {
@@ -198,10 +198,6 @@ fn fault(bytes: &[u8], entry: usize) -> Option<EnumFault> {
     before
         .position(|(listed, _)| listed == name)
         .map(EnumFault::Listed)
-}
-
-fn is_head_byte(byte: u8) -> bool {
-    byte.is_ascii_alphanumeric() || b"._+".contains(&byte)
 }
 
 impl Display for EnumFault {

@@ -108,7 +108,7 @@ pub struct Target<'f> {
 }
 
 /// The place of the reader count.
-const READERS: usize = 10;
+pub(crate) const READER_COUNT: usize = 10;
 /// The bytes of a reader's version.
 const VERSION: usize = 4;
 
@@ -132,7 +132,7 @@ impl<'f, S: Shaped, W: AsRef<[u32]>> Grid<'f, S, W> {
     /// The readers in file order, by rising type id.
     pub fn readers(&self) -> impl ExactSizeIterator<Item = Reader<'f>> + use<'f, S, W> {
         let file = self.file();
-        let (count, mut rest) = seven(&file[READERS..]);
+        let (count, mut rest) = seven(&file[READER_COUNT..]);
         (1..count + 1).map(move |type_id| {
             let (length, behind) = seven(rest);
             let (name, behind) = behind.split_at(length as usize);

@@ -179,7 +179,7 @@ impl DateTime {
 }
 
 /// The last tick of the year 9999.
-const LAST_TICK: u64 = 3_155_378_975_999_999_999;
+pub(crate) const LAST_TICK: u64 = 3_155_378_975_999_999_999;
 /// The days of 400 years.
 const ERA: u64 = 146_097;
 /// The days from the first of March of the year 0 to the start of the year 1.

@@ -2,7 +2,7 @@
 
 use corpus::folder::{kept_files, kept_files_with_enums};
 use fuzz::enums::{self, EnumCase};
-use std::collections::BTreeMap;
+use std::collections::{BTreeMap, BTreeSet};
 use xnb::{explain, Explanation, Loader, Refusal, Refused, Shape, WORDS_PER_ROW};
 
 const GENERATED_FILES: u64 = 20_000;
@@ -41,6 +41,22 @@ fn found(name: &str) -> String {
     }
 }
 
+/// The words for a file that is too long, or has more rows than the table has room for.
+fn largest(file: &[u8], room: usize, refusal: Refusal) -> Option<String> {
+    match refusal {
+        Refusal::TooLarge if file.len() > 16_777_216 => {
+            Some("the file has more than 16777216 bytes".to_string())
+        }
+        Refusal::NoRowLeft => {
+            let room = room.min(65_536);
+            Some(format!(
+                "the table has room for {room} rows, this value needs one more"
+            ))
+        }
+        _ => None,
+    }
+}
+
 #[test]
 fn every_refusal_of_a_generated_file_is_explained() {
     let mut counts: BTreeMap<Refusal, u32> = BTreeMap::new();
@@ -59,13 +75,25 @@ fn every_refusal_of_a_generated_file_is_explained() {
     let kept = kept_files()
         .into_iter()
         .map(|file| (file.name, file.bytes, BUILDER_ROWS));
+    let mut limits_named = BTreeSet::new();
     for (name, file, room) in generated.chain(limits).chain(kept) {
         if let Some((refusal, explanation)) = refused(&file, room) {
-            assert!(explanation.is_some(), "{name}: {refusal:?}");
+            let Some(Explanation { found, .. }) = explanation else {
+                panic!("{name}: {refusal:?}");
+            };
+            if let Some(expected) = largest(&file, room, refusal) {
+                assert_eq!(found, expected, "{name}");
+                limits_named.insert(found);
+            }
             *counts.entry(refusal).or_default() += 1;
         }
     }
     println!("{counts:?}");
+    for room in [1024, 65_536] {
+        let full = format!("the table has room for {room} rows, this value needs one more");
+        assert!(limits_named.contains(&full), "{limits_named:?}");
+    }
+    assert!(limits_named.contains("the file has more than 16777216 bytes"));
     // 21, 23 and 24 are no answers of a load, and 32 is none with an empty list.
     assert_eq!(counts.len(), 26, "{counts:?}");
 }
@@ -219,7 +247,7 @@ fn what_is_found_is_reported() {
         (
             "bad-14-array-where-list-is-declared",
             "declared System.Collections.Generic.List`1[[System.Int32]], \
-             found array of System.Int32 by reader 2 \
+             found System.Int32[] by reader 2 \
              [2 Microsoft.Xna.Framework.Content.ArrayReader`1[[System.Int32]]]",
         ),
         (
@@ -368,7 +396,7 @@ fn any_refusal_of_any_bytes_is_followed() {
     let mut random = fuzz::random::Random::new(7);
     for seed in 0..2_000 {
         let file = fuzz::case(seed).bytes;
-        for refusal in refusals() {
+        for refusal in Refusal::all() {
             let place = random.below(file.len() + 2) as u32;
             let room = random.below(40);
             if let Some(explanation) = explain(&file, Refused { refusal, place }, room) {

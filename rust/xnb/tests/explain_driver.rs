@@ -1,12 +1,16 @@
 //! Explanations of the driver's refusals, held to the fields and rows that were written.
 
 use corpus::writer::{Field, Role, Row, Written};
-use fuzz::driver::undamaged;
+use fuzz::driver::{undamaged, Undamaged};
 use fuzz::Known;
 use std::collections::BTreeMap;
 use xnb::{Explanation, Kind, Loader};
 
-const FILES: u64 = 10_000;
+/// How many files are tried; FUZZ_FILES in the environment asks for another number.
+fn files() -> u64 {
+    let asked = std::env::var("FUZZ_FILES").ok();
+    asked.and_then(|it| it.parse().ok()).unwrap_or(10_000)
+}
 
 fn fields(written: &Written, role: Role) -> impl Iterator<Item = &Field> {
     written.fields.iter().filter(move |it| it.role == role)
@@ -48,23 +52,6 @@ fn padded(written: &Written, place: usize) -> String {
     format!("{what} is {value} in {width} bytes, {needed} would do")
 }
 
-/// A reader's name without its tails.
-fn without_tails(name: &[u8]) -> Vec<u8> {
-    let mut out = Vec::new();
-    let mut rest = name;
-    while let [byte, behind @ ..] = rest {
-        rest = behind;
-        let separates = out.last() == Some(&b']') && behind.first() == Some(&b'[');
-        if *byte == b',' && !separates {
-            let end = behind.iter().position(|it| *it == b']');
-            rest = &behind[end.unwrap_or(behind.len())..];
-        } else {
-            out.push(*byte);
-        }
-    }
-    out
-}
-
 /// The text of a row, which is an object.
 fn text(written: &Written, row: usize) -> &str {
     let [_, first, length, ..] = written.rows[row];
@@ -84,7 +71,7 @@ fn quoted(text: &str) -> String {
 }
 
 /// The words for a file that breaks this rule first.
-fn words(written: &Written, number: u32, place: usize) -> String {
+fn words(written: &Written, targets: &[String], number: u32, place: usize) -> String {
     let rows = &written.rows;
     match number {
         41 => {
@@ -95,17 +82,12 @@ fn words(written: &Written, number: u32, place: usize) -> String {
         43 => format!("no type id names reader {}", reader_at(written, place)),
         44 => {
             let names: Vec<&Field> = fields(written, Role::NameLength).collect();
-            let plain = |it: &&Field| without_tails(&written.bytes[it.end..it.data_end]);
             let later = reader_at(written, place);
-            let target = plain(&names[later - 1]);
-            let earlier = names.iter().position(|it| plain(it) == target);
+            let target = &targets[later - 1];
+            let earlier = targets.iter().position(|it| it == target);
             let earlier = earlier.expect("an earlier reader");
-            let first = names[earlier].end;
-            let before = earlier + 1;
-            // What both read is looked at by its place in the words alone.
-            format!(
-                "reader {later} reads *, as reader {before} does, whose name is at byte {first}"
-            )
+            let (before, first) = (earlier + 1, names[earlier].end);
+            format!("reader {later} reads {target}, as reader {before} does, whose name is at byte {first}")
         }
         45 => {
             let is_key = |row: &Row| row[0] == 13 && row[1] as usize == place;
@@ -141,19 +123,16 @@ fn words(written: &Written, number: u32, place: usize) -> String {
     }
 }
 
-/// Words without the type that two readers read.
-fn without_target(found: &str) -> String {
-    match (found.find(" reads "), found.find(", as reader ")) {
-        (Some(start), Some(end)) => format!("{} reads *{}", &found[..start], &found[end..]),
-        _ => found.to_string(),
-    }
-}
-
 #[test]
 fn words_are_those_of_the_rule_that_was_broken() {
     let mut counts: BTreeMap<u32, u32> = BTreeMap::new();
-    for seed in 0..FILES {
-        let (made, written) = undamaged(seed);
+    for seed in 0..files() {
+        let Undamaged {
+            case: made,
+            written,
+            targets,
+            ..
+        } = undamaged(seed);
         let Some(Known::Refused { number, place }) = made.case.known else {
             continue;
         };
@@ -163,19 +142,25 @@ fn words_are_those_of_the_rule_that_was_broken() {
         let answer = (refused.refusal.number(), refused.place as usize);
         assert_eq!(answer, (number, place), "seed {seed}");
         let explanation = loader.explain(file, refused, made.case.words);
-        let Some(Explanation { found, reader, .. }) = explanation else {
-            panic!("seed {seed}: no words");
+        let Some(Explanation {
+            found,
+            reader,
+            mark: None,
+            ..
+        }) = explanation
+        else {
+            panic!("seed {seed}: no words, or a mark");
         };
-        assert_eq!(
-            without_target(&found),
-            words(&written, number, place),
-            "seed {seed}"
-        );
-        assert_eq!(reader.is_some(), matches!(number, 43 | 44), "seed {seed}");
-        if let Some(reader) = reader {
-            assert_eq!(reader.first, place, "seed {seed}");
-            assert_eq!(reader.number, reader_at(&written, place), "seed {seed}");
-        }
+        let expected = words(&written, &targets, number, place);
+        assert_eq!(found, expected, "seed {seed}");
+        let reader = reader.map(|it| (it.number, it.first, it.bytes));
+        let expected = matches!(number, 43 | 44).then(|| {
+            let number = reader_at(&written, place);
+            let name = fields(&written, Role::NameLength).nth(number - 1);
+            let end = name.expect("a name").data_end;
+            (number, place, &written.bytes[place..end])
+        });
+        assert_eq!(reader, expected, "seed {seed}");
         *counts.entry(number).or_default() += 1;
     }
     println!("{counts:?}");

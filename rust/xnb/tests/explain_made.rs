@@ -1,14 +1,25 @@
 //! Explanations held to how each file was broken: the generator knows the field, what it put there and what is left.
 //!
-//! The words are put together here from the writer's fields and rows alone, and must be those of `explain`.
+//! The words are put together here from the writer's fields and rows alone, and must be those of `explain`; so must the
+//! reader that is meant, its name and the mark in it.
+
+mod name_words;
 
 use corpus::writer::{Field, Role, Row, Written};
-use fuzz::broken::{self, Broken, Fault};
-use fuzz::Known;
+use fuzz::broken::{self, Broken, EntryFault, Fault};
+use fuzz::{enums, Known};
+use name_words::name_words;
 use std::collections::BTreeMap;
-use xnb::{Kind, Loader, Refusal, Shape, WORDS_PER_ROW};
+use std::ops::Range;
+use xnb::{Kind, Loader, Shape, WORDS_PER_ROW};
 
-const FILES: u64 = 40_000;
+/// How many files are tried without a list and with one, and from which seed on; FUZZ_FILES and FUZZ_FIRST in the
+/// environment ask for others.
+fn seeds() -> Range<u64> {
+    let asked = |name: &str| std::env::var(name).ok().and_then(|it| it.parse().ok());
+    let first = asked("FUZZ_FIRST").unwrap_or(0);
+    first..first + asked("FUZZ_FILES").unwrap_or(40_000)
+}
 
 /// A number of bytes in words.
 fn bytes(count: u64) -> String {
@@ -35,6 +46,14 @@ fn seven(bytes: &[u8]) -> u32 {
 
 fn takes(what: &str, size: u64, left: usize) -> String {
     format!("{what} takes {}, {left} left", bytes(size))
+}
+
+/// The row above this one, and which of its children this one is.
+fn place_below_parent(rows: &[Row], row: usize) -> Option<(usize, usize)> {
+    let parent = rows[row][4].checked_sub(1)? as usize;
+    let is_sibling = |it: &&Row| it[4] as usize == parent + 1;
+    let before = rows[parent..row].iter().filter(is_sibling).count();
+    Some((parent, before))
 }
 
 /// A file before it was broken, and a field of it.
@@ -79,14 +98,8 @@ impl<'b> Made<'b> {
         self.before.rows.iter().rposition(holds).expect("a row")
     }
 
-    /// The row above the innermost one, and which of its children that one is.
     fn place_below_parent(&self) -> Option<(usize, usize)> {
-        let rows = &self.before.rows;
-        let row = self.row();
-        let parent = rows[row][4].checked_sub(1)? as usize;
-        let is_sibling = |it: &&Row| it[4] as usize == parent + 1;
-        let before = rows[parent..row].iter().filter(is_sibling).count();
-        Some((parent, before))
+        place_below_parent(&self.before.rows, self.row())
     }
 
     /// What a seven-bit number is.
@@ -265,12 +278,12 @@ impl<'b> Made<'b> {
 }
 
 /// The words for bytes that stand in the place of a field.
-fn field_words(broken: &Broken, number: usize, put: &[u8], refusal: u32) -> Option<String> {
+fn field_words(broken: &Broken, number: usize, put: &[u8], refusal: u32) -> String {
     let made = Made::of(&broken.before, number);
     let field = made.field;
     if refusal == 8 {
         let (what, fifth) = (made.seven_name(), put[4]);
-        return Some(format!("{what} has the fifth byte {fifth:02X}, above 0F"));
+        return format!("{what} has the fifth byte {fifth:02X}, above 0F");
     }
     let left = broken.case.bytes.len() - field.start - put.len();
     let within = |what: &str, least: u32, most: u32| {
@@ -281,7 +294,7 @@ fn field_words(broken: &Broken, number: usize, put: &[u8], refusal: u32) -> Opti
         let value = little_endian(put) as i32;
         format!("VertexDeclaration: the element {what} is {value}; only 0 to {last} are taken")
     };
-    Some(match (field.role, refusal) {
+    match (field.role, refusal) {
         (Role::ReaderCount, 9) => format!("the reader count is {}, the limit 64", seven(put)),
         (Role::SharedCount, 9) => format!("the shared count is {}, the limit 256", seven(put)),
         (Role::NameLength, 9) => {
@@ -291,8 +304,6 @@ fn field_words(broken: &Broken, number: usize, put: &[u8], refusal: u32) -> Opti
                 length => format!("{what} is {length}, the limit 1024"),
             }
         }
-        // A name's words are those of xnb/tests/names.rs; the reader and the mark are looked at below.
-        (Role::NameLength, _) => return None,
         (Role::ReaderVersion, 12) => {
             let (reader, version) = (made.reader(), little_endian(put));
             format!("the version of reader {reader} is {version}; only 0 is taken")
@@ -300,16 +311,11 @@ fn field_words(broken: &Broken, number: usize, put: &[u8], refusal: u32) -> Opti
         (Role::FreeTypeId | Role::BoundTypeId, 13) => {
             let (id, readers) = (seven(put), broken.targets.len());
             match broken.targets.get((id as usize).wrapping_sub(1)) {
-                Some(target) => format!("reader {id} is for {target} and never invoked"),
+                Some(target) => format!("reader {id} is for {} and never invoked", target.name),
                 None => format!("the type id is {id}, the reader list has {readers}"),
             }
         }
-        (Role::BoundTypeId, 14) => {
-            let target = |id: u32| &broken.targets[id as usize - 1];
-            let (right, id) = (seven(made.bytes_of(field)), seven(put));
-            let (right, found) = (target(right), target(id));
-            format!("declared {right}, found {found} by reader {id}")
-        }
+        (Role::BoundTypeId, 14) => undeclared_words(broken, made.row(), seven(put)),
         (Role::ResourceId, 16) => {
             let (id, shared) = (seven(put), broken.before.shared);
             format!("the resource id is {id}, the shared count {shared}")
@@ -400,7 +406,24 @@ fn field_words(broken: &Broken, number: usize, put: &[u8], refusal: u32) -> Opti
             format!("BoneReference: the number is {number}, the bone count {bones}")
         }
         (role, number) => panic!("{role:?} refused with {number}"),
-    })
+    }
+}
+
+/// The words for an object by this reader, where its row has another type declared.
+fn undeclared_words(broken: &Broken, row: usize, id: u32) -> String {
+    let rows = &broken.before.rows;
+    let target = |id: u32| &broken.targets[id as usize - 1];
+    let (parent, child) = place_below_parent(rows, row).expect("a declared type");
+    // Elements are declared by the container's reader; a field of a font, a page or a model has one type alone.
+    let declared = match rows[parent][0] {
+        17..=19 => {
+            let arguments = &target(rows[parent][5]).arguments;
+            &arguments[child % arguments.len()]
+        }
+        _ => &target(rows[row][5]).name,
+    };
+    let found = &target(id).name;
+    format!("declared {declared}, found {found} by reader {id}")
 }
 
 /// The words for a header.
@@ -439,6 +462,11 @@ fn header_words(file: &[u8]) -> String {
 fn planted_words(broken: &Broken, number: u32, place: usize) -> String {
     let Written { rows, bytes, .. } = &broken.before;
     match number {
+        14 => {
+            let is_object = |row: &Row| row[1] as usize == place;
+            let row = rows.iter().rposition(is_object).expect("an object");
+            undeclared_words(broken, row, rows[row][5])
+        }
         18 => "the value's depth is 33, the limit 32".to_string(),
         17 => {
             let is_reference = |row: &Row| row[0] == 36 && row[1] as usize == place;
@@ -446,11 +474,9 @@ fn planted_words(broken: &Broken, number: u32, place: usize) -> String {
             let id = rows[row][5];
             let objects: Vec<&Row> = rows.iter().filter(|it| it[4] == 0).collect();
             let resource = objects[id as usize];
-            let target = &broken.targets[resource[5] as usize - 1];
+            let target = &broken.targets[resource[5] as usize - 1].name;
             let found = format!("found {target} as resource {id} at byte {}", resource[1]);
-            let parent = rows[row][4] as usize - 1;
-            let is_sibling = |it: &&Row| it[4] as usize == parent + 1;
-            let child = rows[parent..row].iter().filter(is_sibling).count();
+            let (parent, child) = place_below_parent(rows, row).expect("a parent");
             let wanted = match rows[parent][0] {
                 34 => ["Graphics.Texture2D", "Page"][child - 2],
                 // The three references of a mesh part stand together.
@@ -516,28 +542,84 @@ fn planted_words(broken: &Broken, number: u32, place: usize) -> String {
     }
 }
 
-/// The words for a broken file, if it is one.
-fn expected(broken: &Broken) -> Option<String> {
-    let Some(Known::Refused { number, place }) = broken.case.known else {
-        return None;
+/// The words for an entry of a list.
+fn entry_words(entry: usize, name: &[u8], fault: EntryFault) -> String {
+    let name = match String::from_utf8_lossy(name) {
+        name if name.is_empty() => String::new(),
+        name => format!(", {name}"),
     };
-    let file = &broken.case.bytes;
-    match broken.fault.as_ref()? {
-        Fault::Header => Some(header_words(file)),
-        Fault::Rows(room) => Some(format!(
-            "the table has room for {room} rows, this value needs one more"
-        )),
-        Fault::LeftOver(count) => {
-            let count = bytes(*count as u64);
-            Some(format!("the last object ends there, left over: {count}"))
+    let wrong = match fault {
+        EntryFault::CutShort => "the list ends in it".to_string(),
+        EntryFault::Size(size) => format!("the size is {size}; only 1, 2, 4 and 8 are taken"),
+        EntryFault::EmptyName => "the name is empty".to_string(),
+        EntryFault::NameByte(byte) => {
+            let only = "only letters, digits, ., _ and + are taken";
+            format!("the name has the byte {byte:02X}; {only}")
         }
+        EntryFault::KnownType => "a type of this name is known already".to_string(),
+        EntryFault::Listed(before) => format!("the name is listed before, as entry {before}"),
+    };
+    format!("entry {entry} of the enum list{name}: {wrong}")
+}
+
+/// The words for a broken file.
+fn expected_words(broken: &Broken, fault: &Fault, number: u32, place: usize) -> String {
+    let file = &broken.case.bytes;
+    match fault {
+        Fault::Header => header_words(file),
+        Fault::Rows(room) => {
+            format!("the table has room for {room} rows, this value needs one more")
+        }
+        Fault::LeftOver(count) => left_over_words(*count),
         Fault::Cut { field } => {
             let made = Made::of(&broken.before, *field);
-            Some(made.cut_words(file.len() - made.field.start))
+            made.cut_words(file.len() - made.field.start)
         }
         Fault::Field { field, bytes } => field_words(broken, *field, bytes, number),
-        Fault::Planted => Some(planted_words(broken, number, place)),
+        Fault::Name {
+            reader,
+            name,
+            wrong,
+        } => name_words(*reader, name, wrong),
+        Fault::Planted => planted_words(broken, number, place),
+        Fault::Resized(size) => match (number, file.len() - place) {
+            (20, left) => left_over_words(left),
+            (_, left) => takes("a value of kind Enum", u64::from(*size), left),
+        },
+        Fault::Entry { name, fault } => entry_words(place, name, *fault),
     }
+}
+
+fn left_over_words(count: usize) -> String {
+    let count = bytes(count as u64);
+    format!("the last object ends there, left over: {count}")
+}
+
+/// The reader that is meant: its number, the place of its name and the name itself.
+fn expected_reader(
+    broken: &Broken,
+    fault: &Fault,
+    number: u32,
+    place: usize,
+) -> Option<(usize, usize, Vec<u8>)> {
+    let before = &broken.before;
+    let reader = match (fault, number) {
+        (
+            Fault::Name {
+                reader,
+                name,
+                wrong,
+            },
+            _,
+        ) => return Some((*reader, place - wrong.place, name.clone())),
+        (Fault::Field { field, .. }, 12) => Made::of(before, *field).reader(),
+        (Fault::Field { bytes, .. }, 13 | 14) => seven(bytes) as usize,
+        (Fault::Planted, 14) => 2,
+        _ => return None,
+    };
+    let name = broken::names(before).nth(reader - 1)?;
+    let bytes = &before.bytes[name.end..name.data_end];
+    Some((reader, name.end, bytes.to_vec()))
 }
 
 /// What was broken, to count by.
@@ -546,52 +628,61 @@ fn sort_of(broken: &Broken) -> String {
     let name = match &broken.fault {
         Some(Fault::Cut { field }) => format!("cut {}", role(field)),
         Some(Fault::Field { field, .. }) => role(field),
+        Some(Fault::Name { wrong, .. }) => format!("Name {:?}", wrong.fault),
+        Some(Fault::Entry { fault, .. }) => format!("Entry {fault:?}"),
         Some(fault) => format!("{fault:?}"),
         None => "nothing".to_string(),
     };
-    // Without the numbers of a role.
-    let end = name.find('(').unwrap_or(name.len());
-    name[..end].to_string()
+    // Without the numbers in it.
+    name.replace(|it: char| it.is_ascii_digit(), "")
 }
 
-#[test]
-fn words_are_those_of_what_was_broken() {
-    let mut counts: BTreeMap<(String, u32), u32> = BTreeMap::new();
-    for seed in 0..FILES {
-        let broken = broken::case(seed);
+/// Compares all that `explain` says of each file that is refused, and counts by what was broken and by number.
+fn compare(case: fn(u64) -> Broken) -> BTreeMap<(String, u32), u32> {
+    let mut counts = BTreeMap::new();
+    for seed in seeds() {
+        let broken = case(seed);
         let Some(Known::Refused { number, place }) = broken.case.known else {
             continue;
         };
+        let fault = broken.fault.as_ref().expect("a fault");
         let file = &broken.case.bytes;
-        let loader = Loader::new();
+        let loader = Loader::new().with_enum_bytes(&broken.enums);
         let mut words = vec![0; broken.case.words];
         let refused = loader.load_words(Shape::Rows, file, &mut words);
         let refused = refused.expect_err("a broken file");
-        assert_eq!(
-            (refused.refusal.number(), refused.place as usize),
-            (number, place)
-        );
+        let answer = (refused.refusal.number(), refused.place as usize);
+        assert_eq!(answer, (number, place), "seed {seed}");
         let room = broken.case.words / WORDS_PER_ROW;
         let explanation = loader.explain(file, refused, room);
         let explanation = explanation.unwrap_or_else(|| panic!("seed {seed}: no words"));
-        if let Some(expected) = expected(&broken) {
-            let declared_texture = expected.replacen("Texture2D,", "Texture,", 1);
-            let found = &explanation.found;
-            let is_texture = refused.refusal == Refusal::NotDeclared && *found == declared_texture;
-            assert!(
-                *found == expected || is_texture,
-                "seed {seed}: {found:?}, made: {expected:?}"
-            );
-        } else if let Some(Fault::Field { field, .. }) = broken.fault {
-            let reader = explanation.reader.expect("a reader");
-            let made = Made::of(&broken.before, field);
-            assert_eq!(reader.number, made.reader(), "seed {seed}");
-            let mark = explanation.mark.expect("a mark");
-            assert_eq!(reader.first + mark.start, place, "seed {seed}");
-        }
+        let expected = expected_words(&broken, fault, number, place);
+        assert_eq!(explanation.found, expected, "seed {seed}");
+        let reader = explanation.reader;
+        let reader = reader.map(|it| (it.number, it.first, it.bytes.to_vec()));
+        let expected = expected_reader(&broken, fault, number, place);
+        assert_eq!(reader, expected, "seed {seed}");
+        let mark = match fault {
+            Fault::Name { wrong, .. } => Some(wrong.place..wrong.place + wrong.length),
+            _ => None,
+        };
+        assert_eq!(explanation.mark, mark, "seed {seed}");
         *counts.entry((sort_of(&broken), number)).or_default() += 1;
     }
-    println!("{counts:#?}");
-    // Every field with every refusal that it can meet, header and rows, and each field cut.
-    assert!(counts.len() >= 70, "{} sorts", counts.len());
+    println!("{} sorts: {counts:?}", counts.len());
+    counts
+}
+
+/// Every field with every refusal that it can meet, header and rows, each field cut, and each fault of a name.
+#[test]
+fn words_are_those_of_what_was_broken() {
+    let counts = compare(broken::case);
+    assert!(counts.len() >= 80, "{} sorts", counts.len());
+}
+
+/// The same under lists of enum types, and each fault of a list.
+#[test]
+fn words_are_those_of_what_was_broken_with_enums() {
+    let counts = compare(enums::broken);
+    assert!(counts.len() >= 90, "{} sorts", counts.len());
 }

@@ -1,8 +1,11 @@
 //! Req 04: which part of a reader's name is wrong, by number and place, in words and with a mark.
 
+mod name_words;
+
 use corpus::names::{all, Judged};
-use fuzz::names::named;
+use fuzz::names::{named, Named};
 use fuzz::Known;
+use name_words::name_words;
 use std::collections::BTreeMap;
 use std::ops::Range;
 use xnb::{count_rows, explain, Explanation, Refusal, Refused};
@@ -23,11 +26,11 @@ fn file_with(name: &[u8]) -> Vec<u8> {
     file
 }
 
-/// The number and the place in the name, 0 and 0 for a good name, which the explanation must mark.
-fn judged(name: &[u8]) -> (u32, usize) {
+/// The number, the place in the name and the words, 0 and 0 for a good name, which the explanation must mark.
+fn judged(name: &[u8]) -> (u32, usize, String) {
     let file = file_with(name);
     let Err(refused) = count_rows(&file) else {
-        return (0, 0);
+        return (0, 0, String::new());
     };
     let place = refused.place as usize - FIRST;
     let explanation = explain(&file, refused, 1024);
@@ -39,7 +42,7 @@ fn judged(name: &[u8]) -> (u32, usize) {
     let marked = marked(name, refused.refusal, place);
     assert_eq!(explanation.mark, Some(marked), "{shown}");
     check_words(name, refused.refusal, place, &explanation);
-    (refused.refusal.number(), place)
+    (refused.refusal.number(), place, explanation.found)
 }
 
 /// The head that 11 complains of, else the byte at the place, or nothing at the name's end.
@@ -76,7 +79,8 @@ fn every_name_of_the_table_is_reported_where_it_is_wrong() {
         name,
     } in &names
     {
-        assert_eq!(judged(name.as_bytes()), (*number, *place), "{name}");
+        let (found, at, _) = judged(name.as_bytes());
+        assert_eq!((found, at), (*number, *place), "{name}");
     }
 }
 
@@ -84,12 +88,20 @@ fn every_name_of_the_table_is_reported_where_it_is_wrong() {
 fn generated_names_are_reported_where_they_are_wrong() {
     let mut counts: BTreeMap<u32, u32> = BTreeMap::new();
     for seed in 0..NAMES {
-        let named = named(seed);
-        let found = judged(&named.bytes);
-        if let Some(known) = named.known {
-            assert_eq!(found, known, "seed {seed}: {}", named.bytes.escape_ascii());
+        let Named {
+            bytes,
+            known,
+            wrong,
+        } = named(seed);
+        let (number, place, words) = judged(&bytes);
+        if let Some(known) = known {
+            let shown = bytes.escape_ascii();
+            assert_eq!((number, place), known, "seed {seed}: {shown}");
         }
-        *counts.entry(found.0).or_default() += 1;
+        if let Some(wrong) = wrong {
+            assert_eq!(words, name_words(1, &bytes, &wrong), "seed {seed}");
+        }
+        *counts.entry(number).or_default() += 1;
     }
     println!("{counts:?}");
     for number in [0, 11].into_iter().chain(33..=38) {

@@ -2,10 +2,11 @@
 
 use crate::enums::Listed;
 use crate::random::Random;
+use crate::shape::{self, Shape};
 use corpus::enums::enum_of_size;
 use corpus::readers::{
-    array_of, dictionary_of, enum_of, list_of, nullable_of, BYTE, INT32, OBJECT, PAGE, SINGLE,
-    STRING, TEXTURE, TEXTURE2D,
+    array_of, dictionary_of, dictionary_target, enum_of, list_of, list_target, nullable_of,
+    nullable_target, BYTE, INT32, OBJECT, PAGE, SINGLE, STRING, TEXTURE, TEXTURE2D,
 };
 use corpus::values::*;
 use corpus::writer::{seven_bytes, File, Seven, Value};
@@ -54,6 +55,31 @@ impl Target {
             Target::ObjectKeys => dictionary_of("System.Object", "System.Object"),
             Target::ByteKeys => dictionary_of("System.Byte", "System.Object"),
             Target::Unused(name) => name.to_string(),
+        }
+    }
+
+    /// The type that its reader reads, in words.
+    pub fn shown(&self) -> String {
+        let plain = |kind: u32| Shape::plain(kind).target_head().to_string();
+        match self {
+            Target::Page => plain(shape::PAGE),
+            Target::Text => plain(shape::STRING),
+            Target::Picture => plain(shape::TEXTURE2D),
+            Target::Byte => plain(1),
+            Target::Int32 => plain(5),
+            Target::Enum(name, _) => name.clone(),
+            Target::NullableInt32 => nullable_target("System.Int32"),
+            Target::Bytes => list_target("System.Byte"),
+            Target::Pages => list_target("Coach.Console.Page"),
+            Target::Texts => "System.String[]".to_string(),
+            Target::Anything => list_target("System.Object"),
+            Target::TextKeys => dictionary_target("System.String", "System.Byte"),
+            Target::TextKeysToObjects => dictionary_target("System.String", "System.Object"),
+            Target::ObjectKeys => dictionary_target("System.Object", "System.Object"),
+            Target::ByteKeys => dictionary_target("System.Byte", "System.Object"),
+            Target::Unused(OBJECT) => plain(shape::OBJECT),
+            Target::Unused(TEXTURE) => plain(shape::TEXTURE),
+            Target::Unused(_) => plain(9),
         }
     }
 }

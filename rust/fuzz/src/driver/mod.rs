@@ -31,13 +31,21 @@ pub fn offends(seed: u64, number: u32) -> bool {
     broken >> (number - 41) & 1 == 1
 }
 
-/// A file that breaks the rules of a seed and is not damaged besides, with the fields and rows that were written.
-pub fn undamaged(seed: u64) -> (EnumCase, Written) {
-    let (case, written, _) = of_seed(&mut Random::new(seed), seed);
-    (case, written)
+/// A file that breaks the rules of a seed and is not damaged besides.
+pub struct Undamaged {
+    pub case: EnumCase,
+    /// The fields and rows that were written.
+    pub written: Written,
+    /// The type that each reader reads, in words.
+    pub targets: Vec<String>,
+    enums: Vec<Listed>,
 }
 
-fn of_seed(random: &mut Random, seed: u64) -> (EnumCase, Written, Vec<Listed>) {
+pub fn undamaged(seed: u64) -> Undamaged {
+    of_seed(&mut Random::new(seed), seed)
+}
+
+fn of_seed(random: &mut Random, seed: u64) -> Undamaged {
     let enums = some_enums(random);
     let made = make(random, &enums, |number| offends(seed, number));
     let written = write(&made.file);
@@ -49,23 +57,30 @@ fn of_seed(random: &mut Random, seed: u64) -> (EnumCase, Written, Vec<Listed>) {
         known: Some(known),
     };
     let lent = bytes_of(&enums);
-    (EnumCase { case, enums: lent }, written, enums)
+    let targets = made.readers.iter().map(|reader| reader.target.shown());
+    Undamaged {
+        case: EnumCase { case, enums: lent },
+        written,
+        targets: targets.collect(),
+        enums,
+    }
 }
 
 /// The case of a seed; what is known is the answer of the driver's loader.
 pub fn case(seed: u64) -> EnumCase {
     let mut random = Random::new(seed);
-    let (made, written, enums) = of_seed(&mut random, seed);
+    let made = of_seed(&mut random, seed);
+    let (written, enums) = (made.written, made.enums);
     let EnumCase {
         case,
         enums: enums_lent,
-    } = made;
+    } = made.case;
     let words = case.words;
     match random.below(12) {
         0 => with_a_load_fault(&mut random, case, &written, enums_lent),
         1 => {
-            let (enums, place) = damaged(&mut random, &enums);
-            refused(case, enums, 32, place)
+            let list = damaged(&mut random, &enums);
+            refused(case, list.bytes, 32, list.entry)
         }
         2 => {
             let bytes = blind::damaged(&mut random, &written);

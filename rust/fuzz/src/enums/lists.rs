@@ -1,6 +1,7 @@
 //! Lists of enum types, lawful and damaged.
 
 use super::Listed;
+use crate::broken::EntryFault;
 use crate::random::Random;
 use crate::shape::UNLISTED;
 use corpus::enums::{entry, SIZES, TARGET_NAMES};
@@ -82,41 +83,85 @@ pub fn differing(random: &mut Random, listed: &Listed, enums: &[Listed]) -> Opti
     (!taken).then_some(Listed { name, size })
 }
 
-/// A list whose first unlawful entry has the number that is given, and anything behind it.
-pub fn damaged(random: &mut Random, enums: &[Listed]) -> (Vec<u8>, usize) {
+/// A list with an unlawful entry, and anything behind it.
+pub struct Damaged {
+    pub bytes: Vec<u8>,
+    /// The number of its first unlawful entry.
+    pub entry: usize,
+    /// The name of that entry, as far as it is there.
+    pub name: Vec<u8>,
+    pub fault: EntryFault,
+}
+
+pub fn damaged(random: &mut Random, enums: &[Listed]) -> Damaged {
     let number = random.below(enums.len());
     let mut bytes = bytes_of(&enums[..number]);
+    let (name, fault) = unlawful_entry(random, enums, number, &mut bytes);
+    if fault != EntryFault::CutShort {
+        match random.below(3) {
+            0 => bytes.extend(bytes_of(&enums[number + 1..])),
+            1 => {
+                let count = random.below(20);
+                bytes.extend(random.bytes(count));
+            }
+            _ => {}
+        }
+    }
+    Damaged {
+        bytes,
+        entry: number,
+        name,
+        fault,
+    }
+}
+
+/// Writes an unlawful entry in the place of this one, and gives its name and its fault.
+fn unlawful_entry(
+    random: &mut Random,
+    enums: &[Listed],
+    number: usize,
+    bytes: &mut Vec<u8>,
+) -> (Vec<u8>, EntryFault) {
     let Listed { name, size } = &enums[number];
-    let whole = entry(name.as_bytes(), *size);
-    match random.below(7) {
+    let (mut name, mut size) = (name.as_bytes().to_vec(), *size);
+    let fault = match random.below(7) {
         0 => {
+            let whole = entry(&name, size);
             let length = 1 + random.below(whole.len() - 1);
             bytes.extend_from_slice(&whole[..length]);
-            return (bytes, number);
+            return (whole[1..length].to_vec(), EntryFault::CutShort);
         }
         1 => {
-            bytes.extend(length_past_the_end(random));
-            return (bytes, number);
+            let cut = length_past_the_end(random);
+            bytes.extend_from_slice(&cut);
+            return (cut[1..].to_vec(), EntryFault::CutShort);
         }
-        2 => bytes.extend(entry(name.as_bytes(), bad_size(random))),
-        3 => bytes.extend(entry(&no_head(random, name), *size)),
-        4 => bytes.extend(entry(b"", *size)),
-        5 => bytes.extend(entry(random.pick(TARGET_NAMES).as_bytes(), *size)),
-        _ if number == 0 => bytes.extend(entry(name.as_bytes(), bad_size(random))),
+        3 => {
+            let byte;
+            (name, byte) = no_head(random, &name);
+            EntryFault::NameByte(byte)
+        }
+        4 => {
+            name.clear();
+            EntryFault::EmptyName
+        }
+        5 => {
+            name = random.pick(TARGET_NAMES).as_bytes().to_vec();
+            EntryFault::KnownType
+        }
+        6 if number > 0 => {
+            let earlier = random.below(number);
+            name = enums[earlier].name.as_bytes().to_vec();
+            size = some_size(random);
+            EntryFault::Listed(earlier)
+        }
         _ => {
-            let earlier = &enums[random.below(number)];
-            bytes.extend(entry(earlier.name.as_bytes(), some_size(random)));
+            size = bad_size(random);
+            EntryFault::Size(size)
         }
-    }
-    match random.below(3) {
-        0 => bytes.extend(bytes_of(&enums[number + 1..])),
-        1 => {
-            let count = random.below(20);
-            bytes.extend(random.bytes(count));
-        }
-        _ => {}
-    }
-    (bytes, number)
+    };
+    bytes.extend(entry(&name, size));
+    (name, fault)
 }
 
 /// A length byte with no room for the name and the size behind it.
@@ -138,12 +183,13 @@ fn bad_size(random: &mut Random) -> u8 {
     }
 }
 
-/// The name with one byte that no head has.
-fn no_head(random: &mut Random, name: &str) -> Vec<u8> {
-    let mut bytes = name.as_bytes().to_vec();
+/// The name with one byte that no head has, and that byte.
+fn no_head(random: &mut Random, name: &[u8]) -> (Vec<u8>, u8) {
+    let mut bytes = name.to_vec();
     let place = random.below(bytes.len());
-    bytes[place] = random.pick(b" !*,-/:;<=>?@[\\]^`{|}~\0\t\n\x1F\x7F\x80\xC3\xFF");
-    bytes
+    let byte = random.pick(b" !*,-/:;<=>?@[\\]^`{|}~\0\t\n\x1F\x7F\x80\xC3\xFF");
+    bytes[place] = byte;
+    (bytes, byte)
 }
 
 /// A list with some bytes changed, taken out or put in, or any bytes.

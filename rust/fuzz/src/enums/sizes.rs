@@ -1,12 +1,13 @@
 //! Enums of one size under a list that says another: the refusal is known by counting bytes.
 
 use super::{with_list, EnumCase, Listed};
+use crate::broken::{Broken, Fault};
 use crate::limits::alone;
 use crate::random::Random;
 use crate::{Case, Known, GENEROUS_WORDS};
 use corpus::readers::{array_of, enum_of, list_of, nullable_of};
 use corpus::values::*;
-use corpus::writer::{write, Value};
+use corpus::writer::{write, Value, Written};
 
 /// Where the enums of a file stand; it ends with the last of them.
 #[derive(Clone, Copy, Debug, PartialEq, Eq)]
@@ -83,7 +84,7 @@ pub fn resized(place: Place, count: usize, held: u8, enums: &[Listed], chosen: u
 }
 
 /// Any such file.
-pub fn some_case(random: &mut Random, enums: &[Listed]) -> EnumCase {
+pub fn some_case(random: &mut Random, enums: &[Listed]) -> Broken {
     let place = random.pick(&PLACES);
     let count = if place.is_single() {
         1
@@ -92,5 +93,13 @@ pub fn some_case(random: &mut Random, enums: &[Listed]) -> EnumCase {
     };
     let held = random.between(0, 9) as u8;
     let chosen = random.below(enums.len());
-    resized(place, count, held, enums, chosen)
+    let EnumCase { case, enums: lent } = resized(place, count, held, enums, chosen);
+    let size = enums[chosen].size;
+    Broken {
+        case,
+        enums: lent,
+        before: Written::default(),
+        targets: Vec::new(),
+        fault: (held != size).then_some(Fault::Resized(size)),
+    }
 }

@@ -1,58 +1,65 @@
 //! Containers of one enum where those of another are declared: 14, unless it is the same one.
 
-use super::{with_list, EnumCase, Listed};
+use super::{lists, Listed};
+use crate::broken::{Broken, Fault};
 use crate::limits::{alone, limit};
+use crate::maker::Made;
 use crate::random::Random;
-use corpus::readers::{
-    array_of, dictionary_of, dictionary_target, list_of, list_target, nullable_target,
-};
+use crate::shape::{Shape, ARRAY, CHAR, DICTIONARY, LIST, NULLABLE};
 use corpus::values::*;
-use corpus::writer::Value;
+use corpus::writer::{write, Value};
 
-/// A container of an enum: its target name, its reader's name and the empty value.
-fn container(form: usize, name: &str) -> (String, String, Value) {
-    let pairs = || dictionary(vec![]);
+const BYTE: u32 = 1;
+const INT64: u32 = 7;
+
+/// A container of this type.
+fn container(form: usize, element: Shape) -> Shape {
     match form {
-        0 => (list_target(name), list_of(name), list(vec![])),
-        1 => {
-            let nullable = nullable_target(name);
-            (list_target(&nullable), list_of(&nullable), list(vec![]))
-        }
-        2 => {
-            let inner = list_target(name);
-            (list_target(&inner), list_of(&inner), list(vec![]))
-        }
-        3 => (
-            dictionary_target(name, "System.Byte"),
-            dictionary_of(name, "System.Byte"),
-            pairs(),
-        ),
-        _ => (
-            dictionary_target("System.Char", name),
-            dictionary_of("System.Char", name),
-            pairs(),
-        ),
+        0 => Shape::of(LIST, element),
+        1 => Shape::of(LIST, Shape::of(NULLABLE, element)),
+        2 => Shape::of(LIST, Shape::of(LIST, element)),
+        3 => Shape::with(DICTIONARY, vec![element, Shape::plain(BYTE)]),
+        _ => Shape::with(DICTIONARY, vec![Shape::plain(CHAR), element]),
+    }
+}
+
+fn empty(container: &Shape) -> Value {
+    match container.kind {
+        DICTIONARY => dictionary(vec![]),
+        _ => list(vec![]),
     }
 }
 
 /// A file with one container inside another, of the declared enum or of something else.
-pub fn some_case(random: &mut Random, enums: &[Listed]) -> EnumCase {
-    let declared = &enums[random.below(enums.len())].name;
-    let other = &enums[random.below(enums.len())].name;
-    let found = random.pick(&[declared, other, other, "System.Byte", "System.Int64"]);
+pub fn some_case(random: &mut Random, enums: &[Listed]) -> Broken {
+    let declared = Shape::listed(&enums[random.below(enums.len())]);
+    let other = Shape::listed(&enums[random.below(enums.len())]);
+    let found = match random.below(5) {
+        0 => declared.clone(),
+        1 => Shape::plain(BYTE),
+        2 => Shape::plain(INT64),
+        _ => other,
+    };
+    let number = if found == declared { 0 } else { 14 };
     let form = random.below(5);
-    let (target, _, _) = container(form, declared);
-    let (_, reader, empty) = container(form, found);
-    let element = faulty(bound_object(2, empty));
+    let (target, inner) = (container(form, declared), container(form, found));
+    let element = faulty(bound_object(2, empty(&inner)));
     let (outer, raw) = match random.below(3) {
-        0 => (list_of(&target), list(vec![null(), element])),
-        1 => (array_of(&target), array(vec![element])),
+        0 => (Shape::of(LIST, target), list(vec![null(), element])),
+        1 => (Shape::of(ARRAY, target), array(vec![element])),
         _ => (
-            dictionary_of("System.Byte", &target),
+            Shape::with(DICTIONARY, vec![Shape::plain(BYTE), target]),
             dictionary(vec![(byte(7), element)]),
         ),
     };
-    let number = if found == declared { 0 } else { 14 };
-    let file = alone(&[outer, reader], object(1, raw));
-    with_list(limit("", number, file).case, enums)
+    let targets = vec![outer, inner];
+    let readers: Vec<String> = targets.iter().map(|it| it.reader_name(random)).collect();
+    let file = alone(&readers, object(1, raw));
+    let (case, written) = (limit("", number, file.clone()).case, write(&file));
+    let fault = (number > 0).then_some(Fault::Planted);
+    let made = Made { file, targets };
+    Broken {
+        enums: lists::bytes_of(enums),
+        ..Broken::new(case, &made, written, fault)
+    }
 }

@@ -153,7 +153,7 @@ fn products() -> Vec<Limit> {
 }
 
 /// A model of so many bones whose references all name this bone.
-fn bones(count: usize, reference: u32) -> Value {
+pub fn bones(count: usize, reference: u32) -> Value {
     object(
         1,
         model(Model {

@@ -2,6 +2,7 @@
 
 mod limits;
 
+pub(crate) use limits::bones;
 pub use limits::limits;
 
 use crate::aimed::{self, damage, Damage};
@@ -82,8 +83,8 @@ fn at_data(number: u32) -> Option<Damage> {
     Some(Damage {
         offset: bytes.len(),
         bytes,
-        with_data: false,
         number: 1,
+        ..Damage::default()
     })
 }
 

@@ -1,5 +1,7 @@
 //! Well-formed names with heads that 11 complains of, none or several.
 
+use super::{NameFault, Wrong};
+use crate::enums::{with_enums, Listed};
 use crate::random::Random;
 use crate::shape::{Shape, ENUM, LIST, NULLABLE, STRING};
 
@@ -17,33 +19,31 @@ struct Tree {
     head: String,
     arguments: Vec<Tree>,
     tail: &'static str,
-    /// Whether 11 complains of the head, those before it being lawful.
-    wrong: bool,
+    /// What 11 complains of in the head, those before it being lawful.
+    fault: Option<NameFault>,
 }
 
-/// A well-formed name, and where its leftmost wrong head starts.
-pub fn name(random: &mut Random) -> (Vec<u8>, Option<usize>) {
-    let mut tree = reader(random);
+/// A well-formed name of a file under a list, and what is wrong with its leftmost wrong head.
+pub fn name(random: &mut Random, enums: &[Listed]) -> (Vec<u8>, Option<Wrong>) {
+    let mut tree = reader(random, enums);
     for _ in 0..random.pick(&[0, 1, 1, 1, 2, 3]) {
         spoil(random, &mut tree);
     }
     let mut bytes = Vec::new();
-    let mut place = None;
-    tree.write(&mut bytes, &mut place);
-    (bytes, place)
+    let mut wrong = None;
+    tree.write(&mut bytes, &mut wrong);
+    (bytes, wrong)
 }
 
-fn reader(random: &mut Random) -> Tree {
+fn reader(random: &mut Random, enums: &[Listed]) -> Tree {
     let shape = Shape::any(random);
-    let mut tree = Tree {
-        role: Role::Reader,
-        head: shape.reader_head(),
-        arguments: Vec::new(),
-        tail: Shape::tail(random),
-        wrong: false,
-    };
+    let shape = with_enums(random, shape, enums);
+    let mut tree = leaf(random, Role::Reader, shape.reader_head());
     if shape.kind == ENUM {
-        let head = Shape::enum_head(random).to_string();
+        let head = match &shape.listed {
+            Some(listed) => listed.name.clone(),
+            None => Shape::enum_head(random).to_string(),
+        };
         tree.arguments = vec![leaf(random, Role::EnumArgument, head)];
     } else {
         tree.arguments = arguments(random, &shape);
@@ -76,7 +76,7 @@ fn leaf(random: &mut Random, role: Role, head: String) -> Tree {
         head,
         arguments: Vec::new(),
         tail: Shape::tail(random),
-        wrong: false,
+        fault: None,
     }
 }
 
@@ -88,15 +88,21 @@ fn spoil(random: &mut Random, tree: &mut Tree) {
         let argument = random.below(tree.arguments.len());
         return spoil(random, &mut tree.arguments[argument]);
     }
-    if tree.wrong {
+    if tree.fault.is_some() {
         return;
     }
-    match random.below(3) {
+    tree.fault = Some(match random.below(3) {
         0 => wrong_count(random, tree),
         1 if tree.role == Role::NullableArgument => no_value_type(random, tree),
-        _ => tree.head = wrong_head(random, tree).to_string(),
-    }
-    tree.wrong = true;
+        _ => {
+            tree.head = wrong_head(random, tree).to_string();
+            match tree.role {
+                Role::Reader => NameFault::UnknownReader,
+                Role::EnumArgument => NameFault::OtherType,
+                Role::NullableArgument | Role::Argument => NameFault::UnknownType,
+            }
+        }
+    });
 }
 
 fn wrong_head(random: &mut Random, tree: &Tree) -> &'static str {
@@ -134,19 +140,21 @@ fn wrong_head(random: &mut Random, tree: &Tree) -> &'static str {
 }
 
 /// Another number of arguments than the head has now.
-fn wrong_count(random: &mut Random, tree: &mut Tree) {
-    let counts: Vec<usize> = (0..3).filter(|it| *it != tree.arguments.len()).collect();
-    let count = random.pick(&counts);
-    tree.arguments.truncate(count);
-    while tree.arguments.len() < count {
+fn wrong_count(random: &mut Random, tree: &mut Tree) -> NameFault {
+    let takes = tree.arguments.len();
+    let counts: Vec<usize> = (0..3).filter(|it| *it != takes).collect();
+    let has = random.pick(&counts);
+    tree.arguments.truncate(has);
+    while tree.arguments.len() < has {
         let head = random.pick(&["System.Byte", "Unknown"]).to_string();
         let added = leaf(random, Role::Argument, head);
         tree.arguments.push(added);
     }
+    NameFault::Count { takes, has }
 }
 
 /// "Nullable's argument must be a value type other than Nullable."
-fn no_value_type(random: &mut Random, tree: &mut Tree) {
+fn no_value_type(random: &mut Random, tree: &mut Tree) -> NameFault {
     let shapes = [
         Shape::plain(STRING),
         Shape::of(LIST, Shape::plain(1)),
@@ -155,13 +163,19 @@ fn no_value_type(random: &mut Random, tree: &mut Tree) {
     ];
     let shape = &shapes[random.below(shapes.len())];
     *tree = target(random, Role::NullableArgument, shape);
+    NameFault::NoValueType
 }
 
 impl Tree {
     /// A head stands before its arguments' heads, so the first wrong one is the leftmost.
-    fn write(&self, bytes: &mut Vec<u8>, wrong: &mut Option<usize>) {
-        if self.wrong && wrong.is_none() {
-            *wrong = Some(bytes.len());
+    fn write(&self, bytes: &mut Vec<u8>, wrong: &mut Option<Wrong>) {
+        if let (Some(fault), None) = (&self.fault, &wrong) {
+            *wrong = Some(Wrong {
+                number: 11,
+                place: bytes.len(),
+                length: self.head.len(),
+                fault: fault.clone(),
+            });
         }
         bytes.extend_from_slice(self.head.as_bytes());
         for (number, argument) in self.arguments.iter().enumerate() {

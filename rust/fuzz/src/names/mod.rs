@@ -5,6 +5,9 @@ pub mod grammar;
 mod heads;
 mod written;
 
+pub use written::Due;
+
+use crate::enums::Listed;
 use crate::random::Random;
 use crate::{lawful_case, some_words, Case, Known};
 use corpus::readers::{BYTE, PAGE, STRING};
@@ -19,31 +22,87 @@ pub struct Named {
     pub bytes: Vec<u8>,
     /// Its number, 0 for a good name, and its place from its first byte on, if they are known without a loader.
     pub known: Option<(u32, usize)>,
+    /// What is wrong with it, if that is known.
+    pub wrong: Option<Wrong>,
+}
+
+/// What is wrong with a name.
+#[derive(Clone, Debug, PartialEq, Eq)]
+pub struct Wrong {
+    /// The refusal's number, 11 or 33 to 38.
+    pub number: u32,
+    /// Where it is wrong, from the name's first byte on.
+    pub place: usize,
+    /// How many bytes are wrong there: a head's, one, or none at the name's end.
+    pub length: usize,
+    pub fault: NameFault,
+}
+
+/// How a name was made wrong.
+#[derive(Clone, Debug, PartialEq, Eq)]
+pub enum NameFault {
+    /// Another byte, or the name's end, stands where this is due.
+    NotDue(Due),
+    /// A part of level 9 starts.
+    TooDeep,
+    /// No reader has this head.
+    UnknownReader,
+    /// No type has this head, and no listed enum.
+    UnknownType,
+    /// The argument of Enum has the head of another type.
+    OtherType,
+    /// The argument of Nullable is no value type, or Nullable.
+    NoValueType,
+    /// The head takes so many arguments and has others.
+    Count { takes: usize, has: usize },
 }
 
 /// The name of a seed.
 pub fn named(seed: u64) -> Named {
     let mut random = Random::new(seed);
     loop {
-        let (bytes, known) = some_name(&mut random);
-        if (1..=LONGEST_NAME).contains(&bytes.len()) {
-            return Named { bytes, known };
+        let named = some_name(&mut random);
+        if (1..=LONGEST_NAME).contains(&named.bytes.len()) {
+            return named;
         }
     }
 }
 
-fn some_name(random: &mut Random) -> (Vec<u8>, Option<(u32, usize)>) {
-    match random.below(20) {
+fn some_name(random: &mut Random) -> Named {
+    let (bytes, known, wrong) = match random.below(20) {
         0..=8 => {
-            let (name, number, place) = written::with_fault(random);
-            (name, Some((number, place)))
+            let (bytes, wrong) = written::with_fault(random);
+            (bytes, true, Some(wrong))
         }
         9..=14 => {
-            let (name, wrong) = heads::name(random);
-            (name, Some(wrong.map_or((0, 0), |place| (11, place))))
+            let (bytes, wrong) = heads::name(random, &[]);
+            (bytes, true, wrong)
         }
-        15..=17 => (damaged(random), None),
-        _ => (any_bytes(random), None),
+        15..=17 => (damaged(random), false, None),
+        _ => (any_bytes(random), false, None),
+    };
+    let answer = wrong.as_ref().map_or((0, 0), |it| (it.number, it.place));
+    Named {
+        bytes,
+        known: known.then_some(answer),
+        wrong,
+    }
+}
+
+/// A name that is refused with this number in a file under a list.
+pub fn wrong_name(random: &mut Random, number: u32, enums: &[Listed]) -> (Vec<u8>, Wrong) {
+    loop {
+        let (bytes, wrong) = match number {
+            11 => heads::name(random, enums),
+            _ => {
+                let (bytes, wrong) = written::with_fault(random);
+                (bytes, Some(wrong))
+            }
+        };
+        let lawful_length = (1..=LONGEST_NAME).contains(&bytes.len());
+        if let Some(wrong) = wrong.filter(|it| it.number == number && lawful_length) {
+            return (bytes, wrong);
+        }
     }
 }
 
@@ -53,7 +112,7 @@ fn damaged(random: &mut Random) -> Vec<u8> {
     let mut name = if random.chance(50) {
         written::write(random, levels).bytes
     } else {
-        heads::name(random).0
+        heads::name(random, &[]).0
     };
     for _ in 0..random.between(1, 3) {
         let place = random.below(name.len() + 1);

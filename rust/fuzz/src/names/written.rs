@@ -1,5 +1,6 @@
 //! Well-formed names written from left to right, with what is due at each place.
 
+use super::{NameFault, Wrong};
 use crate::random::Random;
 
 pub const DEEPEST_LEVEL: u32 = 8;
@@ -10,19 +11,15 @@ pub enum Due {
     /// The first byte of a head at a level.
     Head(u32),
     /// What follows one head byte or more.
-    BehindHead {
-        nested: bool,
-    },
+    BehindHead { nested: bool },
+    /// The digit behind a backquote.
     Digit,
     /// A bracket, or the comma between arguments.
     Bracket(u8),
-    BehindBrackets {
-        nested: bool,
-    },
+    /// What follows the brackets around arguments.
+    BehindBrackets { nested: bool },
     /// What follows the comma of a tail.
-    InTail {
-        nested: bool,
-    },
+    InTail { nested: bool },
 }
 
 impl Due {
@@ -161,14 +158,15 @@ impl Writer<'_> {
     }
 }
 
-/// A name with one fault, or several of which the leftmost is known, and that fault's number and place.
-pub fn with_fault(random: &mut Random) -> (Vec<u8>, u32, usize) {
+/// A name with one fault, or several of which the leftmost is known.
+pub fn with_fault(random: &mut Random) -> (Vec<u8>, Wrong) {
     let levels = random.pick(&[1, 2, 2, 3, 3, 5, 8, 8, 9, 10]);
     let written = write(random, levels);
-    let place = random.below(written.due.len());
+    let mut place = random.below(written.due.len());
     let mut name = written.bytes[..place].to_vec();
     let due = written.due[place];
     let mut number = due.number();
+    let mut fault = NameFault::NotDue(due);
     match due.number_of_end() {
         Some(of_end) if random.chance(25) => number = of_end,
         _ => {
@@ -177,10 +175,17 @@ pub fn with_fault(random: &mut Random) -> (Vec<u8>, u32, usize) {
         }
     }
     let past_8 = |due: &Due| matches!(due, Due::Head(level) if *level > DEEPEST_LEVEL);
-    match written.due.iter().position(past_8) {
-        Some(level_9) if level_9 <= place => (name, 38, level_9),
-        _ => (name, number, place),
+    if let Some(level_9) = written.due[..=place].iter().position(past_8) {
+        (number, place, fault) = (38, level_9, NameFault::TooDeep);
     }
+    let length = name[place..].len().min(1);
+    let wrong = Wrong {
+        number,
+        place,
+        length,
+        fault,
+    };
+    (name, wrong)
 }
 
 /// What follows a fault: nothing, the name as it was, or any bytes.

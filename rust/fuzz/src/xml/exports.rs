@@ -235,14 +235,14 @@ impl Maker<'_> {
     /// 32 before all else.
     fn with_a_refused_list(self) -> ExportCase {
         let enums = some_enums(self.random);
-        let (bytes, place) = damaged(self.random, &enums);
+        let list = damaged(self.random, &enums);
         let mut case = match self.random.below(3) {
             0 => self.lawful(),
             1 => self.with_a_bad_text(),
             _ => self.damaged(),
         };
-        case.enums = bytes;
-        case.known = refused(32, place);
+        case.enums = list.bytes;
+        case.known = refused(32, list.entry);
         case
     }
 

@@ -2,6 +2,7 @@
 
 use super::names::Wrong;
 use super::{Explanation, ReaderName};
+use crate::numbers::unsigned;
 use crate::refusal::{Refusal, Refused};
 use std::fmt::Display;
 
@@ -108,7 +109,7 @@ impl<'f> Cursor<'f> {
     /// Takes a field of four bytes as a number.
     pub fn take_u32(&mut self, what: impl Display) -> Step<'f, u32> {
         let bytes = self.take(4, what)?;
-        Ok(little_endian(bytes) as u32)
+        Ok(unsigned(bytes) as u32)
     }
 
     /// Takes a seven-bit number.
@@ -160,11 +161,6 @@ pub fn bytes(count: usize) -> String {
         1 => "1 byte".to_string(),
         _ => format!("{count} bytes"),
     }
-}
-
-pub fn little_endian(bytes: &[u8]) -> u64 {
-    let add = |number: u64, byte: &u8| number << 8 | u64::from(*byte);
-    bytes.iter().rev().fold(0, add)
 }
 
 /// Bytes in hexadecimal.

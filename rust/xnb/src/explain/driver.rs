@@ -1,11 +1,11 @@
 //! Refusals of the driver's profile: the reader, the number, the key or the page that is meant.
 
-use super::cursor::{bytes, Cursor};
-use super::header::take_header;
-use super::readers::{take_readers, take_shared_count, Reader};
+use super::cursor::bytes;
 use super::{Explanation, ReaderName};
+use crate::header::{Reader, READER_COUNT};
 use crate::kind::Kind;
 use crate::loader::Loader;
+use crate::numbers::{seven, seven_length, shortest_length};
 use crate::refusal::Refusal::*;
 use crate::refusal::Refused;
 use crate::row::{Detail, Row};
@@ -17,32 +17,17 @@ const LONGEST_SHOWN: usize = 40;
 /// What is at the place of a refusal by the driver's loader, 41 to 47.
 pub fn explain<'f>(enums: &[u8], file: &'f [u8], refused: Refused) -> Option<Explanation<'f>> {
     let table = Loader::new().with_enum_bytes(enums).load(file).ok()?;
-    let mut cursor = Cursor::new(file, refused);
-    take_header(&mut cursor).ok()?;
-    let readers = take_readers(&mut cursor, enums).ok()?;
-    let shared_count = cursor.at;
-    take_shared_count(&mut cursor).ok()?;
     let place = refused.place as usize;
-    let mut reader = None;
+    // The reader whose name has its first byte there.
+    let named = table.readers().find(|it| it.first == place);
     let found = match refused.refusal {
         NotWindows => {
-            let platform = char::from(*file.get(3)?).escape_default();
+            let platform = table.header().platform.letter();
             Some(format!("the platform is {platform}, w is taken"))
         }
-        NotShortest => {
-            let what = number_at(&table, &readers, shared_count, place)?;
-            padded(file, place, &what)
-        }
-        UnusedReader => {
-            let unused = reader_at(&readers, place)?;
-            reader = Some(unused.name);
-            Some(format!("no type id names reader {}", unused.name.number))
-        }
-        EqualReaders => {
-            let later = reader_at(&readers, place)?;
-            reader = Some(later.name);
-            equal_reader(&readers, later)
-        }
+        NotShortest => padded(&table, place),
+        UnusedReader => Some(format!("no type id names reader {}", named?.type_id)),
+        EqualReaders => equal_reader(&table, named?),
         RepeatedKey => repeated_key(&table, place),
         NotPage => {
             let kind = table.row(0)?.kind;
@@ -53,114 +38,91 @@ pub fn explain<'f>(enums: &[u8], file: &'f [u8], refused: Refused) -> Option<Exp
     }?;
     Some(Explanation {
         found,
-        reader,
+        reader: named.map(|it| ReaderName {
+            number: it.type_id as usize,
+            first: it.first,
+            bytes: it.name.as_bytes(),
+        }),
         mark: None,
     })
 }
 
-/// Each row with its number.
-fn numbered<'t>(table: &'t Table) -> impl Iterator<Item = (u32, Row)> + 't {
-    (0..).zip(table.rows())
-}
-
-/// The reader whose name has its first byte here.
-fn reader_at<'r, 'f>(readers: &'r [Reader<'f>], place: usize) -> Option<&'r Reader<'f>> {
-    readers.iter().find(|reader| reader.name.first == place)
-}
-
-/// What the seven-bit number at a place is.
-fn number_at(
-    table: &Table,
-    readers: &[Reader],
-    shared_count: usize,
-    place: usize,
-) -> Option<String> {
-    // The reader count is the first number, and a name's length is right before the name.
-    let mut end = 10 + width(table.file(), 10)?;
-    if place < end {
-        return Some("the reader count".to_string());
-    }
-    for ReaderName {
-        number,
-        first,
-        bytes,
-    } in readers.iter().map(|reader| reader.name)
-    {
-        if (end..first).contains(&place) {
-            return Some(format!("the length of the name of reader {number}"));
-        }
-        // Its version has four bytes.
-        end = first + bytes.len() + 4;
-    }
-    if place == shared_count {
-        return Some("the shared count".to_string());
-    }
-    numbered(table).find_map(|(number, row)| number_of_row(table, number, row, place))
-}
-
-/// What the number at a place is to a row.
-fn number_of_row(table: &Table, number: u32, row: Row, place: usize) -> Option<String> {
-    let is_object = row.kind == Kind::Null || matches!(row.detail, Detail::TypeId(_));
-    if row.kind == Kind::SharedReference && row.first == place {
-        return Some(format!("the resource id of row {number}"));
-    }
-    if is_object && row.first == place {
-        return Some(format!("the type id of row {number}"));
-    }
-    let count = row.first + width(table.file(), row.first)?;
-    (row.kind == Kind::String && count == place).then(|| format!("the text count of row {number}"))
-}
-
-/// How many bytes a seven-bit number has.
-fn width(file: &[u8], place: usize) -> Option<usize> {
-    let rest = file.get(place..)?;
-    rest.iter().position(|byte| *byte < 0x80).map(|it| it + 1)
-}
-
-/// A number with the bytes that it has and those that suffice.
-fn padded(file: &[u8], place: usize, what: &str) -> Option<String> {
-    let width = width(file, place)?;
-    let number = &file[place..place + width];
-    let add = |value: u64, byte: &u8| value << 7 | u64::from(byte & 0x7F);
-    let value = number.iter().rev().fold(0, add);
-    // The last bytes that add nothing but the end.
-    let needless = number[1..].iter().rev();
-    let needless = needless.take_while(|byte| **byte & 0x7F == 0).count();
-    let (has, needs) = (bytes(width), width - needless);
+/// The number at a place, with the bytes that it has and those that suffice.
+fn padded(table: &Table, place: usize) -> Option<String> {
+    let number = table.file().get(place..)?;
+    number.iter().find(|byte| **byte < 0x80)?;
+    let (value, behind) = seven(number);
+    let width = number.len() - behind.len();
+    let what = number_at(table, place, place + width)?;
+    let (has, needs) = (bytes(width), shortest_length(value as usize));
     Some(format!("{what} is {value} in {has}, {needs} would do"))
 }
 
+/// What the seven-bit number from a place to an end is.
+fn number_at(table: &Table, place: usize, end: usize) -> Option<String> {
+    if place == READER_COUNT {
+        return Some("the reader count".to_string());
+    }
+    if let Some(reader) = table.readers().find(|it| it.first == end) {
+        let number = reader.type_id;
+        return Some(format!("the length of the name of reader {number}"));
+    }
+    // The first object is right behind it.
+    if table.row(0)?.first == end {
+        return Some("the shared count".to_string());
+    }
+    table
+        .rows()
+        .find_map(|row| number_of_row(table, row, place))
+}
+
+/// What the number at a place is to a row.
+fn number_of_row(table: &Table, row: Row, place: usize) -> Option<String> {
+    let number = row.number;
+    match (row.kind, row.detail) {
+        (Kind::SharedReference, _) if row.first == place => {
+            Some(format!("the resource id of row {number}"))
+        }
+        (Kind::Null, _) | (_, Detail::TypeId(_)) if row.first == place => {
+            Some(format!("the type id of row {number}"))
+        }
+        (Kind::String, _) if row.first + seven_length(table.part(number).ok()?) == place => {
+            Some(format!("the text count of row {number}"))
+        }
+        _ => None,
+    }
+}
+
 /// The earlier reader of the same target.
-fn equal_reader(readers: &[Reader], later: &Reader) -> Option<String> {
-    let is_equal = |it: &&Reader| it.name.number < later.name.number && it.target == later.target;
-    let earlier = readers.iter().find(is_equal)?.name;
-    let (number, target) = (later.name.number, &later.target);
-    let (before, first) = (earlier.number, earlier.first);
+fn equal_reader(table: &Table, later: Reader) -> Option<String> {
+    let (number, target) = (later.type_id, later.target());
+    let mut before = table.readers().take_while(|it| it.type_id < number);
+    let Reader { type_id, first, .. } = before.find(|it| it.target() == target)?;
     Some(format!(
-        "reader {number} reads {target}, as reader {before} does, whose name is at byte {first}"
+        "reader {number} reads {target}, as reader {type_id} does, whose name is at byte {first}"
     ))
 }
 
 /// The key at a place, and the earlier one of its dictionary.
 fn repeated_key(table: &Table, place: usize) -> Option<String> {
-    let is_key = |(_, row): &(u32, Row)| row.kind == Kind::String && row.first == place;
-    let (later, row) = numbered(table).find(is_key)?;
-    let dictionary = row.parent?;
-    let text = table.text(later).ok()?;
+    let is_key = |row: &Row| row.kind == Kind::String && row.first == place;
+    let later = table.rows().find(is_key)?;
+    let (row, dictionary) = (later.number, later.parent?);
+    let text = table.text(row).ok()?;
     // Keys and values come in turn.
     let mut keys = table.children(dictionary).step_by(2);
     let earlier = keys.find(|key| table.text(*key) == Ok(text))?;
     let first = table.row(earlier)?.first;
     let text = quoted(text);
     Some(format!(
-        "the key {text} of row {later} repeats that of row {earlier} at byte {first}, in the dictionary of row {dictionary}"
+        "the key {text} of row {row} repeats that of row {earlier} at byte {first}, in the dictionary of row {dictionary}"
     ))
 }
 
 /// The page whose next is at a place.
 fn page_without_next(table: &Table, place: usize) -> Option<String> {
-    let is_next = |(_, row): &(u32, Row)| row.kind == Kind::SharedReference && row.first == place;
-    let page = numbered(table).find(is_next)?.1.parent?;
+    let is_next = |row: &Row| row.kind == Kind::SharedReference && row.first == place;
+    let page = table.rows().find(is_next)?.parent?;
     let title = table.children(page).next()?;
     Some(match table.text(title) {
         Ok(title) => format!("the page {} of row {page} has no next page", quoted(title)),

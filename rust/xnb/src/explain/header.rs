@@ -1,10 +1,11 @@
 //! The ten header bytes.
 
-use super::cursor::{hex, little_endian, Cursor, Step, Stop};
+use super::cursor::{hex, Cursor, Step, Stop};
+use crate::numbers::unsigned;
 use crate::refusal::Refusal::*;
+use crate::row::LONGEST_FILE;
 
 const HEADER_BYTES: usize = 10;
-const LONGEST_FILE: usize = 16_777_216;
 
 /// Takes the header.
 pub fn take_header<'f>(cursor: &mut Cursor<'f>) -> Step<'f, ()> {
@@ -41,7 +42,7 @@ pub fn take_header<'f>(cursor: &mut Cursor<'f>) -> Step<'f, ()> {
     cursor.meet(Flags, 5, || {
         (flags > 1).then(|| format!("the flags are {flags:02X}; only 00 and 01 are taken"))
     })?;
-    let length = little_endian(&file[6..10]);
+    let length = unsigned(&file[6..10]);
     cursor.meet(FileLength, 6, || {
         let other = length != file.len() as u64;
         other.then(|| {

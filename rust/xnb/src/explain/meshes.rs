@@ -1,21 +1,22 @@
 //! Index buffers, vertex declarations, vertex buffers and models, field by field as the format lays them out.
 
 use super::cursor::Step;
-use super::types::Type;
 use super::walk::Walk;
+use crate::header::Target;
 use crate::kind::Kind;
+use crate::meshes::{ElementFormat, ElementUsage};
 use crate::refusal::Refusal::BadValue;
 use std::fmt::Display;
 
-const LAST_FORMAT: u32 = 11;
-const LAST_USAGE: u32 = 12;
+const LAST_FORMAT: u32 = ElementFormat::HalfVector4 as u32;
+const LAST_USAGE: u32 = ElementUsage::TessellateFactor as u32;
 /// A model of so many bones has references of four bytes.
 const MANY_BONES: u32 = 255;
 
 impl<'f> Walk<'_, 'f> {
     pub fn index_buffer(&mut self, depth: u32) -> Step<'f, ()> {
         let flag = self.cursor.at;
-        self.raw(&Type::plain(Kind::Boolean), depth)?;
+        self.fixed(Kind::Boolean, depth)?;
         let is_16_bit = self.cursor.file[flag] == 1;
         let multiple = if is_16_bit { 2 } else { 4 };
         let start = self.cursor.at;
@@ -56,8 +57,8 @@ impl<'f> Walk<'_, 'f> {
     pub fn model(&mut self, depth: u32) -> Step<'f, ()> {
         let bones = self.number("the bone count of a Model", depth)?;
         for _ in 0..bones {
-            self.object(&Type::plain(Kind::String), depth)?;
-            self.raw(&Type::plain(Kind::Matrix), depth)?;
+            self.object(&Target::plain(Kind::String), depth)?;
+            self.fixed(Kind::Matrix, depth)?;
         }
         for _ in 0..bones {
             self.bone(bones, depth)?;
@@ -75,10 +76,10 @@ impl<'f> Walk<'_, 'f> {
     }
 
     fn mesh(&mut self, bones: u32, depth: u32) -> Step<'f, ()> {
-        self.object(&Type::plain(Kind::String), depth)?;
+        self.object(&Target::plain(Kind::String), depth)?;
         self.bone(bones, depth)?;
-        self.raw(&Type::plain(Kind::Vector3), depth)?;
-        self.raw(&Type::plain(Kind::Single), depth)?;
+        self.fixed(Kind::Vector3, depth)?;
+        self.fixed(Kind::Single, depth)?;
         self.tag(depth)?;
         let parts = self.number("the part count of a mesh", depth)?;
         for _ in 0..parts {
@@ -103,7 +104,7 @@ impl<'f> Walk<'_, 'f> {
     }
 
     fn tag(&mut self, depth: u32) -> Step<'f, ()> {
-        self.object(&Type::object(), depth).map(|_| ())
+        self.object(&Target::object(), depth).map(|_| ())
     }
 
     fn number(&mut self, what: impl Display, depth: u32) -> Step<'f, u32> {

@@ -19,6 +19,7 @@ use crate::enums::EnumsRefused;
 use crate::refusal::{Place, Refused};
 use crate::row::MOST_ROWS;
 use cursor::{Cursor, Stop};
+pub(crate) use names::is_head_byte;
 pub use shown::{NameLine, ShownName};
 use std::fmt::{self, Display, Formatter};
 use std::ops::Range;

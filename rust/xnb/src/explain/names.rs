@@ -8,7 +8,7 @@ const DEEPEST: usize = 8;
 /// A name taken apart; its tail is dropped.
 #[derive(Debug)]
 pub struct Name<'f> {
-    pub head: &'f [u8],
+    pub head: &'f str,
     /// Where its head is in the reader's name.
     place: Range<usize>,
     pub arguments: Vec<Name<'f>>,
@@ -80,7 +80,7 @@ impl<'f> Parser<'f> {
             (Some(_), _) => return Err(self.found(end.0, end.1)),
         }
         Ok(Name {
-            head,
+            head: std::str::from_utf8(head).expect("a head is ASCII"),
             place,
             arguments,
         })
@@ -149,7 +149,8 @@ impl<'f> Parser<'f> {
     }
 }
 
-fn is_head_byte(byte: &u8) -> bool {
+/// Whether a head may have this byte.
+pub fn is_head_byte(byte: &u8) -> bool {
     byte.is_ascii_alphanumeric() || b"._+".contains(byte)
 }
 
@@ -258,12 +259,12 @@ mod tests {
     #[test]
     fn a_well_formed_name_is_taken_apart() {
         let name = Name::parse(b"A`2[[B`1[[C, c]], b],[D]],").expect("a good name");
-        assert_eq!((name.head, name.place), (&b"A"[..], 0..1));
+        assert_eq!((name.head, name.place), ("A", 0..1));
         let [b, d] = &name.arguments[..] else {
             panic!("two arguments");
         };
-        assert_eq!((b.head, b.place.clone()), (&b"B"[..], 5..6));
-        assert_eq!((d.head, d.place.clone()), (&b"D"[..], 22..23));
+        assert_eq!((b.head, b.place.clone()), ("B", 5..6));
+        assert_eq!((d.head, d.place.clone()), ("D", 22..23));
         assert_eq!(b.arguments[0].place, 10..11);
         assert!(d.arguments.is_empty());
     }

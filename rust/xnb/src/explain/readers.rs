@@ -2,8 +2,9 @@
 
 use super::cursor::{Cursor, Step};
 use super::names::Name;
-use super::types::Type;
+use super::types::Enums;
 use super::ReaderName;
+use crate::header::Target;
 use crate::refusal::Refusal::*;
 
 const MOST_READERS: u32 = 64;
@@ -13,7 +14,7 @@ const LONGEST_NAME: usize = 1024;
 /// A reader: its name, and the type that it reads.
 pub struct Reader<'f> {
     pub name: ReaderName<'f>,
-    pub target: Type<'f>,
+    pub target: Target<'f>,
 }
 
 pub fn take_readers<'f>(cursor: &mut Cursor<'f>, enums: &[u8]) -> Step<'f, Vec<Reader<'f>>> {
@@ -45,7 +46,8 @@ fn take_reader<'f>(cursor: &mut Cursor<'f>, enums: &[u8], number: usize) -> Step
         first,
         bytes,
     };
-    let target = Name::parse(bytes).and_then(|parsed| Type::of_reader(&parsed, enums));
+    let target =
+        Name::parse(bytes).and_then(|parsed| Target::of_reader(&parsed, Enums::Listed(enums)));
     let target = target.map_err(|wrong| cursor.end_at_name(name, wrong))?;
     let place = cursor.at;
     let version = cursor.take_u32(format_args!("the version of reader {number}"))?;

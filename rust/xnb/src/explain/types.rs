@@ -4,152 +4,130 @@ use super::names::{Name, Wrong};
 use crate::enums::size_in;
 use crate::header::Target;
 use crate::kind::Kind;
-use std::fmt::{self, Display, Formatter};
-
-/// What a head names.
-#[derive(Clone, Copy, Debug, PartialEq, Eq)]
-pub enum Head<'f> {
-    Of(Kind),
-    Object,
-    Texture,
-    Enum { name: &'f [u8], size: usize },
-}
-
-use Head::{Enum, Object, Of, Texture};
-
-/// A type with its arguments.
-#[derive(Clone, Debug, PartialEq, Eq)]
-pub struct Type<'f> {
-    pub head: Head<'f>,
-    pub arguments: Vec<Type<'f>>,
-}
+use std::borrow::Cow;
 
 const READERS: &str = "Microsoft.Xna.Framework.Content.";
-const HOUSE: &str = "Coach.Console.";
-/// The size of an enum that is not listed.
-const UNLISTED_SIZE: u8 = 4;
+const PAGE: &str = "Coach.Console.Page";
+const OBJECT: &str = "System.Object";
+const TEXTURE: &str = "Microsoft.Xna.Framework.Graphics.Texture";
 
-impl<'f> Type<'f> {
-    pub fn plain(kind: Kind) -> Type<'f> {
-        let arguments = Vec::new();
-        Type {
-            head: Of(kind),
-            arguments,
-        }
+/// The enums that names may have as arguments.
+#[derive(Clone, Copy)]
+pub enum Enums<'e> {
+    /// Those of a list.
+    Listed(&'e [u8]),
+    /// All that are not known as other types: the name is accepted.
+    Any,
+}
+
+impl<'f> Target<'f> {
+    pub(super) fn plain(kind: Kind) -> Target<'f> {
+        let space = space_of(kind).unwrap_or_default();
+        Target::named(Some(kind), format!("{space}{kind}"))
     }
 
     /// A type of kind Nullable or List.
-    pub fn with(kind: Kind, argument: Kind) -> Type<'f> {
-        Type {
-            head: Of(kind),
-            arguments: vec![Type::plain(argument)],
+    pub(super) fn with(kind: Kind, argument: Kind) -> Target<'f> {
+        Target {
+            arguments: vec![Target::plain(argument)],
+            ..Target::plain(kind)
         }
     }
 
-    pub fn object() -> Type<'f> {
-        let arguments = Vec::new();
-        Type {
-            head: Object,
-            arguments,
+    pub(super) fn object() -> Target<'f> {
+        Target::named(None, OBJECT)
+    }
+
+    fn named(kind: Option<Kind>, name: impl Into<Cow<'f, str>>) -> Target<'f> {
+        Target {
+            kind,
+            name: name.into(),
+            arguments: Vec::new(),
         }
     }
 
     /// The type that a reader of this name reads, or the leftmost head that is wrong.
-    pub fn of_reader(name: &Name<'f>, enums: &[u8]) -> Result<Type<'f>, Wrong> {
-        let Some(head) = reader_head(name.head) else {
+    pub(super) fn of_reader(name: &Name<'f>, enums: Enums) -> Result<Target<'f>, Wrong> {
+        let Some(target) = read_by(name.head) else {
             return Err(name.wrong_head("no reader of this name is known"));
         };
-        check_count(name, head)?;
-        if head == Of(Kind::Enum) {
-            return Type::of_enum(&name.arguments[0], enums);
+        target.check_count(name)?;
+        match target.kind {
+            Some(Kind::Enum) => Target::of_enum(&name.arguments[0]),
+            _ => target.with_arguments(name, enums),
         }
-        Type::with_arguments(name, head, enums)
     }
 
-    /// The type that an argument of this owner names.
-    fn of_argument(owner: Head, name: &Name<'f>, enums: &[u8]) -> Result<Type<'f>, Wrong> {
-        if size_in(enums, name.head).is_some() {
-            return Type::of_enum(name, enums);
-        }
-        let Some(head) = target_head(name.head) else {
-            let words = "no type of this name is known, and no enum of it is listed";
-            return Err(name.wrong_head(words));
+    /// The type that an argument of a type of this kind names.
+    fn of_argument(
+        owner: Option<Kind>,
+        name: &Name<'f>,
+        enums: Enums,
+    ) -> Result<Target<'f>, Wrong> {
+        let Some(target) = known(name.head) else {
+            return match enums {
+                Enums::Listed(list) if size_in(list, name.head.as_bytes()).is_none() => {
+                    Err(name
+                        .wrong_head("no type of this name is known, and no enum of it is listed"))
+                }
+                _ => Target::of_enum(name),
+            };
         };
-        check_count(name, head)?;
-        let lawful = head.is_value() && head != Of(Kind::Nullable);
-        if owner == Of(Kind::Nullable) && !lawful {
+        target.check_count(name)?;
+        let lawful = target.is_value() && target.kind != Some(Kind::Nullable);
+        if owner == Some(Kind::Nullable) && !lawful {
             return Err(name.wrong_head("a nullable holds a value type other than Nullable"));
         }
-        Type::with_arguments(name, head, enums)
+        target.with_arguments(name, enums)
     }
 
-    /// The type with this head and the types that the arguments name.
-    fn with_arguments(name: &Name<'f>, head: Head<'f>, enums: &[u8]) -> Result<Type<'f>, Wrong> {
+    /// The same with the types that the arguments of its name name.
+    fn with_arguments(self, name: &Name<'f>, enums: Enums) -> Result<Target<'f>, Wrong> {
         let arguments = name.arguments.iter();
-        let arguments = arguments.map(|it| Type::of_argument(head, it, enums));
+        let arguments = arguments.map(|it| Target::of_argument(self.kind, it, enums));
         let arguments = arguments.collect::<Result<_, _>>()?;
-        Ok(Type { head, arguments })
+        Ok(Target { arguments, ..self })
     }
 
-    /// The enum of this name, of four bytes if it is not listed.
-    fn of_enum(name: &Name<'f>, enums: &[u8]) -> Result<Type<'f>, Wrong> {
-        if is_target_name(name.head) {
+    /// The enum of this name.
+    fn of_enum(name: &Name<'f>) -> Result<Target<'f>, Wrong> {
+        if known(name.head).is_some() {
             return Err(name.wrong_head("an enum has not the name of another type"));
         }
-        let size = usize::from(size_in(enums, name.head).unwrap_or(UNLISTED_SIZE));
-        let head = Enum {
-            name: name.head,
-            size,
-        };
-        check_count(name, head)?;
-        Ok(Type {
-            head,
-            arguments: Vec::new(),
-        })
+        check_count(name, 0)?;
+        Ok(Target::named(Some(Kind::Enum), name.head))
+    }
+
+    fn check_count(&self, name: &Name) -> Result<(), Wrong> {
+        check_count(
+            name,
+            match self.kind {
+                Some(Kind::Enum | Kind::Nullable | Kind::Array | Kind::List) => 1,
+                Some(Kind::Dictionary) => 2,
+                _ => 0,
+            },
+        )
     }
 
     /// Whether an object of the other type may be where this one is declared.
-    pub fn takes(&self, other: &Type) -> bool {
-        match self.head {
-            Object => true,
-            Texture => other.head == Of(Kind::Texture2D),
+    pub(super) fn takes(&self, other: &Target) -> bool {
+        match (self.kind, &*self.name) {
+            (None, OBJECT) => true,
+            (None, _) => other.kind == Some(Kind::Texture2D),
             _ => self == other,
         }
     }
 
     /// Whether values of the type are raw as elements and fields.
-    pub fn is_value(&self) -> bool {
-        self.head.is_value()
-    }
-
-    /// Whether a type id may name the reader of this type.
-    pub fn is_invoked(&self) -> bool {
-        matches!(self.head, Of(_) | Enum { .. })
-    }
-}
-
-impl Head<'_> {
-    fn is_value(self) -> bool {
-        match self {
-            Of(kind) => matches!(kind.number(), 1..=12 | 16 | 20..=30),
-            Enum { .. } => true,
-            _ => false,
-        }
-    }
-
-    /// How many arguments it takes.
-    fn argument_count(self) -> usize {
-        match self {
-            Of(Kind::Enum | Kind::Nullable | Kind::Array | Kind::List) => 1,
-            Of(Kind::Dictionary) => 2,
-            _ => 0,
-        }
+    pub(super) fn is_value(&self) -> bool {
+        let number = self.kind.map(Kind::number);
+        matches!(number, Some(1..=12 | 15 | 16 | 20..=30))
     }
 }
 
 /// A wrong number of arguments is the fault of the head that takes another.
-fn check_count(name: &Name, head: Head) -> Result<(), Wrong> {
-    let (takes, has) = (head.argument_count(), name.arguments.len());
+fn check_count(name: &Name, takes: usize) -> Result<(), Wrong> {
+    let has = name.arguments.len();
     if takes == has {
         return Ok(());
     }
@@ -158,111 +136,55 @@ fn check_count(name: &Name, head: Head) -> Result<(), Wrong> {
     Err(name.wrong_head(&words))
 }
 
-/// What a reader's head reads.
-fn reader_head(head: &[u8]) -> Option<Head<'_>> {
-    let text = std::str::from_utf8(head).ok()?;
-    let name = text.strip_suffix("Reader")?;
-    if name.strip_prefix(HOUSE) == Some("Page") {
-        return Some(Of(Kind::Page));
+/// What a reader of this head reads, without arguments.
+fn read_by<'f>(head: &str) -> Option<Target<'f>> {
+    let name = head.strip_suffix("Reader")?;
+    if name == PAGE {
+        return Some(Target::plain(Kind::Page));
     }
-    let name = name.strip_prefix(READERS)?;
-    match name {
-        "Object" => Some(Object),
-        "Texture" => Some(Texture),
-        _ => Kind::all()
-            .find(|kind| matches!(kind.number(), 1..=33 | 37..=40) && kind.to_string() == name)
-            .map(Of),
+    match name.strip_prefix(READERS)? {
+        "Object" => Some(Target::object()),
+        "Texture" => Some(Target::named(None, TEXTURE)),
+        name => Kind::all()
+            .find(|kind| matches!(kind.number(), 1..=33 | 37..=40) && kind.name() == name)
+            .map(Target::plain),
     }
 }
 
-/// What a head of an argument names, enums apart.
-fn target_head(head: &[u8]) -> Option<Head<'static>> {
-    [Object, Texture]
-        .into_iter()
-        .chain(Kind::all().map(Of))
-        .find(|known| target_name(*known).is_some_and(|name| name.as_bytes() == head))
+/// What a head of an argument names, enums apart; no argument names an array.
+fn known<'f>(head: &str) -> Option<Target<'f>> {
+    let is_named = |kind: &Kind| {
+        let name = space_of(*kind).and_then(|space| head.strip_prefix(space));
+        name == Some(kind.name()) && *kind != Kind::Array
+    };
+    match head {
+        OBJECT => Some(Target::object()),
+        TEXTURE => Some(Target::named(None, TEXTURE)),
+        _ => Kind::all().find(is_named).map(Target::plain),
+    }
 }
 
 /// Whether no enum may have this name.
 pub fn is_target_name(name: &[u8]) -> bool {
-    target_head(name).is_some()
+    std::str::from_utf8(name).is_ok_and(|it| known(it).is_some())
 }
 
-/// The name of a type without its arguments; arrays and enums have none of their own.
-fn target_name(head: Head) -> Option<String> {
-    let space = match head {
-        Object => "System.",
-        Texture => "Microsoft.Xna.Framework.Graphics.",
-        Enum { .. } => return None,
-        Of(kind) => match kind.number() {
-            1..=13 | 16 | 20..=22 => "System.",
-            18 | 19 => "System.Collections.Generic.",
-            23..=30 => "Microsoft.Xna.Framework.",
-            32 | 33 | 37..=40 => "Microsoft.Xna.Framework.Graphics.",
-            34 => HOUSE,
-            _ => return None,
-        },
-    };
-    let name = match head {
-        Of(kind) => kind.to_string(),
-        other => format!("{other:?}"),
-    };
-    Some(format!("{space}{name}"))
+/// What stands before the name of a kind in that of its type; enums have names of their own.
+fn space_of(kind: Kind) -> Option<&'static str> {
+    Some(match kind.number() {
+        1..=13 | 16 | 17 | 20..=22 => "System.",
+        18 | 19 => "System.Collections.Generic.",
+        23..=30 => "Microsoft.Xna.Framework.",
+        32 | 33 | 37..=40 => "Microsoft.Xna.Framework.Graphics.",
+        34 => "Coach.Console.",
+        _ => return None,
+    })
 }
 
 /// The type that a reader of an accepted name reads.
 pub fn reader_target(name: &str) -> Option<Target<'_>> {
     let name = Name::parse(name.as_bytes()).ok()?;
-    match reader_head(name.head)? {
-        Of(Kind::Enum) => argument_target(name.arguments.first()?),
-        head => target(head, &name),
-    }
-}
-
-/// The type that an argument of an accepted name is; what is no target name is an enum.
-fn argument_target<'f>(name: &Name<'f>) -> Option<Target<'f>> {
-    match target_head(name.head) {
-        Some(head) => target(head, name),
-        None => Some(Target {
-            kind: Some(Kind::Enum),
-            name: std::str::from_utf8(name.head).ok()?.into(),
-            arguments: Vec::new(),
-        }),
-    }
-}
-
-/// The type of this head with the arguments of a name.
-fn target<'f>(head: Head, name: &Name<'f>) -> Option<Target<'f>> {
-    let kind = match head {
-        Of(kind) => Some(kind),
-        _ => None,
-    };
-    let own = target_name(head).unwrap_or("System.Array".to_string());
-    Some(Target {
-        kind,
-        name: own.into(),
-        arguments: name
-            .arguments
-            .iter()
-            .map(argument_target)
-            .collect::<Option<_>>()?,
-    })
-}
-
-/// The type's name without tails.
-impl Display for Type<'_> {
-    fn fmt(&self, out: &mut Formatter) -> fmt::Result {
-        match (self.head, &self.arguments[..]) {
-            (Of(Kind::Array), [element]) => return write!(out, "array of {element}"),
-            (Enum { name, .. }, _) => write!(out, "enum {}", String::from_utf8_lossy(name))?,
-            (head, _) => write!(out, "{}", target_name(head).unwrap_or_default())?,
-        }
-        if self.arguments.is_empty() {
-            return Ok(());
-        }
-        let arguments: Vec<String> = self.arguments.iter().map(|it| format!("[{it}]")).collect();
-        write!(out, "`{}[{}]", arguments.len(), arguments.join(","))
-    }
+    Target::of_reader(&name, Enums::Any).ok()
 }
 
 #[cfg(test)]
@@ -270,8 +192,8 @@ mod tests {
     use super::*;
     use crate::refusal::Refusal;
 
-    fn read<'f>(name: &'f str, enums: &[u8]) -> Result<Type<'f>, Wrong> {
-        Type::of_reader(&Name::parse(name.as_bytes())?, enums)
+    fn read<'f>(name: &'f str, enums: &[u8]) -> Result<Target<'f>, Wrong> {
+        Target::of_reader(&Name::parse(name.as_bytes())?, Enums::Listed(enums))
     }
 
     fn given(name: &str) -> Option<String> {
@@ -290,9 +212,9 @@ mod tests {
             "System.Collections.Generic.Dictionary`2[[System.Byte],[Coach.Console.Page]]";
         assert_eq!(given(table).as_deref(), Some(type_name));
         let array = "Microsoft.Xna.Framework.Content.ArrayReader`1[[System.Int32]]";
-        assert_eq!(given(array).as_deref(), Some("array of System.Int32"));
+        assert_eq!(given(array).as_deref(), Some("System.Int32[]"));
         let door = "Microsoft.Xna.Framework.Content.EnumReader`1[[Coach.Door]]";
-        assert_eq!(given(door).as_deref(), Some("enum Coach.Door"));
+        assert_eq!(given(door).as_deref(), Some("Coach.Door"));
         let page = "Coach.Console.PageReader";
         assert_eq!(given(page).as_deref(), Some("Coach.Console.Page"));
         let buffer = "Microsoft.Xna.Framework.Content.VertexBufferReader";
@@ -317,22 +239,22 @@ mod tests {
     }
 
     #[test]
-    fn listed_enums_are_value_types_of_their_size() {
+    fn listed_enums_are_value_types() {
         let enums = b"\x0ACoach.Door\x02";
         let read = |name: &'static str| read(name, enums).expect("a type");
         let door = read("Microsoft.Xna.Framework.Content.EnumReader`1[[Coach.Door, tail]]");
-        let (name, size) = (&b"Coach.Door"[..], 2);
-        assert_eq!(door.head, Enum { name, size });
+        assert_eq!((door.kind, &*door.name), (Some(Kind::Enum), "Coach.Door"));
         let doors = read("Microsoft.Xna.Framework.Content.ListReader`1[[Coach.Door]]");
         assert_eq!(doors.arguments, [door]);
         assert!(doors.arguments[0].is_value());
-        let type_name = "System.Collections.Generic.List`1[[enum Coach.Door]]";
+        let type_name = "System.Collections.Generic.List`1[[Coach.Door]]";
         assert_eq!(doors.to_string(), type_name);
         let other = read("Microsoft.Xna.Framework.Content.EnumReader`1[[Coach.Seat]]");
-        let (name, size) = (&b"Coach.Seat"[..], 4);
-        assert_eq!(other.head, Enum { name, size });
+        assert_eq!((other.kind, &*other.name), (Some(Kind::Enum), "Coach.Seat"));
         assert!(is_target_name(b"System.Nullable") && !is_target_name(b"Coach.Door"));
+        assert!(!is_target_name(b"System.Array") && !is_target_name(b"System.Enum"));
     }
+
     /// The head that is complained of is between guillemets, and `%` is what the names of readers begin with.
     #[test]
     fn a_wrong_head_is_reported() {

@@ -1,12 +1,14 @@
 //! Values without objects below them, and the rule that each may break.
 
-use super::cursor::{hex, little_endian, Cursor, Step, Stop};
+use super::cursor::{hex, Cursor, Step, Stop};
 use crate::kind::Kind;
+use crate::numbers::unsigned;
+use crate::picture::SurfaceFormat;
 use crate::refusal::Refusal::BadValue;
+use crate::time::LAST_TICK;
 
-const LAST_TICK: u64 = 3_155_378_975_999_999_999;
 const LARGEST_SCALE: u64 = 28;
-const LAST_FORMAT: u32 = 18;
+const LAST_FORMAT: u32 = SurfaceFormat::HalfVector4 as u32;
 const LONGEST_SIDE: u32 = 4096;
 
 /// A value of fixed size is one field.
@@ -16,8 +18,8 @@ pub fn take_fixed<'f>(cursor: &mut Cursor<'f>, kind: Kind) -> Step<'f, ()> {
     let bytes = cursor.take(size, format_args!("a value of kind {kind}"))?;
     cursor.meet(BadValue, start, || match kind {
         Kind::Boolean => wrong_flag("Boolean", bytes[0]),
-        Kind::DateTime => wrong_date_time(little_endian(bytes)),
-        Kind::Decimal => wrong_decimal(little_endian(&bytes[12..])),
+        Kind::DateTime => wrong_date_time(unsigned(bytes)),
+        Kind::Decimal => wrong_decimal(unsigned(&bytes[12..])),
         _ => None,
     })
 }
@@ -103,7 +105,7 @@ pub fn take_text<'f>(cursor: &mut Cursor<'f>) -> Step<'f, ()> {
 
 /// The four numbers that a texture begins with.
 pub struct Image {
-    format: u32,
+    format: SurfaceFormat,
     width: u32,
     height: u32,
     pub levels: u32,
@@ -111,6 +113,7 @@ pub struct Image {
 
 pub fn take_image<'f>(cursor: &mut Cursor<'f>) -> Step<'f, Image> {
     let format = take_within(cursor, "format", 0, LAST_FORMAT)?;
+    let format = SurfaceFormat::of_code(format).ok_or(Stop::Lost)?;
     let width = take_within(cursor, "width", 1, LONGEST_SIDE)?;
     let height = take_within(cursor, "height", 1, LONGEST_SIDE)?;
     let chain = u32::BITS - width.max(height).leading_zeros();
@@ -145,7 +148,7 @@ pub fn take_level<'f>(cursor: &mut Cursor<'f>, image: &Image, level: u32) -> Ste
     let [width, height] = [image.width, image.height].map(|side| (side >> level).max(1));
     let lawful = level_size(image.format, width, height);
     cursor.meet(BadValue, start, || {
-        let format = image.format;
+        let format = image.format.code();
         (size != lawful).then(|| {
             format!(
                 "ImageLevel: the size is {size}, {width} by {height} in format {format} takes {lawful}"
@@ -156,17 +159,9 @@ pub fn take_level<'f>(cursor: &mut Cursor<'f>, image: &Image, level: u32) -> Ste
     Ok(())
 }
 
-fn level_size(format: u32, width: u32, height: u32) -> u32 {
-    let blocks = width.div_ceil(4) * height.div_ceil(4);
-    match format {
-        4 => blocks * 8,
-        5 | 6 => blocks * 16,
-        12 => width * height,
-        1 | 2 | 3 | 7 | 16 => width * height * 2,
-        11 | 14 | 18 => width * height * 8,
-        15 => width * height * 16,
-        _ => width * height * 4,
-    }
+fn level_size(format: SurfaceFormat, width: u32, height: u32) -> u32 {
+    let side = if format.is_in_blocks() { 4 } else { 1 };
+    width.div_ceil(side) * height.div_ceil(side) * format.bytes() as u32
 }
 
 /// The first two characters of which the second does not rise.

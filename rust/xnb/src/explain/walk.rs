@@ -1,14 +1,18 @@
 //! The values of a file, one after the other, to the place of a refusal.
 
-use super::cursor::{bytes, little_endian, Cursor, Step, Stop};
+use super::cursor::{bytes, Cursor, Step, Stop};
 use super::header::take_header;
 use super::readers::{take_readers, take_shared_count, Reader};
-use super::types::{Head, Type};
 use super::values;
+use crate::enums::size_in;
+use crate::header::Target;
 use crate::kind::Kind;
+use crate::numbers::unsigned;
 use crate::refusal::Refusal::*;
 
 const DEEPEST: u32 = 32;
+/// The size of an enum that is not listed.
+const UNLISTED_SIZE: u8 = 4;
 
 /// Follows a file to the place of its refusal.
 pub fn follow<'f>(mut cursor: Cursor<'f>, enums: &[u8], room: usize) -> Step<'f, ()> {
@@ -17,6 +21,7 @@ pub fn follow<'f>(mut cursor: Cursor<'f>, enums: &[u8], room: usize) -> Step<'f,
     let shared = take_shared_count(&mut cursor)?;
     let mut walk = Walk {
         cursor,
+        enums,
         readers: &readers,
         shared,
         room,
@@ -36,6 +41,7 @@ struct Reference {
 
 pub struct Walk<'a, 'f> {
     pub cursor: Cursor<'f>,
+    enums: &'a [u8],
     readers: &'a [Reader<'f>],
     shared: u32,
     room: usize,
@@ -49,7 +55,7 @@ pub struct Passed<'a, 'f> {
     /// Where it begins.
     start: usize,
     /// Its type, if it is not null.
-    target: Option<&'a Type<'f>>,
+    target: Option<&'a Target<'f>>,
     /// The bytes behind its type id.
     raw: &'f [u8],
 }
@@ -57,13 +63,13 @@ pub struct Passed<'a, 'f> {
 impl Passed<'_, '_> {
     /// The count that a list begins with.
     fn count(&self) -> u64 {
-        little_endian(self.raw.get(..4).unwrap_or_default())
+        unsigned(self.raw.get(..4).unwrap_or_default())
     }
 }
 
 impl<'a, 'f> Walk<'a, 'f> {
     fn file(&mut self) -> Step<'f, ()> {
-        let anything = Type::object();
+        let anything = Target::object();
         self.object(&anything, 1)?;
         let mut resources = Vec::new();
         for _ in 0..self.shared {
@@ -84,7 +90,7 @@ impl<'a, 'f> Walk<'a, 'f> {
             };
             self.cursor.meet(ResourceType, *place, || {
                 let found = format!("found {target} as resource {id} at byte {}", resource.start);
-                match wanted.map(Type::plain) {
+                match wanted.map(Target::plain) {
                     None => Some(format!("declared an effect, which must be null, {found}")),
                     Some(wanted) if wanted == *target => None,
                     Some(wanted) => Some(format!("declared {wanted}, {found}")),
@@ -116,7 +122,7 @@ impl<'a, 'f> Walk<'a, 'f> {
     }
 
     /// An object: a type id, then the raw value by that reader.
-    pub fn object(&mut self, declared: &Type, depth: u32) -> Step<'f, Passed<'a, 'f>> {
+    pub fn object(&mut self, declared: &Target, depth: u32) -> Step<'f, Passed<'a, 'f>> {
         self.open(depth)?;
         let start = self.cursor.at;
         let id = self.cursor.take_seven("the type id")? as usize;
@@ -133,7 +139,7 @@ impl<'a, 'f> Walk<'a, 'f> {
         };
         let (target, name) = (&reader.target, Some(reader.name));
         self.cursor.meet_reader(NoReader, start, name, || {
-            let never = !target.is_invoked();
+            let never = target.kind.is_none();
             never.then(|| format!("reader {id} is for {target} and never invoked"))
         })?;
         self.cursor.meet_reader(NotDeclared, start, name, || {
@@ -147,13 +153,19 @@ impl<'a, 'f> Walk<'a, 'f> {
         Ok(Passed { start, target, raw })
     }
 
-    pub fn raw(&mut self, value: &Type, depth: u32) -> Step<'f, ()> {
+    /// A field of a fixed size.
+    pub fn fixed(&mut self, kind: Kind, depth: u32) -> Step<'f, ()> {
+        self.open(depth)?;
+        values::take_fixed(&mut self.cursor, kind)
+    }
+
+    fn raw(&mut self, value: &Target, depth: u32) -> Step<'f, ()> {
         self.open(depth)?;
         self.body(value, depth + 1)
     }
 
     /// An element or field: raw if it is of a value type, else an object.
-    fn element(&mut self, declared: &Type, depth: u32) -> Step<'f, ()> {
+    fn element(&mut self, declared: &Target, depth: u32) -> Step<'f, ()> {
         if declared.is_value() {
             self.raw(declared, depth)
         } else {
@@ -162,13 +174,13 @@ impl<'a, 'f> Walk<'a, 'f> {
     }
 
     /// The raw bytes of a value; the depth is that of its children.
-    fn body(&mut self, target: &Type, depth: u32) -> Step<'f, ()> {
-        let kind = match target.head {
-            Head::Of(kind) => kind,
-            Head::Enum { size, .. } => return values::take_enum(&mut self.cursor, size),
-            _ => return Err(Stop::Lost),
-        };
+    fn body(&mut self, target: &Target, depth: u32) -> Step<'f, ()> {
+        let kind = target.kind.ok_or(Stop::Lost)?;
         match (kind, &target.arguments[..]) {
+            (Kind::Enum, _) => {
+                let size = size_in(self.enums, target.name.as_bytes());
+                values::take_enum(&mut self.cursor, size.unwrap_or(UNLISTED_SIZE).into())
+            }
             (Kind::Char, _) => values::take_char(&mut self.cursor),
             (Kind::String, _) => values::take_text(&mut self.cursor),
             (Kind::Nullable, [value]) => self.nullable(value, depth),
@@ -186,7 +198,7 @@ impl<'a, 'f> Walk<'a, 'f> {
         }
     }
 
-    fn nullable(&mut self, value: &Type, depth: u32) -> Step<'f, ()> {
+    fn nullable(&mut self, value: &Target, depth: u32) -> Step<'f, ()> {
         match values::take_nullable_flag(&mut self.cursor)? {
             0 => Ok(()),
             _ => self.raw(value, depth),
@@ -194,7 +206,7 @@ impl<'a, 'f> Walk<'a, 'f> {
     }
 
     /// A count, and as many elements, or keys and values in turn.
-    fn elements(&mut self, kind: Kind, types: &[Type], depth: u32) -> Step<'f, ()> {
+    fn elements(&mut self, kind: Kind, types: &[Target], depth: u32) -> Step<'f, ()> {
         let what = format_args!("the count of a value of kind {kind}");
         let count = self.cursor.take_u32(what)?;
         for _ in 0..count {
@@ -217,15 +229,15 @@ impl<'a, 'f> Walk<'a, 'f> {
     /// A font: its eight fields in order, then the font rule.
     fn font(&mut self, depth: u32) -> Step<'f, ()> {
         let start = self.cursor.at;
-        let list = |element| Type::with(Kind::List, element);
-        let texture = self.object(&Type::plain(Kind::Texture2D), depth)?;
+        let list = |element| Target::with(Kind::List, element);
+        let texture = self.object(&Target::plain(Kind::Texture2D), depth)?;
         let glyphs = self.object(&list(Kind::Rectangle), depth)?;
         let cropping = self.object(&list(Kind::Rectangle), depth)?;
         let characters = self.object(&list(Kind::Char), depth)?;
-        self.raw(&Type::plain(Kind::Int32), depth)?;
-        self.raw(&Type::plain(Kind::Single), depth)?;
+        self.fixed(Kind::Int32, depth)?;
+        self.fixed(Kind::Single, depth)?;
         let kerning = self.object(&list(Kind::Vector3), depth)?;
-        self.raw(&Type::with(Kind::Nullable, Kind::Char), depth)?;
+        self.raw(&Target::with(Kind::Nullable, Kind::Char), depth)?;
         self.cursor.meet(FontRule, start, || {
             let objects = [
                 ("texture", texture),
@@ -254,8 +266,8 @@ impl<'a, 'f> Walk<'a, 'f> {
 
     /// A page: title, area, reference to its picture and reference to the next page.
     fn page(&mut self, depth: u32) -> Step<'f, ()> {
-        self.object(&Type::plain(Kind::String), depth)?;
-        self.raw(&Type::plain(Kind::Rectangle), depth)?;
+        self.object(&Target::plain(Kind::String), depth)?;
+        self.fixed(Kind::Rectangle, depth)?;
         self.reference(Some(Kind::Texture2D), depth)?;
         self.reference(Some(Kind::Page), depth)
     }
