@@ -2,10 +2,10 @@
 use mathlib.Core.Path.{_≡_, refl, sym, ap, _∙_}
 use mathlib.Core.Bool.{Bool, true, false, _&&_}
 use mathlib.Core.List.{List, [], _∷_, _++_, append-assoc}
-use Prim.Native.Nat.{ℕ, _+_, _-_, _<_, _≤_}
+use Prim.Native.Nat.{ℕ, _+_, _-_, _/_, _%_, _<_, _≤_}
 use native.Mathlib.Omega.{arith}
 use lib.Dec.{leb}
-use lib.ListN.{length, take, drop, length-append, length-drop}
+use lib.ListN.{length, take, drop, set, length-append, length-drop}
 use lib.Seq.{drop-drop, drop-append-seam, take-append-seam, take-all, length-take-le}
 use borrow.Author.Tests.{le-leb, leb-true}
 use Rattle.laws.specs.Small.{differ}
@@ -19,6 +19,7 @@ use Rattle.numbers.specs.Shortest.{placedAt, writtenAt}
 use Rattle.numbers.specs.declared.shortest.Placed.{Placed}
 use Rattle.numbers.specs.declared.shortest.Placed.the-variants.{Next, NoRoom}
 use Rattle.fill.specs.Fill.{inside, pasted, copied}
+use Rattle.shortest.specs.File.{length-header}
 use Rattle.numbers.specs.Padded.{numberOf, past, padOf}
 use Rattle.reading.specs.Reads.{Small}
 use Rattle.places.specs.Padding.{padding}
@@ -171,7 +172,15 @@ copy-inside out to file from n e = leb-true (to + n) (length out) (and-left (leb
 unfoldable pub LengthPut : (n : ℕ) (entry exit : List ℕ) → Type 0
 LengthPut n entry exit = (platform flags old : ℕ) (behind : List ℕ) → entry ≡ header platform flags old ++ behind → exit ≡ header platform flags n ++ behind
 
--- the four bytes behind the header's first six are put
-pub length-stored : (n : ℕ) (entry : List ℕ) → LengthPut n entry (copied entry 6 (little 4 n) 0 4)
-unfolding LengthPut header ascii little copied inside pasted
-length-stored n entry platform flags old behind e = rw e
+-- the stores of the code: where there are ten bytes, and where there are not
+pub length-stored : (n : ℕ) (entry : List ℕ)
+    → LengthPut n entry (set (set (set (set entry 6 (n % 256)) 7 (n / 256 % 256)) 8 (n / 65536 % 256)) 9 (n / 16777216 % 256))
+unfolding LengthPut header ascii little
+length-stored n entry platform flags old behind e =
+    let a : n / 65536 ≡ n / 256 / 256 = omega arith in
+    let b : n / 16777216 ≡ n / 256 / 256 / 256 = omega arith in
+    rw (e, a, b)
+
+pub too-short : (n : ℕ) (entry : List ℕ) → length entry < 10 → LengthPut n entry entry
+unfolding LengthPut
+too-short n entry h platform flags old behind e = absurd (omega (arith, ap length e, length-append (header platform flags old) behind, length-header platform flags old))

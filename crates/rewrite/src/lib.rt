@@ -235,7 +235,13 @@ fn write_rest(file: &[u8], out: &mut [u8], c: Cursor)
 fn put_length(out: &mut [u8], size: usize)
     ensures { λ _. ⌜ LengthPut size (now (out .entry)) (now (out .exit)) ⌝ }
 {
-    numbers::little::put4(out, 6, size);
+    if out.len() < 10 {
+        return;
+    }
+    out[6] = (size % 256) as u8;
+    out[7] = (size / 256 % 256) as u8;
+    out[8] = (size / 65536 % 256) as u8;
+    out[9] = (size / 16777216 % 256) as u8;
 }
 
 // Writes the whole file, which has this padding.

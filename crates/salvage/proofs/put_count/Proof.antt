@@ -11,7 +11,7 @@ same-length : tie.Need-same-length
 same-length c = search needs
 
 returns : tie.Need-returns
-returns c = c .before .before .put4 .ensures ∙ count-put _ _ (c .before .before .before .before .pre)
+returns c = c .before .before .put4 .ensures ∙ count-put _ _ (c .before .before .before .before .before .pre)
 
 pub put-count-spec : {M : Type 1} → statement M
 put-count-spec = tie.close (tie.spec put4-requires same-length returns)

@@ -6,6 +6,7 @@ mod convert;
 mod export;
 mod image;
 mod import;
+mod listing;
 mod man;
 pub mod pack;
 mod preview;

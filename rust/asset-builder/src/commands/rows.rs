@@ -1,13 +1,10 @@
 //! `rows`: the lines that the program `rows` prints.
 
-use super::{at_most_all_rows, for_each, load, unread, MOST_ROWS};
-use crate::enums::Enums;
-use crate::input::{Input, Inputs};
+use super::listing::{Listing, Taken};
 use crate::json::{self, Report};
-use crate::refusal::Told;
 use crate::run::{End, Run, Status};
 use serde::Serialize;
-use xnb::{Loader, Refused, Table, WORDS_PER_ROW};
+use xnb::{Refused, Table, WORDS_PER_ROW};
 
 /// Print the row table of each file
 ///
@@ -25,19 +22,7 @@ use xnb::{Loader, Refused, Table, WORDS_PER_ROW};
 #[command(verbatim_doc_comment)]
 pub struct Rows {
     #[command(flatten)]
-    inputs: Inputs,
-
-    /// Give room for N rows instead
-    #[arg(long, value_name = "N", default_value_t = MOST_ROWS,
-        value_parser = at_most_all_rows())]
-    rows: u32,
-
-    #[command(flatten)]
-    enums: Enums,
-
-    /// Print JSON: an object a file on a line of its own
-    #[arg(long)]
-    json: bool,
+    listing: Listing,
 }
 
 /// What is reported of a file.
@@ -52,57 +37,39 @@ struct Listed<'f> {
 
 impl Rows {
     pub fn run(&self, run: &mut Run) -> End {
-        let Some(enums) = self.enums.read(&self.inputs, run) else {
-            return Ok(());
-        };
-        let loader = Loader::new().with_enums(&enums);
-        let one = self.inputs.is_one_file();
-        for_each(&self.inputs, run, |run, input, file| {
-            let file = match file {
-                Ok(file) => file,
-                Err(why) => return unread(run, input, &why, self.json),
-            };
-            let loaded = load(loader, file, self.rows);
+        self.listing.for_each(run, |run, taken, loaded| {
             if loaded.is_err() {
                 run.mark(Status::Refused);
             }
-            if self.json {
-                return run.print(&self.json(loader, input, file, &loaded));
+            if self.listing.json {
+                return run.print(&report(taken, &loaded));
             }
-            if !one {
-                run.print(&format!("==> {} <==\n", input.shown()))?;
-            }
-            match loaded {
-                Ok(table) => run.print(&lines(&table)),
+            let listed = match loaded {
+                Ok(table) => lines(&table),
                 Err(refused) => {
                     let number = refused.refusal.number();
-                    run.print(&format!("refused {number} at {}\n", refused.place))
+                    format!("refused {number} at {}\n", refused.place)
                 }
-            }
+            };
+            run.print(&(self.listing.heading(taken.input) + &listed))
         })
     }
+}
 
-    fn json(
-        &self,
-        loader: Loader,
-        input: &Input,
-        bytes: &[u8],
-        loaded: &Result<Table, Refused>,
-    ) -> String {
-        match loaded {
-            Ok(table) => {
-                let listed = Listed {
-                    bytes: bytes.len(),
-                    readers: table.loaded().readers,
-                    shared: table.loaded().shared,
-                    rows: table.words().chunks_exact(WORDS_PER_ROW).collect(),
-                };
-                Report::line(input, listed)
-            }
-            Err(refused) => {
-                let refused = Told::of_file(loader, bytes, *refused, self.rows as usize);
-                Report::line(input, json::Refused { refused })
-            }
+fn report(taken: &Taken, loaded: &Result<Table, Refused>) -> String {
+    match loaded {
+        Ok(table) => {
+            let listed = Listed {
+                bytes: taken.bytes.len(),
+                readers: table.loaded().readers,
+                shared: table.loaded().shared,
+                rows: table.words().chunks_exact(WORDS_PER_ROW).collect(),
+            };
+            Report::line(taken.input, listed)
+        }
+        Err(refused) => {
+            let refused = taken.told(*refused);
+            Report::line(taken.input, json::Refused { refused })
         }
     }
 }

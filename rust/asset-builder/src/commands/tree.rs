@@ -1,15 +1,13 @@
 //! `tree`: the values of a file, each below the one that it belongs to.
 
-use super::{at_most_all_rows, for_each, load, tell_refusal, unread, MOST_ROWS};
-use crate::enums::Enums;
+use super::listing::Listing;
+use super::tell_refusal;
 use crate::fields::{fields, Field};
-use crate::input::Inputs;
 use crate::json::{Refused, Report};
-use crate::refusal::Told;
 use crate::run::{End, Run, Status};
 use crate::values::{value, Value};
 use serde::Serialize;
-use xnb::{Detail, Loader, Table};
+use xnb::{Detail, Table};
 
 /// Print the values of each file as a tree
 ///
@@ -20,19 +18,7 @@ use xnb::{Detail, Loader, Table};
 #[command(verbatim_doc_comment)]
 pub struct Tree {
     #[command(flatten)]
-    inputs: Inputs,
-
-    /// Give room for N rows instead
-    #[arg(long, value_name = "N", default_value_t = MOST_ROWS,
-        value_parser = at_most_all_rows())]
-    rows: u32,
-
-    #[command(flatten)]
-    enums: Enums,
-
-    /// Print JSON: an object a file on a line of its own
-    #[arg(long)]
-    json: bool,
+    listing: Listing,
 }
 
 /// What is reported of a file.
@@ -70,37 +56,25 @@ struct Node {
 
 impl Tree {
     pub fn run(&self, run: &mut Run) -> End {
-        let Some(enums) = self.enums.read(&self.inputs, run) else {
-            return Ok(());
-        };
-        let loader = Loader::new().with_enums(&enums);
-        let one = self.inputs.is_one_file();
-        for_each(&self.inputs, run, |run, input, file| {
-            let file = match file {
-                Ok(file) => file,
-                Err(why) => return unread(run, input, &why, self.json),
-            };
-            let table = match load(loader, file, self.rows) {
+        self.listing.for_each(run, |run, taken, loaded| {
+            let table = match loaded {
                 Ok(table) => table,
                 Err(refused) => {
-                    let refused = Told::of_file(loader, file, refused, self.rows as usize);
-                    if !self.json {
-                        tell_refusal(run, input, &refused);
+                    let refused = taken.told(refused);
+                    if !self.listing.json {
+                        tell_refusal(run, taken.input, &refused);
                         return Ok(());
                     }
                     run.mark(Status::Refused);
-                    return run.print(&Report::line(input, Refused { refused }));
+                    return run.print(&Report::line(taken.input, Refused { refused }));
                 }
             };
             let objects = objects(&table);
-            if self.json {
-                let bytes = file.len();
-                return run.print(&Report::line(input, Shown { bytes, objects }));
+            if self.listing.json {
+                let bytes = taken.bytes.len();
+                return run.print(&Report::line(taken.input, Shown { bytes, objects }));
             }
-            let mut lines = String::new();
-            if !one {
-                lines += &format!("==> {} <==\n", input.shown());
-            }
+            let mut lines = self.listing.heading(taken.input);
             for object in &objects {
                 object.add_lines(0, &mut lines);
             }

@@ -29,7 +29,8 @@ const NAMES: [&str; 18] = [
     "9",
 ];
 
-pub const HEAD_BYTES: &[u8; 65] = b"ABCDEFGHIJKLMNOPQRSTUVWXYZabcdefghijklmnopqrstuvwxyz0123456789._+";
+pub const HEAD_BYTES: &[u8; 65] =
+    b"ABCDEFGHIJKLMNOPQRSTUVWXYZabcdefghijklmnopqrstuvwxyz0123456789._+";
 
 /// Some lawful entries.
 pub fn some_enums(random: &mut Random) -> Vec<Listed> {
