@@ -13,3 +13,5 @@ pub mod Taken
 pub mod Nearest
 pub mod Usual
 pub mod Wholes
+pub mod Words
+pub mod Puts

@@ -13,11 +13,10 @@ use borrow.Author.Tests.{ne-eqb}
 use Rattle.laws.specs.Small.{differ}
 use Rattle.layout.specs.Text.{ascii, Utf8, one, two, three, four, Utf8s, end, then}
 use Rattle.names.specs.Parse.{common}
-use Rattle.fill.specs.Fill.{copied}
 use Rattle.reading.specs.Reads.{seam}
 use Rattle.xml_layout.specs.Xml.{itemEnd}
 use Rattle.xml_escape.specs.Quiet.{Quiet, AllQuiet, Ran}
-use Rattle.xml_escape.specs.Wrote.{Wrote, wrote-copy}
+use Rattle.xml_escape.specs.Wrote.{Wrote, Put}
 use Rattle.xml_reading.specs.Match.{Match, fails, takes, Told, failed, taken as taken-of, literal, shifted, before, oneOf, until}
 use Rattle.xml_reading.specs.Text as T
 use Rattle.xml_reading.specs.Text.{Plain, Character, joined, character-matches, character-some}
@@ -393,7 +392,7 @@ many-left xml (t ∷ ts) c i left rest l h d e =
     (λ us f. many-left xml ts (c .1) (i + length t) us rest l (w .2) (behind xml i t k (c .0) g h) f)
 
 -- a run is put
-pub run-turn : {xml out₀ : List ℕ} {at to size : ℕ} {out : List ℕ} {i j run : ℕ} {out′ : List ℕ} → Putting xml out₀ at to size out i j → Runs xml i run → out′ ≡ copied out j xml i (run - i) → length out′ ≡ length out
+pub run-turn : {xml out₀ : List ℕ} {at to size : ℕ} {out : List ℕ} {i j run : ℕ} {out′ : List ℕ} → Putting xml out₀ at to size out i j → Runs xml i run → Put (part xml i run) j out out′ → length out′ ≡ length out
     → Putting xml out₀ at to size out′ run (j + (run - i)) × (j + (run - i) ≤ to + size)
 run-turn {xml} {out₀} {at} {to} {size} {out} {i} {j} {run} {out′} p u c s =
     let n = run - i in
@@ -414,7 +413,7 @@ run-turn {xml} {out₀} {at} {to} {size} {out} {i} {j} {run} {out′} p u c s =
         forms = ap (λ (k : ℕ). until character itemEnd (drop k xml)) (sym z) ∙ l .forms;
         place = omega (arith, p .place, length-append (p .pre) t, y);
         same-size = s ∙ p .same-size;
-        wrote = λ base done w g. subst (λ (q : List ℕ). Wrote base q out′ (j + n)) (append-assoc done (p .pre) t) (wrote-copy (p .wrote base done w g) xml i n (omega arith) (omega (arith, r .forward, r .inside)) c);
+        wrote = λ base done w g. subst (λ (q : List ℕ). Wrote base q out′ (j + n)) (append-assoc done (p .pre) t) (rw y at (c .puts base (done ++ p .pre) (p .wrote base done w g) (omega (arith, y))));
       },
       room,
     )

@@ -3,7 +3,7 @@ use mathlib.Core.Path.{_≡_}
 use mathlib.Core.Bool.{Bool, not, _&&_, cond}
 use mathlib.Core.List.{List, [], _∷_}
 use mathlib.Core.Logic.{_⊎_}
-use Prim.Native.Nat.{ℕ, _+_, _-_, _≤_, _<_}
+use Prim.Native.Nat.{ℕ, _+_, _-_, _*_, _≤_, _<_}
 use lib.Dec.{leb, eqb}
 use lib.ListN.{length, take, drop, getD}
 use Rattle.layout.specs.Number.{between}
@@ -16,6 +16,7 @@ use Rattle.xml_reading.specs.Ranges.{Range, ranges}
 use Rattle.xml_reading.specs.Text as T
 use Rattle.xml_reading.specs.Plain.{plainCharacter, plain-matches}
 use Rattle.xml_reading.specs.Import.{textsOf}
+use Rattle.xml_escape.specs.Wrote.{Put}
 use Rattle.xml_import.specs.declared.character.Matched.{Matched}
 use Rattle.xml_import.specs.declared.character.Matched.the-variants.{Fails, Takes}
 use Rattle.xml_import.specs.declared.character.Piece.{Piece}
@@ -28,6 +29,11 @@ use Rattle.xml_import.specs.declared.Measured.the-variants.{Other, Texts
 -- an ASCII character that stands as it is
 unfoldable pub standsAlone : ℕ → Bool
 standsAlone b = leb 0x20 b && (leb b 0x7F && (not (eqb b 0x22) && (not (eqb b 0x26) && (not (eqb b 0x3C) && not (eqb b 0x3E)))))
+
+-- four bytes from a place on as one number, the first the lowest
+pub record Word (xml : List ℕ) (at r : ℕ) : Type 0 where
+  pub small : (k : ℕ) → k < 4 → getD xml (at + k) 0 < 256
+  pub is : r ≡ getD xml at 0 + 256 * getD xml (at + 1) 0 + 65536 * getD xml (at + 2) 0 + 16777216 * getD xml (at + 3) 0
 
 -- a matcher fails from a place on: the bytes before another place agree
 abbrev pub FailsAt : {A : Type 0} → Match A → (at place : ℕ) → Type 0
@@ -121,6 +127,16 @@ pub record Passed (xml : List ℕ) (from i : ℕ) : Type 0 where
 pub record Stops (xml : List ℕ) (from i : ℕ) : Type 0 where
   pub passed : Passed xml from i
   pub marked : i < length xml → Marked (getD xml i 0)
+
+-- they are put into the output from a place on
+pub record RunPut (xml : List ℕ) (from to : ℕ) (entry exit : List ℕ) (i : ℕ) : Type 0 where
+  pub stops : Stops xml from i
+  pub put : Put (part xml from i) to entry exit
+
+-- so many of them, up to eight
+pub record StartPut (xml : List ℕ) (from to : ℕ) (entry exit : List ℕ) (r : ℕ) : Type 0 where
+  pub before : Before xml from 8 r
+  pub put : Put (take r (drop from xml)) to entry exit
 
 -- an entity by the byte behind its `&`: its character, and how many bytes it has
 unfoldable pub entityByte : ℕ → ℕ

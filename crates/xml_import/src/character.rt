@@ -5,8 +5,8 @@ ghost use Prim.Native.Nat.{_+_, _≤_, _<_, max, min};
 ghost use lib.ListN.{length, drop, getD};
 ghost use mathlib.Core.List.{[], _∷_};
 ghost use Rattle.names.specs.Parse.{common};
-ghost use Rattle.xml_layout.specs.Xml.{itemEnd};
-ghost use Rattle.xml_import.specs.Places.{standsAlone, RangesAt, TopAt, PlainAt, PieceAt};
+ghost use Rattle.xml_layout.specs.Xml.{itemStart, itemEnd};
+ghost use Rattle.xml_import.specs.Places.{standsAlone, Word, RangesAt, TopAt, PlainAt, PieceAt};
 
 // The larger of two numbers.
 pub fn larger(a: usize, b: usize) -> usize
@@ -56,34 +56,51 @@ pub(crate) fn agree(xml: &[u8], at: usize, literal: &[u8]) -> usize
     i
 }
 
-// Whether a literal stands in the XML from `at` on, which has room for it.
-pub(crate) fn spelled(xml: &[u8], at: usize, literal: &[u8]) -> bool
-    requires { ⌜ at + length (now literal) ≤ length (now xml) ⌝ }
-    ensures { λ r. ⌜ (r ≡ true → length (now (literal .entry)) ≡ common (now (literal .entry)) (drop at (now (xml .entry)))) ⌝ }
+// A byte, wider.
+fn wide(b: u8) -> u64
+    ensures { λ r. ⌜ (r ≡ b) × (b < 256) ⌝ }
 {
-    let mut i = 0;
-    while i < literal.len() {
-        if literal[i] != xml[at + i] {
-            return false;
-        }
-        i += 1;
-    }
-    true
+    b as u64
 }
 
-// How many bytes of an item's end stand in the XML from `at` on.
+// Four bytes from `at` on as one number, the first the lowest: they are compared at once.
+fn word(xml: &[u8], at: usize) -> u64
+    requires { ⌜ at + 4 ≤ length (now xml) ⌝ }
+    ensures { λ r. ⌜ Word (now (xml .entry)) at r ⌝ }
+{
+    let a = wide(xml[at]);
+    let b = wide(xml[at + 1]);
+    let c = wide(xml[at + 2]);
+    let d = wide(xml[at + 3]);
+    a + 256 * b + 65536 * c + 16777216 * d
+}
+
+// How many bytes of an item's start stand in the XML from `at` on: `<Ite` and `tem>`, or byte by byte.
+pub(crate) fn start_at(xml: &[u8], at: usize) -> usize
+    requires { ⌜ at < length (now xml) ⌝ }
+    ensures { λ r. ⌜ r ≡ common itemStart (drop at (now (xml .entry))) ⌝ }
+{
+    if 6 <= xml.len() - at {
+        if word(xml, at) == 0x6574493C {
+            if word(xml, at + 2) == 0x3E6D6574 {
+                return 6;
+            }
+        }
+    }
+    agree(xml, at, b"<Item>")
+}
+
+// How many bytes of an item's end stand in the XML from `at` on: `</It` and `tem>`, or byte by byte.
 pub(crate) fn end_at(xml: &[u8], at: usize) -> usize
     requires { ⌜ at < length (now xml) ⌝ }
     ensures { λ r. ⌜ r ≡ common itemEnd (drop at (now (xml .entry))) ⌝ }
 {
-    if xml[at] != 0x3C {
-        return 0;
-    }
-    if xml.len() - at < 7 {
-        return agree(xml, at, b"</Item>");
-    }
-    if spelled(xml, at, b"</Item>") {
-        return 7;
+    if 7 <= xml.len() - at {
+        if word(xml, at) == 0x74492F3C {
+            if word(xml, at + 3) == 0x3E6D6574 {
+                return 7;
+            }
+        }
     }
     agree(xml, at, b"</Item>")
 }
@@ -256,7 +273,7 @@ fn other_entity(xml: &[u8], at: usize) -> Piece
     Piece::Fails(at + larger(a, larger(l, larger(g, q))))
 }
 
-// The same: the byte behind `&` says which of the four it can be.
+// The same: four bytes are compared at once.
 pub(crate) fn entity_at(xml: &[u8], at: usize) -> Piece
     requires { ⌜ (at < length (now xml)) × (getD (now xml) at 0 ≡ 0x26) ⌝ }
     ensures { λ r. ⌜ PieceAt (now (xml .entry)) at r ⌝ }
@@ -264,27 +281,18 @@ pub(crate) fn entity_at(xml: &[u8], at: usize) -> Piece
     if xml.len() - at < 6 {
         return other_entity(xml, at);
     }
-    let b = xml[at + 1];
-    if b == 0x61 {
-        if spelled(xml, at, b"&amp;") {
-            return Piece::Entity(0x26, at + 5);
-        }
-        return other_entity(xml, at);
+    if word(xml, at + 1) == 0x3B706D61 {
+        return Piece::Entity(0x26, at + 5);
     }
-    if b == 0x6C {
-        if spelled(xml, at, b"&lt;") {
-            return Piece::Entity(0x3C, at + 4);
-        }
-        return other_entity(xml, at);
+    let start = word(xml, at);
+    if start == 0x3B746C26 {
+        return Piece::Entity(0x3C, at + 4);
     }
-    if b == 0x67 {
-        if spelled(xml, at, b"&gt;") {
-            return Piece::Entity(0x3E, at + 4);
-        }
-        return other_entity(xml, at);
+    if start == 0x3B746726 {
+        return Piece::Entity(0x3E, at + 4);
     }
-    if b == 0x71 {
-        if spelled(xml, at, b"&quot;") {
+    if start == 0x6F757126 {
+        if word(xml, at + 2) == 0x3B746F75 {
             return Piece::Entity(0x22, at + 6);
         }
     }

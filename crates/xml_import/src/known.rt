@@ -4,7 +4,7 @@ ghost use mathlib.Core.Path.{_≡_};
 ghost use mathlib.Core.Bool.{true, false};
 ghost use Prim.Native.Nat.{_+_, _≤_};
 ghost use lib.ListN.{length};
-ghost use Rattle.xml_import.specs.Places.{Unmarked, AllUnmarked, Marked, Before, Passed, Stops, entityByte, entitySize};
+ghost use Rattle.xml_import.specs.Places.{Unmarked, AllUnmarked, Marked, Before, Passed, Stops, RunPut, StartPut, entityByte, entitySize};
 
 // The character of an entity, by the byte behind its `&`.
 pub(crate) fn entity_byte(second: u8) -> u8
@@ -161,4 +161,49 @@ pub(crate) fn unmarked_run(xml: &[u8], from: usize) -> usize
         return from + n;
     }
     unmarked_rest(xml, from + 8)
+}
+
+// Puts up to eight such bytes from `at` on into the output from `to` on, one by one; answers how many.
+fn put_start(xml: &[u8], out: &mut [u8], at: usize, to: usize) -> usize
+    requires { ⌜ (at + 8 ≤ length (now xml)) × (to + 8 ≤ length (now out)) ⌝ }
+    ensures { λ r. ⌜ StartPut (now (xml .entry)) at to (now (out .entry)) (now (out .exit)) r ⌝ }
+{
+    let mut k = 0;
+    while k < 8 {
+        let b = xml[at + k];
+        if sign(b) {
+            return k;
+        }
+        out[to + k] = b;
+        k += 1;
+    }
+    k
+}
+
+// Puts such bytes from `at` on, to the first other, at once; answers where they end.
+fn put_far(xml: &[u8], out: &mut [u8], at: usize, to: usize) -> usize
+    requires { ⌜ at ≤ length (now xml) ⌝ }
+    ensures { λ r. ⌜ RunPut (now (xml .entry)) at to (now (out .entry)) (now (out .exit)) r ⌝ }
+{
+    let run = unmarked_rest(xml, at);
+    fill::copy(out, to, xml, at, run - at);
+    run
+}
+
+// The same: up to eight one by one, then the rest at once.
+pub(crate) fn put_run(xml: &[u8], out: &mut [u8], at: usize, to: usize) -> usize
+    requires { ⌜ (at ≤ length (now xml)) × (to ≤ length (now out)) ⌝ }
+    ensures { λ r. ⌜ RunPut (now (xml .entry)) at to (now (out .entry)) (now (out .exit)) r ⌝ }
+{
+    if xml.len() - at < 8 {
+        return put_far(xml, out, at, to);
+    }
+    if out.len() - to < 8 {
+        return put_far(xml, out, at, to);
+    }
+    let n = put_start(xml, out, at, to);
+    if n < 8 {
+        return at + n;
+    }
+    put_far(xml, out, at + 8, to + 8)
 }

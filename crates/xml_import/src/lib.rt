@@ -135,20 +135,21 @@ fn measure(xml: &[u8]) -> Measured
     let mut count = 0;
     let mut size = 133;
     while i < xml.len() {
-        let e = character::agree(xml, i, b"</Asset></XnaContent>");
-        if e == 21 {
-            let end = i + 21;
-            if end != xml.len() {
-                return Measured::Other(end);
-            }
-            return Measured::Texts(count, size);
-        }
-        let s = character::agree(xml, i, b"<Item>");
+        let s = character::start_at(xml, i);
         if s != 6 {
+            let e = character::agree(xml, i, b"</Asset></XnaContent>");
+            if e == 21 {
+                let end = i + 21;
+                if end != xml.len() {
+                    return Measured::Other(end);
+                }
+                return Measured::Texts(count, size);
+            }
             return Measured::Other(i + character::larger(e, s));
         }
         match text_at(xml, i + 6) {
             Texted::Fails(place) => {
+                let e = character::agree(xml, i, b"</Asset></XnaContent>");
                 return Measured::Other(character::larger(i + e, place));
             }
             Texted::Ends(bytes, next) => {
@@ -212,10 +213,8 @@ fn put_text(xml: &[u8], out: &mut [u8], at: usize, to: usize, size: usize)
             i += known::entity_size(second);
             j += 1;
         } else {
-            let run = known::unmarked_run(xml, i);
-            let k = run - i;
-            fill::copy(out, j, xml, i, k);
-            j += k;
+            let run = known::put_run(xml, out, i, j);
+            j += run - i;
             i = run;
         }
     }

@@ -1,10 +1,9 @@
 -- `put_text` meets its contract: before each turn the text is put up to j. Assumes nothing.
 use borrow.Author.Needs.{needs}
-use mathlib.Core.Path.{ap, _∙_}
+use mathlib.Core.Path.{ap}
 use Prim.Native.Nat.{ℕ, _+_, _-_}
 use lib.ListN.{length, set, length-set}
 use native.Mathlib.Omega.{arith}
-use Rattle.xml_escape.specs.Wrote.{length-copied}
 use Rattle.xml_import.proofs.Writing.{Putting, start, before-end, ended}
 use Rattle.xml_import.proofs.Runs.{run-turn}
 use Rattle.xml_import.proofs.Taken.{put-amp, put-run, wrote-one}
@@ -36,7 +35,7 @@ entity-byte-requires : tie.Need-entity-byte-requires Inv-loop μ-loop
 entity-byte-requires c κs = search needs
 
 slice-write-out : tie.Need-slice-write-out Inv-loop μ-loop
-slice-write-out c = omega (arith, (c .before .before .before .before .before .loop) .inv .same-size, (c .before .before .before .before .before .before .before .before .pre) .1, (c .before .before .before .before .loop-test) .taken)
+slice-write-out c = omega (arith, ((c .before .before .before .before .before .loop) .inv) .same-size, (c .before .before .before .before .before .before .before .before .pre) .1, ((c .before .before .before .before .loop-test) .taken))
 
 entity-size-requires : tie.Need-entity-size-requires Inv-loop μ-loop
 entity-size-requires c κs = search needs
@@ -45,44 +44,31 @@ add-i : tie.Need-add-i Inv-loop μ-loop
 add-i c = let v = put-amp ((c .before .before .before .before .before .before .loop) .inv) ((c .before .before .before .before .before .loop-test) .taken) ((c .before .before .before .if1) .taken) in omega (arith, v .1 .inside-next, (c .entity-size) .ensures)
 
 add-j : tie.Need-add-j Inv-loop μ-loop
-add-j c = omega (arith, (c .before .before .before .before .before .before .before .before .before .pre) .1, (c .before .before .before .before .before .loop-test) .taken)
+add-j c = omega (arith, (c .before .before .before .before .before .before .before .before .before .pre) .1, ((c .before .before .before .before .before .loop-test) .taken))
 
 loop-less : tie.Need-loop-less Inv-loop μ-loop
-loop-less c = omega (arith, (c .before .before .before .before .before .loop-test) .taken)
+loop-less c = omega (arith, ((c .before .before .before .before .before .loop-test) .taken))
 
 loop-again : tie.Need-loop-again Inv-loop μ-loop
-loop-again c =
-    let v = put-amp ((c .before .before .before .before .before .before .loop) .inv) ((c .before .before .before .before .before .loop-test) .taken) ((c .before .before .before .if1) .taken) in
-    rw ((c .entity-size) .ensures) (v .1 .turns (length-set ((c .before .before .before .before .before .before .loop) .out) ((c .before .before .before .before .before .before .loop) .j) ((c .before .entity-byte) .result)) (λ base done w h. wrote-one _ w h (ap (λ (b : ℕ). set ((c .before .before .before .before .before .before .loop) .out) ((c .before .before .before .before .before .before .loop) .j) b) ((c .before .entity-byte) .ensures))))
+loop-again c = let v = put-amp ((c .before .before .before .before .before .before .loop) .inv) ((c .before .before .before .before .before .loop-test) .taken) ((c .before .before .before .if1) .taken) in rw ((c .entity-size) .ensures) (v .1 .turns (length-set ((c .before .before .before .before .before .before .loop) .out) ((c .before .before .before .before .before .before .loop) .j) ((c .before .entity-byte) .result)) (λ base done w h. wrote-one _ w h (ap (λ (b : ℕ). set ((c .before .before .before .before .before .before .loop) .out) ((c .before .before .before .before .before .before .loop) .j) b) ((c .before .entity-byte) .ensures))))
 
-unmarked-run-requires : tie.Need-unmarked-run-requires Inv-loop μ-loop
-unmarked-run-requires c κs = (c .before .before .before .loop) .inv .inside-xml
+put-run-requires : tie.Need-put-run-requires Inv-loop μ-loop
+put-run-requires c κs = (((c .before .before .before .before .loop) .inv) .inside-xml, omega (arith, ((c .before .before .before .before .loop) .inv) .same-size, (c .before .before .before .before .before .before .before .pre) .1, ((c .before .before .before .loop-test) .taken)))
 
-sub-k : tie.Need-sub-k Inv-loop μ-loop
-sub-k c = (c .unmarked-run) .ensures .passed .forward
-
-copy-requires : tie.Need-copy-requires Inv-loop μ-loop
-copy-requires c κs = search needs
+sub-j : tie.Need-sub-j Inv-loop μ-loop
+sub-j c = (c .before .before .put-run) .ensures .stops .passed .forward
 
 add-j-2 : tie.Need-add-j-2 Inv-loop μ-loop
-add-j-2 c =
-    let u = put-run ((c .before .before .before .before .before .before .before .before .loop) .inv) ((c .before .before .before .before .before .before .before .loop-test) .taken) ((c .before .before .before .before .before .if1) .left) ((c .before .before .before .before .unmarked-run) .ensures) in
-    let v = run-turn ((c .before .before .before .before .before .before .before .before .loop) .inv) (u .0) ((c .before .before .copy) .ensures .1) (ap length ((c .before .before .copy) .ensures .1) ∙ length-copied _ _ _ _ _) in
-    omega (arith, v .1, (c .before .before .before .before .before .before .before .before .before .before .before .pre) .1)
+add-j-2 c = let u = put-run ((c .before .before .before .before .before .before .before .loop) .inv) ((c .before .before .before .before .before .before .loop-test) .taken) ((c .before .before .before .before .if1) .left) ((c .before .before .put-run) .ensures .stops) in let v = run-turn ((c .before .before .before .before .before .before .before .loop) .inv) (u .0) ((c .before .before .put-run) .ensures .put) ((c .before .before .put-run) .kept .1 .0) in omega (arith, v .1, (c .before .before .before .before .before .before .before .before .before .before .pre) .1)
 
 loop-less-2 : tie.Need-loop-less-2 Inv-loop μ-loop
-loop-less-2 c =
-    let u = put-run ((c .before .before .before .before .before .before .before .before .loop) .inv) ((c .before .before .before .before .before .before .before .loop-test) .taken) ((c .before .before .before .before .before .if1) .left) ((c .before .before .before .before .unmarked-run) .ensures) in
-    let v = run-turn ((c .before .before .before .before .before .before .before .before .loop) .inv) (u .0) ((c .before .before .copy) .ensures .1) (ap length ((c .before .before .copy) .ensures .1) ∙ length-copied _ _ _ _ _) in
-    omega (arith, v .1, u .1)
+loop-less-2 c = let u = put-run ((c .before .before .before .before .before .before .before .loop) .inv) ((c .before .before .before .before .before .before .loop-test) .taken) ((c .before .before .before .before .if1) .left) ((c .before .before .put-run) .ensures .stops) in let v = run-turn ((c .before .before .before .before .before .before .before .loop) .inv) (u .0) ((c .before .before .put-run) .ensures .put) ((c .before .before .put-run) .kept .1 .0) in omega (arith, v .1, u .1)
 
 loop-again-2 : tie.Need-loop-again-2 Inv-loop μ-loop
-loop-again-2 c =
-    let u = put-run ((c .before .before .before .before .before .before .before .before .loop) .inv) ((c .before .before .before .before .before .before .before .loop-test) .taken) ((c .before .before .before .before .before .if1) .left) ((c .before .before .before .before .unmarked-run) .ensures) in
-    run-turn ((c .before .before .before .before .before .before .before .before .loop) .inv) (u .0) ((c .before .before .copy) .ensures .1) (ap length ((c .before .before .copy) .ensures .1) ∙ length-copied _ _ _ _ _) .0
+loop-again-2 c = let u = put-run ((c .before .before .before .before .before .before .before .loop) .inv) ((c .before .before .before .before .before .before .loop-test) .taken) ((c .before .before .before .before .if1) .left) ((c .before .before .put-run) .ensures .stops) in let v = run-turn ((c .before .before .before .before .before .before .before .loop) .inv) (u .0) ((c .before .before .put-run) .ensures .put) ((c .before .before .put-run) .kept .1 .0) in v .0
 
 same-length : tie.Need-same-length Inv-loop μ-loop
-same-length c = (c .before .loop) .inv .same-size
+same-length c = ((c .before .loop) .inv) .same-size
 
 returns : tie.Need-returns Inv-loop μ-loop
 returns c = ended ((c .before .loop) .inv) ((c .loop-test) .left)
@@ -105,9 +91,8 @@ put-text-spec =
     add-j
     loop-less
     loop-again
-    unmarked-run-requires
-    sub-k
-    copy-requires
+    put-run-requires
+    sub-j
     add-j-2
     loop-less-2
     loop-again-2
