@@ -7,6 +7,7 @@
 //! `limits::cases()` gives files at every bound of 01 and just past it.
 //! `enums::case(seed)` gives one with a list of enum types that is lent with it, and `enums::limits()` those at bounds.
 //! `meshes::case(seed)` gives one with many meshes, and `meshes::limits()` those at bounds.
+//! `nullables::case(seed)` gives one with a long list of nullables, and a list of enum types.
 //! `padding::case(seed)` gives one whose seven-bit numbers are padded by chosen amounts.
 //! `driver::case(seed)` gives one that breaks chosen rules of the driver's profile, and `driver::limits()` those at bounds.
 //! `reports::case(seed)` gives a pack to be counted, and `reports::limits()` those at bounds.
@@ -22,6 +23,7 @@ pub mod limits;
 mod maker;
 pub mod meshes;
 pub mod names;
+pub mod nullables;
 pub mod packs;
 pub mod padding;
 pub mod random;

@@ -110,6 +110,25 @@ fn files_with_enums_give_the_second_loaders_answers() {
     }
 }
 
+/// Long lists of nullables, which the library takes at once, with a fault at any of them.
+#[test]
+fn nullables_give_the_second_loaders_answers() {
+    for shape in SHAPES {
+        let mut sides = Sides::new(shape, 12);
+        for seed in 0..files() / 6 {
+            compare_listed(
+                &mut sides,
+                &format!("seed {seed}"),
+                fuzz::nullables::case(seed),
+            );
+        }
+        println!("{} files, {shape:?}\n{}", files() / 6, sides.counts);
+        if files() >= 100_000 {
+            sides.counts.check_nullables(shape);
+        }
+    }
+}
+
 #[test]
 fn limits_of_enums_give_the_second_loaders_answers() {
     for shape in SHAPES {

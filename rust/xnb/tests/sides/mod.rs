@@ -90,6 +90,15 @@ impl Counts {
         }
     }
 
+    /// The answers that a list of nullables may give have occurred often.
+    pub fn check_nullables(&self, shape: Shape) {
+        let numbers = [0, 1, 15, 18, 19, 20];
+        self.check_often(Load, &numbers);
+        if shape == Shape::Rows {
+            self.check_often(Rewrite, &numbers);
+        }
+    }
+
     /// The answers that a list of enum types may change have occurred often.
     pub fn check_with_enums(&self, shape: Shape) {
         self.check_often(Load, &[0, 1, 11, 14, 19, 20, 32]);
