@@ -102,13 +102,13 @@ alone: $(ARCHIVE)
 dist: alone
 	$(MAKE) PREFIX=/usr all
 	rm -rf $(DIST)
-	mkdir -p $(DIST)/root/DEBIAN
+	mkdir -p $(DIST)/tree/DEBIAN
 	cp $(ALONE) $(DIST)/asset-builder
-	$(MAKE) PREFIX=/usr DESTDIR=$(CURDIR)/$(DIST)/root install
-	install -m 755 $(ALONE) $(DIST)/root/usr/bin/asset-builder
+	$(MAKE) PREFIX=/usr DESTDIR=$(CURDIR)/$(DIST)/tree install
+	install -m 755 $(ALONE) $(DIST)/tree/usr/bin/asset-builder
 	printf '%s\n' 'Package: xnb' 'Version: $(VERSION)' 'Architecture: $(ARCH)' 'Section: utils' 'Priority: optional' \
 		'Depends: libc6' 'Maintainer: $(MAINTAINER)' \
 		'Description: A proved loader of XNB files' \
-		' The library libxnb with its C header, and the command asset-builder.' > $(DIST)/root/DEBIAN/control
-	dpkg-deb --root-owner-group --build $(DIST)/root $(DIST)/xnb_$(VERSION)_$(ARCH).deb
-	rm -rf $(DIST)/root
+		' The library libxnb with its C header, and the command asset-builder.' > $(DIST)/tree/DEBIAN/control
+	dpkg-deb --root-owner-group --build $(DIST)/tree $(DIST)/xnb_$(VERSION)_$(ARCH).deb
+	rm -rf $(DIST)/tree

@@ -49,7 +49,8 @@ fn is_enum_type(name: &[u8], size: u8) -> bool
 
 // Whether an earlier entry has a name, which is noted then: the entries are looked through only where the table of marks does not rule it out.
 fn listed(earlier: &[u8], seen: &mut [u64], name: &[u8]) -> bool
-    ensures { λ r. ⌜ (AllNoted (now (seen .entry)) (entriesOf (now (earlier .entry))) → r ≡ isListed (entriesOf (now (earlier .entry))) (now (name .entry))) ⌝ }
+    ensures { λ r. ⌜ (AllNoted (now (seen .entry)) (entriesOf (now (earlier .entry)))
+        → r ≡ isListed (entriesOf (now (earlier .entry))) (now (name .entry))) ⌝ }
     ensures { λ _. ⌜ now (seen .exit) ≡ noted (now (seen .entry)) (now (name .entry)) ⌝ }
 {
     if note(seen, name) {

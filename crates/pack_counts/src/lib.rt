@@ -97,7 +97,8 @@ fn count_row(file: &[u8], words: &[u32], grid: Grid, row: u32, figures: &mut [u6
 
 // Counts the rows of a table one after the other.
 fn count_rows(file: &[u8], words: &[u32], grid: Grid, used: u32, figures: &mut [u64])
-    ensures { λ _. ⌜ now (figures .exit) ≡ counted (ofMarks (marks (now (file .entry)) (rowsAt grid (now (words .entry)) 0 used))) (now (figures .entry)) ⌝ }
+    ensures { λ _. ⌜ now (figures .exit)
+        ≡ counted (ofMarks (marks (now (file .entry)) (rowsAt grid (now (words .entry)) 0 used))) (now (figures .entry)) ⌝ }
 {
     let mut row = 0;
     while row < used {

@@ -32,7 +32,8 @@ pub struct FoundBoth {
 
 // A file that is looked up in a pack, and in the same pack converted to the form `marked`.
 fn find_both(pack: &[u8], out: &mut [u8], table: &mut [u64], path: &[u8], marked: bool) -> FoundBoth
-    ensures { λ r. ⌜ FindsSame marked (now (pack .entry)) (length (now (out .entry))) (length (now (table .entry))) (now (path .entry)) (now (out .exit)) r ⌝ }
+    ensures { λ r. ⌜ FindsSame marked (now (pack .entry)) (length (now (out .entry))) (length (now (table .entry)))
+        (now (path .entry)) (now (out .exit)) r ⌝ }
 {
     packs::read(pack, table, !marked);
     let given = pack_lookup::find(pack, table, path);

@@ -52,7 +52,8 @@ pub fn rewrite_exact(file: &[u8], enums: &[u8], words: &mut [u32], out: &mut [u8
 
 // A file that is rewritten and then loaded, under one list of enum types.
 fn load_again(file: &[u8], enums: &[u8], words: &mut [u32], out: &mut [u8]) -> Loading
-    ensures { λ r. ⌜ LoadsAgain (now (enums .entry)) (now (file .entry)) (length (now (words .entry))) (now (words .exit)) (length (now (out .entry))) r ⌝ }
+    ensures { λ r. ⌜ LoadsAgain (now (enums .entry)) (now (file .entry)) (length (now (words .entry))) (now (words .exit))
+        (length (now (out .entry))) r ⌝ }
 {
     match rewrite_exact(file, enums, words, out) {
         Rewriting::Refused { number, place } => Loading::Refused { number, place },

@@ -26,7 +26,8 @@ fn salvage_and_read(pack: &[u8], out: &mut [u8], list: &mut [u64], table: &mut [
 
 // A pack that is salvaged and then salvaged again, into a second output.
 fn salvage_twice(pack: &[u8], out: &mut [u8], list: &mut [u64], second: &mut [u8]) -> Salvaging
-    ensures { λ r. ⌜ SalvagesTwice (now (pack .entry)) (now (out .entry)) (now (list .entry)) (now (list .exit)) (now (second .entry)) (now (second .exit)) r ⌝ }
+    ensures { λ r. ⌜ SalvagesTwice (now (pack .entry)) (now (out .entry)) (now (list .entry)) (now (list .exit))
+        (now (second .entry)) (now (second .exit)) r ⌝ }
 {
     match salvage_exact(pack, out, list) {
         Salvaging::Refused { number, place } => Salvaging::Refused { number, place },

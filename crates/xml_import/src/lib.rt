@@ -234,7 +234,8 @@ fn put_taken(xml: &[u8], out: &mut [u8], at: usize, to: usize, size: usize, plai
 
 // The same as a String: its type id, its length and the text; answers where it ends.
 fn put_string(xml: &[u8], out: &mut [u8], at: usize, to: usize, size: usize, plain: bool) -> usize
-    requires { ⌜ Ready (now xml) at size × (size < 2 ^ 32) × (to + 1 + length (shortest size) + size ≤ length (now out)) × WholeIf plain (now xml) at size ⌝ }
+    requires { ⌜ Ready (now xml) at size × (size < 2 ^ 32) × (to + 1 + length (shortest size) + size ≤ length (now out))
+        × WholeIf plain (now xml) at size ⌝ }
     ensures { λ r. ⌜ StringPut (now (xml .entry)) at to size (now (out .entry)) (now (out .exit)) r ⌝ }
 {
     let id = [2u8];
