@@ -4,6 +4,7 @@ use mathlib.Core.List.{List, [], _∷_, _++_, map}
 use Prim.Native.Nat.{ℕ, zero, suc, _+_, _*_, _<_}
 use native.Mathlib.Omega.{arith}
 use lib.ListN.{length, getD, List·getD-append}
+use Rattle.layout.specs.EnumList.{EnumEntry}
 use Rattle.layout.specs.Target.{Target}
 use Rattle.layout.specs.Tree.{Trees, none, tree, count}
 use Rattle.layout.specs.Slot.{each}
@@ -65,13 +66,13 @@ rows-stand room (r ∷ rows) rest (suc i) j h k =
     rw z (rows-stand room rows rest i j (omega arith) k)
 
 -- the rule holds of every table in which the rows of a file tree stand
-pub file-skips : (named : List ℕ → Target → Type 0) (s : Shape) (room : ℕ) (ft : FileTree) (bs : List ℕ) (w : FileLays named ft bs) (table : List ℕ)
-    → Stand s room table (fileRows named ft bs w) → TableSkips s room table (length (fileRows named ft bs w))
+pub file-skips : (es : List EnumEntry) (s : Shape) (room : ℕ) (ft : FileTree) (bs : List ℕ) (w : FileLays es ft bs) (table : List ℕ)
+    → Stand s room table (fileRows es ft bs w) → TableSkips s room table (length (fileRows es ft bs w))
 unfolding fileRows
-file-skips named s room ft bs w table stand =
+file-skips es s room ft bs w table stand =
     let plan = objectsPlan (count (sharedOf (ft .objects))) in
     let refers = Resource (sharedOf (ft .objects)) in
-    stand-skips s room table (fileRows named ft bs w) (ft .objects)
+    stand-skips s room table (fileRows es ft bs w) (ft .objects)
     (rows-framed (w .readers) refers plan (ft .objects) (w .values) (w .laid) (10 + length (w .before)) 0 0) stand
 
 -- there is a primary object before the shared ones
@@ -81,12 +82,12 @@ some-object readers refers shared none bs w = absurd w
 some-object readers refers shared (tree k i own cs rest) bs w = refl
 
 -- the rows of its objects, the primary and the shared ones, follow each other in every such table
-pub file-roots : (named : List ℕ → Target → Type 0) (s : Shape) (room : ℕ) (ft : FileTree) (bs : List ℕ) (w : FileLays named ft bs) (table : List ℕ)
-    → Stand s room table (fileRows named ft bs w) → TableRoots s room table (length (fileRows named ft bs w)) (suc (count (sharedOf (ft .objects))))
+pub file-roots : (es : List EnumEntry) (s : Shape) (room : ℕ) (ft : FileTree) (bs : List ℕ) (w : FileLays es ft bs) (table : List ℕ)
+    → Stand s room table (fileRows es ft bs w) → TableRoots s room table (length (fileRows es ft bs w)) (suc (count (sharedOf (ft .objects))))
 unfolding fileRows
-file-roots named s room ft bs w table stand =
+file-roots es s room ft bs w table stand =
     let plan = objectsPlan (count (sharedOf (ft .objects))) in
     let refers = Resource (sharedOf (ft .objects)) in
     rw (some-object (w .readers) refers (count (sharedOf (ft .objects))) (ft .objects) (w .values) (w .laid)) at
-    (stand-roots s room table (fileRows named ft bs w) (ft .objects)
+    (stand-roots s room table (fileRows es ft bs w) (ft .objects)
     (rows-framed (w .readers) refers plan (ft .objects) (w .values) (w .laid) (10 + length (w .before)) 0 0) stand)

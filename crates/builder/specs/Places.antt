@@ -3,7 +3,6 @@ use mathlib.Core.Path.{_≡_, refl, sym, _∙_}
 use mathlib.Core.List.{List}
 use Prim.Native.Nat.{ℕ, _+_, _*_, _<_}
 use native.Mathlib.Omega.{arith}
-use Rattle.layout.specs.Named.{named}
 use Rattle.reading.specs.Reads.{Small}
 use Rattle.reading.specs.File.{Load, refusal}
 use Rattle.reading.specs.Refusals.{refusal-place}
@@ -44,4 +43,4 @@ module _ (enums file : List ℕ) (words number place : ℕ) (other : number ≡ 
         let m : number ≡ n = cc in
         absurd (other (m ∙ list-refusal enums q))
     go (lawful es) q =
-        omega (arith, rewrite-refusal (named es) (judgedName es) (judges es) (within-name es) file small words out number place (sym (rewrite-lawful enums file words out es q) ∙ e) .1)
+        omega (arith, rewrite-refusal es (judgedName es) (judges es) (within-name es) file small words out number place (sym (rewrite-lawful enums file words out es q) ∙ e) .1)

@@ -10,7 +10,6 @@ use Rattle.layout.specs.Text.{ascii}
 use Rattle.layout.specs.Target.{Target}
 use Rattle.layout.specs.Tree.{Trees, none, tree, count, size}
 use Rattle.layout.specs.EnumList.{EnumEntry}
-use Rattle.layout.specs.Named.{named}
 use Rattle.layout.specs.Rows.{Row, words, width, flat}
 use Rattle.layout.specs.File.{sharedOf, header}
 use Rattle.layout.specs.Table.{cell, roomOf}
@@ -19,7 +18,8 @@ use Rattle.reading.specs.Reads.{Small}
 use Rattle.reading.specs.Front.{lists-reads}
 use Rattle.reading.specs.Accepts.{entries-length}
 use Rattle.reading.specs.File.{listsAt, Load, refusal, accepted, loadOf, tableOf, tableIn}
-use Rattle.reading.specs.Theorems.{Fitting, rowsIn, accepted-is}
+use Rattle.layout.specs.Fits.{FittingTree, rowsIn}
+use Rattle.reading.specs.Theorems.{accepted-is}
 use Rattle.words.specs.Grids.{rowsGrid}
 use Rattle.places.specs.Padding.{filePadding}
 use Rattle.names.specs.Entries.{enumsOf, enums-written}
@@ -88,8 +88,8 @@ room-few n = omega arith
 -- ---- A file that was accepted
 
 module _ (es : List EnumEntry) (file : List ℕ) (n : ℕ) (small : Small file) (rs : List Row) (rd sh : ℕ) (is : loadOf (judgedName es) file n ≡ accepted rs rd sh) where
-  pub fits : (f : Fitting (named es) file n) × (rs ≡ rowsIn (named es) f) × (rd ≡ length (f .tree .names)) × (sh ≡ count (sharedOf (f .tree .objects)))
-  fits = accepted-is (named es) (judgedName es) (judges es) file n small rs rd sh is
+  pub fits : (f : FittingTree es file n) × (rs ≡ rowsIn f) × (rd ≡ length (f .tree .names)) × (sh ≡ count (sharedOf (f .tree .objects)))
+  fits = accepted-is es (judgedName es) (judges es) file n small rs rd sh is
 
   abbrev targets : List Target
   targets = fits .0 .lays .readers
@@ -101,14 +101,14 @@ module _ (es : List EnumEntry) (file : List ℕ) (n : ℕ) (small : Small file) 
       let w = f .lays in
       let s = count (sharedOf (f .tree .objects)) in
       let b : drop 10 file ≡ w .before ++ w .values = ap (drop 10) (w .parts) in
-      (10 + length (w .before), lists-reads (named es) (judgedName es) (judges es) file .complete (f .tree .names, w .readers, s) (w .before) (w .values) 10 (w .lists) b)
+      (10 + length (w .before), lists-reads es (judgedName es) (judges es) file .complete (f .tree .names, w .readers, s) (w .before) (w .values) 10 (w .lists) b)
 
   pub is-accepted : (rest : List ℕ) → Accepted es file (rowsGrid n) (flat rs ++ rest) (length rs) rd (filePadding file rd rs) targets rs
   is-accepted rest = record {
     held = table-held rs rest n;
-    few = λ i. rw (fits .1) (stand-few file 65535 (fits .0 .tree .objects) (rowsIn (named es) (fits .0)) (file-stand file (named es) (fits .0 .tree) (fits .0 .lays)) (let r = room-few n in omega (arith, fits .0 .room)) i);
+    few = λ i. rw (fits .1) (stand-few file 65535 (fits .0 .tree .objects) (rowsIn (fits .0)) (file-stand file es (fits .0 .tree) (fits .0 .lays)) (let r = room-few n in omega (arith, fits .0 .room)) i);
     short = fits .0 .lays .short;
-    count = fits .2 ∙ sym (entries-length (named es) (fits .0 .tree .names) (fits .0 .lays .readers) (fits .0 .lays .lists .entries) (fits .0 .lays .lists .listed));
+    count = fits .2 ∙ sym (entries-length es (fits .0 .tree .names) (fits .0 .lays .readers) (fits .0 .lays .lists .entries) (fits .0 .lays .lists .listed));
     pads = refl;
     names = fits .0 .tree .names;
     shared = count (sharedOf (fits .0 .tree .objects));

@@ -4,10 +4,10 @@ use mathlib.Core.List.{List}
 use mathlib.Core.Logic.{_↔_}
 use Prim.Native.Nat.{ℕ}
 use Rattle.layout.specs.EnumList.{EnumEntry}
-use Rattle.layout.specs.Named.{named}
 use Rattle.reading.specs.Reads.{Small}
 use Rattle.reading.specs.File.{Load, refusal}
-use Rattle.reading.specs.Theorems.{Accepts, Fitting}
+use Rattle.layout.specs.Fits.{FittingTree}
+use Rattle.reading.specs.Theorems.{Accepts}
 use Rattle.enums.specs.Judge.{Judgement, lawful, enumsAt}
 use Rattle.enums.specs.Judge.{refused as list-refused}
 use Rattle.readers.specs.Judged.{judgedName, judges}
@@ -27,15 +27,15 @@ driverUnder enums file words = byList (enumsAt enums) file words
 
 -- under a list that 32 does not refuse: "A file passes exactly if the plain loader accepts it and these hold"
 pub passes-under : (enums file : List ℕ) (words : ℕ) (es : List EnumEntry) → Small file → enumsAt enums ≡ lawful es
-    → Accepts (driverUnder enums file words) ↔ ((f : Fitting (named es) file words) × Profile (f .tree) (f .lays .readers) file)
+    → Accepts (driverUnder enums file words) ↔ ((f : FittingTree es file words) × Profile (f .tree) (f .lays .readers) file)
 unfolding driverUnder byList
-passes-under enums file words es small e = rw e (passes (named es) (judgedName es) (judges es) file words small)
+passes-under enums file words es small e = rw e (passes es (judgedName es) (judges es) file words small)
 
 -- "Its rows are then the plain loader's"
 pub same-under : (enums file : List ℕ) (words : ℕ) (es : List EnumEntry) → enumsAt enums ≡ lawful es
-    → (f : Fitting (named es) file words) → Profile (f .tree) (f .lays .readers) file → driverUnder enums file words ≡ loadUnder enums file words
+    → (f : FittingTree es file words) → Profile (f .tree) (f .lays .readers) file → driverUnder enums file words ≡ loadUnder enums file words
 unfolding driverUnder byList
-same-under enums file words es e f p = rw e (same-answer (named es) (judgedName es) (judges es) file words f p) ∙ sym (load-lawful enums file words es e)
+same-under enums file words es e f p = rw e (same-answer es (judgedName es) (judges es) file words f p) ∙ sym (load-lawful enums file words es e)
 
 -- under a list that 32 refuses no file passes
 pub none-under : (enums file : List ℕ) (words : ℕ) {n i : ℕ} → enumsAt enums ≡ list-refused n i → driverUnder enums file words ≡ loadUnder enums file words

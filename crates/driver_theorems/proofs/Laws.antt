@@ -9,7 +9,6 @@ use Rattle.laws.specs.Small.{differ}
 use Rattle.layout.specs.Tree.{count}
 use Rattle.layout.specs.Rows.{width}
 use Rattle.layout.specs.File.{sharedOf}
-use Rattle.layout.specs.Named.{named}
 use Rattle.layout.specs.EnumList.{FirstBad, Unlawful}
 use Rattle.layout.specs.Table.{roomOf, byRows, table}
 use Rattle.layout.specs.Branches.{TableSkips}
@@ -35,7 +34,7 @@ use Rattle.profile_places.specs.Broken.{FirstBroken}
 use Rattle.profile_places.specs.First.{first-broken}
 use Rattle.driver.specs.Facts.{hand-on}
 use Rattle.driver.specs.Under.{byList, driverUnder, passes-under, same-under, none-under}
-use Rattle.theorems.specs.Fits.{Fitting, rowsIn}
+use Rattle.layout.specs.Fits.{Fitting, rowsIn}
 use Rattle.theorems.specs.Loading.{IsLoaded}
 use Rattle.driver_theorems.specs.declared.LoadedBoth.{LoadedBoth}
 use Rattle.driver_theorems.specs.Driver.{Passes, LoadsForDriver, Beside}
@@ -46,34 +45,31 @@ module _ {enums file : List ℕ} {words : ℕ} (f : Fitting enums file words) wh
   list-is : enumsAt enums ≡ list-lawful (f .es)
   list-is = ap enumsAt (f .listed) ∙ enums-complete (f .es) (f .lawful)
 
-  abbrev plain : T.Fitting (named (f .es)) file words
-  plain = record { tree = f .tree; lays = f .lays; room = f .room }
-
-  load-is : loadUnder enums file words ≡ accepted (rowsIn f) (length (f .tree .names)) (count (sharedOf (f .tree .objects)))
-  load-is = load-lawful enums file words (f .es) list-is ∙ T.rows-are (named (f .es)) (judgedName (f .es)) (judges (f .es)) file words plain
+  load-is : loadUnder enums file words ≡ accepted (rowsIn (f .fits)) (length (f .fits .tree .names)) (count (sharedOf (f .fits .tree .objects)))
+  load-is = load-lawful enums file words (f .es) list-is ∙ T.rows-are (f .es) (judgedName (f .es)) (judges (f .es)) file words (f .fits)
 
   driver-of : driverUnder enums file words
-      ≡ byFault (faultOf file (f .lays .readers) (rowsIn f)) (accepted (rowsIn f) (length (f .tree .names)) (count (sharedOf (f .tree .objects))))
+      ≡ byFault (faultOf file (f .fits .lays .readers) (rowsIn (f .fits))) (accepted (rowsIn (f .fits)) (length (f .fits .tree .names)) (count (sharedOf (f .fits .tree .objects))))
   unfolding driverUnder byList
-  driver-of = rw list-is (driver-is (named (f .es)) (judgedName (f .es)) (judges (f .es)) file words plain)
+  driver-of = rw list-is (driver-is (f .es) (judgedName (f .es)) (judges (f .es)) file words (f .fits))
 
   -- a file that is shortest has no padding
-  unpadded : file ≡ shortFile (f .tree) → filePadding file (length (f .tree .names)) (rowsIn f) ≡ 0
-  unpadded e = omega (arith, ap length e, S.padding-is (named (f .es)) (judgedName (f .es)) (judges (f .es)) file words plain)
+  unpadded : file ≡ shortFile (f .fits .tree) → filePadding file (length (f .fits .tree .names)) (rowsIn (f .fits)) ≡ 0
+  unpadded e = omega (arith, ap length e, S.padding-is (f .es) (judgedName (f .es)) (judges (f .es)) file words (f .fits))
 
 -- the rule of the seventh word holds of its table
-table-skips : {enums file : List ℕ} {words : ℕ} (f : Fitting enums file words) {left : List ℕ} → left ≡ table byRows (rowsIn f) words → TableSkips byRows (roomOf words) left (length (rowsIn f))
+table-skips : {enums file : List ℕ} {words : ℕ} (f : Fitting enums file words) {left : List ℕ} → left ≡ table byRows (rowsIn (f .fits)) words → TableSkips byRows (roomOf words) left (length (rowsIn (f .fits)))
 table-skips {enums} {file} {words} f e =
-    rw e (file-skips (named (f .es)) byRows (roomOf words) (f .tree) file (f .lays) (table byRows (rowsIn f) words) (rows-stand (roomOf words) (rowsIn f) (replicate (words - width * length (rowsIn f)) 0)))
+    rw e (file-skips (f .es) byRows (roomOf words) (f .fits .tree) file (f .fits .lays) (table byRows (rowsIn (f .fits)) words) (rows-stand (roomOf words) (rowsIn (f .fits)) (replicate (words - width * length (rowsIn (f .fits))) 0)))
 
 module _ (enums file : List ℕ) (words : ℕ) {left : List ℕ} {r : Loading} (bytes : Bytes enums) (small : Small file)
     (answers : r ≡ answerOf file (driverUnder enums file words)) (leaves : left ≡ tableOf (driverUnder enums file words) words) where
-  passed : (f : Fitting enums file words) → Profile (f .tree) (f .lays .readers) file
-      → driverUnder enums file words ≡ accepted (rowsIn f) (length (f .tree .names)) (count (sharedOf (f .tree .objects)))
-  passed f p = same-under enums file words (f .es) (list-is f) (plain f) p ∙ load-is f
+  passed : (f : Fitting enums file words) → Profile (f .fits .tree) (f .fits .lays .readers) file
+      → driverUnder enums file words ≡ accepted (rowsIn (f .fits)) (length (f .fits .tree .names)) (count (sharedOf (f .fits .tree .objects)))
+  passed f p = same-under enums file words (f .es) (list-is f) (f .fits) p ∙ load-is f
 
   loaded : (p : Passes enums file words)
-      → (r ≡ Loaded (length (rowsIn (p .0))) (length (p .0 .tree .names)) (count (sharedOf (p .0 .tree .objects))) 0) × (left ≡ table byRows (rowsIn (p .0)) words)
+      → (r ≡ Loaded (length (rowsIn (p .0 .fits))) (length (p .0 .fits .tree .names)) (count (sharedOf (p .0 .fits .tree .objects))) 0) × (left ≡ table byRows (rowsIn (p .0 .fits)) words)
   unfolding tableIn
   loaded (f, p) =
       let d = passed f p in
@@ -102,7 +98,7 @@ module _ (enums file : List ℕ) (words : ℕ) {left : List ℕ} {r : Loading} (
         absurd (rw d at a)
     go (list-lawful es) q w =
         let y = passes-under enums file words es small q .0 (rw e (accepts x a)) in
-        (record { es = es; lawful = w .0; listed = w .1; tree = y .0 .tree; lays = y .0 .lays; room = y .0 .room }, y .1)
+        (record { es = es; lawful = w .0; listed = w .1; fits = y .0 }, y .1)
 
   cleared : (number place : ℕ) → r ≡ Refused number place → left ≡ replicate words 0
   unfolding tableIn
@@ -111,12 +107,12 @@ module _ (enums file : List ℕ) (words : ℕ) {left : List ℕ} {r : Loading} (
     go (refusal n p) q = refl
     go (accepted rows readers shared) q = differ cc
 
-  placed : (f : Fitting enums file words) (number place : ℕ) → r ≡ Refused number place → FirstBroken (f .tree) (f .lays .readers) file (rowsIn f) number place
+  placed : (f : Fitting enums file words) (number place : ℕ) → r ≡ Refused number place → FirstBroken (f .fits .tree) (f .fits .lays .readers) file (rowsIn (f .fits)) number place
   unfolding byFault
   placed f number place e =
-      first-broken (named (f .es)) (f .tree) file small (f .lays) number place
-      (go (faultOf file (f .lays .readers) (rowsIn f)) (ap (answerOf file) (sym (driver-of f)) ∙ sym answers ∙ e)) where
-        go : (x : Offence) → answerOf file (byFault x (accepted (rowsIn f) (length (f .tree .names)) (count (sharedOf (f .tree .objects))))) ≡ Refused number place → x ≡ fault number place
+      first-broken (f .es) (f .fits .tree) file small (f .fits .lays) number place
+      (go (faultOf file (f .fits .lays .readers) (rowsIn (f .fits))) (ap (answerOf file) (sym (driver-of f)) ∙ sym answers ∙ e)) where
+        go : (x : Offence) → answerOf file (byFault x (accepted (rowsIn (f .fits)) (length (f .fits .tree .names)) (count (sharedOf (f .fits .tree .objects))))) ≡ Refused number place → x ≡ fault number place
         go fine q = differ cc
         go (fault n p) q =
             let a : n ≡ number = cc in
@@ -128,8 +124,8 @@ module _ (enums file : List ℕ) (words : ℕ) {left : List ℕ} {r : Loading} (
     go : Passes enums file words → TableSkips byRows (roomOf words) left used
     go (f, p) =
         let l = loaded (f, p) in
-        let q : Loaded used readers shared padding ≡ Loaded (length (rowsIn f)) (length (f .tree .names)) (count (sharedOf (f .tree .objects))) 0 = sym e ∙ l .0 in
-        let u : used ≡ length (rowsIn f) = cc in
+        let q : Loaded used readers shared padding ≡ Loaded (length (rowsIn (f .fits))) (length (f .fits .tree .names)) (count (sharedOf (f .fits .tree .objects))) 0 = sym e ∙ l .0 in
+        let u : used ≡ length (rowsIn (f .fits)) = cc in
         rw u (table-skips f (l .1))
 
   pub load-driver-exact : LoadsForDriver enums file words left r

@@ -11,7 +11,7 @@ use Rattle.layout.specs.EnumList.{FirstBad, Unlawful}
 use Rattle.layout.specs.Branches.{TableSkips}
 use Rattle.load.specs.declared.Loading.{Loading}
 use Rattle.load.specs.declared.Loading.the-variants.{Refused, Loaded}
-use Rattle.theorems.specs.Fits.{Fitting, rowsIn}
+use Rattle.layout.specs.Fits.{Fitting, rowsIn}
 use Rattle.theorems.specs.Loading.{IsLoaded}
 use Rattle.profile.specs.Profile.{Profile}
 use Rattle.profile_places.specs.Broken.{FirstBroken}
@@ -19,7 +19,7 @@ use Rattle.driver_theorems.specs.declared.LoadedBoth.{LoadedBoth}
 
 -- the plain loader accepts the file, by the file tree that fits, and the seven rules hold of it
 abbrev pub Passes : (enums file : List ℕ) (words : ℕ) → Type 0
-Passes enums file words = (f : Fitting enums file words) × Profile (f .tree) (f .lays .readers) file
+Passes enums file words = (f : Fitting enums file words) × Profile (f .fits .tree) (f .fits .lays .readers) file
 
 -- The lent list of enum types, a file, the number of words lent, the words as they are left and the answer.
 pub record LoadsForDriver (enums file : List ℕ) (words : ℕ) (left : List ℕ) (r : Loading) : Type 0 where
@@ -27,11 +27,11 @@ pub record LoadsForDriver (enums file : List ℕ) (words : ℕ) (left : List ℕ
   pub passes : IsLoaded r ↔ Passes enums file words
   -- "Its rows are then the plain loader's": those of its values as they stand in the file, with zeros behind them; all its numbers are shortest, so its padding is 0
   pub rows : (p : Passes enums file words)
-      → (r ≡ Loaded (length (rowsIn (p .0))) (length (p .0 .tree .names)) (count (sharedOf (p .0 .tree .objects))) 0) × (left ≡ table byRows (rowsIn (p .0)) words)
+      → (r ≡ Loaded (length (rowsIn (p .0 .fits))) (length (p .0 .fits .tree .names)) (count (sharedOf (p .0 .fits .tree .objects))) 0) × (left ≡ table byRows (rowsIn (p .0 .fits)) words)
   -- "after any refusal the table is zero"
   pub zero : (number place : ℕ) → r ≡ Refused number place → left ≡ replicate words 0
   -- "then 41 to 47 in the order named, each at the first offence in file order": of a file that the plain loader accepts, a refusal is of the first rule that is broken, at the first place where it is
-  pub refuses : (f : Fitting enums file words) (number place : ℕ) → r ≡ Refused number place → FirstBroken (f .tree) (f .lays .readers) file (rowsIn f) number place
+  pub refuses : (f : Fitting enums file words) (number place : ℕ) → r ≡ Refused number place → FirstBroken (f .fits .tree) (f .fits .lays .readers) file (rowsIn (f .fits)) number place
   -- Req 02: a list that is not lawful is 32 "placed at the first such entry's number from 0, before all else"
   pub list : Unlawful enums → (place : ℕ) × (r ≡ Refused 32 place) × FirstBad enums place
   -- Req 09: "It must hold of every table we leave": the rule of the seventh word

@@ -30,7 +30,7 @@ use Rattle.rewrite.specs.declared.Rewriting.the-variants as rewriting
 use Rattle.builder.specs.Packed.{code, packed, rewritePacked}
 use Rattle.builder.specs.Places.{load-exactly, rewrite-exactly}
 use Rattle.builder.specs.Told.{loadTold}
-use Rattle.theorems.specs.Fits.{Fitting, rowsIn}
+use Rattle.layout.specs.Fits.{Fitting, rowsIn}
 use Rattle.theorems.specs.Rewriting.{Rewrites}
 use Rattle.theorems.specs.Fitted.{rows-are, rows-room, padding-is, least}
 use Rattle.theorems.specs.Laws.{Ends, fits, refuses, bad-list, ends, table-in, cleared-in, handed-on, rewrite-exact}
@@ -47,7 +47,7 @@ some-number (inr (inr (inr i))) = (omega (arith, i .0), λ e. omega (arith, i .0
 -- ---- Loading
 
 module _ (enums file : List ℕ) (words : ℕ) (bytes : Bytes enums) (small : Small file) {r : ℕ} (answers : r ≡ packed (loadUnder enums file words)) where
-  rows-told : (f : Fitting enums file words) → r ≡ length (rowsIn f)
+  rows-told : (f : Fitting enums file words) → r ≡ length (rowsIn (f .fits))
   unfolding packed
   rows-told f = answers ∙ rw (rows-are f)
 
@@ -100,11 +100,11 @@ module _ (enums file : List ℕ) (words : ℕ) (columns : Bool) (bytes : Bytes e
     go (accepted rows m s) = refl
 
   filled : (f : Fitting enums file words)
-      → (readers ≡ length (f .tree .names)) × (shared ≡ count (sharedOf (f .tree .objects))) × (padding ≡ length file - length (shortFile (f .tree))) × (left ≡ table (shapeOf columns) (rowsIn f) words)
+      → (readers ≡ length (f .fits .tree .names)) × (shared ≡ count (sharedOf (f .fits .tree .objects))) × (padding ≡ length file - length (shortFile (f .fits .tree))) × (left ≡ table (shapeOf columns) (rowsIn (f .fits)) words)
   unfolding loadTold
   filled f =
       let e = rw (rows-are f) at answers in
-      let p : padding ≡ filePadding file (length (f .tree .names)) (rowsIn f) = ap (λ (t : ℕ × ℕ × ℕ × ℕ). t .3) e in
+      let p : padding ≡ filePadding file (length (f .fits .tree .names)) (rowsIn (f .fits)) = ap (λ (t : ℕ × ℕ × ℕ × ℕ). t .3) e in
       (ap (λ (t : ℕ × ℕ × ℕ × ℕ). t .1) e, ap (λ (t : ℕ × ℕ × ℕ × ℕ). t .2) e, omega (arith, p, padding-is f), leaves ∙ table-in f columns)
 
   cleared : {number place : ℕ} → loadUnder enums file words ≡ refusal number place → (readers ≡ 0) × (shared ≡ 0) × (padding ≡ 0) × (left ≡ replicate words 0)
@@ -146,32 +146,32 @@ module _ (enums file : List ℕ) (words : ℕ) (out : List ℕ) (bytes : Bytes e
   number-is : r ≡ tells answer
   number-is = answers ∙ tells-packed (rewriteUnder enums file words (length out))
 
-  bound : (f : Fitting enums file words) → length (shortFile (f .tree)) < 4294967296
-  bound f = omega (arith, least f file (f .lays) .no-longer, f .lays .short)
+  bound : (f : Fitting enums file words) → length (shortFile (f .fits .tree)) < 4294967296
+  bound f = omega (arith, least f file (f .fits .lays) .no-longer, f .fits .lays .short)
 
-  told : (f : Fitting enums file words) → length (shortFile (f .tree)) ≤ length out
-      → (r ≡ length (shortFile (f .tree))) × (end ≡ shortFile (f .tree) ++ drop (length (shortFile (f .tree))) out) × (left ≡ table byRows (rowsIn f) words)
+  told : (f : Fitting enums file words) → length (shortFile (f .fits .tree)) ≤ length out
+      → (r ≡ length (shortFile (f .fits .tree))) × (end ≡ shortFile (f .fits .tree) ++ drop (length (shortFile (f .fits .tree))) out) × (left ≡ table byRows (rowsIn (f .fits)) words)
   told f h =
       let x = exact .rewrites f h in
       (number-is ∙ ap tells (x .0), x .1, x .2)
 
-  too-long : (f : Fitting enums file words) → length out < length (shortFile (f .tree))
-      → (r ≡ 21 * 4294967296 + length (shortFile (f .tree))) × (end ≡ out) × (left ≡ replicate words 0)
+  too-long : (f : Fitting enums file words) → length out < length (shortFile (f .fits .tree))
+      → (r ≡ 21 * 4294967296 + length (shortFile (f .fits .tree))) × (end ≡ out) × (left ≡ replicate words 0)
   unfolding code
   too-long f h =
       let x = exact .too-small f h in
-      let e : r ≡ 21 * 4294967296 + length (shortFile (f .tree)) % 4294967296 = number-is ∙ ap tells (x .0) in
+      let e : r ≡ 21 * 4294967296 + length (shortFile (f .fits .tree)) % 4294967296 = number-is ∙ ap tells (x .0) in
       (omega (arith, e, bound f), x .1, x .2)
 
   not-rewritten : {number place : ℕ} → loadUnder enums file words ≡ refusal number place → r ≡ number * 4294967296 + place % 4294967296
   unfolding rewritePacked code
   not-rewritten {number} {place} e = answers ∙ rw (handed-on enums file words (length out) number place e)
 
-  some-tree : Ends enums file words → r < 4294967296 → (f : Fitting enums file words) × (length (shortFile (f .tree)) ≤ length out)
+  some-tree : Ends enums file words → r < 4294967296 → (f : Fitting enums file words) × (length (shortFile (f .fits .tree)) ≤ length out)
   some-tree (refuses es l b n p e i) h = absurd (omega (arith, not-rewritten e, some-number (i .0) .0))
   some-tree (bad-list p b u e) h = absurd (omega (arith, not-rewritten e))
-  some-tree (fits f) h = go (leb (length (shortFile (f .tree))) (length out)) refl where
-    go : (t : Bool) → leb (length (shortFile (f .tree))) (length out) ≡ t → (f : Fitting enums file words) × (length (shortFile (f .tree)) ≤ length out)
+  some-tree (fits f) h = go (leb (length (shortFile (f .fits .tree))) (length out)) refl where
+    go : (t : Bool) → leb (length (shortFile (f .fits .tree))) (length out) ≡ t → (f : Fitting enums file words) × (length (shortFile (f .fits .tree)) ≤ length out)
     go true t = (f, leb-true _ _ t)
     go false t = absurd (omega (arith, too-long f (leb-false _ _ t) .0))
 

@@ -14,7 +14,7 @@ use Rattle.layout.specs.Kind.{alike, lookup, targets}
 use Rattle.layout.specs.EnumList.{EnumEntry, entry, writeEnums, EnumSize, EnumType, Unlisted, Enums, sizeIn, FirstBad}
 use Rattle.layout.specs.Name.{NameHead}
 use Rattle.names.specs.Codes.{alike-then, alike-self}
-use Rattle.names.specs.Entries.{isSize, size-true, true-size}
+use Rattle.names.specs.Entries.{isSize, size-true, true-size, size-some}
 use Rattle.enums.specs.Judge.{Judgement, refused, lawful, isHead, isEnumType, check, enumsFrom, enumsAt}
 use Rattle.enums.specs.Laws.{written-parts, write-append}
 
@@ -48,13 +48,6 @@ unlisted-size h (entry name size ∷ es) u = go (unlisted-size h es (u .1)) (ali
   go : sizeIn es h ≡ 0 → (b : Bool) → alike h name ≡ b → cond b size (sizeIn es h) ≡ 0
   go r true q = absurd (u .0 (alike-then h name q))
   go r false q = r
-
-size-some : (z : ℕ) → EnumSize z → z ≡ 0 → ⊥
-unfolding EnumSize
-size-some z (inl e) q = omega arith
-size-some z (inr (inl e)) q = omega arith
-size-some z (inr (inr (inl e))) q = omega arith
-size-some z (inr (inr (inr e))) q = omega arith
 
 size-unlisted : (h : List ℕ) (es : List EnumEntry) → Enums es → sizeIn es h ≡ 0 → Unlisted h es
 unfolding Unlisted sizeIn Enums

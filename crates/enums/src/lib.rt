@@ -19,16 +19,7 @@ pub enum Judged {
 fn is_size(size: u8) -> bool
     ensures { λ r. ⌜ r ≡ isSize size ⌝ }
 {
-    if size == 1 {
-        return true;
-    }
-    if size == 2 {
-        return true;
-    }
-    if size == 4 {
-        return true;
-    }
-    size == 8
+    names::tables::enum_kind(size) != 0
 }
 
 // A name and a size as an entry by itself may have them.

@@ -9,7 +9,6 @@ use Rattle.layout.specs.Target.{Target}
 use Rattle.layout.specs.Tree.{size}
 use Rattle.layout.specs.File.{FileTree, FileLays, fileRows}
 use Rattle.layout.specs.EnumList.{EnumEntry, writeEnums, Enums}
-use Rattle.layout.specs.Named.{named}
 use Rattle.layout.specs.Table.{roomOf}
 use Rattle.reading.specs.Answer.{Answer, refused, read, bind}
 use Rattle.reading.specs.Drafts.{Draft, bare, length-bare}
@@ -66,14 +65,14 @@ module _ (file : List ℕ) where
       objects-refused nameOf room (r .0) (r .1) x (r₂ .1) 19 (firstAt (a .1) room) (r .2) (r₂ .2) s ∙ ap (λ (rows : List Draft). refused 19 (firstAt rows room)) (sym z)
 
 module _ (enums file : List ℕ) (words : ℕ) {left : List ℕ} {r : Loading} (answers : r ≡ answerOf file (loadUnder enums file words)) (leaves : left ≡ tableOf (loadUnder enums file words) words) where
-  no-room : (es : List EnumEntry) → Enums es → enums ≡ writeEnums es → (ft : FileTree) (w : FileLays (named es) ft file) → roomOf words < size (ft .objects)
-      → loadUnder enums file words ≡ refusal 19 (firstOf (fileRows (named es) ft file w) (roomOf words))
+  no-room : (es : List EnumEntry) → Enums es → enums ≡ writeEnums es → (ft : FileTree) (w : FileLays es ft file) → roomOf words < size (ft .objects)
+      → loadUnder enums file words ≡ refusal 19 (firstOf (fileRows es ft file w) (roomOf words))
   unfolding loadOf toLoad
   no-room es v b ft w h =
-      let rows = loadedOf (named es) ft file w .rows in
-      let i : bare rows ≡ fileRows (named es) ft file w = file-bare (named es) ft file w in
-      let n : length rows ≡ size (ft .objects) = sym (length-bare rows) ∙ ap length i ∙ rows-count (named es) ft file w in
-      let q = file-complete (named es) (judgedName es) (judges es) file (size (ft .objects)) ft w (omega arith) in
+      let rows = loadedOf es ft file w .rows in
+      let i : bare rows ≡ fileRows es ft file w = file-bare es ft file w in
+      let n : length rows ≡ size (ft .objects) = sym (length-bare rows) ∙ ap length i ∙ rows-count es ft file w in
+      let q = file-complete es (judgedName es) (judges es) file (size (ft .objects)) ft w (omega arith) in
       let s = file-short file (judgedName es) (roomOf words) (size (ft .objects)) q (omega (arith, n)) in
       load-lawful enums file words es (judged-list enums es v b) ∙ rw s (ap (refusal 19) (first-bare rows (roomOf words) ∙ ap (λ rows. firstOf rows (roomOf words)) i))
 

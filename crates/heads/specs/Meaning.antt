@@ -7,6 +7,7 @@ use native.Mathlib.Omega.{arith}
 use lib.Dec.{leb, eqb}
 use lib.ListN.{length, getD, replicate}
 use borrow.Author.Tests.{eqb-true, eqb-false, ne-eqb, lt-leb, leb-true}
+use Rattle.layout.specs.Named.{Lawful}
 use Rattle.layout.specs.Target.{Target, fixed, char, string, object as anything, texture, texture2D, spriteFont, page, indexBuffer, vertexDeclaration, vertexBuffer, model, mesh, meshKind, enum, nullable, array, list, dictionary}
 use Rattle.layout.specs.Slot as L
 use Rattle.layout.specs.Slot.{raw, slotOf, pairs}
@@ -17,9 +18,10 @@ use Rattle.reading.specs.Answer.{Answer, refused, read}
 use Rattle.reading.specs.Little.{littleAt}
 use Rattle.reading.specs.Heads.{Opening, headAt}
 use Rattle.table.specs.Leaf.{mute}
-use Rattle.targets.specs.Code.{codeKind, Stands, Lawful}
+use Rattle.targets.specs.Code.{codeKind, Stands}
 use Rattle.targets.specs.Place.{placeAfter}
-use Rattle.targets.specs.Laws.{kind-is, fixed-has-size, nullable-argument, array-argument, list-argument, dictionary-key, dictionary-value}
+use Rattle.targets.specs.Word.{fixed-has-size}
+use Rattle.targets.specs.Laws.{kind-is, nullable-argument, array-argument, list-argument, dictionary-key, dictionary-value}
 use Rattle.leaves.specs.Like.{alike-each, alike-pairs}
 use Rattle.heads.specs.declared.slot.Slot.{Slot}
 use Rattle.heads.specs.declared.slot.Slot.the-variants.{Simple, Raw, Object}

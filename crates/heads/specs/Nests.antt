@@ -13,9 +13,9 @@ use Rattle.layout.specs.Target.{Target, fixed, char, string, object as anything
 use Rattle.layout.specs.Fixed.{sizes}
 use Rattle.layout.specs.Slot as L
 use Rattle.layout.specs.Slot.{Plan, stop, put, each, raw, object, reference, pairs, fontSlots, pageSlots}
-use Rattle.layout.specs.Named.{fixedKind}
+use Rattle.layout.specs.Named.{fixedKind, Lawful}
 use Rattle.layout.specs.Mesh.{planOf}
-use Rattle.targets.specs.Code.{Alone, Before, Coded, Lawful, Stands}
+use Rattle.targets.specs.Code.{Alone, Before, Coded, Stands}
 use Rattle.leaves.specs.declared.plain.Plain.the-variants.{Fixed, Reference}
 use Rattle.leaves.specs.Like.{Alike, same}
 use Rattle.leaves.specs.declared.run.Run.{Run}

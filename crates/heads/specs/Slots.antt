@@ -5,19 +5,21 @@ use mathlib.Core.List.{List}
 use mathlib.Core.Logic.{inl, inr}
 use Prim.Native.Nat.{ℕ, _<_}
 use native.Mathlib.Omega.{arith}
-use lib.Dec.{eqb, leb, ltb}
-use lib.ListN.{getD, List·getD-eq-default}
-use borrow.Author.Tests.{eqb-false, ne-eqb, le-leb, lt-leb, ltb-true, ltb-false}
+use lib.Dec.{eqb, leb}
+use lib.ListN.{getD}
+use borrow.Author.Tests.{eqb-false, ne-eqb, le-leb, lt-leb}
+use Rattle.layout.specs.Named.{Lawful as LawfulTarget}
 use Rattle.layout.specs.Target.{Target, fixed, char, string, object as anything, texture, texture2D, spriteFont, page, indexBuffer, vertexDeclaration, vertexBuffer, model, mesh, meshKind, enum, nullable, array, list, dictionary, kindOf, isValue}
 use Rattle.layout.specs.Fixed.{sizes}
 use Rattle.layout.specs.EnumList.{EnumSize}
 use Rattle.layout.specs.Slot.{raw, object, slotOf, rawOrObject}
 use Rattle.layout.specs.Slot as L
 use Rattle.names.specs.Kind.{enumKind}
-use Rattle.targets.specs.Word.{fixed-small, enum-kind}
-use Rattle.targets.specs.Code.{Stands, Lawful as LawfulTarget, codeKind}
+use Rattle.names.specs.Entries.{size-some}
+use Rattle.targets.specs.Word.{fixed-has-size, fixed-small, enum-kind}
+use Rattle.targets.specs.Code.{Stands, codeKind}
 use Rattle.targets.specs.Place.{kindAt}
-use Rattle.targets.specs.Laws.{kind-is, kind-of-code, fixed-has-size}
+use Rattle.targets.specs.Laws.{kind-is, kind-of-code}
 use Rattle.leaves.specs.declared.plain.Plain.{Plain}
 use Rattle.leaves.specs.declared.plain.Plain.the-variants.{Fixed, Enum, Char}
 use Rattle.leaves.specs.Plain.{plainSlot, Lawful}
@@ -75,14 +77,6 @@ unfolding bytesOf
 bytes-below k h =
     rw (ne-eqb k 60 (λ e. omega arith), ne-eqb k 61 (λ e. omega arith), ne-eqb k 62 (λ e. omega arith), ne-eqb k 63 (λ e. omega arith))
 
--- a kind with a size is one of 01's
-pub sized-small : (k : ℕ) → 0 < getD sizes k 0 → k < 60
-unfolding sizes
-sized-small k h = go (ltb k 60) refl where
-  go : (b : Bool) → ltb k 60 ≡ b → k < 60
-  go true e = ltb-true k 60 e
-  go false e = absurd (let z : getD sizes k 0 ≡ 0 = List·getD-eq-default sizes 0 {n = k} (omega (arith, ltb-false k 60 e)) in omega arith)
-
 fixed-plain : (k : ℕ) → k < 60 → plainOf k ≡ Fixed k (getD sizes k 0)
 unfolding plainOf
 fixed-plain k h = rw (lt-leb 60 k h, bytes-below k h)
@@ -107,13 +101,6 @@ enum-bytes z (inl e) = rw e
 enum-bytes z (inr (inl e)) = rw e
 enum-bytes z (inr (inr (inl e))) = rw e
 enum-bytes z (inr (inr (inr e))) = rw e
-
-size-some : (z : ℕ) → EnumSize z → z ≡ 0 → ⊥
-unfolding EnumSize
-size-some z (inl e) q = omega arith
-size-some z (inr (inl e)) q = omega arith
-size-some z (inr (inr (inl e))) q = omega arith
-size-some z (inr (inr (inr e))) q = omega arith
 
 enum-plain : (z : ℕ) → EnumSize z → plainOf (enumKind z) ≡ Enum z
 unfolding plainOf

@@ -6,11 +6,11 @@ use Prim.Native.Nat.{ℕ, _+_, _*_, _≤_, _<_, _^_}
 use lib.ListN.{length, getD}
 use Rattle.layout.specs.Number.{little}
 
--- 01: "Each kind has a number and, where fixed, a size in bytes": the sizes of kinds 0 to 30, 0 where none is fixed
+-- 01: "Each kind has a number and, where fixed, a size in bytes": the sizes of kinds 0 to 30, 0 where none is fixed, and for Enum, whose size goes by its name
 unfoldable pub sizes : List ℕ
 sizes =
     0 ∷ 1 ∷ 1 ∷ 2 ∷ 2 ∷ 4 ∷ 4 ∷ 8 ∷ 8 ∷ 4
-    ∷ 8 ∷ 1 ∷ 0 ∷ 0 ∷ 0 ∷ 4 ∷ 0 ∷ 0 ∷ 0 ∷ 0
+    ∷ 8 ∷ 1 ∷ 0 ∷ 0 ∷ 0 ∷ 0 ∷ 0 ∷ 0 ∷ 0 ∷ 0
     ∷ 8 ∷ 8 ∷ 16 ∷ 8 ∷ 12 ∷ 16 ∷ 64 ∷ 16 ∷ 4 ∷ 8
     ∷ 16 ∷ []
 

@@ -6,10 +6,10 @@ pub mod Target
 pub mod Name
 pub mod Kind
 pub mod EnumList
+pub mod Fixed
 pub mod Named
 pub mod Fault
 pub mod Complaint
-pub mod Fixed
 pub mod Image
 pub mod Tree
 pub mod Slot
@@ -22,5 +22,6 @@ pub mod Rows
 pub mod Table
 pub mod Branches
 pub mod File
+pub mod Fits
 pub mod Shortest
 pub mod Refusals

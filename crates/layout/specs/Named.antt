@@ -1,23 +1,41 @@
 -- The target of a reader's name (01, "Reader names"), under a lent list of enum types (02, Req 02). Assumes nothing.
 use mathlib.Core.Path.{_≡_}
-use mathlib.Core.Bool.{Bool, not, _&&_, _||_, cond}
+use mathlib.Core.Bool.{Bool, true, not, _&&_, cond}
 use mathlib.Core.List.{List}
 use Prim.Native.Nat.{ℕ}
-use lib.Dec.{eqb}
-use Rattle.layout.specs.Number.{between}
+use lib.Dec.{eqb, ltb}
+use lib.ListN.{getD}
 use Rattle.layout.specs.Target.{Target, fixed, char, string, object, texture, texture2D, spriteFont, page, indexBuffer, vertexDeclaration, vertexBuffer, model, mesh, enum, nullable, array, list, dictionary, kindOf, isValue}
 use Rattle.layout.specs.Name.{Name, simple, one, two, text, Formed}
 use Rattle.layout.specs.Kind.{lookup, targets, readers}
-use Rattle.layout.specs.EnumList.{EnumEntry, sizeIn}
+use Rattle.layout.specs.EnumList.{EnumEntry, EnumSize, sizeIn}
+use Rattle.layout.specs.Fixed.{sizes}
 
 -- 01: "A head that is not listed, or a wrong argument count: 11": such a name is unknown
 pub data Typed : Type 0 where
   unknown : Typed
   known : Target → Typed
 
--- the kinds that are `fixed` targets: those for which 01 fixes a size, but Enum
+-- the kinds that are `fixed` targets: those for which 01 fixes a size
 unfoldable pub fixedKind : ℕ → Bool
-fixedKind k = between 1 11 k || between 20 30 k
+fixedKind k = ltb 0 (getD sizes k 0)
+
+-- the types that there are: each `fixed` in one has such a kind, and each enum one of 02's sizes. Names give no other type (crates/targets, Lawful).
+unfoldable pub Lawful : Target → Type 0
+Lawful (fixed k) = fixedKind k ≡ true
+Lawful char = Unit {0}
+Lawful string = Unit {0}
+Lawful object = Unit {0}
+Lawful (enum name z) = EnumSize z
+Lawful (nullable t) = Lawful t
+Lawful (array t) = Lawful t
+Lawful (list t) = Lawful t
+Lawful (dictionary k v) = Lawful k × Lawful v
+Lawful texture = Unit {0}
+Lawful texture2D = Unit {0}
+Lawful spriteFont = Unit {0}
+Lawful page = Unit {0}
+Lawful (mesh m) = Unit {0}
 
 -- the kinds of mesh types
 unfoldable pub meshed : ℕ → Typed

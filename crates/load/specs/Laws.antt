@@ -17,7 +17,6 @@ use Rattle.layout.specs.File.{objectsPlan, header}
 use Rattle.layout.specs.Text.{ascii}
 use Rattle.layout.specs.Number.{little}
 use Rattle.layout.specs.EnumList.{EnumEntry}
-use Rattle.layout.specs.Named.{named}
 use Rattle.layout.specs.Table.{shapeOf, cell, roomOf, wordsWith}
 use Rattle.reading.specs.Answer.{Answer, refused, read, bind, check}
 use Rattle.reading.specs.Reads.{Small, reads-bounds}
@@ -181,7 +180,7 @@ kept-prelude codes e = record { rest = drop preludeSize codes; begins = sym (tak
 
 -- where the lists end
 pub lists-inside : (es : List EnumEntry) (file : List ℕ) → Small file → (at : ℕ) → at ≤ length file → {l : List (List ℕ) × List Target × ℕ} {e : ℕ} → listsAt (judgedName es) file at ≡ read l e → e ≤ length file
-lists-inside es file s at h q = reads-bounds (lists-reads (named es) (judgedName es) (judges es) file) s at h q .1
+lists-inside es file s at h q = reads-bounds (lists-reads es (judgedName es) (judges es) file) s at h q .1
 
 header-length : (platform flags n : ℕ) → length (header platform flags n) ≡ 10
 unfolding header ascii little
@@ -291,9 +290,9 @@ lists-padded file count at padding readers t c p rows = ap inWord (rw (p, t, c) 
 listed-fits : (es : List EnumEntry) (file : List ℕ) (words : ℕ) → Small file → (rows : List Row) (readers shared : ℕ) → loadOf (judgedName es) file words ≡ accepted rows readers shared → inWord (filePadding file readers rows) ≡ filePadding file readers rows
 unfolding roomOf
 listed-fits es file words small rows readers shared e =
-    let a = accepted-is (named es) (judgedName es) (judges es) file words small rows readers shared e in
+    let a = accepted-is es (judgedName es) (judges es) file words small rows readers shared e in
     let f = a .0 in
-    let n : length rows ≤ 65536 = omega (arith, ap length (a .1), rows-fit (named es) (judgedName es) (judges es) file words f .0, f .room) in
+    let n : length rows ≤ 65536 = omega (arith, ap length (a .1), rows-fit es (judgedName es) (judges es) file words f .0, f .room) in
     in-word (filePadding file readers rows) (omega (arith, file-few file small readers rows, a .2, f .lays .lists .not-many))
 
 -- under a lent list

@@ -9,6 +9,7 @@ use lib.Dec.{leb}
 use lib.ListN.{length}
 use borrow.Author.Tests.{ne-eqb}
 use Rattle.laws.specs.Small.{differ}
+use Rattle.layout.specs.Named.{Lawful}
 use Rattle.layout.specs.Target.{Target, kindOf}
 use Rattle.layout.specs.Slot as L
 use Rattle.layout.specs.Slot.{stop, each}
@@ -34,7 +35,7 @@ use Rattle.reading.specs.Seven.{sevenAt}
 use Rattle.places.specs.Padding.{no-rows, id-alone, pad-few}
 use Rattle.table.specs.Loop.{Got, refusing}
 use Rattle.leaves.specs.Plain.{headOf}
-use Rattle.targets.specs.Code.{Lawful, Stands}
+use Rattle.targets.specs.Code.{Stands}
 use Rattle.targets.specs.Place.{kindAt}
 use Rattle.heads.specs.declared.nest.Nest.{Nest}
 use Rattle.heads.specs.declared.nest.Below.{Below}

@@ -14,7 +14,7 @@ use Rattle.layout.specs.Target.{Target}
 use Rattle.layout.specs.Name.{Name}
 use Rattle.layout.specs.File.{Entry, Entries}
 use Rattle.layout.specs.EnumList.{EnumEntry}
-use Rattle.layout.specs.Named.{Typed, unknown as no-type, known as has-type, readerOf, named}
+use Rattle.layout.specs.Named.{Typed, unknown as no-type, known as has-type, readerOf}
 use Rattle.layout.specs.Fault.{Fault}
 use Rattle.layout.specs.Complaint.{readerFaults, leftmost}
 use Rattle.names.specs.Parse.{Read, broken, name, nameOf}
@@ -109,7 +109,7 @@ module _ (es : List EnumEntry) where
     parts : drop at file ≡ before ++ (size ++ (name ++ rest))
     names : List (List ℕ)
     targets : List Target
-    listed : Entries (named es) names targets before
+    listed : Entries es names targets before
     fewer : length names < readers
     numbered : Seven (length name) size
     not-empty : 1 ≤ length name
@@ -156,7 +156,7 @@ module _ (es : List EnumEntry) where
         go k first nm end (inr (t, version, q, x)) = not-other i (other-bind _ (little-other file 4 version version) (λ v next. other-check _ 12 version refl of-read)) x
 
     -- a lawful reader before
-    one-more : (n at e : ℕ) (a : List ℕ × Target) → Spans file (λ a bs. Entry (named es) (a .0) (a .1) bs) at a e → Listed file n e number place → Listed file (suc n) at number place
+    one-more : (n at e : ℕ) (a : List ℕ × Target) → Spans file (λ a bs. Entry es (a .0) (a .1) bs) at a e → Listed file n e number place → Listed file (suc n) at number place
     unfolding Entries
     one-more n at e a v l =
         let bs = v .0 in
@@ -186,7 +186,7 @@ module _ (es : List EnumEntry) where
           ⊎ ((l : List (List ℕ) × List Target) × (g : ℕ) × (readersAt (judgedName es) file n f ≡ read l g)
           × (_≡_ {A = Answer (List (List ℕ) × List Target)} (read (a .0 ∷ l .0, a .1 ∷ l .1) g) (refused number place)))
           → Listed file (suc n) at number place
-      behind a f x again (inl q) = one-more n at f a (reader-reads (named es) (judgedName es) (judges es) file .sound small at .got x) (again f q)
+      behind a f x again (inl q) = one-more n at f a (reader-reads es (judgedName es) (judges es) file .sound small at .got x) (again f q)
       behind a f x again (inr (l, g, y, q)) = differ cc
 
       go : (readerAt (judgedName es) file at ≡ refused number place)

@@ -8,7 +8,7 @@ use Rattle.layout.specs.Target.{Target}
 use Rattle.layout.specs.Name.{Name, text, Formed}
 use Rattle.layout.specs.File.{Entries}
 use Rattle.layout.specs.EnumList.{EnumEntry, writeEnums, Enums}
-use Rattle.layout.specs.Named.{unknown, readerOf, named}
+use Rattle.layout.specs.Named.{unknown, readerOf}
 use Rattle.layout.specs.Fault.{Fault}
 use Rattle.layout.specs.Complaint.{readerFaults}
 use Rattle.load.specs.declared.Loading.{Loading}
@@ -30,7 +30,7 @@ pub record FirstName (es : List EnumEntry) (file : List ℕ) (P : (name : List �
   -- the readers before are lawful, with version 0, and fewer than the count
   pub names : List (List ℕ)
   pub targets : List Target
-  pub listed : Entries (named es) names targets before
+  pub listed : Entries es names targets before
   pub fewer : length names < readers
   -- 01: "a name (7-bit length 1 to 1,024, then bytes)"
   pub numbered : Seven (length name) number

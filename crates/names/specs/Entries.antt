@@ -1,6 +1,6 @@
 -- The entries that bytes hold, whatever the bytes are: a name length byte, the name, a byte; and so on. Assumes nothing.
-use mathlib.Core.Path.{_≡_, refl, ap, _∙_}
-use mathlib.Core.Bool.{Bool, true, false, _||_, cond}
+use mathlib.Core.Path.{_≡_, refl, sym, ap, _∙_}
+use mathlib.Core.Bool.{Bool, true, false, not, cond}
 use mathlib.Core.List.{List, [], _∷_, _++_}
 use mathlib.Core.Logic.{inl, inr}
 use Prim.Native.Nat.{ℕ, zero, suc, _+_, _≤_}
@@ -9,7 +9,7 @@ use lib.Dec.{eqb, ltb}
 use lib.ListN.{length, take, drop, getD, length-append}
 use lib.Seq.{take-append-seam, drop-append-add, getD-append-seam}
 use borrow.Author.Tests.{lt-ltb, eqb-true}
-use Rattle.laws.specs.Small.{either}
+use Rattle.laws.specs.Small.{differ}
 use Rattle.layout.specs.Kind.{KindEntry, kindEntry, alike, lookup}
 use Rattle.layout.specs.EnumList.{EnumEntry, entry, writeEnums, EnumSize, Enums, sizeIn}
 use Rattle.names.specs.Kind.{enumKind}
@@ -24,9 +24,9 @@ entriesIn (suc m) (l ∷ s) = cond (ltb l (length s)) (entry (take l s) (getD s 
 unfoldable pub entriesOf : List ℕ → List EnumEntry
 entriesOf s = entriesIn (length s) s
 
--- 02: "with sizes 1, 2, 4 or 8"
+-- a size that has a kind
 unfoldable pub isSize : ℕ → Bool
-isSize z = eqb z 1 || (eqb z 2 || (eqb z 4 || eqb z 8))
+isSize z = not (eqb (enumKind z) 0)
 
 -- a size, or 0 for a number that is none
 unfoldable pub lawfulSize : ℕ → ℕ
@@ -58,18 +58,29 @@ entries-written es = written-from es (length (writeEnums es)) (omega arith)
 
 -- the test of a size, both ways
 pub size-true : (z : ℕ) → EnumSize z → isSize z ≡ true
-unfolding EnumSize isSize
+unfolding EnumSize isSize enumKind
 size-true z (inl e) = rw e
 size-true z (inr (inl e)) = rw e
 size-true z (inr (inr (inl e))) = rw e
 size-true z (inr (inr (inr e))) = rw e
 
 pub true-size : (z : ℕ) → isSize z ≡ true → EnumSize z
-unfolding EnumSize isSize
-true-size z b =
-    either (eqb z 1) _ b (λ q. inl (eqb-true z 1 q))
-    (λ r. either (eqb z 2) _ r (λ q. inr (inl (eqb-true z 2 q)))
-    (λ r. either (eqb z 4) _ r (λ q. inr (inr (inl (eqb-true z 4 q)))) (λ q. inr (inr (inr (eqb-true z 8 q))))))
+unfolding EnumSize isSize enumKind
+true-size z b = go (eqb z 1) (eqb z 2) (eqb z 4) (eqb z 8) refl refl refl refl b where
+  go : (p q r s : Bool) → eqb z 1 ≡ p → eqb z 2 ≡ q → eqb z 4 ≡ r → eqb z 8 ≡ s → not (eqb (cond p 60 (cond q 61 (cond r 62 (cond s 63 0)))) 0) ≡ true → EnumSize z
+  go true q r s e f g h b = inl (eqb-true z 1 e)
+  go false true r s e f g h b = inr (inl (eqb-true z 2 f))
+  go false false true s e f g h b = inr (inr (inl (eqb-true z 4 g)))
+  go false false false true e f g h b = inr (inr (inr (eqb-true z 8 h)))
+  go false false false false e f g h b = differ cc
+
+-- no size is 0
+pub size-some : (z : ℕ) → EnumSize z → z ≡ 0 → ⊥
+unfolding EnumSize
+size-some z (inl e) q = omega arith
+size-some z (inr (inl e)) q = omega arith
+size-some z (inr (inr (inl e))) q = omega arith
+size-some z (inr (inr (inr e))) q = omega arith
 
 lawful-is : (z : ℕ) → EnumSize z → lawfulSize z ≡ z
 unfolding lawfulSize
@@ -90,7 +101,7 @@ pick-lawful true z x = refl
 pick-lawful false z x = refl
 
 size-lawful : (es : List EnumEntry) (h : List ℕ) → sizeIn (lawfully es) h ≡ lawfulSize (sizeIn es h)
-unfolding lawfully sizeIn lawfulSize isSize
+unfolding lawfully sizeIn lawfulSize isSize enumKind
 size-lawful [] h = refl
 size-lawful (entry n z ∷ es) h = rw (size-lawful es h, pick-lawful (alike h n) z (sizeIn es h))
 
@@ -108,12 +119,9 @@ enums-sized enums h f =
     let e = size-lawful (entriesOf enums) h in
     rw e (lawful-size (sizeIn (entriesOf enums) h) (λ q. f (e ∙ q)))
 
-by-size : (a b c d : Bool) → _≡_ {A = ℕ} (cond (a || (b || (c || d))) (cond a 60 (cond b 61 (cond c 62 (cond d 63 0)))) 0) (cond a 60 (cond b 61 (cond c 62 (cond d 63 0))))
-by-size true b c d = refl
-by-size false true c d = refl
-by-size false false true d = refl
-by-size false false false true = refl
-by-size false false false false = refl
+some-kind : (k : ℕ) (b : Bool) → eqb k 0 ≡ b → cond (not b) k 0 ≡ k
+some-kind k true e = sym (eqb-true k 0 e)
+some-kind k false e = refl
 
 pick-kind : (b : Bool) (z : ℕ) → enumKind (cond b z 0) ≡ cond b (enumKind z) 0
 unfolding enumKind
@@ -122,8 +130,8 @@ pick-kind false z = refl
 
 -- the kind of a listed name goes by the byte that the list has for it
 pub kind-listed : (enums h : List ℕ) → enumKind (sizeIn (enumsOf enums) h) ≡ enumKind (sizeIn (entriesOf enums) h)
-unfolding enumsOf lawfulSize isSize enumKind
-kind-listed enums h = ap enumKind (size-lawful (entriesOf enums) h) ∙ pick-kind (isSize z) z ∙ by-size (eqb z 1) (eqb z 2) (eqb z 4) (eqb z 8) where
+unfolding enumsOf lawfulSize isSize
+kind-listed enums h = ap enumKind (size-lawful (entriesOf enums) h) ∙ pick-kind (isSize z) z ∙ some-kind (enumKind z) (eqb (enumKind z) 0) refl where
   z : ℕ
   z = sizeIn (entriesOf enums) h
 

@@ -172,8 +172,8 @@ pub fn kind_of(head: &[u8], own: bool) -> u8
     target_kind(head)
 }
 
-// The kind of an enum type's code by its size.
-fn enum_kind(size: u8) -> u32
+// The kind of an enum type's code by its size, 0 for every other number.
+pub fn enum_kind(size: u8) -> u32
     ensures { λ r. ⌜ r ≡ enumKind size ⌝ }
 {
     if size == 1 {

@@ -14,7 +14,8 @@ use Rattle.layout.specs.Slot.{Plan, each, fontSlots}
 use Rattle.layout.specs.Layout.{Lays}
 use Rattle.layout.specs.Resource.{Within}
 use Rattle.layout.specs.Rows.{Row, row, width}
-use Rattle.layout.specs.Named.{plain, fixedKind}
+use Rattle.layout.specs.Fixed.{sizes}
+use Rattle.layout.specs.Named.{plain, fixedKind, Lawful}
 use Rattle.layout.specs.Shortest.{numbered}
 use Rattle.reading.specs.Answer.{Answer, read, bind, check}
 use Rattle.reading.specs.Reads.{Small}
@@ -24,8 +25,9 @@ use Rattle.reading.specs.Walk.{Taken, Outcome, point, sequence, rawAt, walk}
 use Rattle.reading.specs.Sound.{walks-sound}
 use Rattle.reading.specs.Bounds.{sequence-bounds}
 use Rattle.reading.specs.Drafts.{Draft, drafted, bare}
-use Rattle.targets.specs.Code.{codeKind, Lawful}
-use Rattle.targets.specs.Laws.{of-kind, kind-of-code, fixed-has-size}
+use Rattle.targets.specs.Code.{codeKind}
+use Rattle.targets.specs.Word.{fixed-has-size}
+use Rattle.targets.specs.Laws.{of-kind, kind-of-code}
 use Rattle.fonts.specs.FontWords.{fontWords}
 use Rattle.fonts.specs.Bridge.{font-judged, other-kind}
 use Rattle.table.specs.declared.Head.{Head}
@@ -133,7 +135,7 @@ module _ (g : Grid) (file : List ℕ) (small : Small file) (readers : List Targe
 
       -- the font rule over the words is that over the trees
       rule : (a : Taken) (e : ℕ) (w₁ : List ℕ) → seq ≡ read a e → w₁ ≡ written g w₀ (suc (h .row .0)) (a .1) → (b : Bool) → eqb (kindOf t) 33 ≡ b → fontOk point t (a .2) ≡ cond b (fontWords g file w₁ (h .row .0)) true
-      unfolding plain fixedKind
+      unfolding plain fixedKind sizes
       rule a e w₁ q words false z = other-kind t (a .2) (eqb-false (kindOf t) 33 z)
       rule a e w₁ q words true z =
           let s : t ≡ spriteFont = of-kind t spriteFont 33 lawful (code-of-kind t lawful 33 (λ q. omega arith) (eqb-true (kindOf t) 33 z)) refl in

@@ -15,6 +15,7 @@ use Rattle.layout.specs.Tree.{none, tree}
 use Rattle.layout.specs.Slot as L
 use Rattle.layout.specs.Slot.{Plan, raw, object}
 use Rattle.layout.specs.Rows.{row}
+use Rattle.layout.specs.Fixed.{sizes}
 use Rattle.layout.specs.Named.{plain, fixedKind}
 use Rattle.reading.specs.Answer.{Answer, refused, read, bind, check}
 use Rattle.reading.specs.Seven.{group, groups, sevenAt, seven-next}
@@ -152,7 +153,7 @@ module _ {file codes : List ℕ} {rd : Readers} {count i target : ℕ} (has : Ha
       rw p at (has .at)
 
   pub never-called : {k : ℕ} → i < count → k ≡ kindAt codes target → (k ≡ 14) ⊎ (k ≡ 31) → Identifies file codes readers d (suc i) (Refused 13)
-  unfolding plain fixedKind invoked
+  unfolding plain fixedKind sizes invoked
   never-called {k} h q w = inl (refl, omega arith, reader-at readers i g ∙ go w) where
     g : i < length readers
     g = omega (arith, l .counts, has .counts)

@@ -7,6 +7,7 @@ use Prim.Native.Nat.{ℕ, zero, suc, _+_, _-_}
 use native.Mathlib.Omega.{arith}
 use lib.Dec.{eqb}
 use lib.ListN.{length, drop, length-append}
+use Rattle.layout.specs.EnumList.{EnumEntry}
 use Rattle.layout.specs.Number.{little}
 use Rattle.layout.specs.Text.{ascii}
 use Rattle.layout.specs.Fixed.{sizes}
@@ -156,9 +157,9 @@ module _ (file : List ℕ) where
       simp (map-append, v, r)
 
   -- the same of a file tree whose bytes the file is
-  pub file-marks : (named : List ℕ → Target → Type 0) (ft : FileTree) (w : FileLays named ft file) → marks file (fileRows named ft file w) ≡ digest (ft .objects)
+  pub file-marks : (es : List EnumEntry) (ft : FileTree) (w : FileLays es ft file) → marks file (fileRows es ft file w) ≡ digest (ft .objects)
   unfolding fileRows header ascii little
-  file-marks named ft w =
+  file-marks es ft w =
       let b : drop 10 file ≡ w .before ++ w .values = ap (drop 10) (w .parts) in
       let z : drop (10 + length (w .before)) file ≡ w .values ++ [] = seam file 10 (w .before) (w .values) [] (b ∙ sym (append-nil (w .before ++ w .values))) in
       rows-marks (w .readers) (Resource (sharedOf (ft .objects))) (objectsPlan (count (sharedOf (ft .objects)))) (ft .objects) (w .values) (w .laid) (10 + length (w .before)) 0 0 [] z

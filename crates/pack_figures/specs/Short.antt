@@ -8,6 +8,7 @@ use native.Mathlib.Omega.{arith}
 use lib.Dec.{eqb, ltb}
 use lib.ListN.{length, length-append}
 use borrow.Author.Tests.{ltb-true}
+use Rattle.layout.specs.EnumList.{EnumEntry}
 use Rattle.layout.specs.Target.{Target}
 use Rattle.layout.specs.Tree.{Trees, none, tree, count, size, told}
 use Rattle.layout.specs.Slot.{Slot, raw, object, reference, leaf, Plan, stop, put}
@@ -75,9 +76,9 @@ module _ (most : ℕ) (readers : List Target) (refers : ℕ → ℕ → Type 0) 
       (value-short cs (λ plan b v at n q l. rows-short cs plan b v at n q l) x k i own (w .0) (w .3) at n q (omega (arith, ap length (w .2), length-append (w .0) (w .1))))
       (rows-short rest (go (told k own cs)) (w .1) (w .4) (at + length (w .0)) (n + suc (size cs)) q (omega (arith, ap length (w .2), length-append (w .0) (w .1))))
 
-file-short : (named : List ℕ → Target → Type 0) (ft : FileTree) (file : List ℕ) (w : FileLays named ft file) → Short 16777216 (fileRows named ft file w)
+file-short : (es : List EnumEntry) (ft : FileTree) (file : List ℕ) (w : FileLays es ft file) → Short 16777216 (fileRows es ft file w)
 unfolding fileRows
-file-short named ft file w =
+file-short es ft file w =
     rows-short 16777216 (w .readers) (Resource (sharedOf (ft .objects))) (ft .objects) (objectsPlan (count (sharedOf (ft .objects)))) (w .values) (w .laid) (10 + length (w .before)) 0 0
     (omega (arith, w .short, ap length (w .parts), length-append (header (ft .platform) (ft .flags) (length file)) (w .before ++ w .values), length-append (w .before) (w .values)))
 
@@ -141,13 +142,13 @@ refusal-below number image-bytes = omega arith
 refusal-below number (refusals n) = let h = some-or-none (eqb number n) 1 (omega arith) in omega arith
 refusal-below number (rows k) = omega arith
 
-module _ (named : List ℕ → Target → Type 0) (nameOf : ℕ → List ℕ → Named) (judges : Judges named nameOf) (file : List ℕ) (small : Small file) where
+module _ (es : List EnumEntry) (nameOf : ℕ → List ℕ → Named) (judges : Judges es nameOf) (file : List ℕ) (small : Small file) where
   pub load-below : (x : Answer Loaded) → fileAt nameOf file 65536 ≡ x → (f : Figure) → ofLoad x f ≤ 2 ^ 49
   unfolding ofLoad byRows
   load-below (refused n p) q f = refusal-below n f
   load-below (read a e) q f =
-      let v = file-sound named nameOf judges file 65536 small .got q in
-      let r : bare (a .rows) ≡ fileRows named (a .tree) file (v .lays) = ap bare (v .rows-are) ∙ file-bare named (a .tree) file (v .lays) in
-      let s : Short 16777216 (bare (a .rows)) = rw r (file-short named (a .tree) file (v .lays)) in
-      let n : length (bare (a .rows)) ≤ 65536 = omega (arith, ap length r, rows-count named (a .tree) file (v .lays), v .room-left) in
-      omega (arith, figures-are named nameOf judges file 65536 small a e q f, accepted-below f, marks-below file (bare (a .rows)) f s)
+      let v = file-sound es nameOf judges file 65536 small .got q in
+      let r : bare (a .rows) ≡ fileRows es (a .tree) file (v .lays) = ap bare (v .rows-are) ∙ file-bare es (a .tree) file (v .lays) in
+      let s : Short 16777216 (bare (a .rows)) = rw r (file-short es (a .tree) file (v .lays)) in
+      let n : length (bare (a .rows)) ≤ 65536 = omega (arith, ap length r, rows-count es (a .tree) file (v .lays), v .room-left) in
+      omega (arith, figures-are es nameOf judges file 65536 small a e q f, accepted-below f, marks-below file (bare (a .rows)) f s)

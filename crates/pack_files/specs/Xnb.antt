@@ -11,7 +11,6 @@ use borrow.Author.Tests.{eq-eqb, ne-eqb}
 use Rattle.laws.specs.Small.{differ}
 use Rattle.layout.specs.Text.{ascii}
 use Rattle.layout.specs.Rows.{flat, width}
-use Rattle.layout.specs.Named.{named}
 use Rattle.layout.specs.Table.{roomOf}
 use Rattle.reading.specs.Answer.{Answer, refused, read}
 use Rattle.reading.specs.Reads.{Small}
@@ -41,14 +40,14 @@ module _ (enums content : List ℕ) (small : Small content) where
   opened-rows a e q f = go (enumsAt enums) q where
     go : (j : Judgement) → underList j (λ es. fileAt (judgedName es) content 65536) ≡ read a e → ofLoad (read a e) f ≡ byRows content (bare (a .rows)) f
     go (list-refused n i) q = differ cc
-    go (lawful es) q = figures-are (named es) (judgedName es) (judges es) content 65536 small a e q f
+    go (lawful es) q = figures-are es (judgedName es) (judges es) content 65536 small a e q f
 
   opened-below : (f : Figure) → ofLoad (opened enums content) f ≤ 2 ^ 49
   unfolding fileUnder underList ofLoad
   opened-below f = go (enumsAt enums) where
     go : (j : Judgement) → ofLoad (underList j (λ es. fileAt (judgedName es) content 65536)) f ≤ 2 ^ 49
     go (list-refused n i) = refusal-below n f
-    go (lawful es) = load-below (named es) (judgedName es) (judges es) content small (fileAt (judgedName es) content 65536) refl f
+    go (lawful es) = load-below es (judgedName es) (judges es) content small (fileAt (judgedName es) content 65536) refl f
 
   other-below : (f : Figure) → ofOther f ≤ 1
   unfolding ofOther

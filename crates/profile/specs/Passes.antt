@@ -8,6 +8,7 @@ use native.Mathlib.Omega.{arith}
 use lib.ListN.{length, drop}
 use mathlib.Core.Logic.{_⊎_, inl, inr}
 use Rattle.laws.specs.Small.{differ}
+use Rattle.layout.specs.EnumList.{EnumEntry}
 use Rattle.layout.specs.Number.{little}
 use Rattle.layout.specs.Text.{ascii}
 use Rattle.layout.specs.Target.{Target}
@@ -19,7 +20,8 @@ use Rattle.reading.specs.Reads.{Small}
 use Rattle.reading.specs.Front.{lists-reads}
 use Rattle.reading.specs.Accepts.{entries-length}
 use Rattle.reading.specs.File.{Named, Judges, listsAt, Load, refusal, accepted, loadOf}
-use Rattle.reading.specs.Theorems.{Accepts, Fitting, rowsIn, rows-are, accepted-is}
+use Rattle.layout.specs.Fits.{FittingTree, rowsIn}
+use Rattle.reading.specs.Theorems.{Accepts, rows-are, accepted-is}
 use Rattle.places.specs.Places.{filePlaces}
 use Rattle.places.specs.Padding.{padding}
 use Rattle.shortest.specs.Theorems.{padding-is, stays}
@@ -76,10 +78,10 @@ unfolding uses
 one-used id (inl a) = a
 one-used id (inr e) = differ cc
 
-module _ (named : List ℕ → Target → Type 0) (nameOf : ℕ → List ℕ → Named) (judges : Judges named nameOf) (file : List ℕ) (words : ℕ) where
-  module _ (f : Fitting named file words) where
+module _ (es : List EnumEntry) (nameOf : ℕ → List ℕ → Named) (judges : Judges es nameOf) (file : List ℕ) (words : ℕ) where
+  module _ (f : FittingTree es file words) where
     abbrev rows : List Row
-    rows = rowsIn named f
+    rows = rowsIn f
 
     readers : List Target
     readers = f .lays .readers
@@ -87,44 +89,44 @@ module _ (named : List ℕ → Target → Type 0) (nameOf : ℕ → List ℕ →
     abbrev objects : Trees
     objects = f .tree .objects
 
-    stands : Stand file (f .tree .objects) (rowsIn named f)
-    stands = file-stand file named (f .tree) (f .lays)
+    stands : Stand file (f .tree .objects) (rowsIn f)
+    stands = file-stand file es (f .tree) (f .lays)
 
-    no-post : rowsIn named f ++ [] ≡ rowsIn named f
-    no-post = append-nil (rowsIn named f)
+    no-post : rowsIn f ++ [] ≡ rowsIn f
+    no-post = append-nil (rowsIn f)
 
     count-is : length (f .lays .readers) ≡ length (f .tree .names)
-    count-is = entries-length named (f .tree .names) (f .lays .readers) (f .lays .lists .entries) (f .lays .lists .listed)
+    count-is = entries-length es (f .tree .names) (f .lays .readers) (f .lays .lists .entries) (f .lays .lists .listed)
 
     -- no padding is the shortest bytes
-    pad-is : length file ≡ length (shortFile (f .tree)) + padding file (filePlaces file (length (f .lays .readers)) (rowsIn named f))
-    pad-is = rw count-is (padding-is named nameOf judges file words f)
+    pad-is : length file ≡ length (shortFile (f .tree)) + padding file (filePlaces file (length (f .lays .readers)) (rowsIn f))
+    pad-is = rw count-is (padding-is es nameOf judges file words f)
 
-    clean-profile : Clean file (f .lays .readers) (rowsIn named f) → Profile (f .tree) (f .lays .readers) file
+    clean-profile : Clean file (f .lays .readers) (rowsIn f) → Profile (f .tree) (f .lays .readers) file
     unfolding nextless repeated
     clean-profile c = record {
-      platform = platform-none named (f .tree) file (f .lays) (c .c41);
+      platform = platform-none es (f .tree) file (f .lays) (c .c41);
       shortest =
-          let z = padded-none file (filePlaces file (length (f .lays .readers)) (rowsIn named f)) (c .c42) in
-          sym (stays named nameOf judges file words f (omega (arith, pad-is)));
-      used = λ i h. one-used (suc i) (uses-some file i (f .tree .objects) (rowsIn named f) [] stands
-          (rw no-post (unused-none file (rowsIn named f) (length (f .lays .readers)) 0 (c .c43) i (omega arith) (omega arith))));
+          let z = padded-none file (filePlaces file (length (f .lays .readers)) (rowsIn f)) (c .c42) in
+          sym (stays es nameOf judges file words f (omega (arith, pad-is)));
+      used = λ i h. one-used (suc i) (uses-some file i (f .tree .objects) (rowsIn f) [] stands
+          (rw no-post (unused-none file (rowsIn f) (length (f .lays .readers)) 0 (c .c43) i (omega arith) (omega arith))));
       distinct = all-distinct (f .lays .readers) (doubled-none file [] (f .lays .readers) 0 (c .c44) .1);
-      keys = repeated-none file (f .tree .objects) (rowsIn named f) [] stands (rw no-post (c .c45)) .0;
-      first = page-none file (f .tree .objects) (rowsIn named f) stands (c .c46);
-      nexts = nextless-none file (f .tree .objects) (rowsIn named f) [] stands (rw no-post (c .c47)) .0;
+      keys = repeated-none file (f .tree .objects) (rowsIn f) [] stands (rw no-post (c .c45)) .0;
+      first = page-none file (f .tree .objects) (rowsIn f) stands (c .c46);
+      nexts = nextless-none file (f .tree .objects) (rowsIn f) [] stands (rw no-post (c .c47)) .0;
     }
 
-    profile-clean : Profile (f .tree) (f .lays .readers) file → Clean file (f .lays .readers) (rowsIn named f)
+    profile-clean : Profile (f .tree) (f .lays .readers) file → Clean file (f .lays .readers) (rowsIn f)
     unfolding nextless repeated SeenOther
     profile-clean p = record {
-      c41 = none-platform named (f .tree) file (f .lays) (p .platform);
-      c42 = none-padded file (filePlaces file (length (f .lays .readers)) (rowsIn named f)) (omega (arith, pad-is, ap length (p .shortest)));
-      c43 = none-unused file (rowsIn named f) (length (f .lays .readers)) 0 (λ i g h. rw no-post at (some-uses file i (f .tree .objects) (rowsIn named f) [] stands (p .used i (omega arith))));
+      c41 = none-platform es (f .tree) file (f .lays) (p .platform);
+      c42 = none-padded file (filePlaces file (length (f .lays .readers)) (rowsIn f)) (omega (arith, pad-is, ap length (p .shortest)));
+      c43 = none-unused file (rowsIn f) (length (f .lays .readers)) 0 (λ i g h. rw no-post at (some-uses file i (f .tree .objects) (rowsIn f) [] stands (p .used i (omega arith))));
       c44 = none-doubled file [] (f .lays .readers) 0 tt (distinct-all (f .lays .readers) (p .distinct));
-      c45 = rw no-post at (none-repeated file (f .tree .objects) (rowsIn named f) [] stands (p .keys) refl);
-      c46 = none-page file (f .tree .objects) (rowsIn named f) stands (p .first);
-      c47 = rw no-post at (none-nextless file (f .tree .objects) (rowsIn named f) [] stands (p .nexts) refl);
+      c45 = rw no-post at (none-repeated file (f .tree .objects) (rowsIn f) [] stands (p .keys) refl);
+      c46 = none-page file (f .tree .objects) (rowsIn f) stands (p .first);
+      c47 = rw no-post at (none-nextless file (f .tree .objects) (rowsIn f) [] stands (p .nexts) refl);
     }
 
     -- the targets of the readers, as reading has them
@@ -134,29 +136,29 @@ module _ (named : List ℕ → Target → Type 0) (nameOf : ℕ → List ℕ →
         let w = f .lays in
         let s = count (sharedOf (f .tree .objects)) in
         let b : drop 10 file ≡ w .before ++ w .values = ap (drop 10) (w .parts) in
-        rw (lists-reads named nameOf judges file .complete (f .tree .names, w .readers, s) (w .before) (w .values) 10 (w .lists) b)
+        rw (lists-reads es nameOf judges file .complete (f .tree .names, w .readers, s) (w .before) (w .values) 10 (w .lists) b)
 
   -- what the driver's loader answers for a file that the plain one accepts
-  pub driver-is : (f : Fitting named file words)
-      → driverOf nameOf file words ≡ byFault (faultOf file (f .lays .readers) (rowsIn named f)) (accepted (rowsIn named f) (length (f .tree .names)) (count (sharedOf (f .tree .objects))))
+  pub driver-is : (f : FittingTree es file words)
+      → driverOf nameOf file words ≡ byFault (faultOf file (f .lays .readers) (rowsIn f)) (accepted (rowsIn f) (length (f .tree .names)) (count (sharedOf (f .tree .objects))))
   unfolding driverOf profiled
-  driver-is f = rw (rows-are named nameOf judges file words f, targets-are f)
+  driver-is f = rw (rows-are es nameOf judges file words f, targets-are f)
 
-  passed : Small file → (x : Load) → loadOf nameOf file words ≡ x → Accepts (driverOf nameOf file words) → (f : Fitting named file words) × Profile (f .tree) (f .lays .readers) file
+  passed : Small file → (x : Load) → loadOf nameOf file words ≡ x → Accepts (driverOf nameOf file words) → (f : FittingTree es file words) × Profile (f .tree) (f .lays .readers) file
   unfolding driverOf profiled Accepts
   passed small (refusal n p) e a = absurd (rw e at a)
   passed small (accepted rows readers shared) e a =
-      let g = accepted-is named nameOf judges file words small rows readers shared e in
+      let g = accepted-is es nameOf judges file words small rows readers shared e in
       let f = g .0 in
-      let b = by-fault (faultOf file (f .lays .readers) (rowsIn named f)) (accepted (rowsIn named f) (length (f .tree .names)) (count (sharedOf (f .tree .objects)))) (rw (driver-is f) at a) in
-      (f, clean-profile f (fine-clean file (f .lays .readers) (rowsIn named f) (b .0)))
+      let b = by-fault (faultOf file (f .lays .readers) (rowsIn f)) (accepted (rowsIn f) (length (f .tree .names)) (count (sharedOf (f .tree .objects)))) (rw (driver-is f) at a) in
+      (f, clean-profile f (fine-clean file (f .lays .readers) (rowsIn f) (b .0)))
 
   -- "Its rows are then the plain loader's"
-  pub same-answer : (f : Fitting named file words) → Profile (f .tree) (f .lays .readers) file → driverOf nameOf file words ≡ loadOf nameOf file words
+  pub same-answer : (f : FittingTree es file words) → Profile (f .tree) (f .lays .readers) file → driverOf nameOf file words ≡ loadOf nameOf file words
   unfolding byFault
-  same-answer f p = driver-is f ∙ rw (clean-fine file (f .lays .readers) (rowsIn named f) (profile-clean f p)) (sym (rows-are named nameOf judges file words f))
+  same-answer f p = driver-is f ∙ rw (clean-fine file (f .lays .readers) (rowsIn f) (profile-clean f p)) (sym (rows-are es nameOf judges file words f))
 
   -- "A file passes exactly if the plain loader accepts it and these hold."
-  pub passes : Small file → Accepts (driverOf nameOf file words) ↔ ((f : Fitting named file words) × Profile (f .tree) (f .lays .readers) file)
+  pub passes : Small file → Accepts (driverOf nameOf file words) ↔ ((f : FittingTree es file words) × Profile (f .tree) (f .lays .readers) file)
   unfolding Accepts
-  passes small = (λ a. passed small (loadOf nameOf file words) refl a, λ p. rw (same-answer (p .0) (p .1), rows-are named nameOf judges file words (p .0)) tt)
+  passes small = (λ a. passed small (loadOf nameOf file words) refl a, λ p. rw (same-answer (p .0) (p .1), rows-are es nameOf judges file words (p .0)) tt)

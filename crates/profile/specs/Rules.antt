@@ -10,6 +10,7 @@ use lib.Dec.{eqb}
 use lib.ListN.{length, getD}
 use borrow.Author.Tests.{eqb-true, eqb-false, eq-eqb, ne-eqb}
 use Rattle.laws.specs.Small.{differ, neither}
+use Rattle.layout.specs.EnumList.{EnumEntry}
 use Rattle.layout.specs.Text.{ascii}
 use Rattle.layout.specs.Number.{little}
 use Rattle.layout.specs.Target.{Target, object}
@@ -31,7 +32,7 @@ not-false false e = differ cc
 
 -- ---- 41
 
-module _ (named : List ℕ → Target → Type 0) (ft : FileTree) (file : List ℕ) (w : FileLays named ft file) where
+module _ (es : List EnumEntry) (ft : FileTree) (file : List ℕ) (w : FileLays es ft file) where
   platform-byte : getD file 3 0 ≡ ft .platform
   unfolding header ascii little
   platform-byte = ap (λ (l : List ℕ). getD l 3 0) (w .parts)

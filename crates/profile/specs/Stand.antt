@@ -8,6 +8,7 @@ use native.Mathlib.Omega.{arith}
 use lib.ListN.{length, take, drop}
 use lib.Seq.{take-append-seam}
 use borrow.Author.Tests.{eqb-false}
+use Rattle.layout.specs.EnumList.{EnumEntry}
 use Rattle.layout.specs.Number.{little}
 use Rattle.layout.specs.Text.{ascii}
 use Rattle.layout.specs.Fixed.{sizes}
@@ -187,9 +188,9 @@ module _ (file : List ℕ) where
       (v .0, v .1, behind, ap (λ (l : List Row). l ++ behind) (v .2), v .3, v .4, r)
 
   -- the rows of a file tree whose bytes the file is
-  pub file-stand : (named : List ℕ → Target → Type 0) (ft : FileTree) (w : FileLays named ft file) → Stand file (ft .objects) (fileRows named ft file w)
+  pub file-stand : (es : List EnumEntry) (ft : FileTree) (w : FileLays es ft file) → Stand file (ft .objects) (fileRows es ft file w)
   unfolding fileRows header ascii little
-  file-stand named ft w =
+  file-stand es ft w =
       let b : drop 10 file ≡ w .before ++ w .values = ap (drop 10) (w .parts) in
       let z : drop (10 + length (w .before)) file ≡ w .values ++ [] = seam file 10 (w .before) (w .values) [] (b ∙ sym (append-nil (w .before ++ w .values))) in
       rows-stand (w .readers) (Resource (sharedOf (ft .objects))) (objectsPlan (count (sharedOf (ft .objects)))) (ft .objects) (w .values) (w .laid) (10 + length (w .before)) 0 0 [] z

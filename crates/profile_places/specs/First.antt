@@ -10,6 +10,7 @@ use lib.Dec.{eqb}
 use lib.ListN.{length, getD}
 use borrow.Author.Tests.{eqb-true, eqb-false}
 use Rattle.laws.specs.Small.{differ}
+use Rattle.layout.specs.EnumList.{EnumEntry}
 use Rattle.layout.specs.Target.{Target}
 use Rattle.layout.specs.Rows.{Row}
 use Rattle.layout.specs.File.{FileTree, FileLays, fileRows}
@@ -120,41 +121,41 @@ module _ (file : List ℕ) (readers : List Target) (rows : List Row) where
 
 -- ---- Of a file tree
 
-module _ (named : List ℕ → Target → Type 0) (ft : FileTree) (file : List ℕ) (small : Small file) (w : FileLays named ft file) where
+module _ (es : List EnumEntry) (ft : FileTree) (file : List ℕ) (small : Small file) (w : FileLays es ft file) where
   abbrev rows : List Row
-  rows = fileRows named ft file w
+  rows = fileRows es ft file w
 
-  stands : Stand file (ft .objects) (fileRows named ft file w)
-  stands = file-stand file named ft w
+  stands : Stand file (ft .objects) (fileRows es ft file w)
+  stands = file-stand file es ft w
 
   -- 41
-  platform-lowest : Lowest (PlatformAt ft (w .readers) file (fileRows named ft file w)) (firstPlace (otherPlatform file))
+  platform-lowest : Lowest (PlatformAt ft (w .readers) file (fileRows es ft file w)) (firstPlace (otherPlatform file))
   unfolding otherPlatform wrongAt Lowest
-  platform-lowest = go (eqb (getD file 3 0) 0x77) refl (platform-none named ft file w) (none-platform named ft file w) where
+  platform-lowest = go (eqb (getD file 3 0) 0x77) refl (platform-none es ft file w) (none-platform es ft file w) where
     go : (b : Bool) → eqb (getD file 3 0) 0x77 ≡ b → (wrongAt (not b) 3 ≡ [] → ft .platform ≡ code "w") → (ft .platform ≡ code "w" → wrongAt (not b) 3 ≡ [])
-        → Lowest (PlatformAt ft (w .readers) file (fileRows named ft file w)) (firstPlace (wrongAt (not b) 3))
+        → Lowest (PlatformAt ft (w .readers) file (fileRows es ft file w)) (firstPlace (wrongAt (not b) 3))
     go true e f g = λ p x. x .1 (f refl)
     go false e f g = ((refl, λ x. let z = g x in differ cc), λ q x. let y = x .0 in omega arith)
 
-  numbers-there : Lowest (BrokenAt ft (w .readers) file (fileRows named ft file w) numbers) (placeOf file (w .readers) (fileRows named ft file w) numbers)
+  numbers-there : Lowest (BrokenAt ft (w .readers) file (fileRows es ft file w) numbers) (placeOf file (w .readers) (fileRows es ft file w) numbers)
   unfolding placeOf BrokenAt
-  numbers-there = rw (entries-length named (ft .names) (w .readers) (w .lists .entries) (w .lists .listed)) (numbers-lowest named ft (w .readers) file (fileRows named ft file w) w)
+  numbers-there = rw (entries-length es (ft .names) (w .readers) (w .lists .entries) (w .lists .listed)) (numbers-lowest es ft (w .readers) file (fileRows es ft file w) w)
 
   -- the loader finds each rule broken where it first is
-  there : (r : Rule) → Lowest (BrokenAt ft (w .readers) file (fileRows named ft file w) r) (placeOf file (w .readers) (fileRows named ft file w) r)
+  there : (r : Rule) → Lowest (BrokenAt ft (w .readers) file (fileRows es ft file w) r) (placeOf file (w .readers) (fileRows es ft file w) r)
   unfolding placeOf BrokenAt
   there platform = platform-lowest
   there numbers = numbers-there
-  there used = unused-lowest named ft file small (fileRows named ft file w) w stands
-  there distinct = doubled-lowest named ft file small (fileRows named ft file w) w
-  there keys = keys-lowest file (ft .objects) (fileRows named ft file w) stands
-  there page = page-lowest file (ft .objects) (fileRows named ft file w) stands
-  there nexts = nexts-lowest file (ft .objects) (fileRows named ft file w) _ _ stands (file-flat named ft file w) (file-rise named ft file w)
+  there used = unused-lowest es ft file small (fileRows es ft file w) w stands
+  there distinct = doubled-lowest es ft file small (fileRows es ft file w) w
+  there keys = keys-lowest file (ft .objects) (fileRows es ft file w) stands
+  there page = page-lowest file (ft .objects) (fileRows es ft file w) stands
+  there nexts = nexts-lowest file (ft .objects) (fileRows es ft file w) _ _ stands (file-flat es ft file w) (file-rise es ft file w)
 
-  pub first-broken : (n p : ℕ) → faultOf file (w .readers) (fileRows named ft file w) ≡ fault n p → FirstBroken ft (w .readers) file (fileRows named ft file w) n p
+  pub first-broken : (n p : ℕ) → faultOf file (w .readers) (fileRows es ft file w) ≡ fault n p → FirstBroken ft (w .readers) file (fileRows es ft file w) n p
   unfolding Lowest
   first-broken n p e =
-      let x = found file (w .readers) (fileRows named ft file w) n p e in
+      let x = found file (w .readers) (fileRows es ft file w) n p e in
       let l = rw (x .2) at (there (x .0)) in
       record {
         rule = x .0;

@@ -9,6 +9,7 @@ use lib.Dec.{eqb}
 use lib.ListN.{length, take, drop, getD, length-append}
 use borrow.Author.Tests.{eqb-true, eqb-false}
 use Rattle.laws.specs.Small.{differ}
+use Rattle.layout.specs.EnumList.{EnumEntry}
 use Rattle.layout.specs.Number.{little}
 use Rattle.layout.specs.Text.{ascii}
 use Rattle.layout.specs.Target.{Target}
@@ -47,8 +48,8 @@ entries-at [] i h = absurd (omega arith)
 entries-at (name ∷ names) zero h = refl
 entries-at (name ∷ names) (suc i) h = ap (λ (l : List Piece). number (length name) ∷ plain (name ++ little 4 0) ∷ l) (entries-at names i (omega arith))
 
-module _ (file : List ℕ) (named : List ℕ → Target → Type 0) where
-  entries-end : (names : List (List ℕ)) (readers : List Target) (bs others : List ℕ) (at i : ℕ) → Entries named names readers bs → drop at file ≡ bs ++ others → i ≤ length names
+module _ (file : List ℕ) (es : List EnumEntry) where
+  entries-end : (names : List (List ℕ)) (readers : List Target) (bs others : List ℕ) (at i : ℕ) → Entries es names readers bs → drop at file ≡ bs ++ others → i ≤ length names
       → entriesEnd file i at ≡ endOf file (entriesPieces (take i names)) at
   unfolding Entries entriesEnd entriesPieces endOf
   entries-end names readers bs others at zero w d h = refl
@@ -63,7 +64,7 @@ module _ (file : List ℕ) (named : List ℕ → Target → Type 0) where
       = ap (λ (x : ℕ). x + length (name ++ little 4 0)) (past-is file at (length name) (at + length (y .number)) n) ∙ sym (s .2) in
       ap (entriesEnd file i) z ∙ entries-end names readers rest others (at + length b) i w (c .1) (omega arith) ∙ sym (ap (endOf file (entriesPieces (take i names))) x)
 
-module _ (named : List ℕ → Target → Type 0) (ft : FileTree) (readers : List Target) (file : List ℕ) (rows : List Row) (w : FileLays named ft file) where
+module _ (es : List EnumEntry) (ft : FileTree) (readers : List Target) (file : List ℕ) (rows : List Row) (w : FileLays es ft file) where
   abbrev Named : (i place : ℕ) → Type 0
   Named = NameAt ft readers file rows
 
@@ -75,7 +76,7 @@ module _ (named : List ℕ → Target → Type 0) (ft : FileTree) (readers : Lis
       let c = split file 10 (w .before) (l .number) (l .entries ++ l .shared-number) (w .values) (l .parts) b in
       let d = split file (10 + length (l .number)) (l .entries ++ l .shared-number) (l .entries) (l .shared-number) (w .values) refl (c .1) in
       let n = past-is file 10 (length (ft .names)) (10 + length (l .number)) (number-is file (length (ft .names)) 10 (l .number) ((l .entries ++ l .shared-number) ++ w .values) (l .numbered) (c .0)) in
-      let e = entries-end file named (ft .names) (w .readers) (l .entries) (l .shared-number ++ w .values) (10 + length (l .number)) i (l .listed) (d .0) (omega arith) in
+      let e = entries-end file es (ft .names) (w .readers) (l .entries) (l .shared-number ++ w .values) (10 + length (l .number)) i (l .listed) (d .0) (omega arith) in
       end-append file (entriesPieces (take i (ft .names))) (number (length (getD (ft .names) i [])) ∷ []) (past (sevenAt file 10) 10)
       ∙ ap (λ (k : ℕ). past (sevenAt file k) k) (ap (endOf file (entriesPieces (take i (ft .names)))) n ∙ sym e ∙ ap (entriesEnd file i) (sym n))
 
@@ -93,7 +94,7 @@ module _ (named : List ℕ → Target → Type 0) (ft : FileTree) (readers : Lis
       let e : filePieces ft ≡ (number (length (ft .names)) ∷ (before ++ (n ∷ []))) ++ (behind ++ objects)
       = ap (λ (l : List Piece). number (length (ft .names)) ∷ l)
       (ap (λ (l : List Piece). l ++ objects) (entries-at (ft .names) i h) ∙ append-assoc before (n ∷ behind) objects ∙ sym (append-assoc before (n ∷ []) (behind ++ objects))) in
-      let s = written-split (number (length (ft .names)) ∷ (before ++ (n ∷ []))) (behind ++ objects) (drop 10 file) (rw e at (file-written named ft file w)) in
+      let s = written-split (number (length (ft .names)) ∷ (before ++ (n ∷ []))) (behind ++ objects) (drop 10 file) (rw e at (file-written es ft file w)) in
       (s .0, s .1, s .2, s .3, sym (start-is i h) ∙ written-end file _ (s .0) (s .1) 10 (s .3) (s .2))
 
 -- ---- Names rise
@@ -168,9 +169,9 @@ module _ (file : List ℕ) (rows : List Row) where
             inl (among-wrong (not (uses (suc from) rows)) (nameStart file from) p (true-not (uses (suc from) rows) (rw z at u)) (rw z at e))
         go false q f = inr (f (omega (arith, eqb-false i from q)))
 
-module _ (named : List ℕ → Target → Type 0) (ft : FileTree) (file : List ℕ) (small : Small file) (rows : List Row) (w : FileLays named ft file) (stands : Stand file (ft .objects) rows) where
+module _ (es : List EnumEntry) (ft : FileTree) (file : List ℕ) (small : Small file) (rows : List Row) (w : FileLays es ft file) (stands : Stand file (ft .objects) rows) where
   names-count : length (w .readers) ≡ length (ft .names)
-  names-count = entries-length named (ft .names) (w .readers) (w .lists .entries) (w .lists .listed)
+  names-count = entries-length es (ft .names) (w .readers) (w .lists .entries) (w .lists .listed)
 
   -- 43
   pub unused-lowest : Lowest (UnusedAt ft (w .readers) file rows) (firstPlace (unused file rows (length (w .readers)) 0))
@@ -181,7 +182,7 @@ module _ (named : List ℕ → Target → Type 0) (ft : FileTree) (file : List �
           i,
           omega arith,
           (λ s. u (rw (append-nil rows) at (some-uses file i (ft .objects) rows [] stands s))),
-          rw (← e) (named-at named ft (w .readers) file rows w i (omega (arith, names-count))),
+          rw (← e) (named-at es ft (w .readers) file rows w i (omega (arith, names-count))),
         )
 
         from : (p : ℕ) → UnusedAt ft (w .readers) file rows p → UnusedOf file rows (length (w .readers)) 0 p
@@ -190,7 +191,7 @@ module _ (named : List ℕ → Target → Type 0) (ft : FileTree) (file : List �
           omega arith,
           omega arith,
           (λ s. u (one-used (suc i) (uses-some file i (ft .objects) rows [] stands (rw (append-nil rows) s)))),
-          starts named ft (w .readers) file rows w i p (omega (arith, names-count)) n,
+          starts es ft (w .readers) file rows w i p (omega (arith, names-count)) n,
         )
 
 -- ---- 44
@@ -255,22 +256,22 @@ module _ (file : List ℕ) where
         later (inr (zero, l, q)) = inl (0, omega arith, q)
         later (inr (suc i, l, q)) = inr (i, omega arith, q)
 
-module _ (named : List ℕ → Target → Type 0) (ft : FileTree) (file : List ℕ) (small : Small file) (rows : List Row) (w : FileLays named ft file) where
+module _ (es : List EnumEntry) (ft : FileTree) (file : List ℕ) (small : Small file) (rows : List Row) (w : FileLays es ft file) where
   -- 44
   pub doubled-lowest : Lowest (DoubledAt ft (w .readers) file rows) (firstPlace (doubled file [] (w .readers) 0))
   doubled-lowest = first-lowest (DoubledAt ft (w .readers) file rows) (doubled file [] (w .readers) 0) (rise-least (nameStart file 0) (doubled file [] (w .readers) 0) (doubled-rise file small [] (w .readers) 0))
       (λ p m. to p (among-doubled file [] (w .readers) 0 p m)) (λ p x. doubled-among file [] (w .readers) 0 p (from p x)) where
         names-count : length (w .readers) ≡ length (ft .names)
-        names-count = entries-length named (ft .names) (w .readers) (w .lists .entries) (w .lists .listed)
+        names-count = entries-length es (ft .names) (w .readers) (w .lists .entries) (w .lists .listed)
 
         to : (p : ℕ) → DoubledOf file [] (w .readers) 0 p → DoubledAt ft (w .readers) file rows p
         to p (j, h, inl (i, l, q), e) = absurd (omega arith)
         to p (j, h, inr (i, l, q), e) =
             let z : 0 + j ≡ j = omega arith in
             let f : nameStart file j ≡ p = ap (nameStart file) (sym z) ∙ e in
-            (i, j, l, h, q, rw (← f) (named-at named ft (w .readers) file rows w j (omega (arith, names-count))))
+            (i, j, l, h, q, rw (← f) (named-at es ft (w .readers) file rows w j (omega (arith, names-count))))
 
         from : (p : ℕ) → DoubledAt ft (w .readers) file rows p → DoubledOf file [] (w .readers) 0 p
         from p (i, j, l, h, q, n) =
             let z : 0 + j ≡ j = omega arith in
-            (j, h, inr (i, l, q), ap (nameStart file) z ∙ starts named ft (w .readers) file rows w j p (omega (arith, names-count)) n)
+            (j, h, inr (i, l, q), ap (nameStart file) z ∙ starts es ft (w .readers) file rows w j p (omega (arith, names-count)) n)

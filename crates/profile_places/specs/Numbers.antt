@@ -8,6 +8,7 @@ use native.Mathlib.Omega.{arith}
 use lib.Dec.{eqb}
 use lib.ListN.{length, drop, length-append}
 use borrow.Author.Tests.{eqb-true, eqb-false, eq-eqb, ne-eqb}
+use Rattle.layout.specs.EnumList.{EnumEntry}
 use Rattle.layout.specs.Number.{Seven, little}
 use Rattle.layout.specs.Text.{ascii}
 use Rattle.layout.specs.Target.{Target}
@@ -145,26 +146,26 @@ module _ (file : List ℕ) where
   unfolding behindEntry past numberOf
   behind-is at n end e = rw e
 
-  entries-places : (named : List ℕ → Target → Type 0) (names : List (List ℕ)) (readers : List Target) (bs others : List ℕ) (at : ℕ) → Entries named names readers bs → drop at file ≡ bs ++ others
+  entries-places : (es : List EnumEntry) (names : List (List ℕ)) (readers : List Target) (bs others : List ℕ) (at : ℕ) → Entries es names readers bs → drop at file ≡ bs ++ others
       → (entriesPlaces file (length names) at ≡ numberPlaces file (entriesPieces names) at) × (entriesEnd file (length names) at ≡ endOf file (entriesPieces names) at)
   unfolding Entries entriesPlaces entriesEnd entriesPieces numberPlaces endOf
-  entries-places named [] [] bs others at w d = (refl, refl)
-  entries-places named [] (t ∷ readers) bs others at w d = absurd w
-  entries-places named (name ∷ names) [] bs others at w d = absurd w
-  entries-places named (name ∷ names) (t ∷ readers) bs others at (b, rest, e, y, w) d =
+  entries-places es [] [] bs others at w d = (refl, refl)
+  entries-places es [] (t ∷ readers) bs others at w d = absurd w
+  entries-places es (name ∷ names) [] bs others at w d = absurd w
+  entries-places es (name ∷ names) (t ∷ readers) bs others at (b, rest, e, y, w) d =
       let c = split file at bs b rest others e d in
       let s = split file at b (y .number) (name ++ little 4 0) (rest ++ others) (y .parts) (c .0) in
       let n = number-is file (length name) at (y .number) ((name ++ little 4 0) ++ (rest ++ others)) (y .numbered) (s .0) in
       let z : behindEntry (sevenAt file at) at ≡ at + length b = behind-is at (length name) (at + length (y .number)) n ∙ omega (arith, s .2, length-append name (little 4 0), length-little 4 0) in
       let x : past (sevenAt file at) at + length (name ++ little 4 0) ≡ at + length b = ap (λ (x : ℕ). x + length (name ++ little 4 0)) (past-is at (length name) (at + length (y .number)) n) ∙ sym (s .2) in
-      let r = entries-places named names readers rest others (at + length b) w (c .1) in (
+      let r = entries-places es names readers rest others (at + length b) w (c .1) in (
         ap (λ (l : List ℕ). at ∷ l) (ap (entriesPlaces file (length names)) z ∙ r .0 ∙ sym (ap (numberPlaces file (entriesPieces names)) x)),
         ap (entriesEnd file (length names)) z ∙ r .1 ∙ sym (ap (endOf file (entriesPieces names)) x),
       )
 
-module _ (named : List ℕ → Target → Type 0) (ft : FileTree) (file : List ℕ) (w : FileLays named ft file) where
+module _ (es : List EnumEntry) (ft : FileTree) (file : List ℕ) (w : FileLays es ft file) where
   -- the places of the rows' numbers and of those before them are those of the file's pieces
-  pub file-places : filePlaces file (length (ft .names)) (fileRows named ft file w) ≡ numberPlaces file (filePieces ft) 10
+  pub file-places : filePlaces file (length (ft .names)) (fileRows es ft file w) ≡ numberPlaces file (filePieces ft) 10
   unfolding filePlaces listsPlaces fileRows filePieces numberPlaces header ascii little
   file-places =
       let l = w .lists in
@@ -174,8 +175,8 @@ module _ (named : List ℕ → Target → Type 0) (ft : FileTree) (file : List �
       let d = split file (10 + length (l .number)) (l .entries ++ l .shared-number) (l .entries) (l .shared-number) (w .values) refl (c .1) in
       let z : drop (10 + length (w .before)) file ≡ w .values ++ [] = seam file 10 (w .before) (w .values) [] (b ∙ sym (append-nil (w .before ++ w .values))) in
       let n = past-is file 10 (length (ft .names)) (10 + length (l .number)) (number-is file (length (ft .names)) 10 (l .number) ((l .entries ++ l .shared-number) ++ w .values) (l .numbered) (c .0)) in
-      let e = entries-places file named (ft .names) (w .readers) (l .entries) (l .shared-number ++ w .values) (10 + length (l .number)) (l .listed) (d .0) in
-      let m = written-end file (entriesPieces (ft .names)) (l .entries) (l .shared-number ++ w .values) (10 + length (l .number)) (entries-written named (ft .names) (w .readers) (l .entries) (l .listed)) (d .0) in
+      let e = entries-places file es (ft .names) (w .readers) (l .entries) (l .shared-number ++ w .values) (10 + length (l .number)) (l .listed) (d .0) in
+      let m = written-end file (entriesPieces (ft .names)) (l .entries) (l .shared-number ++ w .values) (10 + length (l .number)) (entries-written es (ft .names) (w .readers) (l .entries) (l .listed)) (d .0) in
       let s : past (sevenAt file (10 + length (l .number) + length (l .entries))) (10 + length (l .number) + length (l .entries)) ≡ 10 + length (w .before)
       = past-is file (10 + length (l .number) + length (l .entries)) shared (10 + length (l .number) + length (l .entries) + length (l .shared-number)) (number-is file shared (10 + length (l .number) + length (l .entries)) (l .shared-number) (w .values) (l .shared-numbered) (d .1)) ∙ omega (arith, c .2, d .2) in
       let v = trees-places file (w .readers) (Resource (sharedOf (ft .objects))) (objectsPlan shared) (ft .objects) (w .values) (w .laid) (10 + length (w .before)) 0 0 [] z in
@@ -256,7 +257,7 @@ module _ (file : List ℕ) where
   unfolding padOf
   pad-is n p b rest s d = rw (number-is file n p b rest s d) (omega arith)
 
-module _ (named : List ℕ → Target → Type 0) (ft : FileTree) (readers : List Target) (file : List ℕ) (rows : List Row) (w : FileLays named ft file) where
+module _ (es : List EnumEntry) (ft : FileTree) (readers : List Target) (file : List ℕ) (rows : List Row) (w : FileLays es ft file) where
   abbrev At : ℕ → Type 0
   At = PaddedAt ft readers file rows
 
@@ -267,7 +268,7 @@ module _ (named : List ℕ → Target → Type 0) (ft : FileTree) (readers : Lis
       let y = among-places file p (filePieces ft) 10 (x .0) in
       let before = y .0 in
       let n = y .1 in
-      let s = written-split before (number n ∷ y .2) (drop 10 file) (rw (y .3) at (file-written named ft file w)) in
+      let s = written-split before (number n ∷ y .2) (drop 10 file) (rw (y .3) at (file-written es ft file w)) in
       let e : p ≡ 10 + length (s .0) = sym (y .4) ∙ written-end file before (s .0) (s .1) 10 (s .3) (s .2) in
       let b = s .4 .0 in
       let d : drop p file ≡ b ++ s .4 .1 = there p (s .0) (s .1) b (s .4 .1) e (s .2) (s .4 .2) in
@@ -293,8 +294,8 @@ module _ (named : List ℕ → Target → Type 0) (ft : FileTree) (readers : Lis
       padded-among file p (numberPlaces file (filePieces ft) 10) (rw e (rw m at (places-among file before n after 10))) (λ k. let h = sym z ∙ k in omega arith)
 
   -- 42
-  pub numbers-lowest : Lowest At (firstPlace (padded file (filePlaces file (length (ft .names)) (fileRows named ft file w))))
+  pub numbers-lowest : Lowest At (firstPlace (padded file (filePlaces file (length (ft .names)) (fileRows es ft file w))))
   numbers-lowest =
-      rw (file-places named ft file w) (first-lowest At (padded file (numberPlaces file (filePieces ft) 10))
+      rw (file-places es ft file w) (first-lowest At (padded file (numberPlaces file (filePieces ft) 10))
       (rise-least 10 (padded file (numberPlaces file (filePieces ft) 10)) (padded-rise file 10 (numberPlaces file (filePieces ft) 10)
-      (numbers-rise file (filePieces ft) (drop 10 file) [] 10 (file-written named ft file w) (sym (append-nil (drop 10 file)))))) sound complete)
+      (numbers-rise file (filePieces ft) (drop 10 file) [] 10 (file-written es ft file w) (sym (append-nil (drop 10 file)))))) sound complete)

@@ -5,6 +5,7 @@ use mathlib.Core.Logic.{inl, inr}
 use Prim.Native.Nat.{ℕ, suc, _+_, _≤_}
 use native.Mathlib.Omega.{arith}
 use lib.ListN.{length, length-append}
+use Rattle.layout.specs.EnumList.{EnumEntry}
 use Rattle.layout.specs.Target.{Target, fixed, string, Serves, same}
 use Rattle.layout.specs.Tree.{Trees, none, tree, count, size, told}
 use Rattle.layout.specs.Slot.{Slot, raw, object, reference, leaf, Plan, stop, put, each, pageSlots}
@@ -159,10 +160,10 @@ rows-rise readers refers (tree k i own cs rest) (put x go) bs w at n q =
     (rowsOf readers refers (go (told k own cs)) rest (w .1) (w .4) (at + length (w .0)) (n + suc (size cs)) q) v r)
 
 -- of a file
-module _ (named : List ℕ → Target → Type 0) (ft : FileTree) (file : List ℕ) (w : FileLays named ft file) where
+module _ (es : List EnumEntry) (ft : FileTree) (file : List ℕ) (w : FileLays es ft file) where
   pub file-flat : Every Flat (ft .objects)
   file-flat = pages-flat (w .readers) (Resource (sharedOf (ft .objects))) (objectsPlan (count (sharedOf (ft .objects)))) (ft .objects) (w .values) (w .laid)
 
-  pub file-rise : RowsRise (10 + length (w .before)) (10 + length (w .before) + length (w .values)) (fileRows named ft file w)
+  pub file-rise : RowsRise (10 + length (w .before)) (10 + length (w .before) + length (w .values)) (fileRows es ft file w)
   unfolding fileRows
   file-rise = rows-rise (w .readers) (Resource (sharedOf (ft .objects))) (ft .objects) (objectsPlan (count (sharedOf (ft .objects)))) (w .values) (w .laid) (10 + length (w .before)) 0 0

@@ -8,6 +8,7 @@ use native.Mathlib.Omega.{arith}
 use lib.Dec.{eqb}
 use lib.ListN.{length, drop}
 use borrow.Author.Tests.{eq-eqb}
+use Rattle.layout.specs.EnumList.{EnumEntry}
 use Rattle.layout.specs.Number.{Seven, little}
 use Rattle.layout.specs.Text.{ascii}
 use Rattle.layout.specs.Target.{Target}
@@ -111,8 +112,8 @@ trees-written readers refers (put x go) (tree k i own cs rest) bs w =
     let r = trees-written readers refers (go (told k own cs)) rest (w .1) (w .4) in
     rw (w .2) (written-append (idPieces k i ++ (bodyPieces k own (count cs) ++ treePieces cs)) (treePieces rest) (w .0) (w .1) v r)
 
-module _ (named : List ℕ → Target → Type 0) where
-  pub entries-written : (names : List (List ℕ)) (readers : List Target) (bs : List ℕ) → Entries named names readers bs → Written (entriesPieces names) bs
+module _ (es : List EnumEntry) where
+  pub entries-written : (names : List (List ℕ)) (readers : List Target) (bs : List ℕ) → Entries es names readers bs → Written (entriesPieces names) bs
   unfolding Entries entriesPieces Written
   entries-written [] [] bs w = w
   entries-written [] (t ∷ readers) bs w = absurd w
@@ -126,7 +127,7 @@ module _ (named : List ℕ → Target → Type 0) where
   )
 
   -- all behind the header
-  pub file-written : (ft : FileTree) (file : List ℕ) → FileLays named ft file → Written (filePieces ft) (drop 10 file)
+  pub file-written : (ft : FileTree) (file : List ℕ) → FileLays es ft file → Written (filePieces ft) (drop 10 file)
   unfolding filePieces header ascii little Written
   file-written ft file w =
       let l = w .lists in

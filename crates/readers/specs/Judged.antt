@@ -57,7 +57,7 @@ module _ (es : List EnumEntry) where
   read-sound first s t (name n k) e q = let g = read-is-text first s n k e in (n, g .0, sym (g .1), typed-sound n t (readerFaults es first n) (readerOf es n) refl q)
 
   -- the judgement says just what is written
-  pub judges : Judges (named es) (judgedName es)
+  pub judges : Judges es (judgedName es)
   unfolding judgedName named
   judges = record {
     known-sound = λ first s t e. read-sound first s t (nameOf first s) refl e;

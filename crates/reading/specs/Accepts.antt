@@ -8,6 +8,7 @@ use lib.Dec.{eqb}
 use lib.ListN.{length, drop, replicate, length-append, length-replicate}
 use lib.Seq.{drop-length}
 use borrow.Author.Tests.{eqb-true, eq-eqb}
+use Rattle.layout.specs.EnumList.{EnumEntry}
 use Rattle.layout.specs.Number.{little}
 use Rattle.layout.specs.Text.{ascii}
 use Rattle.layout.specs.Target.{Target, object as anything}
@@ -48,9 +49,9 @@ nothing-suits : (shared : List ℕ) (id : ℕ) → suits shared nothing id ≡ t
 unfolding suits
 nothing-suits shared id = refl
 
-module _ (named : List ℕ → Target → Type 0) where
+module _ (es : List EnumEntry) where
   -- there is a target for each name
-  pub entries-length : (names : List (List ℕ)) (readers : List Target) (bs : List ℕ) → Entries named names readers bs → length readers ≡ length names
+  pub entries-length : (names : List (List ℕ)) (readers : List Target) (bs : List ℕ) → Entries es names readers bs → length readers ≡ length names
   unfolding Entries
   entries-length [] [] bs w = refl
   entries-length [] (t ∷ readers) bs w = absurd w
@@ -58,15 +59,15 @@ module _ (named : List ℕ → Target → Type 0) where
   entries-length (name ∷ names) (t ∷ readers) bs w = ap suc (entries-length names readers (w .1) (w .4))
 
   -- the header of a file tree's bytes, and what stands behind it
-  behind-header : (ft : FileTree) (file : List ℕ) (w : FileLays named ft file) → drop 10 file ≡ w .before ++ w .values
+  behind-header : (ft : FileTree) (file : List ℕ) (w : FileLays es ft file) → drop 10 file ≡ w .before ++ w .values
   unfolding header ascii little
   behind-header ft file w = ap (drop 10) (w .parts)
 
-  length-is : (ft : FileTree) (file : List ℕ) (w : FileLays named ft file) → 10 + length (w .before) + length (w .values) ≡ length file
+  length-is : (ft : FileTree) (file : List ℕ) (w : FileLays es ft file) → 10 + length (w .before) + length (w .values) ≡ length file
   unfolding header ascii little
   length-is ft file w = omega (arith, ap length (w .parts), length-append (w .before) (w .values))
 
-  pub headed : (ft : FileTree) (file : List ℕ) → FileLays named ft file → Headed file (ft .platform) (ft .flags)
+  pub headed : (ft : FileTree) (file : List ℕ) → FileLays es ft file → Headed file (ft .platform) (ft .flags)
   headed ft file w = record {
     platform-is = w .platform;
     flags-are = w .flags;
@@ -75,36 +76,36 @@ module _ (named : List ℕ → Target → Type 0) where
   }
 
   -- the drafts of a file tree as it stands in its bytes
-  unfoldable pub fileDrafts : (ft : FileTree) (bs : List ℕ) → FileLays named ft bs → List Draft
+  unfoldable pub fileDrafts : (ft : FileTree) (bs : List ℕ) → FileLays es ft bs → List Draft
   fileDrafts ft bs w =
       draftsOf (w .readers) (Resource (sharedOf (ft .objects))) (objectsPlan (count (sharedOf (ft .objects)))) (ft .objects) (w .values) (w .laid)
       (10 + length (w .before)) 0 0
 
-  pub file-bare : (ft : FileTree) (bs : List ℕ) (w : FileLays named ft bs) → bare (fileDrafts ft bs w) ≡ fileRows named ft bs w
+  pub file-bare : (ft : FileTree) (bs : List ℕ) (w : FileLays es ft bs) → bare (fileDrafts ft bs w) ≡ fileRows es ft bs w
   unfolding fileDrafts fileRows
   file-bare ft bs w =
       drafts-bare (w .readers) (Resource (sharedOf (ft .objects))) (ft .objects) (objectsPlan (count (sharedOf (ft .objects)))) (w .values) (w .laid) (10 + length (w .before)) 0 0
 
   -- a row for each value in the file tree
-  pub rows-count : (ft : FileTree) (file : List ℕ) (w : FileLays named ft file) → length (fileRows named ft file w) ≡ size (ft .objects)
+  pub rows-count : (ft : FileTree) (file : List ℕ) (w : FileLays es ft file) → length (fileRows es ft file w) ≡ size (ft .objects)
   unfolding fileDrafts
   rows-count ft file w =
       sym (ap length (file-bare ft file w)) ∙ length-bare (fileDrafts ft file w) ∙ rows-length (w .readers) (Resource (sharedOf (ft .objects))) (objectsPlan (count (sharedOf (ft .objects)))) (ft .objects) (w .values) (w .laid) (10 + length (w .before)) 0 0
 
   -- what is read of a file tree that stands in a file
-  abbrev pub loadedOf : (ft : FileTree) (file : List ℕ) → FileLays named ft file → Loaded
+  abbrev pub loadedOf : (ft : FileTree) (file : List ℕ) → FileLays es ft file → Loaded
   loadedOf ft file w = record { tree = ft; rows = fileDrafts ft file w; readers = length (ft .names); shared = count (sharedOf (ft .objects)) }
 
   -- the file is the bytes of the file tree, the rows are its rows, and there is room for them
   pub record IsFile (file : List ℕ) (room : ℕ) (a : Loaded) (e : ℕ) : Type 0 where
-    pub lays : FileLays named (a .tree) file
+    pub lays : FileLays es (a .tree) file
     pub rows-are : a .rows ≡ fileDrafts (a .tree) file lays
     pub readers-are : a .readers ≡ length (a .tree .names)
     pub shared-are : a .shared ≡ count (sharedOf (a .tree .objects))
     pub room-left : size (a .tree .objects) ≤ room
 
-  module _ (nameOf : ℕ → List ℕ → Named) (judges : Judges named nameOf) (file : List ℕ) (room : ℕ) where
-    pub file-complete : (ft : FileTree) (w : FileLays named ft file) → size (ft .objects) ≤ room
+  module _ (nameOf : ℕ → List ℕ → Named) (judges : Judges es nameOf) (file : List ℕ) (room : ℕ) where
+    pub file-complete : (ft : FileTree) (w : FileLays es ft file) → size (ft .objects) ≤ room
         → fileAt nameOf file room ≡ read (loadedOf ft file w) (length file)
     unfolding fileAt objectsAt finished bind check fileDrafts
     file-complete ft w fit =
@@ -122,14 +123,14 @@ module _ (named : List ℕ → Target → Type 0) where
         = every-row readers (Resource shared) (suits ks) (λ t id r. resource-complete shared t id r) (nothing-suits ks) plan ts (w .values) (w .laid) at 0 0 in
         let c = change readers (Resource shared) (Within s) (suits ks) (λ t id r p. r .within) plan ts (w .values) (w .laid) at 0 0 every in
         let h = header-complete file (ft .platform) (ft .flags) (headed ft file w) in
-        let l = lists-reads named nameOf judges file .complete (ft .names, readers, s) (w .before) (w .values) 10 (w .lists) rest in
+        let l = lists-reads es nameOf judges file .complete (ft .names, readers, s) (w .before) (w .values) 10 (w .lists) rest in
         let o = complete file readers s room 32 plan ts (w .values) [] (c .0) at 0 0 (w .deep) (omega arith) (seam file 10 (w .before) (w .values) [] rest′) in
         let k : drop 1 (rootKinds rows) ≡ ks = ap (drop 1) (roots-are readers (Resource shared) plan ts (w .values) (w .laid) at 0) ∙ kinds-after ts in
         let n : length readers ≡ length (ft .names) = entries-length (ft .names) readers (w .lists .entries) (w .lists .listed) in
         rw (h, l, o, c .1, length-is ft file w, eq-eqb (length file) (length file) refl, k, judged-complete ks rows _ every, n)
 
     finished-sound : (platform flags : ℕ) (names : List (List ℕ)) (readers : List Target) (s at : ℕ) (before : List ℕ) (small : Small file)
-        → Headed file platform flags → Lists named names readers s before → at ≡ 10 + length before → drop 10 file ≡ before ++ drop at file
+        → Headed file platform flags → Lists es names readers s before → at ≡ 10 + length before → drop 10 file ≡ before ++ drop at file
         → (a : Taken) (e : ℕ) → Read file readers s room small 32 (objectsPlan s) at 0 0 a e
         → Ok (IsFile file room) (finished file platform flags names (length readers) s a e)
     unfolding finished fileDrafts
@@ -171,6 +172,6 @@ module _ (named : List ℕ → Target → Type 0) where
     unfolding fileAt objectsAt
     file-sound small =
         ok-bind (header-sound file small) (λ h e v.
-        ok-bind (lists-reads named nameOf judges file .sound small e) (λ l at u.
+        ok-bind (lists-reads es nameOf judges file .sound small e) (λ l at u.
         ok-bind (walks-sound file (l .1) (l .2) room small 32 (objectsPlan (l .2)) at 0 0) (λ a e′ r.
         finished-sound (h .0) (h .1) (l .0) (l .1) (l .2) at (u .0) small (v .1) (u .1) (rw (v .0) at (u .3)) (rw (v .0) at (u .2)) a e′ r)))

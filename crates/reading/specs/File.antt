@@ -5,6 +5,8 @@ use mathlib.Core.List.{List, [], _∷_}
 use Prim.Native.Nat.{ℕ, zero, suc, _-_}
 use lib.Dec.{ltb, leb, eqb}
 use lib.ListN.{length, take, drop, getD, replicate}
+use Rattle.layout.specs.EnumList.{EnumEntry}
+use Rattle.layout.specs.Named.{named}
 use Rattle.layout.specs.Target.{Target}
 use Rattle.layout.specs.File.{FileTree, objectsPlan}
 use Rattle.layout.specs.Rows.{Row}
@@ -43,9 +45,9 @@ pub data Named : Type 0 where
   known : Target → Named
 
 -- the reading of names says just what the layout's relation says, wherever a name stands
-pub record Judges (named : List ℕ → Target → Type 0) (nameOf : ℕ → List ℕ → Named) : Type 0 where
-  pub known-sound : (first : ℕ) (name : List ℕ) (t : Target) → nameOf first name ≡ known t → named name t
-  pub known-complete : (first : ℕ) (name : List ℕ) (t : Target) → named name t → nameOf first name ≡ known t
+pub record Judges (es : List EnumEntry) (nameOf : ℕ → List ℕ → Named) : Type 0 where
+  pub known-sound : (first : ℕ) (name : List ℕ) (t : Target) → nameOf first name ≡ known t → named es name t
+  pub known-complete : (first : ℕ) (name : List ℕ) (t : Target) → named es name t → nameOf first name ≡ known t
 
 -- a name that ends before `at`, by what it is read as
 unfoldable pub judge : Named → (at : ℕ) → Answer Target

@@ -10,6 +10,8 @@ use lib.ListN.{length, take, drop, getD, length-drop, take-append-drop}
 use lib.Seq.{drop-cons, drop-drop, length-take-le}
 use borrow.Author.Tests.{leb-true, le-leb, lt-ltb, eqb-true, eq-eqb}
 use Rattle.laws.specs.Small.{differ}
+use Rattle.layout.specs.EnumList.{EnumEntry}
+use Rattle.layout.specs.Named.{named}
 use Rattle.layout.specs.Number.{little, valueOf}
 use Rattle.layout.specs.Text.{ascii}
 use Rattle.layout.specs.Target.{Target}
@@ -119,7 +121,7 @@ module _ (file : List ℕ) where
 
 -- ---- the readers and the shared count
 
-module _ (named : List ℕ → Target → Type 0) (nameOf : ℕ → List ℕ → Named) (judges : Judges named nameOf) (file : List ℕ) where
+module _ (es : List EnumEntry) (nameOf : ℕ → List ℕ → Named) (judges : Judges es nameOf) (file : List ℕ) where
   pub judge-reads : (x : Named) → Reads file (λ t bs. (x ≡ known t) × (bs ≡ [])) (judge x)
   unfolding judge
   judge-reads (unknown n p) = record {
@@ -132,13 +134,13 @@ module _ (named : List ℕ → Target → Type 0) (nameOf : ℕ → List ℕ →
       (λ t bs w. let e : t ≡ u = cc (w .0) in (e, w .1))
 
   -- wherever a name stands
-  name-reads : (name : List ℕ) (first : ℕ) → Reads file (λ t bs. named name t × (bs ≡ [])) (judge (nameOf first name))
+  name-reads : (name : List ℕ) (first : ℕ) → Reads file (λ t bs. named es name t × (bs ≡ [])) (judge (nameOf first name))
   name-reads name first =
       convert file (judge-reads (nameOf first name))
       (λ t bs s w. (judges .known-sound first name t (w .0), w .1))
       (λ t bs w. (judges .known-complete first name t (w .0), w .1))
 
-  pub reader-reads : Reads file (λ a bs. Entry named (a .0) (a .1) bs) (readerAt nameOf file)
+  pub reader-reads : Reads file (λ a bs. Entry es (a .0) (a .1) bs) (readerAt nameOf file)
   unfolding readerAt
   reader-reads =
       convert file
@@ -192,16 +194,16 @@ module _ (named : List ℕ → Target → Type 0) (nameOf : ℕ → List ℕ →
       ))
 
   -- what no readers, and what a reader before others, may have as names, targets and bytes
-  no-entries : (names : List (List ℕ)) (readers : List Target) (bs : List ℕ) → length names ≡ 0 → Entries named names readers bs
+  no-entries : (names : List (List ℕ)) (readers : List Target) (bs : List ℕ) → length names ≡ 0 → Entries es names readers bs
       → (_≡_ {A = List (List ℕ) × List Target} (names, readers) ([], [])) × (bs ≡ [])
   unfolding Entries
   no-entries [] [] bs k w = (refl, w)
   no-entries [] (t ∷ readers) bs k w = absurd w
   no-entries (name ∷ names) readers bs k w = absurd (omega arith)
 
-  first-entry : (n : ℕ) (names : List (List ℕ)) (readers : List Target) (bs : List ℕ) → length names ≡ suc n → Entries named names readers bs
-      → (a : List ℕ × Target) × (b₁ : List ℕ) × (b₂ : List ℕ) × (bs ≡ b₁ ++ b₂) × Entry named (a .0) (a .1) b₁
-      × ((l : List (List ℕ) × List Target) × (c₁ : List ℕ) × (c₂ : List ℕ) × (b₂ ≡ c₁ ++ c₂) × ((length (l .0) ≡ n) × Entries named (l .0) (l .1) c₁)
+  first-entry : (n : ℕ) (names : List (List ℕ)) (readers : List Target) (bs : List ℕ) → length names ≡ suc n → Entries es names readers bs
+      → (a : List ℕ × Target) × (b₁ : List ℕ) × (b₂ : List ℕ) × (bs ≡ b₁ ++ b₂) × Entry es (a .0) (a .1) b₁
+      × ((l : List (List ℕ) × List Target) × (c₁ : List ℕ) × (c₂ : List ℕ) × (b₂ ≡ c₁ ++ c₂) × ((length (l .0) ≡ n) × Entries es (l .0) (l .1) c₁)
       × ((_≡_ {A = List (List ℕ) × List Target} (names, readers) (a .0 ∷ l .0, a .1 ∷ l .1)) × (c₂ ≡ [])))
   unfolding Entries
   first-entry n [] readers bs k w = absurd (omega arith)
@@ -210,7 +212,7 @@ module _ (named : List ℕ → Target → Type 0) (nameOf : ℕ → List ℕ →
       let m : length names ≡ n = omega arith in
       ((name, t), w .0, w .1, w .2, w .3, ((names, readers), w .1, [], sym (append-nil (w .1)), (m, w .4), (refl, refl)))
 
-  pub readers-reads : (n : ℕ) → Reads file (λ l bs. (length (l .0) ≡ n) × Entries named (l .0) (l .1) bs) (readersAt nameOf file n)
+  pub readers-reads : (n : ℕ) → Reads file (λ l bs. (length (l .0) ≡ n) × Entries es (l .0) (l .1) bs) (readersAt nameOf file n)
   unfolding readersAt several Entries
   readers-reads zero =
       convert file (pure-reads file ([], []))
@@ -224,7 +226,7 @@ module _ (named : List ℕ → Target → Type 0) (nameOf : ℕ → List ℕ →
       rw (v .5 .0) (ap suc (v .4 .0), (w .1, v .1, b, w .4, v .4 .1)))
       (λ l bs w. first-entry n (l .0) (l .1) bs (w .0) (w .1))
 
-  pub lists-reads : Reads file (λ l bs. Lists named (l .0) (l .1) (l .2) bs) (listsAt nameOf file)
+  pub lists-reads : Reads file (λ l bs. Lists es (l .0) (l .1) (l .2) bs) (listsAt nameOf file)
   unfolding listsAt
   lists-reads =
       convert file

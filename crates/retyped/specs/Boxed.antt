@@ -164,7 +164,7 @@ module _ (es : List EnumEntry) where
   reader-lawful (two h a b t) = paired-lawful (lookup h reader-heads) (typeOf es a) (typeOf es b) (type-lawful a) (type-lawful b)
 
   -- each reader of a file
-  entries-lawful : (names : List (List ℕ)) (readers : List Target) (bs : List ℕ) → Entries (named es) names readers bs → (i : ℕ) (u : Target) → i < length readers → Lawful (getD readers i u)
+  entries-lawful : (names : List (List ℕ)) (readers : List Target) (bs : List ℕ) → Entries es names readers bs → (i : ℕ) (u : Target) → i < length readers → Lawful (getD readers i u)
   unfolding Entries named
   entries-lawful [] [] bs w i u l = absurd (omega arith)
   entries-lawful [] (t ∷ readers) bs w i u l = absurd w
@@ -357,7 +357,7 @@ module _ (readers : List Target) (refers : ℕ → ℕ → Type 0) (lawful : (id
       (lays-boxed rest (go (told k own cs)) (w .1) (w .4) (at + length (w .0)) (number + suc (size cs)) parent (c .1 (told k own cs)))
 
 module _ (es : List EnumEntry) where
-  readers-lawful : (names : List (List ℕ)) (readers : List Target) (bs : List ℕ) → Entries (named es) names readers bs → (id : ℕ) (u : Target) → Reader readers id u → Lawful u
+  readers-lawful : (names : List (List ℕ)) (readers : List Target) (bs : List ℕ) → Entries es names readers bs → (id : ℕ) (u : Target) → Reader readers id u → Lawful u
   unfolding Reader
   readers-lawful names readers bs w id u r = subst Lawful (r .3) (entries-lawful es names readers bs w (r .0) anything (r .2))
 
@@ -365,15 +365,15 @@ module _ (es : List EnumEntry) where
   unfolding objectsPlan StringlessSlot
   objects-stringless shared = each-stringless (replicate (suc shared) (object anything)) (replicate-stringless (suc shared) (object anything) tt)
 
-  file-boxed : (ft : FileTree) (bs : List ℕ) (w : FileLays (named es) ft bs) → Each Boxed (fileRows (named es) ft bs w)
+  file-boxed : (ft : FileTree) (bs : List ℕ) (w : FileLays es ft bs) → Each Boxed (fileRows es ft bs w)
   unfolding fileRows
   file-boxed ft bs w =
       lays-boxed (w .readers) (Resource (sharedOf (ft .objects))) (readers-lawful (ft .names) (w .readers) (w .lists .entries) (w .lists .listed))
       (ft .objects) (objectsPlan (count (sharedOf (ft .objects)))) (w .values) (w .laid) (10 + length (w .before)) 0 0 (objects-stringless (count (sharedOf (ft .objects))))
 
   -- so it is of every String row of an accepted file
-  pub strings-boxed : (nameOf : ℕ → List ℕ → Named) → Judges (named es) nameOf → (file : List ℕ) (words : ℕ) → Small file → (rows : List Row) (readers shared : ℕ)
+  pub strings-boxed : (nameOf : ℕ → List ℕ → Named) → Judges es nameOf → (file : List ℕ) (words : ℕ) → Small file → (rows : List Row) (readers shared : ℕ)
       → loadOf nameOf file words ≡ accepted rows readers shared → Each Boxed rows
   strings-boxed nameOf judges file words small rows readers shared e =
-      let a = accepted-is (named es) nameOf judges file words small rows readers shared e in
+      let a = accepted-is es nameOf judges file words small rows readers shared e in
       rw (a .1) (file-boxed (a .0 .tree) file (a .0 .lays))

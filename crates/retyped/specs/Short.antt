@@ -7,8 +7,8 @@ use Prim.Native.Nat.{ℕ, _+_, _/_}
 use native.Mathlib.Omega.{arith}
 use lib.Dec.{eqb, leb}
 use lib.ListN.{length, length-append}
+use Rattle.layout.specs.EnumList.{EnumEntry}
 use Rattle.layout.specs.Number.{little}
-use Rattle.layout.specs.Target.{Target}
 use Rattle.layout.specs.Tree.{Trees, none, tree, count}
 use Rattle.layout.specs.File.{sharedOf}
 use Rattle.layout.specs.Rows.{Row}
@@ -18,7 +18,8 @@ use Rattle.reading.specs.Answer.{Answer, read}
 use Rattle.reading.specs.Reads.{Small}
 use Rattle.reading.specs.File.{Named, Judges, Loaded, fileAt, accepted, loadOf}
 use Rattle.reading.specs.Accepts.{loadedOf, file-complete}
-use Rattle.reading.specs.Theorems.{Fitting, rowsIn, accepted-is}
+use Rattle.layout.specs.Fits.{FittingTree, rowsIn}
+use Rattle.reading.specs.Theorems.{accepted-is}
 use Rattle.reading.specs.Output.{Rewritten, refusal, written, fitted}
 use Rattle.places.specs.Padding.{filePadding}
 use Rattle.shortest.specs.File.{length-file}
@@ -108,25 +109,25 @@ rewrites-alike nameOf f g n m out small room r =
           rw (l) (two (shortFile (a .tree)) (shortFile (b .tree)) (length (shortFile (b .tree))) l refl (leb (length (shortFile (b .tree))) out))
 
 -- 02, Req 06, "the file's total": the padding that a load tells is the same too
-module _ (named : List ℕ → Target → Type 0) (nameOf : ℕ → List ℕ → Named) (judges : Judges named nameOf) where
+module _ (es : List EnumEntry) (nameOf : ℕ → List ℕ → Named) (judges : Judges es nameOf) where
   -- of file trees that fit and are read alike
-  padded : (f g : List ℕ) (words : ℕ) (a : Fitting named f words) (b : Fitting named g words) → length f ≡ length g
+  padded : (f g : List ℕ) (words : ℕ) (a : FittingTree es f words) (b : FittingTree es g words) → length f ≡ length g
       → SameBy LoadedAlike (fileAt nameOf f (roomOf words)) (fileAt nameOf g (roomOf words))
-      → filePadding f (length (a .tree .names)) (rowsIn named a) ≡ filePadding g (length (b .tree .names)) (rowsIn named b)
+      → filePadding f (length (a .tree .names)) (rowsIn a) ≡ filePadding g (length (b .tree .names)) (rowsIn b)
   padded f g words a b equal s =
-      let x = loadedOf named (a .tree) f (a .lays) in
-      let y = loadedOf named (b .tree) g (b .lays) in
+      let x = loadedOf es (a .tree) f (a .lays) in
+      let y = loadedOf es (b .tree) g (b .lays) in
       let t : SameBy LoadedAlike (read x (length f)) (read y (length g))
-      = rw (file-complete named nameOf judges f (roomOf words) (a .tree) (a .lays) (a .room), file-complete named nameOf judges g (roomOf words) (b .tree) (b .lays) (b .room)) at s in
-      omega (arith, file-long x y (alike-of x y (length f) (length g) t), padding-is named nameOf judges f words a, padding-is named nameOf judges g words b) where
+      = rw (file-complete es nameOf judges f (roomOf words) (a .tree) (a .lays) (a .room), file-complete es nameOf judges g (roomOf words) (b .tree) (b .lays) (b .room)) at s in
+      omega (arith, file-long x y (alike-of x y (length f) (length g) t), padding-is es nameOf judges f words a, padding-is es nameOf judges g words b) where
         alike-of : (x y : Loaded) (m n : ℕ) → SameBy LoadedAlike (read x m) (read y n) → LoadedAlike x y
         alike-of x y m n (both-read w) = w
 
   pub padding-same : (f g : List ℕ) (words : ℕ) → Small f → Small g → Retyped (FileText nameOf (roomOf words)) f g → (rows : List Row) (readers shared : ℕ)
       → loadOf nameOf f words ≡ accepted rows readers shared → filePadding f readers rows ≡ filePadding g readers rows
   padding-same f g words small small′ r rows readers shared q =
-      let a = accepted-is named nameOf judges f words small rows readers shared q in
-      let b = accepted-is named nameOf judges g words small′ rows readers shared (sym (never-steers nameOf f g words words small refl r) ∙ q) in
+      let a = accepted-is es nameOf judges f words small rows readers shared q in
+      let b = accepted-is es nameOf judges g words small′ rows readers shared (sym (never-steers nameOf f g words words small refl r) ∙ q) in
       ap (λ (k : ℕ). filePadding f k rows) (a .2) ∙ ap (filePadding f (length (a .0 .tree .names))) (a .1)
       ∙ padded f g words (a .0) (b .0) (r .as-long) (files-alike nameOf f g (roomOf words) small r)
       ∙ sym (ap (λ (k : ℕ). filePadding g k rows) (b .2) ∙ ap (filePadding g (length (b .0 .tree .names))) (b .1))

@@ -6,13 +6,13 @@ use lib.ListN.{length, replicate, length-replicate}
 use Rattle.laws.specs.Small.{differ}
 use Rattle.layout.specs.Rows.{Row, flat, width}
 use Rattle.layout.specs.EnumList.{EnumEntry}
-use Rattle.layout.specs.Named.{named}
 use Rattle.layout.specs.Table.{roomOf}
 use Rattle.layout.specs.Shortest.{shortFile}
 use Rattle.reading.specs.Answer.{Answer, refused, read}
 use Rattle.reading.specs.Reads.{Small}
 use Rattle.reading.specs.File.{Load, refusal, accepted, Loaded as FileLoaded, toLoad, tableOf, tableIn}
-use Rattle.reading.specs.Theorems.{rowsIn, accepted-is}
+use Rattle.layout.specs.Fits.{rowsIn}
+use Rattle.reading.specs.Theorems.{accepted-is}
 use Rattle.load.specs.declared.Loading.the-variants.{Refused, Loaded}
 use Rattle.enums.specs.Judge.{lawful, enumsAt}
 use Rattle.enums.specs.Judge.{refused as list-refused}
@@ -79,22 +79,22 @@ module _ (enums file : List ℕ) (words : ℕ) where
         let e₃ : padding ≡ filePadding file rd rs = cc in
         let d = accepted-list enums file words rs rd sh q in
         let es = d .0 in
-        let a = accepted-is (named es) (judgedName es) (judges es) file words small rs rd sh (sym (load-lawful enums file words es (d .1)) ∙ q) in
+        let a = accepted-is es (judgedName es) (judges es) file words small rs rd sh (sym (load-lawful enums file words es (d .1)) ∙ q) in
         let f = a .0 in
         let rest : List ℕ = replicate (words - width * length rs) 0 in
         let t : tableOf (loadUnder enums file words) words ≡ flat rs ++ replicate (words - width * length rs) 0 = ap (λ (y : Load). tableOf y words) q ∙ accepted-table rs rd sh in
-        let p : placesOf file (tableOf (loadUnder enums file words) words) readers rows ≡ filePlaces file (length (f .tree .names)) (rowsIn (named es) f)
+        let p : placesOf file (tableOf (loadUnder enums file words) words) readers rows ≡ filePlaces file (length (f .tree .names)) (rowsIn f)
         = ap (λ (y : List ℕ). placesOf file y readers rows) t ∙ ap (placesOf file (flat rs ++ rest) readers) e₁ ∙ table-places file rs rest readers
         ∙ ap (λ (k : ℕ). filePlaces file k rs) (e₂ ∙ a .2) ∙ ap (filePlaces file (length (f .tree .names))) (a .1) in
         record {
           ready = record {
             tree = f .tree;
             small = f .lays .short;
-            pads = padding-is (named es) (judgedName es) (judges es) file words f ∙ ap (λ (k : ℕ). length (shortFile (f .tree)) + k) (sym (e₃ ∙ ap (λ (k : ℕ). filePadding file k rs) (a .2) ∙ ap (filePadding file (length (f .tree .names))) (a .1)));
-            headed = header-is (named es) (f .tree) file (f .lays);
-            rewrites = rw p (file-rewrites file (named es) (f .tree) (f .lays));
+            pads = padding-is es (judgedName es) (judges es) file words f ∙ ap (λ (k : ℕ). length (shortFile (f .tree)) + k) (sym (e₃ ∙ ap (λ (k : ℕ). filePadding file k rs) (a .2) ∙ ap (filePadding file (length (f .tree .names))) (a .1)));
+            headed = header-is es (f .tree) file (f .lays);
+            rewrites = rw p (file-rewrites file es (f .tree) (f .lays));
           };
-          rewrites-to = λ out. rewrite-lawful enums file words out es (d .1) ∙ rewrite-is (named es) (judgedName es) (judges es) file words out f;
+          rewrites-to = λ out. rewrite-lawful enums file words out es (d .1) ∙ rewrite-is es (judgedName es) (judges es) file words out f;
         }
 
   -- what fitting the loaded file answers and leaves is what rewriting does

@@ -4,6 +4,7 @@ use mathlib.Core.List.{List, [], _∷_, _++_}
 use Prim.Native.Nat.{ℕ, _+_, _≤_}
 use native.Mathlib.Omega.{arith}
 use lib.ListN.{length, take, length-append}
+use Rattle.layout.specs.EnumList.{EnumEntry}
 use Rattle.layout.specs.Number.{little}
 use Rattle.layout.specs.Text.{ascii}
 use Rattle.layout.specs.Target.{Target}
@@ -24,13 +25,13 @@ length-file ft =
     let n = 10 + length (shortBody ft) in
     omega (arith, length-append (header (ft .platform) (ft .flags) n) (shortBody ft), length-header (ft .platform) (ft .flags) n)
 
-module _ (named : List ℕ → Target → Type 0) where
+module _ (es : List EnumEntry) where
   -- the first ten bytes of a file tree's bytes
-  pub header-is : (ft : FileTree) (bs : List ℕ) → FileLays named ft bs → take 10 bs ≡ header (ft .platform) (ft .flags) (length bs)
+  pub header-is : (ft : FileTree) (bs : List ℕ) → FileLays es ft bs → take 10 bs ≡ header (ft .platform) (ft .flags) (length bs)
   unfolding header ascii little
   header-is ft bs w = ap (take 10) (w .parts)
 
-  entry-short : (name : List ℕ) (t : Target) (bs : List ℕ) → Entry named name t bs → Shortens (Entry named name t) (shortEntry name) bs
+  entry-short : (name : List ℕ) (t : Target) (bs : List ℕ) → Entry es name t bs → Shortens (Entry es name t) (shortEntry name) bs
   unfolding shortEntry
   entry-short name t bs w =
       let g = shortest-is (length name) (w .number) (w .numbered) in
@@ -39,7 +40,7 @@ module _ (named : List ℕ → Target → Type 0) where
       (record { number = shortest (length name); parts = refl; numbered = g .form; not-empty = w .not-empty; not-long = w .not-long; lawful = w .lawful })
       g (same-shortens (λ b. b ≡ rest) rest rest refl refl))
 
-  entries-short : (names : List (List ℕ)) (readers : List Target) (bs : List ℕ) → Entries named names readers bs → Shortens (Entries named names readers) (shortEntries names) bs
+  entries-short : (names : List (List ℕ)) (readers : List Target) (bs : List ℕ) → Entries es names readers bs → Shortens (Entries es names readers) (shortEntries names) bs
   unfolding Entries shortEntries
   entries-short [] [] bs w = rw w (record { form = refl; no-longer = omega arith; same = λ e. refl })
   entries-short [] (t ∷ readers) bs w = absurd w
@@ -49,8 +50,8 @@ module _ (named : List ℕ → Target → Type 0) where
       let r = entries-short names readers (w .1) (w .4) in
       rw (w .2) (shortens-append (shortEntry name, shortEntries names, refl, n .form, r .form) n r)
 
-  lists-short : (names : List (List ℕ)) (readers : List Target) (shared : ℕ) (bs : List ℕ) → Lists named names readers shared bs
-      → Shortens (Lists named names readers shared) (shortLists names shared) bs
+  lists-short : (names : List (List ℕ)) (readers : List Target) (shared : ℕ) (bs : List ℕ) → Lists es names readers shared bs
+      → Shortens (Lists es names readers shared) (shortLists names shared) bs
   unfolding shortLists
   lists-short names readers shared bs w =
       let c = shortest-is (length names) (w .number) (w .numbered) in
@@ -72,7 +73,7 @@ module _ (named : List ℕ → Target → Type 0) where
       }) c a)
 
   -- the shortest bytes of a file tree are bytes of it, none are shorter, and none other are as short
-  pub file-short : (ft : FileTree) (bs : List ℕ) → FileLays named ft bs → Shortens (FileLays named ft) (shortFile ft) bs
+  pub file-short : (ft : FileTree) (bs : List ℕ) → FileLays es ft bs → Shortens (FileLays es ft) (shortFile ft) bs
   unfolding shortFile shortBody
   file-short ft bs w =
       let shared = count (sharedOf (ft .objects)) in

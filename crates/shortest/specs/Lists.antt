@@ -4,6 +4,7 @@ use mathlib.Core.List.{List, [], _∷_, _++_, append-assoc, append-nil}
 use Prim.Native.Nat.{ℕ, _+_, _-_}
 use native.Mathlib.Omega.{arith}
 use lib.ListN.{length, take, drop, length-append}
+use Rattle.layout.specs.EnumList.{EnumEntry}
 use Rattle.layout.specs.Number.{little}
 use Rattle.layout.specs.Text.{ascii}
 use Rattle.layout.specs.Target.{Target}
@@ -21,8 +22,8 @@ use Rattle.shortest.specs.Places.{Shortened, copied, number, joined, num
 use Rattle.shortest.specs.Rewrites.{Rewrites, whole-rewrites}
 
 module _ (file : List ℕ) where
-  module _ (named : List ℕ → Target → Type 0) where
-    entry-shortened : (name : List ℕ) (t : Target) (bs others : List ℕ) (at : ℕ) → Entry named name t bs → drop at file ≡ bs ++ others
+  module _ (es : List EnumEntry) where
+    entry-shortened : (name : List ℕ) (t : Target) (bs others : List ℕ) (at : ℕ) → Entry es name t bs → drop at file ≡ bs ++ others
         → Shortened file at (at + length bs) (at ∷ []) (shortEntry name) × (behindEntry (sevenAt file at) at ≡ at + length bs)
     unfolding shortEntry behindEntry past numberOf
     entry-shortened name t bs others at w d =
@@ -32,7 +33,7 @@ module _ (file : List ℕ) where
         let s = number-is file (length name) at (w .number) (behind ++ others) (w .numbered) (c .0) in
         (joined (number (w .number) (behind ++ others) (c .0) refl (w .numbered)) (copied others (c .1) (c .2)), rw s (omega (arith, c .2)))
 
-    entries-shortened : (names : List (List ℕ)) (readers : List Target) (bs others : List ℕ) (at : ℕ) → Entries named names readers bs → drop at file ≡ bs ++ others
+    entries-shortened : (names : List (List ℕ)) (readers : List Target) (bs others : List ℕ) (at : ℕ) → Entries es names readers bs → drop at file ≡ bs ++ others
         → Shortened file at (at + length bs) (entriesPlaces file (length names) at) (shortEntries names) × (entriesEnd file (length names) at ≡ at + length bs)
     unfolding Entries entriesPlaces entriesEnd shortEntries
     entries-shortened [] [] bs others at w d =
@@ -46,9 +47,9 @@ module _ (file : List ℕ) where
         let r = entries-shortened names readers (w .1) others (at + length (w .0)) (w .4) (c .1) in
         (rw (e .1, c .2) (joined (e .0) (r .0)), ap (entriesEnd file (length names)) (e .1) ∙ r .1 ∙ sym (c .2))
 
-    module _ (ft : FileTree) (w : FileLays named ft file) where
+    module _ (ft : FileTree) (w : FileLays es ft file) where
       abbrev rows : List Row
-      rows = fileRows named ft file w
+      rows = fileRows es ft file w
 
       -- all behind the header, with each number in its shortest form
       body-shortened : Shortened file 10 (length file) (filePlaces file (length (ft .names)) rows) (shortBody ft)

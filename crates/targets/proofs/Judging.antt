@@ -14,6 +14,7 @@ use Rattle.layout.specs.Name.{Name, simple, one, two, long}
 use Rattle.layout.specs.Number.{between}
 use Rattle.layout.specs.Kind.{alike, lookup, target, targets, reader, readers, KindEntry, kindEntry}
 use Rattle.layout.specs.EnumList.{EnumEntry, EnumSize, sizeIn}
+use Rattle.layout.specs.Fixed.{sizes}
 use Rattle.layout.specs.Named.{unknown, known, fixedKind, meshed, plain, listedEnum, typeOf, sizeOrFour, enumOf}
 use Rattle.layout.specs.Complaint.{isKnown, valuable, fitting, unless, typeFaults, readerFaults}
 use Rattle.names.specs.Codes.{kind-is-small, codes-append}
@@ -28,14 +29,14 @@ plain-tested : ℕ → Bool
 plain-tested k = agrees (isKnown (plain k)) (between 1 14 k || (between 20 34 k || between 37 40 k))
 
 pub plain-test : (k : ℕ) → k < 60 → (between 1 14 k || (between 20 34 k || between 37 40 k)) ≡ isKnown (plain k)
-unfolding plain-tested agrees allBelow isKnown meshed plain fixedKind
+unfolding plain-tested agrees allBelow isKnown meshed plain fixedKind sizes
 plain-test k h = agree (isKnown (plain k)) (between 1 14 k || (between 20 34 k || between 37 40 k)) (below-is plain-tested 60 k refl h)
 
 value-tested : ℕ → Bool
 value-tested k = agrees (valuable (plain k)) (valueOk k)
 
 value-test : (k : ℕ) → k < 60 → valueOk k ≡ valuable (plain k)
-unfolding value-tested agrees allBelow valueOk listedKind meshed plain fixedKind isValue kindOf meshKind
+unfolding value-tested agrees allBelow valueOk listedKind meshed plain fixedKind sizes isValue kindOf meshKind
 value-test k h = agree (valuable (plain k)) (valueOk k) (below-is value-tested 60 k refl h)
 
 eqb-as : (a b c d : ℕ) (x : Bool) → (a ≡ b → c ≡ d) → (c ≡ d → a ≡ b) → eqb c d ≡ x → eqb a b ≡ x
@@ -85,7 +86,7 @@ module _ (k : ℕ) (small : k < 60) where
 
 -- a head with arguments is no value type's but Nullable's
 no-value : (b : ℕ) → 63 < b → valueOk b ≡ false
-unfolding valueOk fixedKind listedKind
+unfolding valueOk listedKind
 no-value b h = rw (lt-leb b 11 (omega arith), lt-leb b 30 (omega arith), lt-leb b 63 (omega arith), ne-eqb b 12 (λ q. omega arith)) (no-both (leb 1 b) (leb 20 b) (leb 60 b)) where
   no-both : (x y z : Bool) → cond ((x && false) || (y && false)) true (cond (z && false) true false) ≡ false
   no-both true true true = refl
@@ -136,7 +137,7 @@ reader-below h = lookup-below h readers refl
 -- a head that is no target name, with no argument: a listed enum type, or nothing known
 listed-judged : (after : Bool) (h : List ℕ) (z : ℕ) → (z ≡ 0) ⊎ EnumSize z
     → (cond after (valueOk (node (enumKind z) 0)) (headOk (node (enumKind z) 0)) ≡ fitting after (listedEnum h z)) × ((eqb (node (enumKind z) 0) 0 || listedKind (node (enumKind z) 0)) ≡ true)
-unfolding EnumSize listedEnum enumKind isKnown isValue kindOf meshed plain fixedKind headOk valueOk listedKind
+unfolding EnumSize listedEnum enumKind isKnown isValue kindOf meshed plain fixedKind sizes headOk valueOk listedKind
 listed-judged true h z (inl w) = rw w (refl, refl)
 listed-judged false h z (inl w) = rw w (refl, refl)
 listed-judged true h z (inr (inl w)) = rw w (refl, refl)

@@ -1,13 +1,11 @@
 -- Targets as codes: a word for each type, its arguments after it. Assumes nothing.
 use mathlib.Core.Path.{_≡_}
-use mathlib.Core.Bool.{true}
 use mathlib.Core.List.{List, [], _∷_, _++_}
 use Prim.Native.Nat.{ℕ, suc, _+_}
 use lib.ListN.{take, drop}
 use Rattle.layout.specs.Name.{headByte}
 use Rattle.layout.specs.Target.{Target, fixed, char, string, object, texture, texture2D, spriteFont, page, mesh, meshKind, enum, nullable, array, list, dictionary}
-use Rattle.layout.specs.EnumList.{EnumSize}
-use Rattle.layout.specs.Named.{fixedKind}
+use Rattle.layout.specs.Named.{Lawful}
 use Rattle.names.specs.Parse.{span}
 use Rattle.names.specs.Kind.{word, enumKind}
 
@@ -77,23 +75,6 @@ codeSize texture2D = 1
 codeSize spriteFont = 1
 codeSize page = 1
 codeSize (mesh m) = 1
-
--- each `fixed` in it has one of the kinds that are `fixed` targets, and each enum one of 02's sizes, so that no two types have one code
-unfoldable pub Lawful : Target → Type 0
-Lawful (fixed k) = fixedKind k ≡ true
-Lawful char = Unit {0}
-Lawful string = Unit {0}
-Lawful object = Unit {0}
-Lawful (enum name z) = EnumSize z
-Lawful (nullable t) = Lawful t
-Lawful (array t) = Lawful t
-Lawful (list t) = Lawful t
-Lawful (dictionary k v) = Lawful k × Lawful v
-Lawful texture = Unit {0}
-Lawful texture2D = Unit {0}
-Lawful spriteFont = Unit {0}
-Lawful page = Unit {0}
-Lawful (mesh m) = Unit {0}
 
 -- a lawful type stands at a place: the codes from there on begin with its codes
 pub record Stands (file codes : List ℕ) (place : ℕ) (t : Target) : Type 0 where

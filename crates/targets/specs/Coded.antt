@@ -18,13 +18,13 @@ use Rattle.layout.specs.Target.{Target, fixed, char, string, object, texture, t
 use Rattle.layout.specs.Name.{Tail, Name, simple, one, two, headByte, writeTail, write, Formed, NameHead, long}
 use Rattle.layout.specs.Kind.{lookup, targets, readers}
 use Rattle.layout.specs.EnumList.{EnumEntry, EnumSize, sizeIn}
-use Rattle.layout.specs.Named.{Typed, unknown, known, fixedKind, meshed, plain, nullableOf, wrapped, paired, listedEnum, typeOf, sizeOrFour, enumOf, arrayOf, readerOf}
+use Rattle.layout.specs.Named.{Typed, unknown, known, fixedKind, meshed, plain, nullableOf, wrapped, paired, listedEnum, typeOf, sizeOrFour, enumOf, arrayOf, readerOf, Lawful}
 use Rattle.names.specs.Parse.{span}
 use Rattle.names.specs.Complete.{bracket, span-all, tail-opens, further}
 use Rattle.names.specs.Heading.{headings}
 use Rattle.names.specs.Codes.{codes-append, lookup-is-small}
 use Rattle.names.specs.Kind.{codes, listed, word, enumKind, kindIn}
-use Rattle.targets.specs.Code.{headAt, Alone, Before, Coded, Lawful}
+use Rattle.targets.specs.Code.{headAt, Alone, Before, Coded}
 use Rattle.targets.specs.Contract.{enumWord, settled, settledSize}
 use Rattle.targets.specs.Word.{word-node, enum-kind}
 

@@ -8,10 +8,11 @@ use lib.Dec.{eqb, ltb}
 use borrow.Author.Tests.{lt-ltb, le-ltb, ltb-true, ltb-false, lt-leb, le-leb, eqb-true, eq-eqb}
 use Rattle.laws.specs.Small.{both}
 use Rattle.layout.specs.Target.{Target, fixed, char, string, object, texture, texture2D, spriteFont, page, mesh, meshKind, enum, nullable, array, list, dictionary}
-use Rattle.layout.specs.Named.{Typed, unknown, known, fixedKind, plain}
+use Rattle.layout.specs.Fixed.{sizes}
+use Rattle.layout.specs.Named.{Typed, unknown, known, fixedKind, plain, Lawful}
 use Rattle.names.specs.Codes.{alike-then, alike-self}
 use Rattle.names.specs.Kind.{node, word, enumKind}
-use Rattle.targets.specs.Code.{headAt, Alone, Before, Coded, Lawful}
+use Rattle.targets.specs.Code.{headAt, Alone, Before, Coded}
 use Rattle.targets.specs.Place.{sameName, sameCode}
 use Rattle.targets.specs.Word.{word-node, word-kind, word-place, fixed-small, mesh-small, mesh-plain, enumSize, enum-kind}
 
@@ -53,7 +54,7 @@ module _ (file : List ℕ) where
   decode-before k make t ws rest s b (p, us, q, w) f = rw (q, word-node k 1 p s (omega arith), b (headAt file (word k 1 p / 256)) (decode file (us ++ rest)), f us w)
 
   decode-code : (t : Target) (ws rest : List ℕ) → Lawful t → Coded file t ws → decode file (ws ++ rest) ≡ t ∷ decode file rest
-  unfolding decode byCode one-made two-made Lawful Coded plain fixedKind
+  unfolding decode byCode one-made two-made Lawful Coded plain fixedKind sizes
   decode-code (fixed k) ws rest l w = decode-alone k (fixed k) ws rest (fixed-small k l) (rw l) w
   decode-code char ws rest l w = decode-alone 12 char ws rest (omega arith) refl w
   decode-code string ws rest l w = decode-alone 13 string ws rest (omega arith) refl w

@@ -7,6 +7,7 @@ use Rattle.layout.specs.Text.{ascii}
 use Rattle.layout.specs.Target.{Target, fixed, char, string, object, texture, texture2D, spriteFont, page, enum, nullable, array, list, dictionary, kindOf, isValue}
 use Rattle.layout.specs.Name.{headByte, tailByte, long, longTail}
 use Rattle.layout.specs.Kind.{lookup, alike, reader, readers, target as target-entry, targets}
+use Rattle.layout.specs.Fixed.{sizes}
 use Rattle.layout.specs.Named.{Typed, unknown, known, fixedKind, meshed, plain, nullableOf, wrapped, paired, listedEnum, typeOf, sizeOrFour, enumOf, arrayOf, readerOf}
 use Rattle.layout.specs.EnumList.{sizeIn}
 use Rattle.layout.specs.Complaint.{isKnown, unless, typeFaults, readerFaults, leftmost}
@@ -98,5 +99,5 @@ pub examples : outcomes names ≡
     ∷ target (list (list (list (list (list (list (list char)))))))
     ∷ refused 38 291
     ∷ []
-unfolding names ascii nameOf whole nameIn headed afterHead onFirst onSecond onOnly closed behind wrong wrongBy common opening unopenedNumber unopenedAt starts span headByte tailByte tailOf tailSize headings long longTail isKnown unless typeFaults readerFaults leftmost readerOf typeOf listedEnum sizeIn sizeOrFour enumOf arrayOf meshed plain fixedKind wrapped nullableOf paired isValue kindOf lookup alike listed readers reader targets target-entry
+unfolding names ascii nameOf whole nameIn headed afterHead onFirst onSecond onOnly closed behind wrong wrongBy common opening unopenedNumber unopenedAt starts span headByte tailByte tailOf tailSize headings long longTail isKnown unless typeFaults readerFaults leftmost readerOf typeOf listedEnum sizeIn sizeOrFour enumOf arrayOf meshed plain fixedKind sizes wrapped nullableOf paired isValue kindOf lookup alike listed readers reader targets target-entry
 examples = refl

@@ -6,9 +6,10 @@ use Prim.Native.Nat.{ℕ, zero, suc, _+_, _%_, _<_}
 use native.Mathlib.Omega.{arith}
 use lib.ListN.{length, getD, length-append}
 use Rattle.laws.specs.Small.{differ, both}
+use Rattle.layout.specs.Named.{Lawful}
 use Rattle.layout.specs.Target.{Target, fixed, char, string, object, texture, texture2D, spriteFont, page, mesh, meshKind, enum, nullable, array, list, dictionary}
 use Rattle.names.specs.Kind.{word, enumKind}
-use Rattle.targets.specs.Code.{Alone, Before, Coded, codeKind, codeSize, Lawful}
+use Rattle.targets.specs.Code.{Alone, Before, Coded, codeKind, codeSize}
 use Rattle.targets.specs.Place.{arity, extent, sameCode, agree}
 use Rattle.targets.specs.Word.{word-kind, word-arity, fixed-small, mesh-small, enum-kind}
 use Rattle.targets.specs.Decode.{Pairwise}

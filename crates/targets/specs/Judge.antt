@@ -4,7 +4,7 @@ use mathlib.Core.List.{List, [], _∷_, _++_}
 use Prim.Native.Nat.{ℕ, _/_, _%_}
 use lib.Dec.{eqb, ltb}
 use Rattle.layout.specs.Number.{between}
-use Rattle.layout.specs.Named.{fixedKind, plain}
+use Rattle.layout.specs.Named.{plain}
 use Rattle.layout.specs.Complaint.{isKnown, unless}
 use Rattle.names.specs.Kind.{node}
 use Rattle.targets.specs.declared.Judged.{Judged}
@@ -21,7 +21,7 @@ headOk b =
 
 -- 01: "a value type other than Nullable", among arguments
 unfoldable pub valueOk : ℕ → Bool
-valueOk b = cond (fixedKind b) true (cond (listedKind b) true (eqb b 12))
+valueOk b = cond (between 1 11 b || between 20 30 b) true (cond (listedKind b) true (eqb b 12))
 
 -- the places of the heads of arguments that are complained of; `nullable` says that the head before was Nullable
 unfoldable pub badArguments : (nullable : Bool) → List ℕ → List ℕ

@@ -5,20 +5,19 @@ use mathlib.Core.List.{List, [], _∷_, _++_, append-assoc}
 use mathlib.Core.Logic.{inl, inr}
 use Prim.Native.Nat.{ℕ, suc, _+_, _-_, _%_, _≤_, _<_}
 use native.Mathlib.Omega.{arith}
-use lib.Dec.{eqb, ltb, leb}
+use lib.Dec.{eqb, leb}
 use lib.ListN.{length, take, drop, getD, set}
 use lib.Seq.{drop-drop, drop-append-seam, getD-drop, drop-set-add, length-take-le, sets, sets-eq}
-use borrow.Author.Tests.{eqb-true, ltb-true, le-leb, lt-leb}
+use borrow.Author.Tests.{eqb-true, le-leb, lt-leb}
 use Rattle.laws.specs.Small.{differ, both}
 use Rattle.layout.specs.Target.{Target, fixed, char, string, object, texture, texture2D, spriteFont, page, mesh, meshKind, enum, nullable, array, list, dictionary, kindOf, Serves, same, any, picture}
 use Rattle.layout.specs.Fixed.{sizes}
 use Rattle.layout.specs.Name.{two}
 use Rattle.layout.specs.EnumList.{EnumSize}
-use Rattle.layout.specs.Named.{unknown, known, fixedKind, meshed, plain}
+use Rattle.layout.specs.Named.{unknown, known, fixedKind, meshed, plain, Lawful}
 use Rattle.names.specs.Kind.{enumKind}
-use Rattle.targets.specs.Finite.{allBelow, below-is}
-use Rattle.targets.specs.Code.{Before, Coded, codeKind, codeSize, Lawful, Stands}
-use Rattle.targets.specs.Place.{kindAt, valueKind, extent, placeAfter, equalAt, fitsAt}
+use Rattle.targets.specs.Code.{Before, Coded, codeKind, codeSize, Stands}
+use Rattle.targets.specs.Place.{kindAt, extent, placeAfter, equalAt, fitsAt}
 use Rattle.targets.specs.Word.{fixed-small, mesh-small, mesh-plain, enum-kind}
 use Rattle.targets.specs.Contract.{settled}
 use Rattle.targets.specs.Coded.{Leaves}
@@ -104,7 +103,7 @@ module _ {file c : List ℕ} {a b : ℕ} {t : Target} (p : Stands file c a t) (q
 
 -- no enum's code has a kind of 01 that takes no argument
 enum-other : (z : ℕ) (t : Target) → EnumSize z → plain (enumKind z) ≡ known t → ⊥
-unfolding EnumSize enumKind meshed plain fixedKind
+unfolding EnumSize enumKind meshed plain fixedKind sizes
 enum-other z t (inl e) q = let h : unknown ≡ known t = rw e at q in differ cc
 enum-other z t (inr (inl e)) q = let h : unknown ≡ known t = rw e at q in differ cc
 enum-other z t (inr (inr (inl e))) q = let h : unknown ≡ known t = rw e at q in differ cc
@@ -112,7 +111,7 @@ enum-other z t (inr (inr (inr e))) q = let h : unknown ≡ known t = rw e at q i
 
 -- a lawful type whose kind takes no argument is the type of that kind
 kind-type : (d t : Target) → Lawful d → plain (codeKind d) ≡ known t → d ≡ t
-unfolding Lawful meshed plain codeKind fixedKind
+unfolding Lawful meshed plain codeKind fixedKind sizes
 kind-type (fixed k) t w e = let h : known (fixed k) ≡ known t = rw w at e in cc
 kind-type char t w e = cc
 kind-type string t w e = cc
@@ -157,7 +156,7 @@ last-true false false = refl
 -- at two places, the first of a declared type: the test says exactly what 01 says of declared types (`Serves`)
 module _ {file c : List ℕ} {a b : ℕ} {d t : Target} (p : Stands file c a d) (q : Stands file c b t) where
   serves : (x y : Bool) → eqb (kindAt c a) 14 ≡ x → (eqb (kindAt c a) 31 && eqb (kindAt c b) 32) ≡ y → cond x true (cond y true (equalAt file c a b)) ≡ true → Serves d t
-  unfolding plain fixedKind
+  unfolding plain fixedKind sizes
   serves true y ex ey e =
       let z : d ≡ object = of-kind d object 14 (p .lawful) (sym (kind-is p) ∙ eqb-true (kindAt c a) 14 ex) refl in
       rw z any
@@ -178,17 +177,6 @@ module _ {file c : List ℕ} {a b : ℕ} where
   then-fits p q same = rw (then-equal p q) (last-true (eqb (kindAt c a) 14) (eqb (kindAt c a) 31 && eqb (kindAt c b) 32))
   then-fits p q any = rw (kind-is p)
   then-fits p q picture = rw (kind-is p, kind-is q)
-
-fixed-tested : ℕ → Bool
-fixed-tested k = cond (fixedKind k) (ltb 0 (getD sizes k 0) && valueKind k) true
-
-fixed-test : (k : ℕ) → fixedKind k ≡ true → (ltb 0 (getD sizes k 0) && valueKind k) ≡ true
-unfolding fixed-tested allBelow fixedKind valueKind sizes
-fixed-test k e = rw e at (below-is fixed-tested 60 k refl (fixed-small k e))
-
--- a kind that is a `fixed` target has a size in 01
-pub fixed-has-size : (k : ℕ) → fixedKind k ≡ true → 0 < getD sizes k 0
-fixed-has-size k e = ltb-true 0 (getD sizes k 0) (both (ltb 0 (getD sizes k 0)) (valueKind k) (fixed-test k e) .0)
 
 -- the codes of a target that are written at a place stand there
 pub written-stands : (file c : List ℕ) (place : ℕ) (cs : List ℕ) (t : Target) → Leaves file cs t → place + length (settled cs) ≤ length c → Stands file (sets c place (settled cs)) place t

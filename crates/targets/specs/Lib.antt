@@ -8,6 +8,7 @@ pub mod Contract
 pub mod Settling
 pub mod Word
 pub mod Coded
+pub mod Lawful
 pub mod Decode
 pub mod Extent
 pub mod Laws

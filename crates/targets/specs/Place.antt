@@ -1,20 +1,15 @@
 -- What the code asks of types at places of an array of codes. Laws.antt says what it means of the types that stand there. Assumes nothing.
-use mathlib.Core.Bool.{Bool, true, false, _&&_, _||_, cond}
+use mathlib.Core.Bool.{Bool, true, false, _&&_, cond}
 use mathlib.Core.List.{List, [], _∷_}
 use Prim.Native.Nat.{ℕ, zero, suc, _+_, _/_, _%_}
 use lib.Dec.{eqb, leb}
 use lib.ListN.{drop, getD}
-use Rattle.layout.specs.Number.{between}
 use Rattle.layout.specs.Kind.{alike}
 use Rattle.targets.specs.Code.{headAt}
 
 -- the kind of the type at a place, as its code has it
 unfoldable pub kindAt : (codes : List ℕ) (place : ℕ) → ℕ
 kindAt codes place = getD codes place 0 % 64
-
--- 01: "Value types are kinds 1 to 12, 15, 16 and 20 to 30"
-unfoldable pub valueKind : ℕ → Bool
-valueKind k = between 1 12 k || (between 15 16 k || between 20 30 k)
 
 -- how many arguments the type of a code has
 abbrev pub arity : (code : ℕ) → ℕ

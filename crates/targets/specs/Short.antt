@@ -14,6 +14,7 @@ use Rattle.layout.specs.Target.{Target, Mesh, indexBuffer, vertexDeclaration, v
 use Rattle.layout.specs.Name.{Name, simple, one, two, text, Formed, long, longTail}
 use Rattle.layout.specs.Kind.{alike, lookup, reader, readers, target, targets, KindEntry, kindEntry}
 use Rattle.layout.specs.EnumList.{EnumEntry, sizeIn}
+use Rattle.layout.specs.Fixed.{sizes}
 use Rattle.layout.specs.Named.{Typed, known, fixedKind, plain, wrapped, paired, listedEnum, typeOf, enumOf, arrayOf, readerOf}
 use Rattle.names.specs.Complete.{length-write}
 use Rattle.names.specs.Codes.{alike-then, some-head}
@@ -73,7 +74,7 @@ mesh-some vertexBuffer e = omega arith
 mesh-some model e = omega arith
 
 plain-few : (k n : ℕ) → ((k ≡ 0 → ⊥) → 11 ≤ n) → Ok (Few n) (plain k)
-unfolding fixedKind codeSize
+unfolding fixedKind sizes codeSize
 plain-few k n f =
     let g : (m : ℕ) → k ≡ suc m → 11 ≤ n = λ m e. f (λ z. omega arith) in
     ok-plain k (λ b. f (λ z. let y : false ≡ true = ap fixedKind (sym z) ∙ b in differ cc)) (g 11) (g 12) (g 13) (g 30) (g 31) (g 32) (g 33) (λ m e. f (λ z. mesh-some m (sym e ∙ z)))

@@ -12,7 +12,7 @@ use Rattle.enums.specs.Lists.{Bytes}
 use Rattle.reading.specs.Reads.{Small}
 use Rattle.reading.specs.File.{refusal, tableOf, toLoad, tableIn}
 use Rattle.ids.specs.Position.{cellOf}
-use Rattle.theorems.specs.Fits.{Fitting, rowsIn}
+use Rattle.layout.specs.Fits.{Fitting, rowsIn}
 use Rattle.columns.specs.Words.{row-word, column-word}
 use Rattle.words.specs.Grids.{rowsGrid, columnsGrid}
 use Rattle.words.specs.Same.{SameRows}
@@ -29,7 +29,7 @@ module _ (enums file : List ℕ) (n m : ℕ) (bytes : Bytes enums) (small : Smal
     (by-rows : v ≡ tableOf (loadUnder enums file n) n) (by-columns : w ≡ tableIn byColumns (loadUnder enums file m) m) where
   -- a file tree that fits either fits the other
   abbrev moved : Fitting enums file n → Fitting enums file m
-  moved f = record { es = f .es; lawful = f .lawful; listed = f .listed; tree = f .tree; lays = f .lays; room = omega (arith, f .room, room) }
+  moved f = record { es = f .es; lawful = f .lawful; listed = f .listed; fits = record { tree = f .fits .tree; lays = f .fits .lays; room = omega (arith, f .fits .room, room) } }
 
   no-word : (p q : ℕ) → loadUnder enums file n ≡ refusal p q → (i j : ℕ) → getD v (cellOf (rowsGrid n) i j) 0 ≡ getD w (cellOf (columnsGrid m) i j) 0
   no-word p q e i j =
@@ -40,7 +40,7 @@ module _ (enums file : List ℕ) (n m : ℕ) (bytes : Bytes enums) (small : Smal
   same-word : Ends enums file n → (i j : ℕ) → i < roomOf n → j < width → getD v (cellOf (rowsGrid n) i j) 0 ≡ getD w (cellOf (columnsGrid m) i j) 0
   unfolding cell
   same-word (fits f) i j h k =
-      let rows = rowsIn f in
+      let rows = rowsIn (f .fits) in
       let a : v ≡ table byRows rows n = by-rows ∙ table-in f false in
       let b : w ≡ table byColumns rows m = by-columns ∙ table-in (moved f) true in
       ap (λ (l : List ℕ). getD l (width * i + j) 0) a ∙ row-word rows (n - width * length rows) i j k

@@ -12,7 +12,7 @@ use Rattle.branches.specs.Rule.{branch-ends}
 use Rattle.branches.specs.Next.{branchIn, nextOf, rowsNext}
 use Rattle.load.specs.declared.Loading.{Loading}
 use Rattle.load.specs.declared.Loading.the-variants.{Loaded}
-use Rattle.theorems.specs.Fits.{rowsIn}
+use Rattle.layout.specs.Fits.{rowsIn}
 use Rattle.theorems.specs.Loading.{Loads}
 use Rattle.theorems.specs.Fitted.{rows-room}
 
@@ -21,7 +21,7 @@ module _ {enums file : List ℕ} {words : ℕ} {left : List ℕ} {l : Loading} (
   used-room =
       let f = x .accepts .0 (rw e tt) in
       let k = x .rows f .0 in
-      let u : used ≡ length (rowsIn f) = cc in
+      let u : used ≡ length (rowsIn (f .fits)) = cc in
       omega (arith, rows-room f, u)
 
   pub next-is : (row : ℕ) {next : ℕ} → length left ≡ words → next ≡ rowsNext left row → row < used → (next ≡ row + getD left (cell byRows (roomOf words) row 6) 0) × (next ≤ used)

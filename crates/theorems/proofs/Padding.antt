@@ -26,7 +26,7 @@ use Rattle.rewrite.specs.declared.Rewriting.the-variants as rewriting
 use Rattle.theorems.specs.Rewriting.{Rewrites}
 use Rattle.theorems.specs.Padding.{Shortest}
 use Rattle.theorems.specs.Fitted.{least, same-tree}
-use Rattle.theorems.specs.Fits.{Fitting, rowsIn}
+use Rattle.layout.specs.Fits.{Fitting, rowsIn}
 use Rattle.theorems.specs.Laws.{Ends, fits, refuses, bad-list, ends, loads, handed-on}
 
 module _ (enums file : List ℕ) (words : ℕ) (bytes : Bytes enums) (small : Small file) {left out end : List ℕ} {l : Loading} {r : Rewriting}
@@ -35,8 +35,8 @@ module _ (enums file : List ℕ) (words : ℕ) (bytes : Bytes enums) (small : Sm
   -- the file was loaded: a file tree fits, and the padding is what its shortest bytes save
   record Told (padding : ℕ) : Type 0 where
     fitting : Fitting enums file words
-    is : padding ≡ length file - length (shortFile (fitting .tree))
-    no-longer : length (shortFile (fitting .tree)) ≤ length file
+    is : padding ≡ length file - length (shortFile (fitting .fits .tree))
+    no-longer : length (shortFile (fitting .fits .tree)) ≤ length file
 
   told : {rows readers shared padding : ℕ} → l ≡ Loaded rows readers shared padding → Told padding
   told {rows} {readers} {shared} {padding} e = go (ends enums file words bytes small) where
@@ -48,8 +48,8 @@ module _ (enums file : List ℕ) (words : ℕ) (bytes : Bytes enums) (small : Sm
         let a : l ≡ Refused 32 i = answers ∙ ap (answerOf file) g in
         differ cc
     go (fits f) =
-        let a : l ≡ Loaded (length (rowsIn f)) (length (f .tree .names)) (count (sharedOf (f .tree .objects))) (length file - length (shortFile (f .tree))) = answers ∙ loads f in
-        record { fitting = f; is = cc; no-longer = least f file (f .lays) .no-longer }
+        let a : l ≡ Loaded (length (rowsIn (f .fits))) (length (f .fits .tree .names)) (count (sharedOf (f .fits .tree .objects))) (length file - length (shortFile (f .fits .tree))) = answers ∙ loads f in
+        record { fitting = f; is = cc; no-longer = least f file (f .fits .lays) .no-longer }
 
   -- what the rewrite answers then
   by-room : {padding : ℕ} (t : Told padding) {P : Type 0} → (r ≡ rewriting.Rewritten (length (shortFile (t .fitting .tree))) → P) → (r ≡ rewriting.Refused 21 (length (shortFile (t .fitting .tree))) → P) → P
@@ -88,7 +88,7 @@ module _ (enums file : List ℕ) (words : ℕ) (bytes : Bytes enums) (small : Sm
 
     go : Ends enums file words → r ≡ rewriting.Refused number place
     go (fits f) =
-        let a : l ≡ Loaded (length (rowsIn f)) (length (f .tree .names)) (count (sharedOf (f .tree .objects))) (length file - length (shortFile (f .tree))) = answers ∙ loads f in
+        let a : l ≡ Loaded (length (rowsIn (f .fits))) (length (f .fits .tree .names)) (count (sharedOf (f .fits .tree .objects))) (length file - length (shortFile (f .fits .tree))) = answers ∙ loads f in
         differ cc
     go (refuses es w b m q g i) = handed m q g
     go (bad-list i b n g) = handed 32 i g

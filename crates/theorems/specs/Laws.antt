@@ -14,7 +14,6 @@ use Rattle.layout.specs.Tree.{count}
 use Rattle.layout.specs.Rows.{width}
 use Rattle.layout.specs.File.{sharedOf}
 use Rattle.layout.specs.EnumList.{EnumEntry, writeEnums, Enums, FirstBad, Unlawful}
-use Rattle.layout.specs.Named.{named}
 use Rattle.layout.specs.Refusals.{LoadNumber}
 use Rattle.layout.specs.Table.{roomOf, byRows, byColumns, shapeOf, table}
 use Rattle.layout.specs.Branches.{TableSkips, TableRoots}
@@ -31,7 +30,7 @@ use Rattle.reading.specs.File as reading
 use Rattle.reading.specs.File.{Load, refusal, accepted, toLoad, loadOf, tableOf, tableIn}
 use Rattle.branches.specs.Table.{Stand, rows-stand, file-skips, file-roots}
 use Rattle.theorems.specs.Standing.{columns-stand}
-use Rattle.theorems.specs.Fits.{Fitting, rowsIn}
+use Rattle.layout.specs.Fits.{Fitting, rowsIn}
 use Rattle.theorems.specs.Fitted.{rows-are, table-is, rows-room, rewrite-is, least, again, stays, padding-is, table-length}
 use Rattle.reading.specs.Refusals.{refusal-number, refusal-place}
 use Rattle.reading.specs.Theorems as T
@@ -70,8 +69,8 @@ ends-under enums file words small es w b = go (loadOf (judgedName es) file words
       let j = refusal-place (judgedName es) (within-name es) file words n p e in
       refuses es w b n p (is ∙ e) (i, j .0)
   go (accepted rows readers shared) e =
-      let f = T.accepted-is (named es) (judgedName es) (judges es) file words small rows readers shared e .0 in
-      fits (record { es = es; lawful = w; listed = b; tree = f .tree; lays = f .lays; room = f .room })
+      let f = T.accepted-is es (judgedName es) (judges es) file words small rows readers shared e .0 in
+      fits (record { es = es; lawful = w; listed = b; fits = f })
 
 pub ends : (enums file : List ℕ) (words : ℕ) → Bytes enums → Small file → Ends enums file words
 ends enums file words bytes small = go (enumsAt enums) refl (enums-sound enums bytes) where
@@ -82,7 +81,7 @@ ends enums file words bytes small = go (enumsAt enums) refl (enums-sound enums b
   go (list-lawful es) e w = ends-under enums file words small es (w .0) (w .1)
 
 -- what a load leaves, where a file tree fits and where it refuses, in either shape
-pub table-in : {enums file : List ℕ} {words : ℕ} (f : Fitting enums file words) (columns : Bool) → tableIn (shapeOf columns) (loadUnder enums file words) words ≡ table (shapeOf columns) (rowsIn f) words
+pub table-in : {enums file : List ℕ} {words : ℕ} (f : Fitting enums file words) (columns : Bool) → tableIn (shapeOf columns) (loadUnder enums file words) words ≡ table (shapeOf columns) (rowsIn (f .fits)) words
 unfolding tableIn
 table-in f false = table-is f
 table-in f true = rw (rows-are f)
@@ -93,33 +92,33 @@ cleared-in enums file words m q e false = rw e
 cleared-in enums file words m q e true = rw e
 
 -- the rows of a file tree that fits stand in its table
-table-stands : {enums file : List ℕ} {words : ℕ} (f : Fitting enums file words) (columns : Bool) {left : List ℕ} → left ≡ table (shapeOf columns) (rowsIn f) words → Stand (shapeOf columns) (roomOf words) left (rowsIn f)
-table-stands {words = words} f false e = rw e (rows-stand (roomOf words) (rowsIn f) (replicate (words - width * length (rowsIn f)) 0))
-table-stands {words = words} f true e = rw e (columns-stand (roomOf words) (rowsIn f) (rows-room f) (replicate (words - width * roomOf words) 0))
+table-stands : {enums file : List ℕ} {words : ℕ} (f : Fitting enums file words) (columns : Bool) {left : List ℕ} → left ≡ table (shapeOf columns) (rowsIn (f .fits)) words → Stand (shapeOf columns) (roomOf words) left (rowsIn (f .fits))
+table-stands {words = words} f false e = rw e (rows-stand (roomOf words) (rowsIn (f .fits)) (replicate (words - width * length (rowsIn (f .fits))) 0))
+table-stands {words = words} f true e = rw e (columns-stand (roomOf words) (rowsIn (f .fits)) (rows-room f) (replicate (words - width * roomOf words) 0))
 
 -- so the rule of the seventh word holds of it, and its objects' rows follow each other
-table-skips : {enums file : List ℕ} {words : ℕ} (f : Fitting enums file words) (columns : Bool) {left : List ℕ} → left ≡ table (shapeOf columns) (rowsIn f) words
-    → TableSkips (shapeOf columns) (roomOf words) left (length (rowsIn f))
-table-skips {enums} {file} {words} f columns {left} e = file-skips (named (f .es)) (shapeOf columns) (roomOf words) (f .tree) file (f .lays) left (table-stands f columns e)
+table-skips : {enums file : List ℕ} {words : ℕ} (f : Fitting enums file words) (columns : Bool) {left : List ℕ} → left ≡ table (shapeOf columns) (rowsIn (f .fits)) words
+    → TableSkips (shapeOf columns) (roomOf words) left (length (rowsIn (f .fits)))
+table-skips {enums} {file} {words} f columns {left} e = file-skips (f .es) (shapeOf columns) (roomOf words) (f .fits .tree) file (f .fits .lays) left (table-stands f columns e)
 
-table-roots : {enums file : List ℕ} {words : ℕ} (f : Fitting enums file words) (columns : Bool) {left : List ℕ} → left ≡ table (shapeOf columns) (rowsIn f) words
-    → TableRoots (shapeOf columns) (roomOf words) left (length (rowsIn f)) (suc (count (sharedOf (f .tree .objects))))
-table-roots {enums} {file} {words} f columns {left} e = file-roots (named (f .es)) (shapeOf columns) (roomOf words) (f .tree) file (f .lays) left (table-stands f columns e)
+table-roots : {enums file : List ℕ} {words : ℕ} (f : Fitting enums file words) (columns : Bool) {left : List ℕ} → left ≡ table (shapeOf columns) (rowsIn (f .fits)) words
+    → TableRoots (shapeOf columns) (roomOf words) left (length (rowsIn (f .fits))) (suc (count (sharedOf (f .fits .tree .objects))))
+table-roots {enums} {file} {words} f columns {left} e = file-roots (f .es) (shapeOf columns) (roomOf words) (f .fits .tree) file (f .fits .lays) left (table-stands f columns e)
 
 -- ---- Loading
 
 -- what a load answers where a file tree fits
 pub loads : {enums file : List ℕ} {words : ℕ} (f : Fitting enums file words)
-    → answerOf file (loadUnder enums file words) ≡ Loaded (length (rowsIn f)) (length (f .tree .names)) (count (sharedOf (f .tree .objects))) (length file - length (shortFile (f .tree)))
+    → answerOf file (loadUnder enums file words) ≡ Loaded (length (rowsIn (f .fits))) (length (f .fits .tree .names)) (count (sharedOf (f .fits .tree .objects))) (length file - length (shortFile (f .fits .tree)))
 loads {enums} {file} {words} f =
-    let p : filePadding file (length (f .tree .names)) (rowsIn f) ≡ length file - length (shortFile (f .tree)) = omega (arith, padding-is f) in
+    let p : filePadding file (length (f .fits .tree .names)) (rowsIn (f .fits)) ≡ length file - length (shortFile (f .fits .tree)) = omega (arith, padding-is f) in
     rw (rows-are f, p)
 
 module _ (enums file : List ℕ) (words : ℕ) (columns : Bool) {left : List ℕ} {r : Loading} (bytes : Bytes enums) (small : Small file)
     (answers : r ≡ answerOf file (loadUnder enums file words))
     (leaves : left ≡ tableIn (shapeOf columns) (loadUnder enums file words) words) where
   loaded : (f : Fitting enums file words)
-      → (r ≡ Loaded (length (rowsIn f)) (length (f .tree .names)) (count (sharedOf (f .tree .objects))) (length file - length (shortFile (f .tree)))) × (left ≡ table (shapeOf columns) (rowsIn f) words)
+      → (r ≡ Loaded (length (rowsIn (f .fits))) (length (f .fits .tree .names)) (count (sharedOf (f .fits .tree .objects))) (length file - length (shortFile (f .fits .tree)))) × (left ≡ table (shapeOf columns) (rowsIn (f .fits)) words)
   loaded f =
       (answers ∙ loads f, leaves ∙ table-in f columns)
 
@@ -162,7 +161,7 @@ module _ (enums file : List ℕ) (words : ℕ) (columns : Bool) {left : List ℕ
       differ cc
   skipped (fits f) used readers shared padding e =
       let l = loaded f in
-      let k : length (rowsIn f) ≡ used = cc in
+      let k : length (rowsIn (f .fits)) ≡ used = cc in
       rw k at (table-skips f columns (l .1))
 
   rooted : Ends enums file words → (used readers shared padding : ℕ) → r ≡ Loaded used readers shared padding → TableRoots (shapeOf columns) (roomOf words) left used (suc shared)
@@ -174,8 +173,8 @@ module _ (enums file : List ℕ) (words : ℕ) (columns : Bool) {left : List ℕ
       differ cc
   rooted (fits f) used readers shared padding e =
       let l = loaded f in
-      let k : length (rowsIn f) ≡ used = cc in
-      let m : count (sharedOf (f .tree .objects)) ≡ shared = cc in
+      let k : length (rowsIn (f .fits)) ≡ used = cc in
+      let m : count (sharedOf (f .fits .tree .objects)) ≡ shared = cc in
       rw (k, m) at (table-roots f columns (l .1))
 
   pub load-exact : Loads (shapeOf columns) enums file words left r
@@ -197,27 +196,27 @@ handed-on enums file words out n p e = go (fileUnder enums file (roomOf words)) 
   go (read a next) e = differ cc
 
 -- the shortest bytes of the tree that fits
-new-file : {enums file : List ℕ} {words : ℕ} (f : Fitting enums file words) → Written f (shortFile (f .tree))
+new-file : {enums file : List ℕ} {words : ℕ} (f : Fitting enums file words) → Written f (shortFile (f .fits .tree))
 new-file f = record { shortest = least f; again = (again f, refl); stays = stays f }
 
 module _ (enums file : List ℕ) (words : ℕ) (out : List ℕ) {left end : List ℕ} {r : Rewriting} (bytes : Bytes enums) (small : Small file)
     (answers : r ≡ contract.answerOf (rewriteUnder enums file words (length out)))
     (writes : end ≡ outputOf (rewriteUnder enums file words (length out)) out)
     (leaves : left ≡ wordsOf (rewriteUnder enums file words (length out)) (tableOf (loadUnder enums file words) words)) where
-  rewritten : (f : Fitting enums file words) → length (shortFile (f .tree)) ≤ length out
-      → (r ≡ rewriting.Rewritten (length (shortFile (f .tree)))) × (end ≡ shortFile (f .tree) ++ drop (length (shortFile (f .tree))) out) × (left ≡ table byRows (rowsIn f) words)
+  rewritten : (f : Fitting enums file words) → length (shortFile (f .fits .tree)) ≤ length out
+      → (r ≡ rewriting.Rewritten (length (shortFile (f .fits .tree)))) × (end ≡ shortFile (f .fits .tree) ++ drop (length (shortFile (f .fits .tree))) out) × (left ≡ table byRows (rowsIn (f .fits)) words)
   unfolding fitted outputOf wordsOf
   rewritten f h =
       let is = rewrite-is f (length out) in
-      let t : leb (length (shortFile (f .tree))) (length out) ≡ true = le-leb (length (shortFile (f .tree))) (length out) h in
+      let t : leb (length (shortFile (f .fits .tree))) (length out) ≡ true = le-leb (length (shortFile (f .fits .tree))) (length out) h in
       (answers ∙ rw (is, t), writes ∙ rw (is, t), leaves ∙ rw (is, t) (table-is f))
 
-  too-long : (f : Fitting enums file words) → length out < length (shortFile (f .tree))
-      → (r ≡ rewriting.Refused 21 (length (shortFile (f .tree)))) × (end ≡ out) × (left ≡ replicate words 0)
+  too-long : (f : Fitting enums file words) → length out < length (shortFile (f .fits .tree))
+      → (r ≡ rewriting.Refused 21 (length (shortFile (f .fits .tree)))) × (end ≡ out) × (left ≡ replicate words 0)
   unfolding fitted outputOf wordsOf
   too-long f h =
       let is = rewrite-is f (length out) in
-      let t : leb (length (shortFile (f .tree))) (length out) ≡ false = lt-leb (length (shortFile (f .tree))) (length out) h in
+      let t : leb (length (shortFile (f .fits .tree))) (length out) ≡ false = lt-leb (length (shortFile (f .fits .tree))) (length out) h in
       let n : length (tableOf (loadUnder enums file words) words) ≡ words = table-length enums file words small in
       (answers ∙ rw (is, t), writes ∙ rw (is, t), leaves ∙ rw (is, t, n))
 
@@ -255,12 +254,12 @@ module _ (enums file : List ℕ) (words : ℕ) (out : List ℕ) {left end : List
   rewrite-placed : Ends enums file words → (es : List EnumEntry) → Enums es → enums ≡ writeEnums es → (number place : ℕ) → r ≡ rewriting.Refused number place → Rewrite-placed number place
   rewrite-placed (refuses fs v c m q g i) es w b number place e = same-refusal (handed m q g .0) e (inl (i .0), i .1)
   rewrite-placed (bad-list i bad none g) es w b number place e = absurd (none es w b)
-  rewrite-placed (fits f) es w b number place e = go (leb (length (shortFile (f .tree))) (length out)) refl where
-    go : (t : Bool) → leb (length (shortFile (f .tree))) (length out) ≡ t → Rewrite-placed number place
+  rewrite-placed (fits f) es w b number place e = go (leb (length (shortFile (f .fits .tree))) (length out)) refl where
+    go : (t : Bool) → leb (length (shortFile (f .fits .tree))) (length out) ≡ t → Rewrite-placed number place
     go true t =
         let l = rewritten f (leb-true _ _ t) .0 in
         differ cc
-    go false t = same-refusal (too-long f (leb-false _ _ t) .0) e (inr refl, least f file (f .lays) .no-longer)
+    go false t = same-refusal (too-long f (leb-false _ _ t) .0) e (inr refl, least f file (f .fits .lays) .no-longer)
 
   begins : Ends enums file words → (n : ℕ) → r ≡ rewriting.Rewritten n → (f : Fitting enums file words) × (n ≤ length end) × Written f (take n end)
   begins (refuses es l b m q g i) n e =
@@ -269,10 +268,10 @@ module _ (enums file : List ℕ) (words : ℕ) (out : List ℕ) {left end : List
   begins (bad-list i b u g) n e =
       let h = handed 32 i g .0 in
       differ cc
-  begins (fits f) n e = go (leb (length (shortFile (f .tree))) (length out)) refl where
-    go : (t : Bool) → leb (length (shortFile (f .tree))) (length out) ≡ t → (f : Fitting enums file words) × (n ≤ length end) × Written f (take n end)
+  begins (fits f) n e = go (leb (length (shortFile (f .fits .tree))) (length out)) refl where
+    go : (t : Bool) → leb (length (shortFile (f .fits .tree))) (length out) ≡ t → (f : Fitting enums file words) × (n ≤ length end) × Written f (take n end)
     go true t =
-        let new = shortFile (f .tree) in
+        let new = shortFile (f .fits .tree) in
         let l = rewritten f (leb-true _ _ t) in
         let k : n ≡ length new = cc in
         let p : take n end ≡ new = rw (k, l .1) (take-append-seam new (drop (length new) out)) in
@@ -281,17 +280,17 @@ module _ (enums file : List ℕ) (words : ℕ) (out : List ℕ) {left end : List
         let l = too-long f (leb-false _ _ t) .0 in
         differ cc
 
-  rewrite-skipped : (n : ℕ) → r ≡ rewriting.Rewritten n → (f : Fitting enums file words) → TableSkips byRows (roomOf words) left (length (rowsIn f))
-  rewrite-skipped n e f = go (leb (length (shortFile (f .tree))) (length out)) refl where
-    go : (t : Bool) → leb (length (shortFile (f .tree))) (length out) ≡ t → TableSkips byRows (roomOf words) left (length (rowsIn f))
+  rewrite-skipped : (n : ℕ) → r ≡ rewriting.Rewritten n → (f : Fitting enums file words) → TableSkips byRows (roomOf words) left (length (rowsIn (f .fits)))
+  rewrite-skipped n e f = go (leb (length (shortFile (f .fits .tree))) (length out)) refl where
+    go : (t : Bool) → leb (length (shortFile (f .fits .tree))) (length out) ≡ t → TableSkips byRows (roomOf words) left (length (rowsIn (f .fits)))
     go true t = table-skips f false (rewritten f (leb-true _ _ t) .2)
     go false t =
         let l = too-long f (leb-false _ _ t) .0 in
         differ cc
 
-  rewrite-rooted : (n : ℕ) → r ≡ rewriting.Rewritten n → (f : Fitting enums file words) → TableRoots byRows (roomOf words) left (length (rowsIn f)) (suc (count (sharedOf (f .tree .objects))))
-  rewrite-rooted n e f = go (leb (length (shortFile (f .tree))) (length out)) refl where
-    go : (t : Bool) → leb (length (shortFile (f .tree))) (length out) ≡ t → TableRoots byRows (roomOf words) left (length (rowsIn f)) (suc (count (sharedOf (f .tree .objects))))
+  rewrite-rooted : (n : ℕ) → r ≡ rewriting.Rewritten n → (f : Fitting enums file words) → TableRoots byRows (roomOf words) left (length (rowsIn (f .fits))) (suc (count (sharedOf (f .fits .tree .objects))))
+  rewrite-rooted n e f = go (leb (length (shortFile (f .fits .tree))) (length out)) refl where
+    go : (t : Bool) → leb (length (shortFile (f .fits .tree))) (length out) ≡ t → TableRoots byRows (roomOf words) left (length (rowsIn (f .fits))) (suc (count (sharedOf (f .fits .tree .objects))))
     go true t = table-roots f false (rewritten f (leb-true _ _ t) .2)
     go false t =
         let l = too-long f (leb-false _ _ t) .0 in
@@ -306,17 +305,17 @@ module _ (enums file : List ℕ) (words : ℕ) (out : List ℕ) {left end : List
 
 module _ {enums file : List ℕ} {words : ℕ} {left out end : List ℕ} {r : Rewriting} (x : Rewrites enums file words left out end r) where
   -- a first rewrite that is refused is none of a tree that fits
-  first-refused : {number place : ℕ} → r ≡ rewriting.Refused number place → (f : Fitting enums file words) → length (shortFile (f .tree)) ≤ length out → ⊥
+  first-refused : {number place : ℕ} → r ≡ rewriting.Refused number place → (f : Fitting enums file words) → length (shortFile (f .fits .tree)) ≤ length out → ⊥
   first-refused e f h =
       let l = x .rewrites f h .0 in
       differ cc
 
   -- what the first rewrite wrote
-  first-wrote : {n : ℕ} → r ≡ rewriting.Rewritten n → (f : Fitting enums file words) → length (shortFile (f .tree)) ≤ length out → take n end ≡ shortFile (f .tree)
+  first-wrote : {n : ℕ} → r ≡ rewriting.Rewritten n → (f : Fitting enums file words) → length (shortFile (f .fits .tree)) ≤ length out → take n end ≡ shortFile (f .fits .tree)
   first-wrote {n} e f h =
       let l = x .rewrites f h in
-      let k : n ≡ length (shortFile (f .tree)) = cc in
-      rw (k, l .1) (take-append-seam (shortFile (f .tree)) (drop (length (shortFile (f .tree))) out))
+      let k : n ≡ length (shortFile (f .fits .tree)) = cc in
+      rw (k, l .1) (take-append-seam (shortFile (f .fits .tree)) (drop (length (shortFile (f .fits .tree))) out))
 
   pub not-loaded-again : {number place : ℕ} {left₂ : List ℕ} {r₂ : Loading} → r ≡ rewriting.Refused number place → LoadsAgain enums file words left₂ (length out) r₂
   not-loaded-again e = record { reads = λ f h. absurd (first-refused e f h) }
@@ -326,9 +325,9 @@ module _ {enums file : List ℕ} {words : ℕ} {left out end : List ℕ} {r : Re
     reads = λ f h.
         let g = again f in
         let p = first-wrote e f h in
-        let z : Loads byRows enums (shortFile (f .tree)) words left₂ r₂ = rw (l, p) at y in
+        let z : Loads byRows enums (shortFile (f .fits .tree)) words left₂ r₂ = rw (l, p) at y in
         let a = z .rows g in
-        let none : length (shortFile (f .tree)) - length (shortFile (g .tree)) ≡ 0 = omega arith in
+        let none : length (shortFile (f .fits .tree)) - length (shortFile (g .fits .tree)) ≡ 0 = omega arith in
         (g, refl, rw none at (a .0), a .1);
   }
 
@@ -337,7 +336,7 @@ module _ {enums file : List ℕ} {words : ℕ} {left out end : List ℕ} {r : Re
 
   pub rewritten-again : {n : ℕ} {left₂ second end₂ : List ℕ} {r₂ : Rewriting} → r ≡ rewriting.Rewritten n → length left ≡ words → Rewrites enums (take n end) (length left) left₂ second end₂ r₂ → RewritesTwice enums file words (length out) second end₂ r₂
   rewritten-again {n} {left₂} {second} {end₂} {r₂} e l y =
-      let z : (f : Fitting enums file words) → length (shortFile (f .tree)) ≤ length out → Rewrites enums (shortFile (f .tree)) words left₂ second end₂ r₂
+      let z : (f : Fitting enums file words) → length (shortFile (f .fits .tree)) ≤ length out → Rewrites enums (shortFile (f .fits .tree)) words left₂ second end₂ r₂
       = λ f h. let p = first-wrote e f h in rw (l, p) at y in
       record {
         same = λ f h k.

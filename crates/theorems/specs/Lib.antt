@@ -1,6 +1,5 @@
 -- What is demanded of the code, and that the code's contracts give it. Each record is the contract of a function of src/ that calls the code, and is named by what the code then does.
--- First which file trees fit a file, and what is demanded of loads, rewrites, padding, columns, branches and packs. These modules name the layouts and the code's own types; a reading is in Padding's `counted` alone, and Columns and Bytes name the lookups that they compare.
-pub mod Fits
+-- First what is demanded of loads, rewrites, padding, columns, branches and packs. These modules name the layouts and the code's own types; a reading is in Padding's `counted` alone, and Columns and Bytes name the lookups that they compare.
 pub mod Loading
 pub mod Rewriting
 pub mod Padding

@@ -13,7 +13,7 @@ use Rattle.layout.specs.Branches.{TableSkips, TableRoots}
 use Rattle.layout.specs.Shortest.{shortFile}
 use Rattle.load.specs.declared.Loading.{Loading}
 use Rattle.load.specs.declared.Loading.the-variants.{Refused, Loaded}
-use Rattle.theorems.specs.Fits.{Fitting, rowsIn}
+use Rattle.layout.specs.Fits.{Fitting, rowsIn}
 
 -- the answer is no refusal
 abbrev pub IsLoaded : Loading → Type 0
@@ -27,7 +27,7 @@ pub record Loads (s : Shape) (enums file : List ℕ) (words : ℕ) (left : List 
   pub accepts : IsLoaded r ↔ Fitting enums file words
   -- then "the rows are exactly those of its values as they stand in the file", every other word is zero, and the answer is the number of rows, of readers and of shared objects, and (02, Req 06) "the file's total": by how many bytes the file is longer than the shortest bytes of the tree
   pub rows : (f : Fitting enums file words)
-      → (r ≡ Loaded (length (rowsIn f)) (length (f .tree .names)) (count (sharedOf (f .tree .objects))) (length file - length (shortFile (f .tree)))) × (left ≡ table s (rowsIn f) words)
+      → (r ≡ Loaded (length (rowsIn (f .fits))) (length (f .fits .tree .names)) (count (sharedOf (f .fits .tree .objects))) (length file - length (shortFile (f .fits .tree)))) × (left ≡ table s (rowsIn (f .fits)) words)
   -- where none fits, the answer is one refusal's number and place, and every word is zero
   pub refuses : (Fitting enums file words → ⊥) → (number : ℕ) × (place : ℕ) × (r ≡ Refused number place) × (left ≡ replicate words 0)
   -- 02, Req 02: a list that is not the bytes of a lawful one is 32 "placed at the first such entry's number from 0, before all else", whatever the file is

@@ -42,7 +42,7 @@ pub record Converts (marked : Bool) (pack out end : List ℕ) (r : Converting) :
 
 -- For a pack that is converted and then back: the number of bytes lent for the first output, the second as it was lent and as it is left, and the second answer.
 pub record ConvertsBack (marked : Bool) (pack : List ℕ) (out : ℕ) (second end : List ℕ) (r : Converting) : Type 0 where
-  -- "FoundBoth ways round give the original bytes, for every pack the reader of that form accepts"
+  -- "Both ways round give the original bytes, for every pack the reader of that form accepts"
   pub original : {words : ℕ} (f : Given marked pack words) → length (inForm marked (f .files)) ≤ out → length pack ≤ length second
       → (r ≡ Converted (length pack)) × (end ≡ pack ++ drop (length pack) second)
 

@@ -6,11 +6,10 @@ use mathlib.Core.Logic.{_↔_}
 use Prim.Native.Nat.{ℕ, _+_, _-_, _≤_}
 use lib.ListN.{length}
 use Rattle.layout.specs.File.{FileLays}
-use Rattle.layout.specs.Named.{named}
 use Rattle.layout.specs.Table.{shapeOf}
 use Rattle.layout.specs.Shortest.{shortFile}
 use Rattle.places.specs.Padding.{filePadding}
-use Rattle.theorems.specs.Fits.{Fitting, rowsIn}
+use Rattle.layout.specs.Fits.{Fitting, rowsIn}
 use Rattle.theorems.specs.Loading.{Loads}
 use Rattle.theorems.specs.Rewriting.{Rewrites}
 use Rattle.load.specs.declared.Loading.the-variants.{Refused, Loaded}
@@ -20,7 +19,7 @@ use Rattle.theorems.specs.declared.padded.Saved.{Saved}
 
 -- the file is already shortest: no bytes that its file tree may have are shorter
 abbrev pub Shortest : (enums file : List ℕ) (words : ℕ) → Type 0
-Shortest enums file words = (f : Fitting enums file words) (bs : List ℕ) → FileLays (named (f .es)) (f .tree) bs → length file ≤ length bs
+Shortest enums file words = (f : Fitting enums file words) (bs : List ℕ) → FileLays (f .es) (f .fits .tree) bs → length file ≤ length bs
 
 -- For a load by rows or in columns: the lent list of enum types, a file, the number of words lent to the load and to the rewrite, the words as the rewrite leaves them, the output as it was lent and as it is left, and both answers.
 pub record Saves (columns : Bool) (enums file : List ℕ) (words : ℕ) (left out end : List ℕ) (r : Saved) : Type 0 where
@@ -32,7 +31,7 @@ pub record Saves (columns : Bool) (enums file : List ℕ) (words : ℕ) (left ou
   -- "It is proved equal to the file's length less the rewritten file's length."
   pub total : (rows readers shared padding n : ℕ) → r .loaded ≡ Loaded rows readers shared padding → r .rewritten ≡ Rewritten n → (n ≤ length file) × (padding ≡ length file - n)
   -- "length of the input = length of the output + the padding total": over every number in the file, as it is read there, its bytes beyond its shortest form
-  pub counted : (f : Fitting enums file words) → length file ≡ length (shortFile (f .tree)) + filePadding file (length (f .tree .names)) (rowsIn f)
+  pub counted : (f : Fitting enums file words) → length file ≡ length (shortFile (f .fits .tree)) + filePadding file (length (f .fits .tree .names)) (rowsIn (f .fits))
   -- where the output is too small for the rewritten file, its length is the place of 21
   pub needed : (rows readers shared padding number place : ℕ) → r .loaded ≡ Loaded rows readers shared padding → r .rewritten ≡ rewriting.Refused number place
       → (number ≡ 21) × (place ≤ length file) × (padding ≡ length file - place)

@@ -10,7 +10,6 @@ use Rattle.layout.specs.Layout.{Lays}
 use Rattle.layout.specs.Resource.{Within}
 use Rattle.layout.specs.File.{FileTree, FileLays, fileRows}
 use Rattle.layout.specs.EnumList.{EnumEntry, writeEnums}
-use Rattle.layout.specs.Named.{named}
 use Rattle.names.specs.Entries.{entriesOf, entries-written}
 use Rattle.reading.specs.Theorems as T
 use Rattle.readers.specs.Judged.{judgedName, judges}
@@ -24,13 +23,13 @@ pub unique-tree : (readers : List Target) (shared : ℕ) (x : Slot) (t₁ t₂ :
 unique-tree readers shared x t₁ t₂ b₁ b₂ rest w₁ w₂ e = T.unique-tree readers shared x t₁ t₂ b₁ b₂ rest w₁ w₂ e
 
 -- the same of file trees, under one list of enum types
-pub unique-file : (es : List EnumEntry) (f₁ f₂ : FileTree) (b₁ b₂ rest : List ℕ) → FileLays (named es) f₁ b₁ → FileLays (named es) f₂ b₂ → b₁ ++ rest ≡ b₂ → (f₁ ≡ f₂) × (b₁ ≡ b₂)
-unique-file es f₁ f₂ b₁ b₂ rest w₁ w₂ e = T.unique-file (named es) (judgedName es) (judges es) f₁ f₂ b₁ b₂ rest w₁ w₂ e
+pub unique-file : (es : List EnumEntry) (f₁ f₂ : FileTree) (b₁ b₂ rest : List ℕ) → FileLays es f₁ b₁ → FileLays es f₂ b₂ → b₁ ++ rest ≡ b₂ → (f₁ ≡ f₂) × (b₁ ≡ b₂)
+unique-file es f₁ f₂ b₁ b₂ rest w₁ w₂ e = T.unique-file es (judgedName es) (judges es) f₁ f₂ b₁ b₂ rest w₁ w₂ e
 
 -- "There is then only one such file tree", and its rows in the file are the same however the file is taken apart
-pub one-file-tree : (es : List EnumEntry) (file : List ℕ) (f₁ f₂ : FileTree) (w₁ : FileLays (named es) f₁ file) (w₂ : FileLays (named es) f₂ file)
-    → (f₁ ≡ f₂) × (fileRows (named es) f₁ file w₁ ≡ fileRows (named es) f₂ file w₂)
-one-file-tree es file f₁ f₂ w₁ w₂ = T.one-file-tree (named es) (judgedName es) (judges es) file f₁ f₂ w₁ w₂
+pub one-file-tree : (es : List EnumEntry) (file : List ℕ) (f₁ f₂ : FileTree) (w₁ : FileLays es f₁ file) (w₂ : FileLays es f₂ file)
+    → (f₁ ≡ f₂) × (fileRows es f₁ file w₁ ≡ fileRows es f₂ file w₂)
+one-file-tree es file f₁ f₂ w₁ w₂ = T.one-file-tree es (judgedName es) (judges es) file f₁ f₂ w₁ w₂
 
 -- 02, Req 02: lent bytes are those of one list of enum types only
 pub one-list : (es fs : List EnumEntry) → writeEnums es ≡ writeEnums fs → es ≡ fs

@@ -8,7 +8,6 @@ use native.Mathlib.Omega.{arith}
 use lib.ListN.{length, getD, replicate, length-append, length-replicate}
 use Rattle.layout.specs.Rows.{Row, words, width}
 use Rattle.layout.specs.EnumList.{EnumEntry}
-use Rattle.layout.specs.Named.{named}
 use Rattle.layout.specs.Table.{roomOf, cell, columnsOf, shapeOf}
 use Rattle.enums.specs.Judge.{Judgement, enumsAt, lawful}
 use Rattle.enums.specs.Judge.{refused as list-refused}
@@ -66,7 +65,7 @@ same-answer enums f g n m bytes small small′ r room =
           let d = accepted-list enums f n rows readers shared e in
           let es = d .0 in
           let q : loadOf (judgedName es) f n ≡ accepted rows readers shared = sym (load-lawful enums f n es (d .1)) ∙ e in
-          ap (Loaded (length rows) readers shared) (padding-same (named es) (judgedName es) (judges es) f g n small small′ (texts enums bytes (roomOf n) f g r es (d .1)) rows readers shared q)
+          ap (Loaded (length rows) readers shared) (padding-same es (judgedName es) (judges es) f g n small small′ (texts enums bytes (roomOf n) f g r es (d .1)) rows readers shared q)
 
 -- "the rewritten length"
 same-rewrite : (enums f g : List ℕ) (n m out : ℕ) → Bytes enums → Small f → SameButTexts enums (roomOf n) f g → roomOf n ≡ roomOf m
@@ -115,8 +114,8 @@ fits-room enums f n small = go (loadUnder enums f n) refl where
   go (accepted rows readers shared) e =
       let d = accepted-list enums f n rows readers shared e in
       let es = d .0 in
-      let a = R.accepted-is (named es) (judgedName es) (judges es) f n small rows readers shared (sym (load-lawful enums f n es (d .1)) ∙ e) in
-      let s = R.rows-fit (named es) (judgedName es) (judges es) f n (a .0) .0 in
+      let a = R.accepted-is es (judgedName es) (judges es) f n small rows readers shared (sym (load-lawful enums f n es (d .1)) ∙ e) in
+      let s = R.rows-fit es (judgedName es) (judges es) f n (a .0) .0 in
       omega (arith, ap length (a .1), a .0 .room)
 
 -- every word of every row

@@ -35,7 +35,7 @@ use Rattle.retyped.specs.Texts.{Span, FileText, InText}
 use Rattle.retyped.specs.Parts.{each-both, Encloses, isSigned, PartAlike, parts-same}
 use Rattle.retyped.specs.Boxed.{Boxed, strings-boxed}
 use Rattle.two_runs.specs.Texts.{SameButTexts}
-use Rattle.two_runs.specs.Alike.{lookupsOf, PartByte}
+use Rattle.two_runs.specs.Alike.{lookupsOf, LookupsAre, PartByte}
 use Rattle.two_runs.specs.declared.Lookups.{Lookups}
 use Rattle.two_runs.proofs.Counting.{same-count, text-by}
 use Rattle.two_runs.proofs.Laws.{texts, same-rows, row-there, read-text, table-length}
@@ -96,6 +96,13 @@ signed-by a b kind row h = go (eqb kind 2) (eqb kind 3) (eqb kind 5) (eqb kind 7
 -- parts of files that are as long are as long
 as-long : (f g : List ℕ) → length f ≡ length g → (first size : ℕ) → length (take size (drop first f)) ≡ length (take size (drop first g))
 as-long f g e first size = rw (length-take size (drop first f), length-take size (drop first g), length-drop first f, length-drop first g, e)
+
+-- the lookups over the words that a load left, whose grid goes by how many these are
+pub looked-up : (columns : Bool) (enums f : List ℕ) (n : ℕ) → Small f → {v : List ℕ} → v ≡ tableIn (shapeOf columns) (loadUnder enums f n) n
+    → (row : ℕ) {x : Lookups} → x ≡ lookupsOf (gridOf (length v) columns) f v row → LookupsAre columns enums f n row x
+looked-up columns enums f n small p row e =
+    let words = tableIn (shapeOf columns) (loadUnder enums f n) n in
+    e ∙ ap (λ (l : List ℕ). lookupsOf (gridOf (length l) columns) f l row) p ∙ ap (λ (k : ℕ). lookupsOf (gridOf k columns) f words row) (table-length columns enums f n small)
 
 module _ (columns : Bool) (enums f g : List ℕ) (n m : ℕ) (bytes : Bytes enums) (small : Small f) (small′ : Small g) (r : SameButTexts enums (roomOf n) f g) (room : roomOf n ≡ roomOf m) {v w : List ℕ}
     (p : v ≡ tableIn (shapeOf columns) (loadUnder enums f n) n) (q : w ≡ tableIn (shapeOf columns) (loadUnder enums g m) m) where

@@ -4,9 +4,18 @@ use mathlib.Core.Path.{_≡_}
 use mathlib.Core.Bool.{Bool}
 use mathlib.Core.List.{List, []}
 use mathlib.Core.Logic.{_⊎_}
-use Prim.Native.Nat.{ℕ, _+_, _<_, _≤_}
+use Prim.Native.Nat.{ℕ, _+_, _*_, _<_, _≤_}
 use lib.ListN.{getD}
-use Rattle.layout.specs.Table.{roomOf}
+use Rattle.layout.specs.Rows.{width}
+use Rattle.layout.specs.Table.{roomOf, shapeOf}
+use Rattle.reading.specs.File.{tableIn}
+use Rattle.load.specs.Under.{loadUnder}
+use Rattle.load.specs.Loads.{answerOf}
+use Rattle.load.specs.declared.Loading.{Loading}
+use Rattle.rewrite.specs.Whole.{rewritten}
+use Rattle.rewrite.specs.Contract as rewriting
+use Rattle.rewrite.specs.declared.Rewriting.{Rewriting}
+use Rattle.builder.specs.Packed.{packed}
 use Rattle.ids.specs.declared.Grid.{Grid}
 use Rattle.ids.specs.Position.{cellOf}
 use Rattle.words.specs.Grids.{gridOf}
@@ -24,6 +33,17 @@ use Rattle.two_runs.specs.declared.TwoRewrites.{TwoRewrites}
 use Rattle.two_runs.specs.declared.TwoNumbers.{TwoNumbers}
 use Rattle.two_runs.specs.declared.Lookups.{Lookups}
 use Rattle.two_runs.specs.declared.TwoLookups.{TwoLookups}
+
+-- What a load by rows or in columns answers and leaves, and a rewrite, a load by an asset builder and the lookups after a load answer: these are second contracts, so that no
+-- program meets the first ones by answering the same to every file.
+abbrev pub LoadIs : (columns : Bool) (enums file : List ℕ) (n : ℕ) (left : List ℕ) → Loading → Type 0
+LoadIs columns enums file n left r = (r ≡ answerOf file (loadUnder enums file n)) × (left ≡ tableIn (shapeOf columns) (loadUnder enums file n) n)
+
+abbrev pub RewriteIs : (enums file words out : List ℕ) → Rewriting → Type 0
+RewriteIs enums file words out r = r ≡ rewriting.answerOf (rewritten enums file words out)
+
+abbrev pub NumberIs : (file : List ℕ) (r : ℕ) → Type 0
+NumberIs file r = r ≡ packed (loadUnder [] file (1024 * width))
 
 -- For two files that are loaded, by rows or in columns: the lent list of enum types, the files, the numbers of words lent, the words as they are left and the
 -- answers.
@@ -47,6 +67,9 @@ NumbersAlike f g r = SameButTexts [] 1024 f g → r .first ≡ r .second
 abbrev pub lookupsOf : (g : Grid) (file words : List ℕ) (row : ℕ) → Lookups
 lookupsOf g file words row =
     record { part = partOf g file words row; text = textOf g file words row; signed = signedOf g file words row; time = timeOf g file words row; next = nextOf g words row }
+
+abbrev pub LookupsAre : (columns : Bool) (enums file : List ℕ) (n row : ℕ) → Lookups → Type 0
+LookupsAre columns enums file n row r = r ≡ lookupsOf (gridOf n columns) file (tableIn (shapeOf columns) (loadUnder enums file n) n) row
 
 -- a byte of a part is the same in both files, or stands in a text that the part encloses
 abbrev pub PartByte : (enums : List ℕ) (room : ℕ) (f g : List ℕ) (first size i : ℕ) → Type 0

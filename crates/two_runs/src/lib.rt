@@ -9,7 +9,7 @@ use rewrite::Rewriting;
 ghost use mathlib.Core.Path.{_≡_};
 ghost use lib.ListN.{length};
 ghost use Rattle.words.specs.Grids.{gridOf};
-ghost use Rattle.two_runs.specs.Alike.{LoadsAlike, RewritesAlike, NumbersAlike, lookupsOf, LookupsAlike, EveryString};
+ghost use Rattle.two_runs.specs.Alike.{LoadIs, RewriteIs, NumberIs, LookupsAre, LoadsAlike, RewritesAlike, NumbersAlike, lookupsOf, LookupsAlike, EveryString};
 
 // The answers of two loads.
 pub struct TwoLoads {
@@ -55,6 +55,8 @@ fn load_two(
 ) -> TwoLoads
     ensures { λ r. ⌜ LoadsAlike columns (now (enums .entry)) (now (file .entry)) (now (other .entry))
         (length (now (words .entry))) (length (now (others .entry))) (now (words .exit)) (now (others .exit)) r ⌝ }
+    ensures { λ r. ⌜ LoadIs columns (now (enums .entry)) (now (file .entry)) (length (now (words .entry))) (now (words .exit)) (r .first) ⌝ }
+    ensures { λ r. ⌜ LoadIs columns (now (enums .entry)) (now (other .entry)) (length (now (others .entry))) (now (others .exit)) (r .second) ⌝ }
 {
     let first = load::load_in(file, enums, words, columns);
     let second = load::load_in(other, enums, others, columns);
@@ -73,6 +75,8 @@ fn rewrite_two(
 ) -> TwoRewrites
     ensures { λ r. ⌜ RewritesAlike (now (enums .entry)) (now (file .entry)) (now (other .entry))
         (length (now (words .entry))) (length (now (others .entry))) (length (now (out .entry))) (length (now (outs .entry))) r ⌝ }
+    ensures { λ r. ⌜ RewriteIs (now (enums .entry)) (now (file .entry)) (now (words .entry)) (now (out .entry)) (r .first) ⌝ }
+    ensures { λ r. ⌜ RewriteIs (now (enums .entry)) (now (other .entry)) (now (others .entry)) (now (outs .entry)) (r .second) ⌝ }
 {
     let first = rewrite::rewrite(file, enums, words, out);
     let second = rewrite::rewrite(other, enums, others, outs);
@@ -82,6 +86,8 @@ fn rewrite_two(
 // Two files that an asset builder loads.
 fn number_two(file: &[u8], other: &[u8]) -> TwoNumbers
     ensures { λ r. ⌜ NumbersAlike (now (file .entry)) (now (other .entry)) r ⌝ }
+    ensures { λ r. ⌜ NumberIs (now (file .entry)) (r .first) ⌝ }
+    ensures { λ r. ⌜ NumberIs (now (other .entry)) (r .second) ⌝ }
 {
     let first = builder::xnb_load(file);
     let second = builder::xnb_load(other);
@@ -114,6 +120,8 @@ fn look_up_two(
 ) -> TwoLookups
     ensures { λ r. ⌜ LookupsAlike (now (enums .entry)) (now (file .entry)) (now (other .entry))
         (length (now (words .entry))) (length (now (others .entry))) r ⌝ }
+    ensures { λ r. ⌜ LookupsAre columns (now (enums .entry)) (now (file .entry)) (length (now (words .entry))) (row .0) (r .first) ⌝ }
+    ensures { λ r. ⌜ LookupsAre columns (now (enums .entry)) (now (other .entry)) (length (now (others .entry))) (row .0) (r .second) ⌝ }
 {
     load::load_in(file, enums, words, columns);
     load::load_in(other, enums, others, columns);
@@ -123,8 +131,9 @@ fn look_up_two(
 }
 
 // A file that is loaded, by rows or in columns, under a list of enum types.
-fn load_strings(file: &[u8], enums: &[u8], words: &mut [u32], columns: bool)
+fn load_strings(file: &[u8], enums: &[u8], words: &mut [u32], columns: bool) -> Loading
     ensures { λ _. ⌜ EveryString columns (now (enums .entry)) (now (file .entry)) (length (now (words .entry))) (now (words .exit)) ⌝ }
+    ensures { λ r. ⌜ LoadIs columns (now (enums .entry)) (now (file .entry)) (length (now (words .entry))) (now (words .exit)) r ⌝ }
 {
-    load::load_in(file, enums, words, columns);
+    load::load_in(file, enums, words, columns)
 }

@@ -10,7 +10,7 @@ ghost use Rattle.reading.specs.Fixed.{isBoolean, isDateTime, isDecimal, rule, f
 ghost use Rattle.answers.specs.Told.{told};
 ghost use Rattle.values.specs.Word.{fourAt};
 
-// 01: "Each kind has a number and, where fixed, a size in bytes": 0 where none is fixed.
+// 01: "Each kind has a number and, where fixed, a size in bytes": 0 where none is fixed, and for Enum.
 const SIZES: [u8; 31] = [
     0,
     1,
@@ -27,7 +27,7 @@ const SIZES: [u8; 31] = [
     0,
     0,
     0,
-    4,
+    0,
     0,
     0,
     0,

@@ -3,8 +3,9 @@ use mathlib.Core.Path.{_≡_}
 use mathlib.Core.List.{List, [], _∷_}
 use mathlib.Core.Logic.{_⊎_}
 use Prim.Native.Nat.{ℕ, zero, suc, _<_}
+use Rattle.layout.specs.EnumList.{EnumEntry}
 use Rattle.layout.specs.Text.{ascii}
-use Rattle.layout.specs.Target.{Target, string, array}
+use Rattle.layout.specs.Target.{string, array}
 use Rattle.layout.specs.Tree.{Trees, none, tree, count, kindAt}
 use Rattle.layout.specs.Layout.{Reader}
 use Rattle.layout.specs.File.{FileTree, FileLays}
@@ -34,9 +35,9 @@ Strings (t ∷ ts) none = ⊥
 Strings (t ∷ ts) (tree kind id own cs rest) = (kind ≡ 13) × (own ≡ t) × Strings ts rest
 
 -- Req 13: "a file whose primary object is an Array of String, with no shared objects", and whose texts are these: the primary's reader has this target, whatever else the file lists
-pub record TextFile (named : List ℕ → Target → Type 0) (ts : List (List ℕ)) (file : List ℕ) : Type 0 where
+pub record TextFile (es : List EnumEntry) (ts : List (List ℕ)) (file : List ℕ) : Type 0 where
   pub tree-of : FileTree
-  pub lays : FileLays named tree-of file
+  pub lays : FileLays es tree-of file
   pub id : ℕ
   pub own : List ℕ
   pub children : Trees
@@ -45,7 +46,7 @@ pub record TextFile (named : List ℕ → Target → Type 0) (ts : List (List �
   pub strings : Strings ts children
 
 -- Req 13: "a file whose primary object is an Array of String, with no shared objects", whatever stands in its places for texts
-pub record TextArray (named : List ℕ → Target → Type 0) (ft : FileTree) {file : List ℕ} (w : FileLays named ft file) : Type 0 where
+pub record TextArray (es : List EnumEntry) (ft : FileTree) {file : List ℕ} (w : FileLays es ft file) : Type 0 where
   pub id : ℕ
   pub own : List ℕ
   pub children : Trees

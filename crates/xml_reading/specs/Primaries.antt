@@ -10,7 +10,7 @@ use lib.Dec.{eqb}
 use borrow.Author.Tests.{eq-eqb, ne-eqb}
 use Rattle.laws.specs.Small.{differ}
 use Rattle.layout.specs.Text.{Utf8s}
-use Rattle.layout.specs.Target.{Target, string, object as anything, array, kindOf}
+use Rattle.layout.specs.Target.{string, object as anything, array, kindOf}
 use Rattle.layout.specs.Tree.{Trees, none, tree, count, kindAt}
 use Rattle.layout.specs.Layout.{Reader}
 use Rattle.layout.specs.EnumList.{EnumEntry}
@@ -90,9 +90,9 @@ texts-or-fault (tree k d own cs rest) t = go (t .0) (texts-or-fault rest (t .1))
 
 -- ---- The primary
 
-module _ (es : List EnumEntry) (nameOf : ℕ → List ℕ → Named) (judges : Judges (named es) nameOf) (ft : FileTree) (file : List ℕ) (w : FileLays (named es) ft file) where
+module _ (es : List EnumEntry) (nameOf : ℕ → List ℕ → Named) (judges : Judges es nameOf) (ft : FileTree) (file : List ℕ) (w : FileLays es ft file) where
   -- an Array of String, with no shared objects
-  pub array-primary : (a : TextArray (named es) ft w) → primary nameOf (ft .names) (ft .objects) ≡ gathered 1 (a .children)
+  pub array-primary : (a : TextArray es ft w) → primary nameOf (ft .names) (ft .objects) ≡ gathered 1 (a .children)
   unfolding primary ofTexts Reader
   array-primary a =
       let r = a .reader in
@@ -104,7 +104,7 @@ module _ (es : List EnumEntry) (nameOf : ℕ → List ℕ → Named) (judges : J
       ap (primary nameOf (ft .names)) o ∙ rw (k, same-refl (array string))
 
   -- another one, or shared objects
-  pub other-primary : (TextArray (named es) ft w → ⊥) → primary nameOf (ft .names) (ft .objects) ≡ something-else
+  pub other-primary : (TextArray es ft w → ⊥) → primary nameOf (ft .names) (ft .objects) ≡ something-else
   unfolding primary kindOf
   other-primary none-such = go (ft .objects) refl where
     by : (kind i : ℕ) (own : List ℕ) (cs : Trees) → ft .objects ≡ tree kind (suc i) own cs none → (b : Bool) → ofTexts (nameOf 0 (getD (ft .names) i [])) ≡ b → cond b (gathered 1 cs) something-else ≡ something-else

@@ -195,7 +195,7 @@ module _ (readers : List Target) (refers : ℕ → ℕ → Type 0) where
         more (v .number ++ v .value) (raw-primary own cs (v .number) (v .value) (some-bytes (v .numbered .1)) (rw t at (v .laid))) (sym (v .parts))
 
 -- what stands in an Array of String
-pub array-holds : (es : List EnumEntry) (ft : FileTree) (file : List ℕ) (w : FileLays (named es) ft file) (a : TextArray (named es) ft w) → TextsOrNulls (a .children)
+pub array-holds : (es : List EnumEntry) (ft : FileTree) (file : List ℕ) (w : FileLays es ft file) (a : TextArray es ft w) → TextsOrNulls (a .children)
 array-holds es ft file w a =
     let refers = Resource (sharedOf (ft .objects)) in
     let k = count (sharedOf (ft .objects)) in
@@ -228,7 +228,7 @@ two-weights (x ∷ readers) (suc i) zero t u h k e f d = omega (arith, ap weight
 two-weights (x ∷ readers) (suc i) (suc j) t u h k e f d = omega (arith, two-weights readers i j t u (omega arith) (omega arith) e f d)
 
 module _ (es : List EnumEntry) where
-  entry-weight : (name : List ℕ) (t : Target) (bs : List ℕ) → Entry (named es) name t bs → weight t ≤ length bs
+  entry-weight : (name : List ℕ) (t : Target) (bs : List ℕ) → Entry es name t bs → weight t ≤ length bs
   unfolding weight
   entry-weight name t bs w = go (same t (array string)) (same t string) refl refl where
     long : 5 + length name ≤ length bs
@@ -239,7 +239,7 @@ module _ (es : List EnumEntry) where
     go false true e f = let l : named es name string = rw (same-true t string f) at (w .lawful) in omega (arith, long, string-long es name l)
     go false false e f = omega arith
 
-  entries-weight : (names : List (List ℕ)) (readers : List Target) (bs : List ℕ) → Entries (named es) names readers bs → total readers ≤ length bs
+  entries-weight : (names : List (List ℕ)) (readers : List Target) (bs : List ℕ) → Entries es names readers bs → total readers ≤ length bs
   unfolding Entries total
   entries-weight [] [] bs w = omega arith
   entries-weight [] (t ∷ readers) bs w = absurd w
@@ -288,8 +288,8 @@ built-length ts =
       length-little 4 (length ts),
     )
 
-module _ (es : List EnumEntry) {ts : List (List ℕ)} {file : List ℕ} (f : TextFile (named es) ts file) where
-  abbrev w : FileLays (named es) (f .tree-of) file
+module _ (es : List EnumEntry) {ts : List (List ℕ)} {file : List ℕ} (f : TextFile es ts file) where
+  abbrev w : FileLays es (f .tree-of) file
   w = f .lays
 
   children-laid : Primary (w .readers) (Resource (sharedOf (f .tree-of .objects))) (f .children) (w .values)

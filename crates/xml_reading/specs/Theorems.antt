@@ -106,7 +106,7 @@ told-written (bad number place) first out e = differ cc
 -- ---- The reader of the primary
 
 -- the names of readers have the readers' targets
-pub entry-named : (es : List EnumEntry) (names : List (List ℕ)) (readers : List Target) (bs : List ℕ) → Entries (named es) names readers bs
+pub entry-named : (es : List EnumEntry) (names : List (List ℕ)) (readers : List Target) (bs : List ℕ) → Entries es names readers bs
     → (i : ℕ) (t : Target) → i < length readers → named es (getD names i []) (getD readers i t)
 unfolding Entries
 entry-named es [] [] bs w i t h = absurd (omega arith)
@@ -124,9 +124,9 @@ primary-reader readers refers k kind i own cs bs w = go (w .3) where
   go (inl v) = absurd (omega (arith, v .id-of))
   go (inr v) = (v .target, v .reader, v .laid .kind-of)
 
-module _ (es : List EnumEntry) (nameOf : ℕ → List ℕ → Named) (judges : Judges (named es) nameOf) where
+module _ (es : List EnumEntry) (nameOf : ℕ → List ℕ → Named) (judges : Judges es nameOf) where
   -- it has the target that its name has
-  pub reader-is : (ft : FileTree) (file : List ℕ) (w : FileLays (named es) ft file) (kind i : ℕ) (own : List ℕ) (cs : Trees) → ft .objects ≡ tree kind (suc i) own cs none
+  pub reader-is : (ft : FileTree) (file : List ℕ) (w : FileLays es ft file) (kind i : ℕ) (own : List ℕ) (cs : Trees) → ft .objects ≡ tree kind (suc i) own cs none
       → (t : Target) → nameOf 0 (getD (ft .names) i []) ≡ known t → Reader (w .readers) (suc i) t × (kind ≡ kindOf t)
   unfolding Reader
   reader-is ft file w kind i own cs e t q =
@@ -143,7 +143,7 @@ module _ (es : List EnumEntry) (nameOf : ℕ → List ℕ → Named) (judges : J
   -- ---- What is exported
 
   -- every file that holds an Array of String whose texts are written is exported, where the table has a row for the Array and for each text
-  pub exports : (ts : List (List ℕ)) (file : List ℕ) (words out : ℕ) → TextFile (named es) ts file → Each Writable ts → suc (length ts) ≤ roomOf words
+  pub exports : (ts : List (List ℕ)) (file : List ℕ) (words out : ℕ) → TextFile es ts file → Each Writable ts → suc (length ts) ≤ roomOf words
       → exportOf nameOf file words out ≡ fitted (exported ts) out
   unfolding exportOf byLoad primary ofTexts told Reader
   exports ts file words out f w room =
@@ -156,7 +156,7 @@ module _ (es : List EnumEntry) (nameOf : ℕ → List ℕ → Named) (judges : J
       let o : f .tree-of .objects ≡ tree 17 (suc i) (f .own) (f .children) none = f .objects ∙ ap (λ (j : ℕ). tree 17 j (f .own) (f .children) none) (r .1) in
       let g : gathered 1 (f .children) ≡ texts ts = gathered-complete 1 ts (f .children) (f .strings) (all-pass ts w) in
       let p : primary nameOf names (f .tree-of .objects) ≡ texts ts = ap (primary nameOf names) o ∙ rw (k, same-refl (array string), g) in
-      rw (file-complete (named es) nameOf judges file (roomOf words) (f .tree-of) (f .lays) (omega (arith, texts-rows es f)), p)
+      rw (file-complete es nameOf judges file (roomOf words) (f .tree-of) (f .lays) (omega (arith, texts-rows es f)), p)
 
   -- what a primary that is an Array of String says
   record Chosen (names : List (List ℕ)) (objects : Trees) (ts : List (List ℕ)) : Type 0 where
@@ -184,7 +184,7 @@ module _ (es : List EnumEntry) (nameOf : ℕ → List ℕ → Named) (judges : J
     go false q e = differ cc
 
   -- a file that was read and whose primary is such an Array
-  text-file : (file : List ℕ) (room : ℕ) (a : Loaded) (e : ℕ) → IsFile (named es) file room a e → (ts : List (List ℕ)) → Chosen (a .tree .names) (a .tree .objects) ts → (f : TextFile (named es) ts file) × (f .tree-of ≡ a .tree)
+  text-file : (file : List ℕ) (room : ℕ) (a : Loaded) (e : ℕ) → IsFile es file room a e → (ts : List (List ℕ)) → Chosen (a .tree .names) (a .tree .objects) ts → (f : TextFile es ts file) × (f .tree-of ≡ a .tree)
   unfolding kindOf
   text-file file room a e v ts c =
       let r = reader-is (a .tree) file (v .lays) (c .kind) (c .i) (c .own) (c .children) (c .is) (array string) (c .typed) in (
@@ -204,15 +204,15 @@ module _ (es : List EnumEntry) (nameOf : ℕ → List ℕ → Named) (judges : J
   -- what was exported is the XML of such a file's texts, all of them written, and the table had room for them
   pub record Exported (file : List ℕ) (words out : ℕ) (xml : List ℕ) : Type 0 where
     pub texts-of : List (List ℕ)
-    pub holds : TextFile (named es) texts-of file
+    pub holds : TextFile es texts-of file
     pub is : Exports texts-of xml
     pub room : suc (length texts-of) ≤ roomOf words
     pub fits : length xml ≤ out
 
   pub exported-is : (file : List ℕ) (words out : ℕ) (xml : List ℕ) → Small file → exportOf nameOf file words out ≡ written xml → Exported file words out xml
   unfolding exportOf byLoad
-  exported-is file words out xml small e = go (fileAt nameOf file (roomOf words)) (file-sound (named es) nameOf judges file (roomOf words) small) e where
-    go : (x : Answer Loaded) → Ok (IsFile (named es) file (roomOf words)) x → byLoad nameOf x out ≡ written xml → Exported file words out xml
+  exported-is file words out xml small e = go (fileAt nameOf file (roomOf words)) (file-sound es nameOf judges file (roomOf words) small) e where
+    go : (x : Answer Loaded) → Ok (IsFile es file (roomOf words)) x → byLoad nameOf x out ≡ written xml → Exported file words out xml
     go (refused number place) o e = differ cc
     go (read a next) o e =
         let v = o .got refl in
@@ -233,10 +233,10 @@ module _ (es : List EnumEntry) (nameOf : ℕ → List ℕ → Named) (judges : J
   -- ---- What is imported
 
   -- the file built from written texts, within the limits, holds these texts: it is a file of 01, and by `file-short` no bytes of its file tree are shorter
-  pub built-holds : (ts : List (List ℕ)) → Each Utf8s ts → length ts ≤ 65535 → length (shortFile (treeOf ts)) ≤ 16777216 → TextFile (named es) ts (shortFile (treeOf ts))
+  pub built-holds : (ts : List (List ℕ)) → Each Utf8s ts → length ts ≤ 65535 → length (shortFile (treeOf ts)) ≤ 16777216 → TextFile es ts (shortFile (treeOf ts))
   unfolding treeOf kindOf
   built-holds ts u n h =
-      let w : FileLays (named es) (treeOf ts) (shortFile (treeOf ts)) = imported-lays (named es) (array-named es) (string-named es) ts u (omega arith) h in
+      let w : FileLays es (treeOf ts) (shortFile (treeOf ts)) = imported-lays es (array-named es) (string-named es) ts u (omega arith) h in
       let r = reader-is (treeOf ts) (shortFile (treeOf ts)) w 17 0 [] (textTrees ts) refl (array string) (judges .known-complete 0 arrayName (array string) (array-named es)) in
       record { tree-of = treeOf ts; lays = w; id = 1; own = []; children = textTrees ts; objects = refl; reader = r .0; strings = text-strings ts }
 
@@ -246,7 +246,7 @@ module _ (es : List EnumEntry) (nameOf : ℕ → List ℕ → Named) (judges : J
     pub is : Exports texts-of xml
     pub few : length texts-of ≤ 65535
     pub built : file ≡ shortFile (treeOf texts-of)
-    pub holds : TextFile (named es) texts-of file
+    pub holds : TextFile es texts-of file
     pub fits : length file ≤ out
 
   pub imported-is : (xml : List ℕ) (out : ℕ) (file : List ℕ) → importOf xml out ≡ written file → Imported xml out file
@@ -277,7 +277,7 @@ module _ (es : List EnumEntry) (nameOf : ℕ → List ℕ → Named) (judges : J
 
   -- Req 13: "Export then import keeps the texts and their order": what is exported is imported as the shortest file of the same texts, which holds them; 64 and 9 are never met
   pub export-then-import : (file : List ℕ) (words out : ℕ) (xml : List ℕ) → Small file → exportOf nameOf file words out ≡ written xml
-      → (ts : List (List ℕ)) × TextFile (named es) ts file × ((n : ℕ) → importOf xml n ≡ fitted (shortFile (treeOf ts)) n) × TextFile (named es) ts (shortFile (treeOf ts))
+      → (ts : List (List ℕ)) × TextFile es ts file × ((n : ℕ) → importOf xml n ≡ fitted (shortFile (treeOf ts)) n) × TextFile es ts (shortFile (treeOf ts))
   unfolding importOf imported roomOf
   export-then-import file words out xml small e =
       let x = exported-is file words out xml small e in
@@ -289,7 +289,7 @@ module _ (es : List EnumEntry) (nameOf : ℕ → List ℕ → Named) (judges : J
 
   -- and what is imported is exported as the same XML, where the table has a row for the Array and for each text
   pub import-then-export : (xml : List ℕ) (out : ℕ) (file : List ℕ) → importOf xml out ≡ written file
-      → (ts : List (List ℕ)) × Exports ts xml × TextFile (named es) ts file
+      → (ts : List (List ℕ)) × Exports ts xml × TextFile es ts file
       × ((words n : ℕ) → suc (length ts) ≤ roomOf words → exportOf nameOf file words n ≡ fitted xml n)
   import-then-export xml out file e =
       let x = imported-is xml out file e in

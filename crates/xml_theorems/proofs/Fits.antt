@@ -11,7 +11,6 @@ use Rattle.layout.specs.EnumList.{EnumEntry}
 use Rattle.layout.specs.Tree.{Trees, tree, none, count, kindAt}
 use Rattle.layout.specs.Rows.{Row, flat, width}
 use Rattle.layout.specs.File.{FileLays, sharedOf, fileRows}
-use Rattle.layout.specs.Named.{named}
 use Rattle.layout.specs.Table.{byRows, roomOf, table, wordIn}
 use Rattle.layout.specs.Branches.{TableSkips}
 use Rattle.reading.specs.Answer.{Answer, refused, read}
@@ -33,7 +32,7 @@ use Rattle.shortest.specs.Rewrite.{wordsOf}
 use Rattle.load.specs.declared.Loading.the-variants as loading
 use Rattle.load.specs.Loads as load
 use Rattle.load.specs.Under.{underList, fileUnder, loadUnder, load-lawful}
-use Rattle.theorems.specs.Fits.{Fitting, rowsIn}
+use Rattle.layout.specs.Fits.{Fitting, rowsIn}
 use Rattle.xml_layout.specs.Xml.{exported, Exports}
 use Rattle.xml_layout.specs.Tree.{FirstFault}
 use Rattle.xml_reading.specs.Answers.{Gathered, texts, something-else, bad, gathered, told, primary, byLoad, exportOf}
@@ -69,65 +68,62 @@ module _ {enums file : List ℕ} {words : ℕ} (f : Fitting enums file words) wh
   entries-are : enumsOf enums ≡ f .es
   entries-are = ap enumsOf (f .listed) ∙ enums-written (f .es) (f .lawful)
 
-  abbrev plain : T.Fitting (named (f .es)) file words
-  plain = record { tree = f .tree; lays = f .lays; room = f .room }
-
   abbrev says : Gathered
-  says = primary (judgedName (f .es)) (f .tree .names) (f .tree .objects)
+  says = primary (judgedName (f .es)) (f .fits .tree .names) (f .fits .tree .objects)
 
   -- what exporting a file that a tree fits answers
-  export-is : (out : ℕ) → exportUnder enums file words out ≡ told says (firstByte (rowsIn f)) out
+  export-is : (out : ℕ) → exportUnder enums file words out ≡ told says (firstByte (rowsIn (f .fits))) out
   unfolding exportUnder byList exportOf byLoad
   export-is out =
-      let l = fileDrafts (named (f .es)) (f .tree) file (f .lays) in
-      let e : answers.firstByte l ≡ firstByte (rowsIn f) = first-row l ∙ ap firstByte (file-bare (named (f .es)) (f .tree) file (f .lays)) in
-      rw (list-is, file-complete (named (f .es)) (judgedName (f .es)) (judges (f .es)) file (roomOf words) (f .tree) (f .lays) (f .room), e)
+      let l = fileDrafts (f .es) (f .fits .tree) file (f .fits .lays) in
+      let e : answers.firstByte l ≡ firstByte (rowsIn (f .fits)) = first-row l ∙ ap firstByte (file-bare (f .es) (f .fits .tree) file (f .fits .lays)) in
+      rw (list-is, file-complete (f .es) (judgedName (f .es)) (judges (f .es)) file (roomOf words) (f .fits .tree) (f .fits .lays) (f .fits .room), e)
 
-  by-primary : (g : Gathered) → says ≡ g → (out : ℕ) → exportUnder enums file words out ≡ told g (firstByte (rowsIn f)) out
-  by-primary g e out = export-is out ∙ ap (λ (y : Gathered). told y (firstByte (rowsIn f)) out) e
+  by-primary : (g : Gathered) → says ≡ g → (out : ℕ) → exportUnder enums file words out ≡ told g (firstByte (rowsIn (f .fits))) out
+  by-primary g e out = export-is out ∙ ap (λ (y : Gathered). told y (firstByte (rowsIn (f .fits))) out) e
 
-  table-is : tableOf (loadUnder enums file words) words ≡ table byRows (rowsIn f) words
+  table-is : tableOf (loadUnder enums file words) words ≡ table byRows (rowsIn (f .fits)) words
   table-is =
-      ap (λ (x : Load). tableOf x words) (load-lawful enums file words (f .es) list-is) ∙ T.table-is (named (f .es)) (judgedName (f .es)) (judges (f .es)) file words plain
+      ap (λ (x : Load). tableOf x words) (load-lawful enums file words (f .es) list-is) ∙ T.table-is (f .es) (judgedName (f .es)) (judges (f .es)) file words (f .fits)
 
-  table-skips : TableSkips byRows (roomOf words) (table byRows (rowsIn f) words) (length (rowsIn f))
-  table-skips = file-skips (named (f .es)) byRows (roomOf words) (f .tree) file (f .lays) (table byRows (rowsIn f) words) (rows-stand (roomOf words) (rowsIn f) (replicate (words - width * length (rowsIn f)) 0))
+  table-skips : TableSkips byRows (roomOf words) (table byRows (rowsIn (f .fits)) words) (length (rowsIn (f .fits)))
+  table-skips = file-skips (f .es) byRows (roomOf words) (f .fits .tree) file (f .fits .lays) (table byRows (rowsIn (f .fits)) words) (rows-stand (roomOf words) (rowsIn (f .fits)) (replicate (words - width * length (rowsIn (f .fits))) 0))
 
   -- ---- The row of a text
 
-  table-long : length (table byRows (rowsIn f) words) ≡ words
+  table-long : length (table byRows (rowsIn (f .fits)) words) ≡ words
   table-long =
-      let n = T.rows-fit (named (f .es)) (judgedName (f .es)) (judges (f .es)) file words plain .1 in
-      let rest : List ℕ = replicate (words - width * length (rowsIn f)) 0 in
-      omega (arith, n, length-append (flat (rowsIn f)) rest, length-flat (rowsIn f), length-replicate {A = ℕ} (words - width * length (rowsIn f)) 0)
+      let n = T.rows-fit (f .es) (judgedName (f .es)) (judges (f .es)) file words (f .fits) .1 in
+      let rest : List ℕ = replicate (words - width * length (rowsIn (f .fits))) 0 in
+      omega (arith, n, length-append (flat (rowsIn (f .fits))) rest, length-flat (rowsIn (f .fits)), length-replicate {A = ℕ} (words - width * length (rowsIn (f .fits))) 0)
 
   -- the table that a load leaves, with the entries as the code reads them
-  ready : (fs : List EnumEntry) → fs ≡ f .es → (w : FileLays (named fs) (f .tree) file) × (fileRows (named fs) (f .tree) file w ≡ rowsIn f)
-  ready fs e = subst (λ (es : List EnumEntry). (w : FileLays (named es) (f .tree) file) × (fileRows (named es) (f .tree) file w ≡ rowsIn f)) (sym e) (f .lays, refl)
+  ready : (fs : List EnumEntry) → fs ≡ f .es → (w : FileLays fs (f .fits .tree) file) × (fileRows fs (f .fits .tree) file w ≡ rowsIn (f .fits))
+  ready fs e = subst (λ (es : List EnumEntry). (w : FileLays es (f .fits .tree) file) × (fileRows es (f .fits .tree) file w ≡ rowsIn (f .fits))) (sym e) (f .fits .lays, refl)
 
-  abbrev loaded : Ready enums file (table byRows (rowsIn f) words) (length (rowsIn f)) (count (sharedOf (f .tree .objects)))
+  abbrev loaded : Ready enums file (table byRows (rowsIn (f .fits)) words) (length (rowsIn (f .fits))) (count (sharedOf (f .fits .tree .objects)))
   loaded =
       let v = ready (enumsOf enums) entries-are in
-      let rest : List ℕ = replicate (words - width * length (rowsIn f)) 0 in
-      let n = T.rows-fit (named (f .es)) (judgedName (f .es)) (judges (f .es)) file words plain .0 in
+      let rest : List ℕ = replicate (words - width * length (rowsIn (f .fits))) 0 in
+      let n = T.rows-fit (f .es) (judgedName (f .es)) (judges (f .es)) file words (f .fits) .0 in
       record {
-        tree = f .tree;
+        tree = f .fits .tree;
         lays = v .0;
         rest = rest;
         table-is = ap (λ (l : List Row). flat l ++ rest) (sym (v .1));
         rows-are = ap length (sym (v .1));
         shared-are = refl;
-        room = omega (arith, ap length (v .1), n, f .room, ap roomOf table-long);
+        room = omega (arith, ap length (v .1), n, f .fits .room, ap roomOf table-long);
       }
 
-  same-texts : {kind id : ℕ} {own : List ℕ} {cs : Trees} (a : TextsIn f) → f .tree .objects ≡ tree kind id own cs none → cs ≡ a .children
+  same-texts : {kind id : ℕ} {own : List ℕ} {cs : Trees} (a : TextsIn f) → f .fits .tree .objects ≡ tree kind id own cs none → cs ≡ a .children
   same-texts {kind} {id} {own} {cs} a e =
       let q : tree kind id own cs none ≡ tree 17 (a .id) (a .own) (a .children) none = sym e ∙ a .objects in
       cc
 
   row-of : (a : TextsIn f) (number j : ℕ) → says ≡ bad number (suc j) → RowOf f a j (suc j)
   row-of a number j e =
-      let p : primary (judgedName (enumsOf enums)) (f .tree .names) (f .tree .objects) ≡ bad number (suc j) = rw entries-are e in
+      let p : primary (judgedName (enumsOf enums)) (f .fits .tree .names) (f .fits .tree .objects) ≡ bad number (suc j) = rw entries-are e in
       let v : RefusedRow loaded number (suc j) = refused-row loaded p in
       let k : v .text .j ≡ j = omega (arith, v .text .here) in
       let c = same-texts a (v .objects-are) in
@@ -139,19 +135,19 @@ module _ {enums file : List ℕ} {words : ℕ} (f : Fitting enums file words) wh
   -- ---- By what the primary is
 
   holds-says : (a : TextsIn f) (ts : List (List ℕ)) → Holds f a ts → says ≡ texts ts
-  holds-says a ts h = array-primary (f .es) (judgedName (f .es)) (judges (f .es)) (f .tree) file (f .lays) a ∙ gathered-complete 1 ts (a .children) (h .0) (all-pass ts (h .1))
+  holds-says a ts h = array-primary (f .es) (judgedName (f .es)) (judges (f .es)) (f .fits .tree) file (f .fits .lays) a ∙ gathered-complete 1 ts (a .children) (h .0) (all-pass ts (h .1))
 
   fault-says : (a : TextsIn f) (number j : ℕ) → FirstFault (a .children) number j → says ≡ bad number (suc j)
   fault-says a number j x =
-      array-primary (f .es) (judgedName (f .es)) (judges (f .es)) (f .tree) file (f .lays) a ∙ fault-told 1 (a .children) number j (array-holds (f .es) (f .tree) file (f .lays) a) x
+      array-primary (f .es) (judgedName (f .es)) (judges (f .es)) (f .fits .tree) file (f .fits .lays) a ∙ fault-told 1 (a .children) number j (array-holds (f .es) (f .fits .tree) file (f .fits .lays) a) x
       ∙ ap (bad number) (omega arith)
 
   other-says : (TextsIn f → ⊥) → says ≡ something-else
-  other-says none-such = other-primary (f .es) (judgedName (f .es)) (judges (f .es)) (f .tree) file (f .lays) none-such
+  other-says none-such = other-primary (f .es) (judgedName (f .es)) (judges (f .es)) (f .fits .tree) file (f .fits .lays) none-such
 
   -- all of its texts are written, or there is a first that is null or not written
   either-says : (a : TextsIn f) → ((ts : List (List ℕ)) × Holds f a ts) ⊎ ((number : ℕ) × (j : ℕ) × FirstFault (a .children) number j)
-  either-says a = go (texts-or-fault (a .children) (array-holds (f .es) (f .tree) file (f .lays) a)) where
+  either-says a = go (texts-or-fault (a .children) (array-holds (f .es) (f .fits .tree) file (f .fits .lays) a)) where
     go : Sorted (a .children) → ((ts : List (List ℕ)) × Holds f a ts) ⊎ ((number : ℕ) × (j : ℕ) × FirstFault (a .children) number j)
     go (inl (ts, s, w)) = inl (ts, (s, w))
     go (inr x) = inr x
@@ -176,7 +172,7 @@ wrote enums file words out bytes small xml e = go (enumsAt enums) refl e where
       let v = exported-is es (judgedName es) (judges es) file words out xml small e in
       let t = v .holds in
       record {
-        fitting = record { es = es; lawful = l .0; listed = l .1; tree = t .tree-of; lays = t .lays; room = omega (arith, v .room, texts-rows es t) };
+        fitting = record { es = es; lawful = l .0; listed = l .1; fits = record { tree = t .tree-of; lays = t .lays; room = omega (arith, v .room, texts-rows es t) } };
         array = record { id = t .id; own = t .own; children = t .children; objects = t .objects; reader = t .reader };
         ts = v .texts-of;
         holds = (t .strings, v .is .writable);
@@ -188,7 +184,7 @@ module _ (enums file : List ℕ) (words : ℕ) (out : List ℕ) {left end : List
     (writes : end ≡ outputOf (exportUnder enums file words (length out)) out)
     (leaves : left ≡ wordsOf (exportUnder enums file words (length out)) (tableOf (loadUnder enums file words) words)) where
   exports : (f : Fitting enums file words) (a : TextsIn f) (ts : List (List ℕ)) → Holds f a ts → length (exported ts) ≤ length out
-      → (r ≡ Exported (length (exported ts))) × (end ≡ exported ts ++ drop (length (exported ts)) out) × (left ≡ table byRows (rowsIn f) words)
+      → (r ≡ Exported (length (exported ts))) × (end ≡ exported ts ++ drop (length (exported ts)) out) × (left ≡ table byRows (rowsIn (f .fits)) words)
   unfolding told
   exports f a ts h fit =
       let q = by-primary f (texts ts) (holds-says f a ts h) (length out) ∙ fits-in (exported ts) (length out) fit in (
@@ -201,7 +197,7 @@ module _ (enums file : List ℕ) (words : ℕ) (out : List ℕ) {left end : List
   unfolding told
   too-small f a ts h fit = answers ∙ ap answerOf (by-primary f (texts ts) (holds-says f a ts h) (length out) ∙ fits-not (exported ts) (length out) fit)
 
-  other : (f : Fitting enums file words) → (TextsIn f → ⊥) → r ≡ Refused 61 (firstByte (rowsIn f))
+  other : (f : Fitting enums file words) → (TextsIn f → ⊥) → r ≡ Refused 61 (firstByte (rowsIn (f .fits)))
   unfolding told
   other f none-such = answers ∙ ap answerOf (by-primary f something-else (other-says f none-such) (length out))
 
@@ -223,10 +219,10 @@ module _ (enums file : List ℕ) (words : ℕ) (out : List ℕ) {left end : List
       let b = begins-with xml (drop (length xml) out) (w .2) l in
       (v .fitting, v .array, v .ts, v .holds, b .0, subst (Exports (v .ts)) (sym (b .1)) (v .is))
 
-  skips : (n : ℕ) → r ≡ Exported n → (f : Fitting enums file words) → TableSkips byRows (roomOf words) left (length (rowsIn f))
+  skips : (n : ℕ) → r ≡ Exported n → (f : Fitting enums file words) → TableSkips byRows (roomOf words) left (length (rowsIn (f .fits)))
   skips n e f =
       let w = written-is n e (exportUnder enums file words (length out)) refl in
-      let l : left ≡ table byRows (rowsIn f) words
+      let l : left ≡ table byRows (rowsIn (f .fits)) words
       = leaves ∙ words-kept (exportUnder enums file words (length out)) (w .0) (tableOf (loadUnder enums file words) words) (w .1) ∙ table-is f in
       rw l (table-skips f)
 

@@ -9,7 +9,6 @@ use lib.ListN.{length, take, drop, length-append}
 use lib.Seq.{take-append-seam}
 use borrow.Author.Tests.{le-leb, lt-leb, leb-true}
 use Rattle.laws.specs.Small.{differ}
-use Rattle.layout.specs.Named.{named}
 use Rattle.reading.specs.Output.{Rewritten, refusal, written, fitted, outputOf}
 use Rattle.readers.specs.Judged.{judgedName, judges}
 use Rattle.shortest.specs.File.{file-short}
@@ -29,7 +28,7 @@ use Rattle.xml_theorems.specs.Import.{fileOf, Within, Built, Imports}
 pub builds : (ts : List (List ℕ)) (xml : List ℕ) → Exports ts xml → Within ts → Built ts (fileOf ts)
 builds ts xml x w = record {
   holds = λ es. built-holds es (judgedName es) (judges es) ts (all-utf8 ts (x .writable)) (w .few) (w .short);
-  shortest = λ es bs l. file-short (named es) (treeOf ts) bs l;
+  shortest = λ es bs l. file-short es (treeOf ts) bs l;
 }
 
 pub fits-in : (bytes : List ℕ) (n : ℕ) → length bytes ≤ n → fitted bytes n ≡ written bytes

@@ -6,10 +6,9 @@ use native.Mathlib.Omega.{arith}
 use lib.ListN.{length, take, drop}
 use Rattle.laws.specs.Small.{differ}
 use Rattle.layout.specs.Tree.{size}
-use Rattle.layout.specs.Named.{named}
 use Rattle.layout.specs.EnumList.{EnumEntry, writeEnums, Enums}
 use Rattle.layout.specs.Table.{roomOf}
-use Rattle.theorems.specs.Fits.{Fitting}
+use Rattle.layout.specs.Fits.{Fitting}
 use Rattle.xml_layout.specs.Xml.{Each, Writable, exported, Exports}
 use Rattle.xml_layout.specs.Tree.{TextFile}
 use Rattle.xml_reading.specs.Strings.{texts-rows, built-short}
@@ -24,14 +23,14 @@ use Rattle.xml_theorems.proofs.Imported.{builds, begins-with}
 
 -- the texts of a file keep import's limits
 module _ {enums file : List ℕ} {words : ℕ} (f : Fitting enums file words) (a : TextsIn f) (ts : List (List ℕ)) (h : Holds f a ts) where
-  abbrev text-file : TextFile (named (f .es)) ts file
-  text-file = record { tree-of = f .tree; lays = f .lays; id = a .id; own = a .own; children = a .children; objects = a .objects; reader = a .reader; strings = h .0 }
+  abbrev text-file : TextFile (f .es) ts file
+  text-file = record { tree-of = f .fits .tree; lays = f .fits .lays; id = a .id; own = a .own; children = a .children; objects = a .objects; reader = a .reader; strings = h .0 }
 
   pub within : Within ts
   unfolding roomOf
   within =
-      let rows : size (f .tree .objects) ≡ suc (length ts) = texts-rows (f .es) text-file in
-      record { few = omega (arith, f .room); short = built-short (f .es) text-file }
+      let rows : size (f .fits .tree .objects) ≡ suc (length ts) = texts-rows (f .es) text-file in
+      record { few = omega (arith, f .fits .room); short = built-short (f .es) text-file }
 
   pub exports-it : Exports ts (exported ts)
   exports-it = record { writable = h .1; parts = refl }
@@ -81,7 +80,7 @@ module _ {xml out end : List ℕ} {r : Importing} (x : Imports xml out end r) wh
         let p : take n end ≡ fileOf ts = begins-with (fileOf ts) (drop (length (fileOf ts)) out) m (i .1) .1 in
         let z : ExportsFile enums (fileOf ts) words left second end₂ r₂ = rw p at y in
         let b = builds ts xml t w .holds es in
-        let f : Fitting enums (fileOf ts) words = record { es = es; lawful = lawful; listed = listed; tree = b .tree-of; lays = b .lays; room = omega (arith, room, texts-rows es b) } in
+        let f : Fitting enums (fileOf ts) words = record { es = es; lawful = lawful; listed = listed; fits = record { tree = b .tree-of; lays = b .lays; room = omega (arith, room, texts-rows es b) } } in
         let a : TextsIn f = record { id = b .id; own = b .own; children = b .children; objects = b .objects; reader = b .reader } in
         let o = z .exports f a ts (b .strings, t .writable) (omega (arith, ap length (t .parts))) in
         rw (t .parts) (o .0, o .1);

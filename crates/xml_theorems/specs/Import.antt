@@ -4,7 +4,6 @@ use mathlib.Core.List.{List, _++_}
 use Prim.Native.Nat.{ℕ, _≤_, _<_}
 use lib.ListN.{length, take, drop}
 use Rattle.layout.specs.EnumList.{EnumEntry}
-use Rattle.layout.specs.Named.{named}
 use Rattle.layout.specs.File.{FileLays}
 use Rattle.layout.specs.Shortest.{Shortens, shortFile}
 use Rattle.xml_layout.specs.First.{FirstWrong}
@@ -24,8 +23,8 @@ pub record Within (ts : List (List ℕ)) : Type 0 where
 
 -- "builds the shortest XNB file": under every list of enum types the bytes are a file with these texts in their order; no bytes of that file tree are shorter, and bytes as short are the same
 pub record Built (ts : List (List ℕ)) (new : List ℕ) : Type 0 where
-  pub holds : (es : List EnumEntry) → TextFile (named es) ts new
-  pub shortest : (es : List EnumEntry) (bs : List ℕ) → FileLays (named es) (treeOf ts) bs → Shortens (FileLays (named es) (treeOf ts)) new bs
+  pub holds : (es : List EnumEntry) → TextFile es ts new
+  pub shortest : (es : List EnumEntry) (bs : List ℕ) → FileLays es (treeOf ts) bs → Shortens (FileLays es (treeOf ts)) new bs
 
 -- For the XML, the output as it was lent and as it is left, and the answer.
 pub record Imports (xml out end : List ℕ) (r : Importing) : Type 0 where

@@ -5,7 +5,7 @@ use Prim.Native.Nat.{ℕ, suc, _≤_, _<_}
 use lib.ListN.{length, drop}
 use Rattle.layout.specs.EnumList.{EnumEntry, writeEnums, Enums}
 use Rattle.layout.specs.Table.{roomOf}
-use Rattle.theorems.specs.Fits.{Fitting}
+use Rattle.layout.specs.Fits.{Fitting}
 use Rattle.xml_layout.specs.Xml.{exported, Exports}
 use Rattle.xml_import.specs.declared.Importing.{Importing}
 use Rattle.xml_import.specs.declared.Importing.the-variants as importing

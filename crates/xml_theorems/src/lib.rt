@@ -1,9 +1,14 @@
 // What is demanded of text lists as XML (Req 13), as contracts: each function calls the code, and is here for what it ensures
-// (specs/Import.antt, specs/Export.antt and specs/Trips.antt, from top to bottom).
+// (specs/Import.antt, specs/Export.antt and specs/Trips.antt, from top to bottom). Of an export, the answer of the code itself fixes a load's refusals.
 use load::Loading;
 use xml_export::Exporting;
 use xml_import::Importing;
+ghost use mathlib.Core.Path.{_≡_};
 ghost use lib.ListN.{length};
+ghost use Rattle.load.specs.Under.{loadUnder};
+ghost use Rattle.load.specs.Loads as loading;
+ghost use Rattle.xml_export.specs.Under.{exportUnder};
+ghost use Rattle.xml_export.specs.Contract.{answerOf};
 ghost use Rattle.xml_theorems.specs.Import.{Imports};
 ghost use Rattle.xml_theorems.specs.Export.{ExportsFile, Behind};
 ghost use Rattle.xml_theorems.specs.Trips.{KeepsTexts, ExportsSame};
@@ -19,6 +24,7 @@ pub fn import_exact(xml: &[u8], out: &mut [u8]) -> Importing
 pub fn export_exact(file: &[u8], enums: &[u8], words: &mut [u32], out: &mut [u8]) -> Exporting
     ensures { λ r. ⌜ ExportsFile (now (enums .entry)) (now (file .entry)) (length (now (words .entry))) (now (words .exit))
         (now (out .entry)) (now (out .exit)) r ⌝ }
+    ensures { λ r. ⌜ r ≡ answerOf (exportUnder (now (enums .entry)) (now (file .entry)) (length (now (words .entry))) (length (now (out .entry)))) ⌝ }
 {
     xml_export::export(file, enums, words, out)
 }
@@ -32,6 +38,9 @@ pub struct Judged {
 // A file that is loaded and exported, under one list of enum types.
 fn load_and_export(file: &[u8], enums: &[u8], words: &mut [u32], out: &mut [u8]) -> Judged
     ensures { λ r. ⌜ Behind r ⌝ }
+    ensures { λ r. ⌜ r .loaded ≡ loading.answerOf (now (file .entry)) (loadUnder (now (enums .entry)) (now (file .entry)) (length (now (words .entry)))) ⌝ }
+    ensures { λ r. ⌜ r .exported
+        ≡ answerOf (exportUnder (now (enums .entry)) (now (file .entry)) (length (now (words .entry))) (length (now (out .entry)))) ⌝ }
 {
     let loaded = load::load(file, enums, words);
     let exported = xml_export::export(file, enums, words, out);

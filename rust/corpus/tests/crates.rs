@@ -146,8 +146,7 @@ fn the_page_of_crates_says_what_the_list_says() {
 }
 
 /// The modules whose records say what is demanded of files, packs and XML with no reading in them.
-const DEMANDS: [&str; 15] = [
-    "theorems/specs/Fits.antt",
+const DEMANDS: [&str; 14] = [
     "theorems/specs/Loading.antt",
     "theorems/specs/Rewriting.antt",
     "theorems/specs/Branches.antt",

@@ -14,12 +14,14 @@ same-length c = search needs
 
 returns : tie.Need-returns
 returns c =
-    let a = c .before .before .before .before .before .before .before .args in
-    load-driver-exact (a .enums .now) (a .file .now) (length (a .words .now))
-    (λ i h. omega (arith, c .before .before .before .before .before .shared-slice-known2 .given i))
-    (small-by-index (a .file .now) (λ i h. omega (arith, c .before .before .before .before .before .before .shared-slice-known .given i)))
-    (c .before .before .load-driver .ensures .0)
-    (c .before .before .load-driver .ensures .1)
+    let a = c .before .before .before .before .before .before .before .args in (
+      load-driver-exact (a .enums .now) (a .file .now) (length (a .words .now))
+          (λ i h. omega (arith, c .before .before .before .before .before .shared-slice-known2 .given i))
+          (small-by-index (a .file .now) (λ i h. omega (arith, c .before .before .before .before .before .before .shared-slice-known .given i)))
+          (c .before .before .load-driver .ensures .0)
+          (c .before .before .load-driver .ensures .1),
+      c .before .before .load-driver .ensures .0,
+    )
 
 pub load-driver-exact-spec : {M : Type 1} → statement M
 load-driver-exact-spec = tie.close (tie.spec load-driver-requires same-length returns)

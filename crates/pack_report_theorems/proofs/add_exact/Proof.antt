@@ -17,7 +17,10 @@ same-length-3 : tie.Need-same-length-3
 same-length-3 c = search needs
 
 returns : tie.Need-returns
-returns c = let a = c .before .before .before .before .before .before .before .before .before .before .before .before .before .before .before .args in carry (a .enums .now) (length (a .words .now)) (length (a .table .now)) (a .pack .now) (a .report .now) (c .before .before .before .before .before .before .add .ensures .0) (c .before .before .before .before .before .before .add .ensures .1 .0)
+returns c =
+    let a = c .before .before .before .before .before .before .before .before .before .before .before .before .before .before .before .args in
+    let e = c .before .before .before .before .before .before .add .ensures in
+    (carry (a .enums .now) (length (a .words .now)) (length (a .table .now)) (a .pack .now) (a .report .now) (e .0) (e .1 .0), e .0)
 
 pub add-exact-spec : {M : Type 1} → statement M
 add-exact-spec = tie.close (tie.spec add-requires same-length same-length-2 same-length-3 returns)

@@ -20,7 +20,7 @@ returns c =
     let enums = a .enums .now in
     let small = small-by-index file (λ i h. omega (arith, c .before .before .before .before .before .before .shared-slice-known .given i)) in
     let bytes : Bytes enums = λ i h. omega (arith, c .before .before .before .before .before .shared-slice-known2 .given i) in
-    each-string (a .columns) enums file (length (a .words .now)) bytes small (c .before .before .load-in .ensures .1)
+    (each-string (a .columns) enums file (length (a .words .now)) bytes small (c .before .before .load-in .ensures .1), c .before .before .load-in .ensures)
 
 pub load-strings-spec : {M : Type 1} → statement M
 load-strings-spec = tie.close (tie.spec load-in-requires same-length returns)

@@ -21,7 +21,7 @@ same-length-2 : tie.Need-same-length-2
 same-length-2 c = search needs
 
 returns : tie.Need-returns
-returns c = λ room r.
+returns c =
     let a = c .before .before .before .before .before .before .before .before .before .before .before .before .before .args in
     let file = a .file .now in
     let other = a .other .now in
@@ -33,9 +33,13 @@ returns c = λ room r.
     let bytes : Bytes enums = λ i h. omega (arith, c .before .before .before .before .before .before .before .before .before .before .shared-slice-known3 .given i) in
     let first = c .before .before .before .before .before .before .load-in .ensures in
     let second = c .before .before .load-in2 .ensures in (
-      first .0 ∙ same-answer enums file other n m bytes small small′ r room ∙ sym (second .0),
-      same-rows (a .columns) enums file other n m bytes small small′ r room (first .1) (second .1),
-      same-words (a .columns) enums file other n m bytes small r (first .1) (second .1),
+      λ room r. (
+        first .0 ∙ same-answer enums file other n m bytes small small′ r room ∙ sym (second .0),
+        same-rows (a .columns) enums file other n m bytes small small′ r room (first .1) (second .1),
+        same-words (a .columns) enums file other n m bytes small r (first .1) (second .1),
+      ),
+      first,
+      second,
     )
 
 pub load-two-spec : {M : Type 1} → statement M

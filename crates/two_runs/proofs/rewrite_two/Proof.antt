@@ -26,13 +26,17 @@ same-length-4 : tie.Need-same-length-4
 same-length-4 c = search needs
 
 returns : tie.Need-returns
-returns c = λ room r e.
+returns c =
     let a = c .before .before .before .before .before .before .before .before .before .before .before .before .before .before .before .before .before .before .before .before .before .args in
     let file = a .file .now in
     let small = small-by-index file (λ i h. omega (arith, c .before .before .before .before .before .before .before .before .before .before .before .before .before .before .before .before .before .before .before .before .shared-slice-known .given i)) in
     let bytes : Bytes (a .enums .now) = λ i h. omega (arith, c .before .before .before .before .before .before .before .before .before .before .before .before .before .before .before .before .before .before .shared-slice-known3 .given i) in
-    rewritten-alike (a .enums .now) file (a .other .now) (length (a .words .now)) (length (a .others .now)) (length (a .out .now)) (length (a .outs .now)) bytes small r room e
-    (c .before .before .before .before .before .before .before .before .before .before .before .rewrite .ensures .0) (c .before .before .before .before .rewrite2 .ensures .0)
+    let first = c .before .before .before .before .before .before .before .before .before .before .before .rewrite .ensures .0 in
+    let second = c .before .before .before .before .rewrite2 .ensures .0 in (
+      λ room r e. rewritten-alike (a .enums .now) file (a .other .now) (length (a .words .now)) (length (a .others .now)) (length (a .out .now)) (length (a .outs .now)) bytes small r room e first second,
+      first,
+      second,
+    )
 
 pub rewrite-two-spec : {M : Type 1} → statement M
 rewrite-two-spec =

@@ -15,10 +15,10 @@ enum-known-n : tie.Need-enum-known-n
 enum-known-n c = search needs
 
 slice-reshare-prefix-import-exact : tie.Need-slice-reshare-prefix-import-exact
-slice-reshare-prefix-import-exact c = c .before .before .before .before .before .before .before .export-exact .ensures .only _ (c .before .n .given .1) .4
+slice-reshare-prefix-import-exact c = c .before .before .before .before .before .before .before .export-exact .ensures .0 .only _ (c .before .n .given .1) .4
 
 slice-aggregate-import-exact : tie.Need-slice-aggregate-import-exact
-slice-aggregate-import-exact c = sym (length-take-le _ _ (c .before .before .before .before .before .before .before .before .export-exact .ensures .only _ (c .before .before .n .given .1) .4))
+slice-aggregate-import-exact c = sym (length-take-le _ _ (c .before .before .before .before .before .before .before .before .export-exact .ensures .0 .only _ (c .before .before .n .given .1) .4))
 
 import-exact-requires : tie.Need-import-exact-requires
 import-exact-requires c κs = search needs
@@ -30,7 +30,7 @@ same-length-2 : tie.Need-same-length-2
 same-length-2 c = search needs
 
 returns : tie.Need-returns
-returns c = not-imported (c .before .before .before .before .before .before .before .export-exact .ensures) (c .before .number .given .1)
+returns c = not-imported (c .before .before .before .before .before .before .before .export-exact .ensures .0) (c .before .number .given .1)
 
 same-length-3 : tie.Need-same-length-3
 same-length-3 c = search needs
@@ -42,7 +42,7 @@ same-length-5 : tie.Need-same-length-5
 same-length-5 c = search needs
 
 returns-2 : tie.Need-returns-2
-returns-2 c = kept (c .before .before .before .before .before .before .before .before .before .before .before .before .export-exact .ensures) (c .before .before .before .before .before .before .n .given .1) (c .before .before .import-exact .ensures)
+returns-2 c = kept (c .before .before .before .before .before .before .before .before .before .before .before .before .export-exact .ensures .0) (c .before .before .before .before .before .before .n .given .1) (c .before .before .import-exact .ensures)
 
 pub export-then-import-spec : {M : Type 1} → statement M
 export-then-import-spec =

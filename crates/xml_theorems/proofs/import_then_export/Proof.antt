@@ -39,7 +39,7 @@ same-length-4 : tie.Need-same-length-4
 same-length-4 c = search needs
 
 returns-2 : tie.Need-returns-2
-returns-2 c = same (c .before .before .before .before .before .before .before .before .before .before .before .before .before .import-exact .ensures) (c .before .before .before .before .before .before .before .before .before .n .given .1) (c .before .before .before .before .export-exact .ensures)
+returns-2 c = same (c .before .before .before .before .before .before .before .before .before .before .before .before .before .import-exact .ensures) (c .before .before .before .before .before .before .before .before .before .n .given .1) (c .before .before .before .before .export-exact .ensures .0)
 
 pub import-then-export-spec : {M : Type 1} → statement M
 import-then-export-spec =

@@ -22,8 +22,13 @@ returns : tie.Need-returns
 returns c =
     let a = c .before .before .before .before .before .before .before .before .before .before .before .before .before .before .before .args in
     let n = c .before .before .before .before .before .before .before .before .words .given in
-    let l = rw (← n) at (c .before .before .before .before .before .before .before .before .before .load .ensures .0) in
-    record { refused = λ number place q. c .before .before .before .before .export .ensures .0 ∙ ap answerOf (load-first (a .enums .now) (a .file .now) _ (length (a .out .now)) (sym l ∙ q)) }
+    let loads = c .before .before .before .before .before .before .before .before .before .load .ensures .0 in
+    let l = rw (← n) at loads in
+    let exports = c .before .before .before .before .export .ensures .0 in (
+      record { refused = λ number place q. exports ∙ ap answerOf (load-first (a .enums .now) (a .file .now) _ (length (a .out .now)) (sym l ∙ q)) },
+      loads,
+      rw n at exports,
+    )
 
 pub load-and-export-spec : {M : Type 1} → statement M
 load-and-export-spec =
