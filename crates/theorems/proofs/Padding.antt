@@ -52,29 +52,29 @@ module _ (enums file : List ℕ) (words : ℕ) (bytes : Bytes enums) (small : Sm
         record { fitting = f; is = cc; no-longer = least f file (f .fits .lays) .no-longer }
 
   -- what the rewrite answers then
-  by-room : {padding : ℕ} (t : Told padding) {P : Type 0} → (r ≡ rewriting.Rewritten (length (shortFile (t .fitting .tree))) → P) → (r ≡ rewriting.Refused 21 (length (shortFile (t .fitting .tree))) → P) → P
-  by-room t {P} fitted short = go (leb (length (shortFile (t .fitting .tree))) (length out)) refl where
-    go : (b : Bool) → leb (length (shortFile (t .fitting .tree))) (length out) ≡ b → P
+  by-room : {padding : ℕ} (t : Told padding) {P : Type 0} → (r ≡ rewriting.Rewritten (length (shortFile (t .fitting .fits .tree))) → P) → (r ≡ rewriting.Refused 21 (length (shortFile (t .fitting .fits .tree))) → P) → P
+  by-room t {P} fitted short = go (leb (length (shortFile (t .fitting .fits .tree))) (length out)) refl where
+    go : (b : Bool) → leb (length (shortFile (t .fitting .fits .tree))) (length out) ≡ b → P
     go true q = fitted (x .rewrites (t .fitting) (leb-true _ _ q) .0)
     go false q = short (x .too-small (t .fitting) (leb-false _ _ q) .0)
 
   pub total : (rows readers shared padding n : ℕ) → l ≡ Loaded rows readers shared padding → r ≡ rewriting.Rewritten n → (n ≤ length file) × (padding ≡ length file - n)
   total rows readers shared padding n e w =
       let t = told e in
-      by-room t (λ q. let k : n ≡ length (shortFile (t .fitting .tree)) = cc in (omega (arith, t .no-longer, k), omega (arith, t .is, k))) (λ q. differ cc)
+      by-room t (λ q. let k : n ≡ length (shortFile (t .fitting .fits .tree)) = cc in (omega (arith, t .no-longer, k), omega (arith, t .is, k))) (λ q. differ cc)
 
   pub needed : (rows readers shared padding number place : ℕ) → l ≡ Loaded rows readers shared padding → r ≡ rewriting.Refused number place
       → (number ≡ 21) × (place ≤ length file) × (padding ≡ length file - place)
   needed rows readers shared padding number place e w =
       let t = told e in
-      by-room t (λ q. differ cc) (λ q. let k : place ≡ length (shortFile (t .fitting .tree)) = cc in let n : number ≡ 21 = cc in (n, omega (arith, t .no-longer, k), omega (arith, t .is, k)))
+      by-room t (λ q. differ cc) (λ q. let k : place ≡ length (shortFile (t .fitting .fits .tree)) = cc in let n : number ≡ 21 = cc in (n, omega (arith, t .no-longer, k), omega (arith, t .is, k)))
 
   pub none : (rows readers shared padding : ℕ) → l ≡ Loaded rows readers shared padding → (padding ≡ 0) ↔ Shortest enums file words
   none rows readers shared padding e =
       let t = told e in (
         λ z f bs w. let same = same-tree f (t .fitting) in
             omega (arith, t .is, t .no-longer, ap (λ y. length (shortFile y)) same, least f bs w .no-longer),
-        λ s. omega (arith, t .is, s (t .fitting) (shortFile (t .fitting .tree)) (least (t .fitting) file (t .fitting .lays) .form)),
+        λ s. omega (arith, t .is, s (t .fitting) (shortFile (t .fitting .fits .tree)) (least (t .fitting) file (t .fitting .fits .lays) .form)),
       )
 
   pub refused : (number place : ℕ) → l ≡ Refused number place → r ≡ rewriting.Refused number place

@@ -21,7 +21,7 @@ returns c =
     let a = c .before .before .before .before .before .before .before .before .before .before .before .before .args in
     let plain = c .before .before .before .before .before .before .load .ensures in
     let driver = c .before .before .load-driver .ensures in
-    (beside (a .enums .now) (a .file .now) (length (a .plain .now)) (length (a .words .now)) (plain .0) (plain .1) (driver .0) (driver .1), plain .0, driver .0)
+    (beside (a .enums .now) (a .file .now) (length (a .plain .now)) (length (a .words .now)) (plain .0) (plain .1) (driver .0) (driver .1), (plain .0, driver .0))
 
 pub load-both-spec : {M : Type 1} → statement M
 load-both-spec = tie.close (tie.spec load-requires load-driver-requires same-length same-length-2 returns)

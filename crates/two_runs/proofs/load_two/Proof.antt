@@ -38,8 +38,7 @@ returns c =
         same-rows (a .columns) enums file other n m bytes small small′ r room (first .1) (second .1),
         same-words (a .columns) enums file other n m bytes small r (first .1) (second .1),
       ),
-      first,
-      second,
+      (first, second),
     )
 
 pub load-two-spec : {M : Type 1} → statement M

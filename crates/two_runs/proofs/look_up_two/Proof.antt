@@ -49,8 +49,10 @@ returns c =
     let m = length (a .others .now) in (
       λ room r.
           lookups-alike (a .columns) enums file other n m bytes small small′ r room (first .1) (second .1) (a .row .0) (c .before .before .look-up .ensures) (c .look-up2 .ensures),
-      looked-up (a .columns) enums file n small (first .1) (a .row .0) (c .before .before .look-up .ensures),
-      looked-up (a .columns) enums other m small′ (second .1) (a .row .0) (c .look-up2 .ensures),
+      (
+        looked-up (a .columns) enums file n small (first .1) (a .row .0) (c .before .before .look-up .ensures),
+        looked-up (a .columns) enums other m small′ (second .1) (a .row .0) (c .look-up2 .ensures),
+      ),
     )
 
 pub look-up-two-spec : {M : Type 1} → statement M

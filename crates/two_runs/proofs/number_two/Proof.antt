@@ -15,7 +15,7 @@ returns : tie.Need-returns
 returns c =
     let a = c .before .before .before .before .args in
     let small = small-by-index (a .file .now) (λ i h. omega (arith, c .before .before .before .shared-slice-known .given i)) in
-    (λ r. same-number (a .file .now) (a .other .now) small r (c .before .xnb-load .ensures) (c .xnb-load2 .ensures), c .before .xnb-load .ensures, c .xnb-load2 .ensures)
+    (λ r. same-number (a .file .now) (a .other .now) small r (c .before .xnb-load .ensures) (c .xnb-load2 .ensures), (c .before .xnb-load .ensures, c .xnb-load2 .ensures))
 
 pub number-two-spec : {M : Type 1} → statement M
 number-two-spec = tie.close (tie.spec xnb-load-requires xnb-load-requires-2 returns)

@@ -34,8 +34,7 @@ returns c =
     let first = c .before .before .before .before .before .before .before .before .before .before .before .rewrite .ensures .0 in
     let second = c .before .before .before .before .rewrite2 .ensures .0 in (
       λ room r e. rewritten-alike (a .enums .now) file (a .other .now) (length (a .words .now)) (length (a .others .now)) (length (a .out .now)) (length (a .outs .now)) bytes small r room e first second,
-      first,
-      second,
+      (first, second),
     )
 
 pub rewrite-two-spec : {M : Type 1} → statement M

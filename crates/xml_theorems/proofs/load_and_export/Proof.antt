@@ -26,8 +26,7 @@ returns c =
     let l = rw (← n) at loads in
     let exports = c .before .before .before .before .export .ensures .0 in (
       record { refused = λ number place q. exports ∙ ap answerOf (load-first (a .enums .now) (a .file .now) _ (length (a .out .now)) (sym l ∙ q)) },
-      loads,
-      rw n at exports,
+      (loads, rw n at exports),
     )
 
 pub load-and-export-spec : {M : Type 1} → statement M
