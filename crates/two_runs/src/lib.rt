@@ -9,7 +9,8 @@ use rewrite::Rewriting;
 ghost use mathlib.Core.Path.{_≡_};
 ghost use lib.ListN.{length};
 ghost use Rattle.words.specs.Grids.{gridOf};
-ghost use Rattle.two_runs.specs.Alike.{LoadIs, RewriteIs, NumberIs, LookupsAre, LoadsAlike, RewritesAlike, NumbersAlike, lookupsOf, LookupsAlike, EveryString};
+ghost use Rattle.two_runs.specs.Alike.{LoadIs, RewriteIs, NumberIs, LookupsAre};
+ghost use Rattle.two_runs.specs.Alike.{LoadsAlike, RewritesAlike, NumbersAlike, lookupsOf, LookupsAlike, EveryString};
 
 // The answers of two loads.
 pub struct TwoLoads {
