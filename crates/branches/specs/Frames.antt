@@ -83,7 +83,14 @@ module _ (rows : List Frame) where
       let d : drop (suc n) rows ≡ a ++ (b ++ post) = t .2 ∙ append-assoc a b post in
       let l : length a ≡ size cs = length-frames cs (suc n) (suc n) in
       let s : suc n + length a ≡ n + suc (size cs) = omega arith in
-      record { there = t .0; children = ap (λ (x : Frame). x .children) (t .1); parent = ap (λ (x : Frame). x .parent) (t .1); branch = ap (λ (x : Frame). x .branch) (t .1); below = d; behind = rw s at (sym (drop-drop (length a) (suc n) rows)) ∙ ap (drop (length a)) d ∙ drop-append-seam a (b ++ post) }
+      record {
+        there = t .0;
+        children = ap (λ (x : Frame). x .children) (t .1);
+        parent = ap (λ (x : Frame). x .parent) (t .1);
+        branch = ap (λ (x : Frame). x .branch) (t .1);
+        below = d;
+        behind = rw s at (sym (drop-drop (length a) (suc n) rows)) ∙ ap (drop (length a)) d ∙ drop-append-seam a (b ++ post);
+      }
 
   siblings : (ts : Trees) (n p : ℕ) (post : List Frame) → drop n rows ≡ frames ts n p ++ post → ChainIn rows p n (count ts) (n + size ts)
   unfolding Chain count size

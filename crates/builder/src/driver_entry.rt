@@ -22,7 +22,7 @@ pub extern "C" fn xnb_load_driver(
         ≡ tableOf (driverUnder (now (enums .entry)) (now (file .entry)) (length (now (words .entry)))) (length (now (words .entry))) ⌝ }
 {
     match driver::load_driver(file, enums, words) {
-        Loading::Refused { number, place } => {
+        Loading::Refused(number, place) => {
             *readers = 0;
             *shared = 0;
             *padding = 0;

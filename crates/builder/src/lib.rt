@@ -66,7 +66,7 @@ pub(crate) fn load_told(
         ≡ tableIn (shapeOf columns) (loadUnder (now (enums .entry)) (now (file .entry)) (length (now (words .entry)))) (length (now (words .entry))) ⌝ }
 {
     match load::load_in(file, enums, words, columns) {
-        Loading::Refused { number, place } => {
+        Loading::Refused(number, place) => {
             *readers = 0;
             *shared = 0;
             *padding = 0;
@@ -112,7 +112,7 @@ pub extern "C" fn xnb_rewrite(file: &[u8], enums: &[u8], words: &mut [u32], out:
     ensures { λ _. ⌜ now (words .exit) ≡ wordsLeft (now (enums .entry)) (now (file .entry)) (now (words .entry)) (now (out .entry)) ⌝ }
 {
     match rewrite::rewrite(file, enums, words, out) {
-        Rewriting::Refused { number, place } => refused(number, place),
+        Rewriting::Refused(number, place) => refused(number, place),
         Rewriting::Rewritten { length } => length as u64,
     }
 }

@@ -27,7 +27,7 @@ pub extern "C" fn xnb_report_add(
     ensures { λ _. ⌜ now (words .exit) ≡ replicate (length (now (words .entry))) 0 ⌝ }
 {
     match pack_report::add(pack, enums, table, words, report) {
-        Adding::Refused { number, place } => {
+        Adding::Refused(number, place) => {
             *at = place as u64;
             number
         }

@@ -22,7 +22,7 @@ pub extern "C" fn xnb_export_xml(
     ensures { λ _. ⌜ now (words .exit) ≡ wordsLeft (now (enums .entry)) (now (file .entry)) (now (words .entry)) (now (out .entry)) ⌝ }
 {
     match xml_export::export(file, enums, words, out) {
-        Exporting::Refused { number, place } => crate::refused(number, place),
+        Exporting::Refused(number, place) => crate::refused(number, place),
         Exporting::Exported { length: size } => size as u64,
     }
 }
@@ -34,7 +34,7 @@ pub extern "C" fn xnb_import_xml(xml: &[u8], out: &mut [u8], at: &mut u64) -> u3
     ensures { λ _. ⌜ now (out .exit) ≡ outputOf (importOf (now (xml .entry)) (length (now (out .entry)))) (now (out .entry)) ⌝ }
 {
     match xml_import::import(xml, out) {
-        Importing::Refused { number, place } => {
+        Importing::Refused(number, place) => {
             *at = place as u64;
             number
         }

@@ -144,7 +144,7 @@ fn settle(
         },
         Broken::Rule(number, place) => {
             fill::clear(words, 0);
-            Loading::Refused { number, place }
+            Loading::Refused(number, place)
         }
     }
 }
@@ -156,7 +156,7 @@ pub fn load_driver(file: &[u8], enums: &[u8], words: &mut [u32]) -> Loading
         ≡ tableOf (driverUnder (now (enums .entry)) (now (file .entry)) (length (now (words .entry)))) (length (now (words .entry))) ⌝ }
 {
     match load::load(file, enums, words) {
-        Loading::Refused { number, place } => Loading::Refused { number, place },
+        Loading::Refused(number, place) => Loading::Refused(number, place),
         Loading::Loaded {
             rows,
             readers,

@@ -1,4 +1,5 @@
--- Demand 3 and the promises of rewriting for the entries, which answer one number (01, "Looking up": "refusal (or 0) times 2 to the 32, plus place (or row count)"). Each record is the contract of a function that calls an entry. No reading is in it: which refusal it is, Refusals says. Assumes nothing.
+-- Demand 3 and the promises of rewriting for the entries, which answer one number (01, "Looking up": "refusal (or 0) times 2 to the 32, plus place (or row count)").
+-- Each record is the contract of a function that calls an entry. No reading is in it: which refusal it is, Refusals says. Assumes nothing.
 use mathlib.Core.Path.{_≡_, refl}
 use mathlib.Core.List.{List, _++_}
 use mathlib.Core.Logic.{_↔_}

@@ -134,5 +134,12 @@ listed-examples =
     ∷ []
 
 pub examples : Hold listed-examples
-unfolding Hold listed-examples tableIn flat row-words code packed outputOf A B paddedB start texted rewriteUnder loadUnder fileUnder underList enumsAt enumsFrom byLoad fitted shortFile shortBody shortLists shortEntries shortEntry short body idBytes numbered shortest fewest header follow size isPlatform headerAt judge rootKind rootKinds judged readerAt readersAt several listsAt objectsAt finished fileAt toLoad roomOf headAt fixedHeadAt whole-value textAt countAt imageAt leafAt always toldOf told before sequence rawAt byReader objectAt valueAt walk suit suits fontOk fontIf fontTest rule isBoolean isDateTime isDecimal fixedAt utf8s chars charSize decided same serves invoked reader-of valueOf littleAt group groups sevenAt some field bind check within sharedOf objectsPlan sizes levels levelBytes pixelBytes blockBytes digits ascii little each slotOf rawOrObject pairs leaves fontSlots pageSlots count kindAt childrenAt kindOf isValue headByte tailByte headings lookup alike listed reader readers target-entry targets span starts tailSize tailOf closed opening onOnly onSecond onFirst afterHead headed nameIn whole nameOf fixedKind plain nullableOf wrapped paired typeOf enumOf arrayOf readerOf typedName readName judgedName
+unfolding Hold listed-examples tableIn flat row-words code packed outputOf A B paddedB start texted rewriteUnder loadUnder fileUnder underList enumsAt enumsFrom
+    byLoad fitted shortFile shortBody shortLists shortEntries shortEntry short body idBytes numbered shortest fewest header follow size isPlatform headerAt
+    judge rootKind rootKinds judged readerAt readersAt several listsAt objectsAt finished fileAt toLoad roomOf headAt fixedHeadAt whole-value textAt countAt
+    imageAt leafAt always toldOf told before sequence rawAt byReader objectAt valueAt walk suit suits fontOk fontIf fontTest rule isBoolean isDateTime isDecimal
+    fixedAt utf8s chars charSize decided same serves invoked reader-of valueOf littleAt group groups sevenAt some field bind check within sharedOf objectsPlan
+    sizes levels levelBytes pixelBytes blockBytes digits ascii little each slotOf rawOrObject pairs leaves fontSlots pageSlots count kindAt childrenAt kindOf
+    isValue headByte tailByte headings lookup alike listed reader readers target-entry targets span starts tailSize tailOf closed opening onOnly onSecond
+    onFirst afterHead headed nameIn whole nameOf fixedKind plain nullableOf wrapped paired typeOf enumOf arrayOf readerOf typedName readName judgedName
 examples = (refl, (refl, (refl, (refl, (refl, (refl, (refl, (refl, (refl, (refl, (refl, (refl, (refl, (refl, (refl, (refl, (refl, (refl, (refl, (refl, (refl, (refl, (p12 .0, (p12 .1, (p13 .0, (p13 .1, (p13 .2, (euro, (surrogate, (of-four, tt))))))))))))))))))))))))))))))

@@ -45,14 +45,11 @@ fn reference(file: &[u8], words: &mut [u32], grid: Grid, shared: u32, wanted: u3
 {
     let at = h.first;
     match numbers::seven::seven_padded(file, at) {
-        Padded::Refused(number, place) => Walk::Refused { number, place },
+        Padded::Refused(number, place) => Walk::Refused(number, place),
         Padded::Read(value, next, padding) => {
             let id = value as u32;
             if beyond(ResourceId(id), shared) {
-                return Walk::Refused {
-                    number: 16,
-                    place: at,
-                };
+                return Walk::Refused(16, at);
             }
             let row = h.row;
             let named = Head {
@@ -120,16 +117,10 @@ pub fn read_plain(
     ensures { λ _. ⌜ now (words .exit) ≡ valueLeft grid (now (file .entry)) (now (words .entry)) shared slot at used depth parent ⌝ }
 {
     if depth == 0 {
-        return Walk::Refused {
-            number: 18,
-            place: at,
-        };
+        return Walk::Refused(18, at);
     }
     if grid.room <= used {
-        return Walk::Refused {
-            number: 19,
-            place: at,
-        };
+        return Walk::Refused(19, at);
     }
     let h = Head {
         row: RowNumber(used),

@@ -79,8 +79,8 @@ fn read_each(
                 row = reached.used;
                 padding = table::sum(padding, reached.padding);
             }
-            Walk::Refused { number, place } => {
-                return Walk::Refused { number, place };
+            Walk::Refused(number, place) => {
+                return Walk::Refused(number, place);
             }
         }
         i += 1;
@@ -303,7 +303,7 @@ fn read_one(
     ensures { λ _. ⌜ now (words .exit) ≡ runOf grid (now (file .entry)) shared (Run.Same slot 1) depth parent at used (now (words .entry)) .1 ⌝ }
 {
     match crate::plain::read_plain(file, words, grid, shared, slot, at, used, depth, parent) {
-        Walk::Refused { number, place } => Walk::Refused { number, place },
+        Walk::Refused(number, place) => Walk::Refused(number, place),
         Walk::Done(reached) => Walk::Done(Reached {
             used: reached.used,
             padding: table::sum(0, reached.padding),

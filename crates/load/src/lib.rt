@@ -31,10 +31,7 @@ ghost use Rattle.load.specs.Contracts.{Finishes, ObjectsLoad, Behind, Li
 // A refusal's number and place; or the number of rows used, the number of readers, the shared count,
 // and how many bytes the seven-bit numbers of the file have beyond their shortest forms.
 pub enum Loading {
-    Refused {
-        number: u32,
-        place: usize,
-    },
+    Refused(u32, usize),
     Loaded {
         rows: u32,
         readers: u32,
@@ -57,16 +54,10 @@ fn finish(
     ensures { λ r. ⌜ Finishes grid (now (file .entry)) readers shared padding next used (now (words .entry)) (now (words .exit)) r ⌝ }
 {
     if next != file.len() {
-        return Loading::Refused {
-            number: 20,
-            place: next,
-        };
+        return Loading::Refused(20, next);
     }
     match resources::settle(words, grid, used) {
-        Settled::Wrong(first) => Loading::Refused {
-            number: 17,
-            place: first as usize,
-        },
+        Settled::Wrong(first) => Loading::Refused(17, first as usize),
         Settled::Fine => {
             table::clear_behind(words, grid, RowNumber(used));
             Loading::Loaded {
@@ -96,7 +87,7 @@ fn objects(
     let n = shared + 1;
     let nest = Nest::Each(Slot::Object(10), n);
     match walk::nested(file, codes, rd, words, grid, shared, nest, at, 0, 32) {
-        Children::Refused { number, place } => Loading::Refused { number, place },
+        Children::Refused(number, place) => Loading::Refused(number, place),
         Children::Done { count: _, reached } => finish(
             file,
             words,
@@ -145,11 +136,8 @@ fn listed(
     let mut starts = [0u32; 64];
     put_prelude(codes);
     match readers::read_lists(file, enums, codes, &mut targets, &mut starts, at) {
-        Lists::NoRoom => Loading::Refused {
-            number: 1,
-            place: at,
-        },
-        Lists::Refused(number, place) => Loading::Refused { number, place },
+        Lists::NoRoom => Loading::Refused(1, at),
+        Lists::Refused(number, place) => Loading::Refused(number, place),
         Lists::Read(count, shared, padding, next) => {
             let rd = Readers {
                 targets,
@@ -222,7 +210,7 @@ fn load_rows(file: &[u8], enums: &[u8], words: &mut [u32], grid: Grid) -> Loadin
     ensures { λ r. ⌜ FileLoads grid (enumsOf (now (enums .entry))) (now (file .entry)) (now (words .entry)) (now (words .exit)) r ⌝ }
 {
     match header::header(file) {
-        Number::Refused(number, place) => Loading::Refused { number, place },
+        Number::Refused(number, place) => Loading::Refused(number, place),
         Number::Read(_, at) => lists(file, enums, words, grid, at),
     }
 }
@@ -233,10 +221,7 @@ fn load_under(file: &[u8], enums: &[u8], words: &mut [u32], grid: Grid) -> Loadi
     ensures { λ r. ⌜ UnderLoads grid (now (enums .entry)) (now (file .entry)) (now (words .entry)) (now (words .exit)) r ⌝ }
 {
     match enums::judge(enums) {
-        Judged::Refused(number, entry) => Loading::Refused {
-            number,
-            place: entry,
-        },
+        Judged::Refused(number, entry) => Loading::Refused(number, entry),
         Judged::Lawful => load_rows(file, enums, words, grid),
     }
 }
@@ -249,9 +234,9 @@ pub fn load_in(file: &[u8], enums: &[u8], words: &mut [u32], columns: bool) -> L
 {
     let grid = words::shaped(words.len(), columns);
     match load_under(file, enums, words, grid) {
-        Loading::Refused { number, place } => {
+        Loading::Refused(number, place) => {
             fill::clear(words, 0);
-            Loading::Refused { number, place }
+            Loading::Refused(number, place)
         }
         Loading::Loaded {
             rows,

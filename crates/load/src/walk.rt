@@ -22,10 +22,7 @@ ghost use Rattle.load.specs.Contracts.{FlatSteps, PlacedSteps, ValueStep
 // the place of its type, its first byte, its children, the padding of its type id, the type id, and where its head ends.
 pub enum Stepped {
     Done(Reached),
-    Refused {
-        number: u32,
-        place: usize,
-    },
+    Refused(u32, usize),
     Nested {
         place: usize,
         from: usize,
@@ -39,7 +36,7 @@ pub enum Stepped {
 // Values one after the other, walked: how many they are and what the walk reaches; or a refusal's number and place.
 pub enum Children {
     Done { count: u32, reached: Reached },
-    Refused { number: u32, place: usize },
+    Refused(u32, usize),
 }
 
 // A value that was walked.
@@ -48,7 +45,7 @@ fn walked_step(walked: Walk) -> Stepped
 {
     match walked {
         Walk::Done(reached) => Stepped::Done(reached),
-        Walk::Refused { number, place } => Stepped::Refused { number, place },
+        Walk::Refused(number, place) => Stepped::Refused(number, place),
     }
 }
 
@@ -65,7 +62,7 @@ fn close_plain(
     ensures { λ _. ⌜ now (words .exit) ≡ plainWords grid (now (words .entry)) h kind children walked ⌝ }
 {
     match walked {
-        Walk::Refused { number, place } => Stepped::Refused { number, place },
+        Walk::Refused(number, place) => Stepped::Refused(number, place),
         Walk::Done(reached) => {
             let row = h.row;
             let branch = table::rows_from(row, reached.used);
@@ -153,10 +150,7 @@ fn raw_step(
     ensures { λ r. ⌜ PlacedSteps grid (now (file .entry)) (now (codes .entry)) shared place h at depth (now (words .entry)) (now (words .exit)) r ⌝ }
 {
     match heads::open::open(file, codes, place, at) {
-        Opened::Refused(number, from) => Stepped::Refused {
-            number,
-            place: from,
-        },
+        Opened::Refused(number, from) => Stepped::Refused(number, from),
         Opened::Head(next, below) => {
             let kind = heads::slot::row_kind(codes, place);
             close_flat(
@@ -198,7 +192,7 @@ fn value(
 {
     let named = target as usize;
     match objects::start::start(file, codes, count, named, grid.room, slot, at, used, depth) {
-        Started::Refused(number, place) => Stepped::Refused { number, place },
+        Started::Refused(number, place) => Stepped::Refused(number, place),
         Started::Plain(plain) => walked_step(leaves::plain::read_plain(
             file,
             words,
@@ -265,7 +259,7 @@ fn raw(
         first,
         depth,
     ) {
-        Children::Refused { number, place: q } => Walk::Refused { number, place: q },
+        Children::Refused(number, q) => Walk::Refused(number, q),
         Children::Done { count, reached } => {
             let kind = heads::slot::row_kind(codes, place);
             objects::close::close(file, words, grid, h, kind, count, at, Walk::Done(reached))
@@ -318,8 +312,8 @@ pub(crate) fn nested(
                 row = reached.used;
                 sum = table::sum(sum, reached.padding);
             }
-            Stepped::Refused { number, place } => {
-                return Children::Refused { number, place };
+            Stepped::Refused(number, place) => {
+                return Children::Refused(number, place);
             }
             Stepped::Nested {
                 place,
@@ -355,8 +349,8 @@ pub(crate) fn nested(
                         row = reached.used;
                         sum = table::sum(sum, reached.padding);
                     }
-                    Walk::Refused { number, place: q } => {
-                        return Children::Refused { number, place: q };
+                    Walk::Refused(number, q) => {
+                        return Children::Refused(number, q);
                     }
                 }
             }

@@ -35,7 +35,7 @@ fn stands(told: Loading) -> bool
     ensures { λ r. ⌜ Stands r told ⌝ }
 {
     match told {
-        Loading::Refused { number, place: _ } => {
+        Loading::Refused(number, _) => {
             if number == 19 {
                 return false;
             }

@@ -18,8 +18,8 @@ fn walk(pack: &[u8], marked: bool, n: usize) -> Reading
     let mut at = 4;
     while i < n {
         match pack_records::record_at(pack, at, marked) {
-            Record::Refused { number, place } => {
-                return Reading::Refused { number, place };
+            Record::Refused(number, place) => {
+                return Reading::Refused(number, place);
             }
             Record::Read {
                 start: _,
@@ -33,10 +33,7 @@ fn walk(pack: &[u8], marked: bool, n: usize) -> Reading
         i += 1;
     }
     if at != pack.len() {
-        return Reading::Refused {
-            number: 20,
-            place: at,
-        };
+        return Reading::Refused(20, at);
     }
     Reading::Read { files: n }
 }
@@ -46,13 +43,10 @@ fn count(pack: &[u8], marked: bool) -> Reading
     ensures { λ r. ⌜ r ≡ countOf marked (now (pack .entry)) ⌝ }
 {
     match numbers::little::little4(pack, 0) {
-        Number::Refused(number, place) => Reading::Refused { number, place },
+        Number::Refused(number, place) => Reading::Refused(number, place),
         Number::Read(n, _) => {
             if 4096 < n {
-                return Reading::Refused {
-                    number: 9,
-                    place: 0,
-                };
+                return Reading::Refused(9, 0);
             }
             walk(pack, marked, n as usize)
         }
@@ -107,10 +101,7 @@ fn put_files(pack: &[u8], out: &mut [u8], marked: bool, n: usize)
     let mut to = 4;
     while i < n {
         match pack_records::record_at(pack, at, !marked) {
-            Record::Refused {
-                number: _,
-                place: _,
-            } => {
+            Record::Refused(_, _) => {
                 return;
             }
             Record::Read {
@@ -130,7 +121,7 @@ fn put_files(pack: &[u8], out: &mut [u8], marked: bool, n: usize)
 
 // A refusal's number and place, or the length of the new pack.
 pub enum Converting {
-    Refused { number: u32, place: usize },
+    Refused(u32, usize),
     Converted { length: usize },
 }
 
@@ -140,14 +131,11 @@ pub fn convert(pack: &[u8], out: &mut [u8], marked: bool) -> Converting
     ensures { λ _. ⌜ now (out .exit) ≡ outputOf (converted marked (now (pack .entry)) (length (now (out .entry)))) (now (out .entry)) ⌝ }
 {
     match count(pack, !marked) {
-        Reading::Refused { number, place } => Converting::Refused { number, place },
+        Reading::Refused(number, place) => Converting::Refused(number, place),
         Reading::Read { files } => {
             let size = measure(pack.len(), files, marked);
             if out.len() < size {
-                return Converting::Refused {
-                    number: 21,
-                    place: size,
-                };
+                return Converting::Refused(21, size);
             }
             put_files(pack, out, marked, files);
             Converting::Converted { length: size }

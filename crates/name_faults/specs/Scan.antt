@@ -132,7 +132,8 @@ run-name (suc l) (simple h t) f rest = past-head h (writeTail t rest) (f .0) ∙
 run-name (suc l) (one h a t) f rest =
     past-head h (ascii "`1[[" ++ write a (ascii "]]" ++ writeTail t rest)) (f .0) ∙ opens (code "1") (write a (ascii "]]" ++ writeTail t rest)) ∙ run-name l a (f .1) (ascii "]]" ++ writeTail t rest) ∙ closes a (code "]" ∷ writeTail t rest) ∙ behind-brackets t rest (f .2)
 run-name (suc l) (two h a b t) f rest =
-    past-head h (ascii "`2[[" ++ write a (ascii "],[" ++ write b (ascii "]]" ++ writeTail t rest))) (f .0) ∙ opens (code "2") (write a (ascii "],[" ++ write b (ascii "]]" ++ writeTail t rest))) ∙ run-name l a (f .1) (ascii "],[" ++ write b (ascii "]]" ++ writeTail t rest)) ∙ closes a (code "," ∷ code "[" ∷ write b (ascii "]]" ++ writeTail t rest))
+    past-head h (ascii "`2[[" ++ write a (ascii "],[" ++ write b (ascii "]]" ++ writeTail t rest))) (f .0) ∙ opens (code "2") (write a (ascii "],[" ++ write b (ascii "]]" ++ writeTail t rest)))
+    ∙ run-name l a (f .1) (ascii "],[" ++ write b (ascii "]]" ++ writeTail t rest)) ∙ closes a (code "," ∷ code "[" ∷ write b (ascii "]]" ++ writeTail t rest))
     ∙ run-name l b (f .2) (ascii "]]" ++ writeTail t rest) ∙ closes b (code "]" ∷ writeTail t rest) ∙ behind-brackets t rest (f .3)
 
 -- ---- the bytes before a place

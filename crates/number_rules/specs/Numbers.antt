@@ -228,21 +228,6 @@ module _ (file : List ℕ) (readers : ℕ) where
   unfolding filePlaces
   in-rows rows r e f = found-second file (listsPlaces file readers 10) (rowsPlaces file rows) r e f
 
--- ---- Whether a value starts with an id
-
-pub has-detail : (kind detail : ℕ) → (detail ≡ 0 → ⊥) → true ≡ numbered kind detail
-unfolding numbered
-has-detail kind zero h = absurd (h refl)
-has-detail kind (suc i) h = refl
-
-pub kind-null : (kind detail : ℕ) → detail ≡ 0 → kind ≡ 0 → true ≡ numbered kind detail
-unfolding numbered
-kind-null kind detail h k = rw (h, k)
-
-pub kind-reference : (kind detail : ℕ) → detail ≡ 0 → (kind ≡ 0 → ⊥) → eqb kind 36 ≡ numbered kind detail
-unfolding numbered
-kind-reference kind detail h k = rw (h, ne-eqb kind 0 k)
-
 -- ---- What passing the readers answered
 
 module _ (file : List ℕ) (readers from : ℕ) (start : from ≡ past (sevenAt file 10) 10) (r : Passed) where

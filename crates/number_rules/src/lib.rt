@@ -9,7 +9,6 @@ use used_rows::word_in;
 ghost use mathlib.Core.Path.{_≡_};
 ghost use mathlib.Core.List.{[], _∷_};
 ghost use Prim.Native.Nat.{_<_};
-ghost use Rattle.layout.specs.Shortest.{numbered as startsWithId};
 ghost use Rattle.reading.specs.Seven.{sevenAt};
 ghost use Rattle.numbers.specs.Padded.{past};
 ghost use Rattle.places.specs.Places.{countPlaces};
@@ -79,24 +78,11 @@ fn count_at(file: &[u8], kind: u32, at: usize) -> Place
     number_at(file, at)
 }
 
-// Whether a value of a kind and a detail starts with a type id or a resource id.
-fn numbered(kind: u32, detail: u32) -> bool
-    ensures { λ r. ⌜ r ≡ startsWithId kind detail ⌝ }
-{
-    if detail != 0 {
-        return true;
-    }
-    if kind == 0 {
-        return true;
-    }
-    kind == 36
-}
-
 // The first of a value's numbers that is not shortest.
 fn value_numbers(file: &[u8], kind: u32, first: usize, detail: u32) -> Place
     ensures { λ r. ⌜ NumbersFound (now (file .entry)) (rowNumbers (now (file .entry)) kind first detail) r ⌝ }
 {
-    if !numbered(kind, detail) {
+    if !places::numbered(kind, detail) {
         return count_at(file, kind, first);
     }
     match number_at(file, first) {

@@ -16,7 +16,7 @@ use Rattle.layout.specs.Shortest.{shortest, fewest}
 use Rattle.reading.specs.Answer.{Answer, refused, read, bind, check}
 use Rattle.reading.specs.Seven.{group as groupRead, groups, sevenAt}
 use Rattle.numbers.specs.declared.seven.Step.{Step}
-use Rattle.numbers.specs.declared.seven.Step.the-variants.{Ends, HandsOn, Refuses}
+use Rattle.numbers.specs.declared.seven.Step.the-variants.{Ends, HandsOn, Refused}
 use Rattle.numbers.specs.Steps.{joined, neededBy, group, step, lastGroup, lastStep}
 use Rattle.numbers.specs.Shortest.{fewest-length}
 use Rattle.numbers.specs.Padded.{padOf, padded}
@@ -118,7 +118,7 @@ module _ (s : List ℕ) (start : ℕ) (bytes : (i : ℕ) → i < length s → ge
 
   -- one of the first four groups, by what the steps after it do
   group-is : (m k : ℕ) → k < 5 → 128 ^ suc k ≤ 2 ^ 28 → (after : Step → Answer (ℕ × ℕ))
-      → ((v n p : ℕ) → after (Ends v n p) ≡ read (v, p) n) → ((n p : ℕ) → after (Refuses n p) ≡ refused n p)
+      → ((v n p : ℕ) → after (Ends v n p) ≡ read (v, p) n) → ((n p : ℕ) → after (Refused n p) ≡ refused n p)
       → ((low needed : ℕ) → low < 128 ^ suc k → needed ≡ length (shortest low) → after (HandsOn low needed) ≡ padded start (whole start low (128 ^ suc k) (from m (suc k))))
       → (low needed : ℕ) → low < 128 ^ k → needed ≡ length (shortest low) → after (group k s start low needed) ≡ padded start (whole start low (128 ^ k) (from (suc m) k))
   unfolding group bind check groupRead padOf

@@ -7,7 +7,7 @@ use lib.Dec.{eqb, ltb, leb}
 use lib.ListN.{length, getD}
 use Rattle.reading.specs.Answer.{Answer, read, refused}
 use Rattle.numbers.specs.declared.seven.Step.{Step}
-use Rattle.numbers.specs.declared.seven.Step.the-variants.{Ends, HandsOn, Refuses}
+use Rattle.numbers.specs.declared.seven.Step.the-variants.{Ends, HandsOn, Refused}
 
 -- 000: "result |= (value & 0x7f) << bitsRead"
 unfoldable pub joined : (low bitsRead byte : ℕ) → ℕ
@@ -20,7 +20,7 @@ neededBy k needed byte = cond (eqb (byte % 128) 0) needed (k + 1)
 -- the byte with index k of the number at `start`, after bytes of the value `low`, whose shortest form has `needed` bytes: missing it refuses with 1; below 80 hex it ends the number, and those of its k + 1 bytes that are not needed are its padding; else the value so far is handed on
 unfoldable pub group : (k : ℕ) → List ℕ → (start low needed : ℕ) → Step
 group k s start low needed =
-    cond (leb (length s) (start + k)) (Refuses 1 start)
+    cond (leb (length s) (start + k)) (Refused 1 start)
     (cond (ltb (getD s (start + k) 0) 0x80)
     (Ends (joined low (7 * k) (getD s (start + k) 0)) (start + k + 1) (k + 1 - neededBy k needed (getD s (start + k) 0)))
     (HandsOn (joined low (7 * k) (getD s (start + k) 0)) (neededBy k needed (getD s (start + k) 0))))
@@ -29,7 +29,7 @@ group k s start low needed =
 abbrev pub step : (k : ℕ) → List ℕ → (start : ℕ) → Step → Step
 step k s start (HandsOn low needed) = group k s start low needed
 step k s start (Ends value next padding) = Ends value next padding
-step k s start (Refuses number place) = Refuses number place
+step k s start (Refused number place) = Refused number place
 
 -- the fifth byte (01: "At most five bytes, the fifth at most 0F hex"): missing it refuses with 1; up to 0F hex it ends the number; else it refuses with 8
 unfoldable pub lastGroup : List ℕ → (start low needed : ℕ) → Answer (ℕ × ℕ)
@@ -43,4 +43,4 @@ lastGroup s start low needed =
 abbrev pub lastStep : List ℕ → (start : ℕ) → Step → Answer (ℕ × ℕ)
 lastStep s start (HandsOn low needed) = lastGroup s start low needed
 lastStep s start (Ends value next padding) = read (value, padding) next
-lastStep s start (Refuses number place) = refused number place
+lastStep s start (Refused number place) = refused number place

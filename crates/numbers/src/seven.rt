@@ -14,7 +14,7 @@ use answers::Number;
 pub enum Step {
     Ends(u64, usize, u32),
     HandsOn(u64, u32),
-    Refuses(u32, usize),
+    Refused(u32, usize),
 }
 
 // A seven-bit number with its value, the next place and its padding: how many bytes it has beyond its shortest form; or a refusal's number and place.
@@ -62,7 +62,7 @@ pub fn fifth(s: &[u8], start: usize, so_far: Step) -> Padded
     match so_far {
         Step::HandsOn(low, needed) => last_group(s, start, low, needed),
         Step::Ends(value, next, padding) => Padded::Read(value, next, padding),
-        Step::Refuses(number, place) => Padded::Refused(number, place),
+        Step::Refused(number, place) => Padded::Refused(number, place),
     }
 }
 
@@ -84,7 +84,7 @@ pub fn seven_padded(s: &[u8], start: usize) -> Padded
     match first(s, start) {
         Step::Ends(value, next, padding) => Padded::Read(value, next, padding),
         Step::HandsOn(_, _) => all_steps(s, start),
-        Step::Refuses(number, place) => Padded::Refused(number, place),
+        Step::Refused(number, place) => Padded::Refused(number, place),
     }
 }
 
@@ -98,7 +98,7 @@ pub fn seven_at(s: &[u8], start: usize) -> Number
             Padded::Read(value, next, _) => Number::Read(value, next),
             Padded::Refused(number, place) => Number::Refused(number, place),
         },
-        Step::Refuses(number, place) => Number::Refused(number, place),
+        Step::Refused(number, place) => Number::Refused(number, place),
     }
 }
 
@@ -110,7 +110,7 @@ fn step_at(s: &[u8], start: usize, k: usize, bits_read: u32, so_far: Step) -> St
     match so_far {
         Step::HandsOn(low, needed) => group_at(s, start, k, bits_read, low, needed),
         Step::Ends(value, next, padding) => Step::Ends(value, next, padding),
-        Step::Refuses(number, place) => Step::Refuses(number, place),
+        Step::Refused(number, place) => Step::Refused(number, place),
     }
 }
 
@@ -120,7 +120,7 @@ fn group_at(s: &[u8], start: usize, k: usize, bits_read: u32, low: u64, needed: 
     ensures { λ r. ⌜ r ≡ group k (now (s .entry)) start low needed ⌝ }
 {
     if missing(s, start, k) {
-        return Step::Refuses(1, start);
+        return Step::Refused(1, start);
     }
     let byte = s[start + k];
     let short = needed_by(k, needed, byte);

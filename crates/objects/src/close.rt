@@ -32,7 +32,7 @@ pub fn close(
     ensures { λ _. ⌜ now (words .exit) ≡ closeWords grid (now (file .entry)) (now (words .entry)) h kind children walked ⌝ }
 {
     match walked {
-        Walk::Refused { number, place } => Walk::Refused { number, place },
+        Walk::Refused(number, place) => Walk::Refused(number, place),
         Walk::Done(reached) => {
             let row = h.row;
             if keeps_rule(file, words, grid, kind, row) {
@@ -45,10 +45,7 @@ pub fn close(
                     next: reached.next,
                 });
             }
-            Walk::Refused {
-                number: 22,
-                place: at,
-            }
+            Walk::Refused(22, at)
         }
     }
 }

@@ -33,7 +33,7 @@ fn count_xnb(content: &[u8], enums: &[u8], words: &mut [u32], figures: &mut [u64
     ensures { λ _. ⌜ (Clear (now (words .entry)) → now (words .exit) ≡ now (words .entry)) ⌝ }
 {
     match load_part::load_part(content, enums, words) {
-        Loading::Refused { number, place: _ } => {
+        Loading::Refused(number, _) => {
             pack_counts::count_refused(number, figures);
         }
         Loading::Loaded {

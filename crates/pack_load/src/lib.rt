@@ -9,10 +9,7 @@ ghost use Rattle.pack_load.specs.Opened.{openedOf, rowsOf};
 // or the number of rows used, the number of readers, the shared count and the padding of the data's seven-bit numbers.
 pub enum Opened {
     Absent,
-    Refused {
-        number: u32,
-        place: usize,
-    },
+    Refused(u32, usize),
     Loaded {
         rows: u32,
         readers: u32,
@@ -42,7 +39,7 @@ pub fn load_found(
         Found::At { first, count } => {
             let end = first + count;
             match load::load(&pack[first..end], enums, words) {
-                Loading::Refused { number, place } => Opened::Refused { number, place },
+                Loading::Refused(number, place) => Opened::Refused(number, place),
                 Loading::Loaded {
                     rows,
                     readers,

@@ -30,7 +30,7 @@ fn start_at(pack: &[u8], at: usize, marked: bool) -> Number
 
 // A refusal's number and place, or where a path's bytes start and how many they are.
 pub enum Path {
-    Refused { number: u32, place: usize },
+    Refused(u32, usize),
     Read { start: usize, size: usize },
 }
 
@@ -39,33 +39,21 @@ fn path_at(pack: &[u8], at: usize) -> Path
     ensures { λ r. ⌜ r ≡ pathed at (pathAt (now (pack .entry)) at) ⌝ }
 {
     match numbers::seven::seven_at(pack, at) {
-        Number::Refused(number, place) => Path::Refused { number, place },
+        Number::Refused(number, place) => Path::Refused(number, place),
         Number::Read(n, start) => {
             if n == 0 {
-                return Path::Refused {
-                    number: 9,
-                    place: at,
-                };
+                return Path::Refused(9, at);
             }
             if 260 < n {
-                return Path::Refused {
-                    number: 9,
-                    place: at,
-                };
+                return Path::Refused(9, at);
             }
             let size = n as usize;
             if !numbers::little::has_bytes(pack, start, size) {
-                return Path::Refused {
-                    number: 1,
-                    place: at,
-                };
+                return Path::Refused(1, at);
             }
             let end = start + size;
             if !text::is_short_utf8(&pack[start..end]) {
-                return Path::Refused {
-                    number: 15,
-                    place: at,
-                };
+                return Path::Refused(15, at);
             }
             Path::Read { start, size }
         }
@@ -74,10 +62,7 @@ fn path_at(pack: &[u8], at: usize) -> Path
 
 // A refusal's number and place, or an entry of the table: a path of `size` bytes from `start` on, and data of `count` bytes from `first` on.
 pub enum Record {
-    Refused {
-        number: u32,
-        place: usize,
-    },
+    Refused(u32, usize),
     Read {
         start: usize,
         size: usize,
@@ -93,14 +78,11 @@ fn content_at(pack: &[u8], start: usize, size: usize) -> Record
 {
     let behind = start + size;
     match numbers::little::little4(pack, behind) {
-        Number::Refused(number, place) => Record::Refused { number, place },
+        Number::Refused(number, place) => Record::Refused(number, place),
         Number::Read(n, first) => {
             let count = n as usize;
             if !numbers::little::has_bytes(pack, first, count) {
-                return Record::Refused {
-                    number: 1,
-                    place: behind,
-                };
+                return Record::Refused(1, behind);
             }
             Record::Read {
                 start,
@@ -117,9 +99,9 @@ pub fn record_at(pack: &[u8], at: usize, marked: bool) -> Record
     ensures { λ r. ⌜ r ≡ recorded (markOf marked) at (recordAt (markOf marked) (now (pack .entry)) at) ⌝ }
 {
     match start_at(pack, at, marked) {
-        Number::Refused(number, place) => Record::Refused { number, place },
+        Number::Refused(number, place) => Record::Refused(number, place),
         Number::Read(_, path) => match path_at(pack, path) {
-            Path::Refused { number, place } => Record::Refused { number, place },
+            Path::Refused(number, place) => Record::Refused(number, place),
             Path::Read { start, size } => content_at(pack, start, size),
         },
     }

@@ -61,7 +61,7 @@ fn count_files(
 
 // A refusal's number and place; or the pack is added.
 pub enum Adding {
-    Refused { number: u32, place: usize },
+    Refused(u32, usize),
     Added,
 }
 
@@ -89,10 +89,7 @@ fn add_read(
         return Adding::Added;
     }
     fill::clear64(table, 0);
-    Adding::Refused {
-        number: 71,
-        place: 0,
-    }
+    Adding::Refused(71, 0)
 }
 
 // Adds a pack to a report, under a list of enum types. The table is left as by the reader of packs, with zeros after a refusal, and the words are left zero.
@@ -116,13 +113,10 @@ pub fn add(
     fill::clear(words, 0);
     if words::room(words.len()) < 65536 {
         fill::clear64(table, 0);
-        return Adding::Refused {
-            number: 72,
-            place: 0,
-        };
+        return Adding::Refused(72, 0);
     }
     match packs::read(pack, table, false) {
-        Reading::Refused { number, place } => Adding::Refused { number, place },
+        Reading::Refused(number, place) => Adding::Refused(number, place),
         Reading::Read { files } => add_read(pack, enums, table, files, words, report),
     }
 }

@@ -19,7 +19,7 @@ pub fn read_told(pack: &[u8], table: &mut [u64], marked: bool, at: &mut u64) -> 
     ensures { λ _. ⌜ now (table .exit) ≡ tableFor (markOf marked) (now (pack .entry)) (length (now (table .entry))) ⌝ }
 {
     match packs::read(pack, table, marked) {
-        Reading::Refused { number, place } => {
+        Reading::Refused(number, place) => {
             *at = place as u64;
             number
         }
@@ -36,7 +36,7 @@ pub fn convert_told(pack: &[u8], out: &mut [u8], marked: bool, at: &mut u64) -> 
     ensures { λ _. ⌜ now (out .exit) ≡ outputOf (converted marked (now (pack .entry)) (length (now (out .entry)))) (now (out .entry)) ⌝ }
 {
     match marks::convert(pack, out, marked) {
-        Converting::Refused { number, place } => {
+        Converting::Refused(number, place) => {
             *at = place as u64;
             number
         }
@@ -60,7 +60,7 @@ pub fn salvage_told(
     ensures { λ _. ⌜ now (list .exit) ≡ listFor (now (pack .entry)) (now (out .entry)) (now (list .entry)) ⌝ }
 {
     match salvage::salvage(pack, out, list) {
-        Salvaging::Refused { number, place } => {
+        Salvaging::Refused(number, place) => {
             *at = place as u64;
             *stretches = 0;
             number

@@ -108,7 +108,7 @@ fn short_record(pack: &[u8], at: usize, marked: bool) -> usize
 
 // A refusal's number and place, or the number of files.
 pub enum Reading {
-    Refused { number: u32, place: usize },
+    Refused(u32, usize),
     Read { files: usize },
 }
 
@@ -121,10 +121,7 @@ fn read_files(pack: &[u8], table: &mut [u64], marked: bool, n: usize) -> Reading
     let mut at = 4;
     while i < n {
         if room <= i {
-            return Reading::Refused {
-                number: 31,
-                place: at,
-            };
+            return Reading::Refused(31, at);
         }
         let more = short_record(pack, at, marked);
         if 0 < more {
@@ -137,8 +134,8 @@ fn read_files(pack: &[u8], table: &mut [u64], marked: bool, n: usize) -> Reading
             i += 1;
         } else {
             match pack_records::record_at(pack, at, marked) {
-                Record::Refused { number, place } => {
-                    return Reading::Refused { number, place };
+                Record::Refused(number, place) => {
+                    return Reading::Refused(number, place);
                 }
                 Record::Read {
                     start,
@@ -154,10 +151,7 @@ fn read_files(pack: &[u8], table: &mut [u64], marked: bool, n: usize) -> Reading
         }
     }
     if at != pack.len() {
-        return Reading::Refused {
-            number: 20,
-            place: at,
-        };
+        return Reading::Refused(20, at);
     }
     Reading::Read { files: n }
 }
@@ -167,13 +161,10 @@ fn read_counted(pack: &[u8], table: &mut [u64], marked: bool) -> Reading
     ensures { λ r. ⌜ PackRead marked (now (pack .entry)) (length (now (table .entry))) (now (table .exit)) r ⌝ }
 {
     match numbers::little::little4(pack, 0) {
-        Number::Refused(number, place) => Reading::Refused { number, place },
+        Number::Refused(number, place) => Reading::Refused(number, place),
         Number::Read(n, _) => {
             if 4096 < n {
-                return Reading::Refused {
-                    number: 9,
-                    place: 0,
-                };
+                return Reading::Refused(9, 0);
             }
             read_files(pack, table, marked, n as usize)
         }
@@ -186,9 +177,9 @@ pub fn read(pack: &[u8], table: &mut [u64], marked: bool) -> Reading
     ensures { λ _. ⌜ now (table .exit) ≡ tableFor (markOf marked) (now (pack .entry)) (length (now (table .entry))) ⌝ }
 {
     match read_counted(pack, table, marked) {
-        Reading::Refused { number, place } => {
+        Reading::Refused(number, place) => {
             fill::clear64(table, 0);
-            Reading::Refused { number, place }
+            Reading::Refused(number, place)
         }
         Reading::Read { files } => {
             fill::clear64(table, 4 * files);

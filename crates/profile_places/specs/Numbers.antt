@@ -178,7 +178,8 @@ module _ (es : List EnumEntry) (ft : FileTree) (file : List ℕ) (w : FileLays e
       let e = entries-places file es (ft .names) (w .readers) (l .entries) (l .shared-number ++ w .values) (10 + length (l .number)) (l .listed) (d .0) in
       let m = written-end file (entriesPieces (ft .names)) (l .entries) (l .shared-number ++ w .values) (10 + length (l .number)) (entries-written es (ft .names) (w .readers) (l .entries) (l .listed)) (d .0) in
       let s : past (sevenAt file (10 + length (l .number) + length (l .entries))) (10 + length (l .number) + length (l .entries)) ≡ 10 + length (w .before)
-      = past-is file (10 + length (l .number) + length (l .entries)) shared (10 + length (l .number) + length (l .entries) + length (l .shared-number)) (number-is file shared (10 + length (l .number) + length (l .entries)) (l .shared-number) (w .values) (l .shared-numbered) (d .1)) ∙ omega (arith, c .2, d .2) in
+      = past-is file (10 + length (l .number) + length (l .entries)) shared (10 + length (l .number) + length (l .entries) + length (l .shared-number))
+      (number-is file shared (10 + length (l .number) + length (l .entries)) (l .shared-number) (w .values) (l .shared-numbered) (d .1)) ∙ omega (arith, c .2, d .2) in
       let v = trees-places file (w .readers) (Resource (sharedOf (ft .objects))) (objectsPlan shared) (ft .objects) (w .values) (w .laid) (10 + length (w .before)) 0 0 [] z in
       rw (
         n,

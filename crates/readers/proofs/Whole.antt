@@ -91,7 +91,9 @@ module _ (es : List EnumEntry) (file : List ℕ) (at : ℕ) where
     unfolding bind
     lists-refused q = lists-are ∙ rw q
 
-    by-readers : (x : Answer (List (List ℕ) × List Target)) → bind {B = List (List ℕ) × List Target × ℕ} x (λ l shared. bind (sevenAt file shared) (λ s next. check (leb s 256) 9 shared (read (l .0, l .1, s) next))) ≡ bind {B = List (List ℕ) × List Target × ℕ} x (λ l e. bind (upTo 256 file e) (λ s next. read (l .0, l .1, s) next))
+    by-readers : (x : Answer (List (List ℕ) × List Target))
+        → bind {B = List (List ℕ) × List Target × ℕ} x (λ l shared. bind (sevenAt file shared) (λ s next. check (leb s 256) 9 shared (read (l .0, l .1, s) next)))
+        ≡ bind {B = List (List ℕ) × List Target × ℕ} x (λ l e. bind (upTo 256 file e) (λ s next. read (l .0, l .1, s) next))
     unfolding bind
     by-readers (refused k p) = refl
     by-readers (read l e) = sym (up-to-bind 256 file e (λ s next. read (l .0, l .1, s) next))

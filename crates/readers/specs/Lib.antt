@@ -6,3 +6,5 @@ pub mod Passed
 pub mod Turns
 pub mod Left
 pub mod Contract
+-- A reader of the definitions can stop here: laws about them follow.
+pub mod Meaning

@@ -7,11 +7,9 @@ ghost use Prim.Native.Nat.{_+_, _≤_, _<_};
 ghost use lib.ListN.{length};
 ghost use Rattle.answers.specs.Told.{told};
 ghost use Rattle.reading.specs.Seven.{sevenAt};
-ghost use Rattle.reading.specs.File.{readerAt};
 ghost use Rattle.names.specs.Entries.{enumsOf};
 ghost use Rattle.numbers.specs.Padded.{padOf};
-ghost use Rattle.readers.specs.Judged.{judgedName};
-ghost use Rattle.readers.specs.Parts.{upTo, versionAt, endOf, namedAt, Ready, Takes};
+ghost use Rattle.readers.specs.Parts.{upTo, versionAt, endOf};
 ghost use Rattle.readers.specs.Contract.{Sized, ReadsCounted, ReadsListsAt};
 ghost use Rattle.readers.specs.Turns.{Ends};
 ghost use Rattle.readers.specs.Left.{namedLeft, readerLeft, readersLeft, arraysLeft, codesFor, listsLeft, arrays};
@@ -89,9 +87,7 @@ fn named_at(
     first: usize,
     n: usize,
 ) -> One
-    requires { ⌜ (first ≤ length (now file)) × (n ≤ 1024) × Ready (now file) used (now codes) ⌝ }
-    ensures { λ r. ⌜ Takes (namedAt (enumsOf (now (enums .entry))) (now (file .entry)) n at first)
-        (now (file .entry)) (now (codes .entry)) (now (codes .exit)) used r ⌝ }
+    requires { ⌜ (first ≤ length (now file)) × (n ≤ 1024) ⌝ }
     ensures { λ r. ⌜ namedLeft (enumsOf (now (enums .entry))) (now (file .entry)) (now (codes .entry)) used at first n ≡ (r, now (codes .exit)) ⌝ }
 {
     if !numbers::little::has_bytes(file, first, n) {
@@ -108,9 +104,6 @@ fn named_at(
 
 // A reader: the count of its name's bytes, its name and its version.
 fn reader_at(file: &[u8], enums: &[u8], codes: &mut [u32], used: usize, at: usize) -> One
-    requires { ⌜ Ready (now file) used (now codes) ⌝ }
-    ensures { λ r. ⌜ Takes (readerAt (judgedName (enumsOf (now (enums .entry)))) (now (file .entry)) at)
-        (now (file .entry)) (now (codes .entry)) (now (codes .exit)) used r ⌝ }
     ensures { λ r. ⌜ readerLeft (enumsOf (now (enums .entry))) (now (file .entry)) (now (codes .entry)) used at ≡ (r, now (codes .exit)) ⌝ }
 {
     match numbers::seven::seven_at(file, at) {

@@ -66,17 +66,3 @@ module _ (file : List ℕ) where
   unfolding entriesPlaces entriesEnd
   no-entry zero at h = (refl, refl)
   no-entry (suc left) at h = absurd (omega arith)
-
--- which values start with an id
-pub has-detail : (kind detail : ℕ) → (detail ≡ 0 → ⊥) → true ≡ numbered kind detail
-unfolding numbered
-has-detail kind zero h = absurd (h refl)
-has-detail kind (suc i) h = refl
-
-pub kind-null : (kind detail : ℕ) → detail ≡ 0 → kind ≡ 0 → true ≡ numbered kind detail
-unfolding numbered
-kind-null kind detail h k = rw (h, k)
-
-pub kind-reference : (kind detail : ℕ) → detail ≡ 0 → (kind ≡ 0 → ⊥) → eqb kind 36 ≡ numbered kind detail
-unfolding numbered
-kind-reference kind detail h k = rw (h, ne-eqb kind 0 k)

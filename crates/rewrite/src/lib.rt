@@ -7,7 +7,6 @@ ghost use mathlib.Core.Path.{_≡_};
 ghost use Prim.Native.Nat.{_+_, _≤_, _^_};
 ghost use lib.Dec.{leb};
 ghost use lib.ListN.{length};
-ghost use Rattle.layout.specs.Shortest.{numbered as startsWithId};
 ghost use Rattle.reading.specs.Seven.{sevenAt};
 ghost use Rattle.places.specs.Places.{countPlaces};
 ghost use Rattle.rewrite.specs.Table.{placesIn, tablePlaces};
@@ -19,7 +18,7 @@ ghost use Rattle.rewrite.specs.Whole.{rewritten, outputLeft, wordsLeft};
 
 // A refusal's number and place, or the length of the rewritten file.
 pub enum Rewriting {
-    Refused { number: u32, place: usize },
+    Refused(u32, usize),
     Rewritten { length: usize },
 }
 
@@ -65,19 +64,6 @@ fn measure(file: &[u8], at: usize) -> Measured
             }
         }
     }
-}
-
-// Whether a value of a kind and a detail starts with a type id or a resource id.
-fn numbered(kind: u32, detail: u32) -> bool
-    ensures { λ r. ⌜ r ≡ startsWithId kind detail ⌝ }
-{
-    if detail != 0 {
-        return true;
-    }
-    if kind == 0 {
-        return true;
-    }
-    kind == 36
 }
 
 // Copies the file up to the number at a place, and writes the number, of this value and end, in its shortest form.
@@ -139,7 +125,7 @@ fn pass_row(file: &[u8], words: &[u32], out: &mut [u8], c: Cursor, row: u32) -> 
     let grid = words::grid(words.len());
     let kind = words::word_of(words, grid, RowNumber(row), ids::KIND);
     let first = words::word_of(words, grid, RowNumber(row), ids::FIRST) as usize;
-    if numbered(
+    if places::numbered(
         kind,
         words::word_of(words, grid, RowNumber(row), ids::DETAIL),
     ) {
@@ -270,10 +256,7 @@ fn fit(
     let needed = file.len() - padding;
     if out.len() < needed {
         fill::clear(words, 0);
-        return Rewriting::Refused {
-            number: 21,
-            place: needed,
-        };
+        return Rewriting::Refused(21, needed);
     }
     write(file, words, out, rows, readers, padding);
     Rewriting::Rewritten { length: needed }
@@ -286,7 +269,7 @@ pub fn rewrite(file: &[u8], enums: &[u8], words: &mut [u32], out: &mut [u8]) -> 
     ensures { λ _. ⌜ now (words .exit) ≡ wordsLeft (now (enums .entry)) (now (file .entry)) (now (words .entry)) (now (out .entry)) ⌝ }
 {
     match load::load(file, enums, words) {
-        Loading::Refused { number, place } => Rewriting::Refused { number, place },
+        Loading::Refused(number, place) => Rewriting::Refused(number, place),
         Loading::Loaded {
             rows,
             readers,

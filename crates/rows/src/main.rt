@@ -63,7 +63,7 @@ fn put_counts(out: &mut [u8], rows: u32, readers: u32, shared: u32) -> usize {
 fn print_file(file: &[u8], out: &mut [u8]) {
     let mut words = [0u32; 1024 * WIDTH as usize];
     match load::load(file, b"", &mut words) {
-        Loading::Refused { number, place } => printing::print_refusal(number, place),
+        Loading::Refused(number, place) => printing::print_refusal(number, place),
         Loading::Loaded {
             rows,
             readers,

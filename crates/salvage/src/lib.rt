@@ -68,10 +68,7 @@ fn next_record(pack: &[u8], from: usize) -> Span
     let mut at = next_lead(pack, from);
     while at < pack.len() {
         match pack_records::record_at(pack, at, true) {
-            Record::Refused {
-                number: _,
-                place: _,
-            } => {
+            Record::Refused(_, _) => {
                 at = next_lead(pack, at + 1);
             }
             Record::Read {
@@ -191,7 +188,7 @@ fn put_pieces(pack: &[u8], out: &mut [u8], list: &mut [u64], records: usize)
 
 // A refusal's number and place, or the length of the new pack and the number of stretches skipped.
 pub enum Salvaging {
-    Refused { number: u32, place: usize },
+    Refused(u32, usize),
     Salvaged { length: usize, stretches: usize },
 }
 
@@ -202,25 +199,16 @@ pub fn salvage(pack: &[u8], out: &mut [u8], list: &mut [u64]) -> Salvaging
     ensures { λ _. ⌜ now (list .exit) ≡ listFor (now (pack .entry)) (now (out .entry)) (now (list .entry)) ⌝ }
 {
     if pack.len() < 4 {
-        return Salvaging::Refused {
-            number: 1,
-            place: 0,
-        };
+        return Salvaging::Refused(1, 0);
     }
     let size = measure(pack);
     let bytes = size.bytes;
     let stretches = size.stretches;
     if out.len() < bytes {
-        return Salvaging::Refused {
-            number: 21,
-            place: bytes,
-        };
+        return Salvaging::Refused(21, bytes);
     }
     if list.len() / 2 < stretches {
-        return Salvaging::Refused {
-            number: 52,
-            place: stretches,
-        };
+        return Salvaging::Refused(52, stretches);
     }
     put_pieces(pack, out, list, size.records);
     Salvaging::Salvaged {

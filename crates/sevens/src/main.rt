@@ -46,7 +46,7 @@ fn show_said(s: &[u8], start: usize, k: u8, low: u64, said: Step) {
             print_taken(s, start, k, value);
             io::write_all(1, b"hands on\n");
         }
-        Step::Refuses(number, place) => {
+        Step::Refused(number, place) => {
             print_taken(s, start, k, low);
             printing::print_refusal(number, place);
         }
@@ -58,14 +58,14 @@ fn show_step(s: &[u8], start: usize, k: u8, before: Step, said: Step) {
     match before {
         Step::HandsOn(low, _) => show_said(s, start, k, low, said),
         Step::Ends(_, _, _) => {}
-        Step::Refuses(_, _) => {}
+        Step::Refused(_, _) => {}
     }
 }
 
 fn as_step(said: Padded) -> Step {
     match said {
         Padded::Read(value, next, padding) => Step::Ends(value, next, padding),
-        Padded::Refused(number, place) => Step::Refuses(number, place),
+        Padded::Refused(number, place) => Step::Refused(number, place),
     }
 }
 

@@ -6,7 +6,7 @@ use rewrite::Rewriting;
 fn shorten(file: &[u8], out: &mut [u8]) {
     let mut words = [0u32; 1024 * WIDTH as usize];
     match rewrite::rewrite(file, b"", &mut words, out) {
-        Rewriting::Refused { number, place } => printing::tell_refusal(number, place),
+        Rewriting::Refused(number, place) => printing::tell_refusal(number, place),
         Rewriting::Rewritten { length } => printing::write_start(out, length),
     }
 }

@@ -72,7 +72,15 @@ module _ (file : List ℕ) where
           let all = joined a (joined (e .0) (joined s v)) in
           let first = 10 + length (l .number) in
           let behind = entriesEnd file (length (ft .names)) first ∷ [] in
-          rw (n, append-assoc (entriesPlaces file (length (ft .names)) first) behind (rowsPlaces file rows), e .1, o, append-assoc (shortest (length (ft .names))) (shortEntries (ft .names) ++ shortest shared) (short (ft .objects)), append-assoc (shortEntries (ft .names)) (shortest shared) (short (ft .objects))) all
+          rw (
+            n,
+            append-assoc (entriesPlaces file (length (ft .names)) first) behind (rowsPlaces file rows),
+            e .1,
+            o,
+            append-assoc (shortest (length (ft .names))) (shortEntries (ft .names) ++ shortest shared) (short (ft .objects)),
+            append-assoc (shortEntries (ft .names)) (shortest shared) (short (ft .objects)),
+          )
+          all
 
       -- the file with each of its numbers in its shortest form is its first ten bytes and the shortest bytes of all behind them
       pub file-rewrites : Rewrites file 0 (filePlaces file (length (ft .names)) rows) (take 10 file ++ shortBody ft)

@@ -47,7 +47,7 @@ pub struct Reached {
 // A value, or values one after the other: what the walk reaches, or a refusal's number and place.
 pub enum Walk {
     Done(Reached),
-    Refused { number: u32, place: usize },
+    Refused(u32, usize),
 }
 
 // Puts a row into its cells.
@@ -247,7 +247,7 @@ pub fn leaf(words: &mut [u32], grid: Grid, h: Head, kind: u32, mark: u32, read: 
     ensures { λ _. ⌜ now (words .exit) ≡ leafWords grid (now (words .entry)) h kind mark (told read) ⌝ }
 {
     match read {
-        Number::Refused(number, place) => Walk::Refused { number, place },
+        Number::Refused(number, place) => Walk::Refused(number, place),
         Number::Read(_, next) => {
             let row = h.row;
             let r = row_words(h, kind, mark, 1, next);

@@ -99,5 +99,6 @@ pub examples : outcomes names ≡
     ∷ target (list (list (list (list (list (list (list char)))))))
     ∷ refused 38 291
     ∷ []
-unfolding names ascii nameOf whole nameIn headed afterHead onFirst onSecond onOnly closed behind wrong wrongBy common opening unopenedNumber unopenedAt starts span headByte tailByte tailOf tailSize headings long longTail isKnown unless typeFaults readerFaults leftmost readerOf typeOf listedEnum sizeIn sizeOrFour enumOf arrayOf meshed plain fixedKind sizes wrapped nullableOf paired isValue kindOf lookup alike listed readers reader targets target-entry
+unfolding names ascii nameOf whole nameIn headed afterHead onFirst onSecond onOnly closed behind wrong wrongBy common opening unopenedNumber unopenedAt starts span headByte tailByte tailOf tailSize headings long longTail isKnown unless
+    typeFaults readerFaults leftmost readerOf typeOf listedEnum sizeIn sizeOrFour enumOf arrayOf meshed plain fixedKind sizes wrapped nullableOf paired isValue kindOf lookup alike listed readers reader targets target-entry
 examples = refl

@@ -19,7 +19,7 @@ fn there_and_back(pack: &[u8], out: &mut [u8], second: &mut [u8], marked: bool) 
     ensures { λ r. ⌜ ConvertsBack marked (now (pack .entry)) (length (now (out .entry))) (now (second .entry)) (now (second .exit)) r ⌝ }
 {
     match convert_exact(pack, out, marked) {
-        Converting::Refused { number, place } => Converting::Refused { number, place },
+        Converting::Refused(number, place) => Converting::Refused(number, place),
         Converting::Converted { length: n } => convert_exact(&out[..n], second, !marked),
     }
 }
@@ -38,10 +38,7 @@ fn find_both(pack: &[u8], out: &mut [u8], table: &mut [u64], path: &[u8], marked
     packs::read(pack, table, !marked);
     let given = pack_lookup::find(pack, table, path);
     match convert_exact(pack, out, marked) {
-        Converting::Refused {
-            number: _,
-            place: _,
-        } => FoundBoth {
+        Converting::Refused(_, _) => FoundBoth {
             given,
             new: Found::Absent,
         },

@@ -56,7 +56,7 @@ fn load_again(file: &[u8], enums: &[u8], words: &mut [u32], out: &mut [u8]) -> L
         (length (now (out .entry))) r ⌝ }
 {
     match rewrite_exact(file, enums, words, out) {
-        Rewriting::Refused { number, place } => Loading::Refused { number, place },
+        Rewriting::Refused(number, place) => Loading::Refused(number, place),
         Rewriting::Rewritten { length: n } => load_exact(&out[..n], enums, words),
     }
 }
@@ -73,7 +73,7 @@ fn rewrite_twice(
         (now (second .entry)) (now (second .exit)) r ⌝ }
 {
     match rewrite_exact(file, enums, words, out) {
-        Rewriting::Refused { number, place } => Rewriting::Refused { number, place },
+        Rewriting::Refused(number, place) => Rewriting::Refused(number, place),
         Rewriting::Rewritten { length: n } => rewrite_exact(&out[..n], enums, words, second),
     }
 }

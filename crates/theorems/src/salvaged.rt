@@ -16,7 +16,7 @@ fn salvage_and_read(pack: &[u8], out: &mut [u8], list: &mut [u64], table: &mut [
     ensures { λ r. ⌜ ReadsSalvaged (now (pack .entry)) (now (out .entry)) (now (list .entry)) (length (now (table .entry))) (now (table .exit)) r ⌝ }
 {
     match salvage_exact(pack, out, list) {
-        Salvaging::Refused { number, place } => Reading::Refused { number, place },
+        Salvaging::Refused(number, place) => Reading::Refused(number, place),
         Salvaging::Salvaged {
             length: n,
             stretches: _,
@@ -30,7 +30,7 @@ fn salvage_twice(pack: &[u8], out: &mut [u8], list: &mut [u64], second: &mut [u8
         (now (second .entry)) (now (second .exit)) r ⌝ }
 {
     match salvage_exact(pack, out, list) {
-        Salvaging::Refused { number, place } => Salvaging::Refused { number, place },
+        Salvaging::Refused(number, place) => Salvaging::Refused(number, place),
         Salvaging::Salvaged {
             length: n,
             stretches: _,

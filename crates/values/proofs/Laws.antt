@@ -1,23 +1,31 @@
--- Eight bytes by halves, kinds with no rule, and what reading a value of fixed size answers in each case. Assumes nothing.
-use mathlib.Core.Path.{_≡_, ap}
+-- Eight bytes as a number, kinds with no rule, and what reading a value of fixed size answers in each case. Assumes nothing.
+use mathlib.Core.Path.{_≡_, ap, _∙_}
 use mathlib.Core.Bool.{true, false}
 use mathlib.Core.List.{List}
-use Prim.Native.Nat.{ℕ, _+_, _*_, _<_, _≤_}
+use Prim.Native.Nat.{ℕ, _+_, _<_, _≤_}
 use native.Mathlib.Omega.{arith}
-use lib.ListN.{length, take, drop, drop-of-length-le}
-use lib.Seq.{length-take-le}
+use lib.ListN.{length, take, drop}
+use lib.Seq.{length-take-le, take-all}
 use borrow.Author.Tests.{le-leb, lt-leb, ne-eqb}
 use Rattle.layout.specs.Number.{valueOf}
-use Rattle.reading.specs.Answer.{read, refused, bind, check}
+use Rattle.laws.specs.Small.{differ}
+use Rattle.reading.specs.Answer.{Answer, read, refused, bind, check}
 use Rattle.reading.specs.Reads.{some, field}
-use Rattle.reading.specs.Fixed.{rule, fixedAt, sized, value-drop}
-use Rattle.values.specs.Word.{fourAt}
+use Rattle.reading.specs.Little.{littleAt, little-there}
+use Rattle.reading.specs.Fixed.{rule, fixedAt, sized}
 
-pub halves : (l : List ℕ) → length l ≡ 8 → fourAt l 0 + fourAt l 4 * 4294967296 ≡ valueOf l
-unfolding valueOf
-halves l e =
-    let z : valueOf (drop 8 l) ≡ 0 = ap valueOf (drop-of-length-le l {i = 8} (omega arith)) in
-    omega (arith, value-drop l 0, value-drop l 1, value-drop l 2, value-drop l 3, value-drop l 4, value-drop l 5, value-drop l 6, value-drop l 7)
+-- eight bytes are read as their number
+pub eight-read : (own : List ℕ) → length own ≡ 8 → littleAt own 8 0 0 ≡ read (valueOf own) 8
+eight-read own e = little-there own 8 0 0 (omega arith) ∙ ap (λ (s : List ℕ). read (valueOf s) 8) (take-all 8 own (omega arith))
+
+pub no-refusal : (own : List ℕ) {x : Answer ℕ} {n p : ℕ} → length own ≡ 8 → x ≡ littleAt own 8 0 0 → x ≡ refused n p → ⊥
+no-refusal own e q r = let z = eight-read own e in differ cc
+
+pub eight-value : (own : List ℕ) {x : Answer ℕ} {n p : ℕ} → length own ≡ 8 → x ≡ littleAt own 8 0 0 → x ≡ read n p → n ≡ valueOf own
+eight-value own {n = n} e q r =
+    let z = eight-read own e in
+    let v : n ≡ valueOf own = cc in
+    v
 
 pub no-rule : (kind : ℕ) (own : List ℕ) → (kind ≡ 11 → ⊥) → (kind ≡ 21 → ⊥) → (kind ≡ 22 → ⊥) → rule kind own ≡ true
 unfolding rule

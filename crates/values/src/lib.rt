@@ -2,13 +2,11 @@
 use answers::Number;
 use widen::wide;
 ghost use mathlib.Core.Path.{_≡_};
-ghost use Prim.Native.Nat.{_+_, _≤_};
+ghost use Prim.Native.Nat.{_≤_};
 ghost use lib.ListN.{length, getD, take, drop};
 ghost use Rattle.layout.specs.Fixed.{sizes};
-ghost use Rattle.layout.specs.Number.{valueOf};
 ghost use Rattle.reading.specs.Fixed.{isBoolean, isDateTime, isDecimal, rule, fixedAt, sized};
 ghost use Rattle.answers.specs.Told.{told};
-ghost use Rattle.values.specs.Word.{fourAt};
 
 // 01: "Each kind has a number and, where fixed, a size in bytes": 0 where none is fixed, and for Enum.
 const SIZES: [u8; 31] = [
@@ -64,23 +62,6 @@ fn boolean(own: &[u8]) -> bool
     own[0] <= 1
 }
 
-// Four bytes at `i`, the lowest first.
-fn word(own: &[u8], i: usize) -> u64
-    requires { ⌜ i + 4 ≤ length (now own) ⌝ }
-    ensures { λ r. ⌜ r ≡ fourAt (now (own .entry)) i ⌝ }
-    ensures { λ r. ⌜ r ≤ 4294967295 ⌝ }
-{
-    wide(own[i]) + wide(own[i + 1]) * 256 + wide(own[i + 2]) * 65536 + wide(own[i + 3]) * 16777216
-}
-
-// The number that eight bytes make, the lowest first.
-fn number(own: &[u8]) -> u64
-    requires { ⌜ length (now own) ≡ 8 ⌝ }
-    ensures { λ r. ⌜ r ≡ valueOf (now (own .entry)) ⌝ }
-{
-    word(own, 0) + word(own, 4) * 4294967296
-}
-
 // The low 62 bits are ticks and the high two a kind.
 fn date_time(own: &[u8]) -> bool
     ensures { λ r. ⌜ r ≡ isDateTime (now (own .entry)) ⌝ }
@@ -88,11 +69,15 @@ fn date_time(own: &[u8]) -> bool
     if own.len() != 8 {
         return false;
     }
-    let n = number(own);
-    if 3155378975999999999 < n % 4611686018427387904 {
-        return false;
+    match numbers::little::little8(own, 0) {
+        Number::Refused(_, _) => false,
+        Number::Read(n, _) => {
+            if 3155378975999999999 < n % 4611686018427387904 {
+                return false;
+            }
+            n / 4611686018427387904 <= 2
+        }
     }
-    n / 4611686018427387904 <= 2
 }
 
 fn decimal(own: &[u8]) -> bool

@@ -196,7 +196,7 @@ fn is_list(file: &[u8], enums: &[u8], words: &[u32], rows: u32, shared: u32) -> 
 
 // A refusal's number and place, or the length of the XML.
 pub enum Exporting {
-    Refused { number: u32, place: usize },
+    Refused(u32, usize),
     Exported { length: usize },
 }
 
@@ -205,7 +205,7 @@ fn refuse(words: &mut [u32], number: u32, place: usize) -> Exporting
     ensures { λ r. ⌜ Refuses number place (now (words .entry)) (now (words .exit)) r ⌝ }
 {
     fill::clear(words, 0);
-    Exporting::Refused { number, place }
+    Exporting::Refused(number, place)
 }
 
 // The answer for a loaded file, by whether its primary is an Array of String, with no shared objects.
@@ -237,7 +237,7 @@ pub fn export(file: &[u8], enums: &[u8], words: &mut [u32], out: &mut [u8]) -> E
     ensures { λ _. ⌜ now (words .exit) ≡ wordsLeft (now (enums .entry)) (now (file .entry)) (now (words .entry)) (now (out .entry)) ⌝ }
 {
     match load::load(file, enums, words) {
-        Loading::Refused { number, place } => Exporting::Refused { number, place },
+        Loading::Refused(number, place) => Exporting::Refused(number, place),
         Loading::Loaded {
             rows,
             readers: _,

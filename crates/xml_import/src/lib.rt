@@ -273,7 +273,7 @@ fn put_strings(xml: &[u8], out: &mut [u8], count: usize)
 
 // A refusal's number and place, or the length of the file.
 pub enum Importing {
-    Refused { number: u32, place: usize },
+    Refused(u32, usize),
     Imported { length: usize },
 }
 
@@ -283,25 +283,16 @@ pub fn import(xml: &[u8], out: &mut [u8]) -> Importing
     ensures { λ _. ⌜ now (out .exit) ≡ outputOf (importOf (now (xml .entry)) (length (now (out .entry)))) (now (out .entry)) ⌝ }
 {
     match measure(xml) {
-        Measured::Other(place) => Importing::Refused { number: 64, place },
+        Measured::Other(place) => Importing::Refused(64, place),
         Measured::Texts(count, size) => {
             if 65535 < count {
-                return Importing::Refused {
-                    number: 9,
-                    place: 0,
-                };
+                return Importing::Refused(9, 0);
             }
             if 16777216 < size {
-                return Importing::Refused {
-                    number: 9,
-                    place: 0,
-                };
+                return Importing::Refused(9, 0);
             }
             if out.len() < size {
-                return Importing::Refused {
-                    number: 21,
-                    place: size,
-                };
+                return Importing::Refused(21, size);
             }
             put_front(out, size, count);
             put_strings(xml, out, count);

@@ -59,7 +59,7 @@ fn export_then_import(
         (now (second .entry)) (now (second .exit)) r ⌝ }
 {
     match export_exact(file, enums, words, out) {
-        Exporting::Refused { number, place } => Importing::Refused { number, place },
+        Exporting::Refused(number, place) => Importing::Refused(number, place),
         Exporting::Exported { length: n } => import_exact(&out[..n], second),
     }
 }
@@ -76,7 +76,7 @@ fn import_then_export(
         (now (second .entry)) (now (second .exit)) r ⌝ }
 {
     match import_exact(xml, out) {
-        Importing::Refused { number, place } => Exporting::Refused { number, place },
+        Importing::Refused(number, place) => Exporting::Refused(number, place),
         Importing::Imported { length: n } => export_exact(&out[..n], enums, words, second),
     }
 }

@@ -1,4 +1,4 @@
-//! crates.txt: each crate stands behind those that it uses and names no other, and docs/CRATES.md says what crates.txt says.
+//! crates.txt: each crate stands behind those that it uses and names no other, and docs/CRATES.md says what crates.txt says. Proofs have no long lines.
 
 use corpus::folder::root;
 use std::collections::BTreeSet;
@@ -181,6 +181,52 @@ fn imported(line: &str) -> Option<String> {
     let of_layout = ["layout", "pack_layout", "xml_layout"].contains(&from);
     let of_code = module.starts_with("declared.");
     (!of_layout && !of_code).then(|| format!("{from}/specs/{module}.antt"))
+}
+
+/// Crates that still have longer lines.
+const LONG_LINES: [&str; 8] = [
+    "table",
+    "leaves",
+    "meshes",
+    "heads",
+    "objects",
+    "load",
+    "xml_import",
+    "xml_export",
+];
+
+/// The lines of specifications and proofs below a folder that pass 300 characters, but for quoted texts.
+fn long_lines(folder: &Path, found: &mut Vec<String>) {
+    for entry in fs::read_dir(folder).expect("a folder of a crate") {
+        let path = entry.expect("an entry").path();
+        if path.is_dir() {
+            long_lines(&path, found);
+        } else if path.extension().is_some_and(|it| it == "antt") {
+            let text = fs::read_to_string(&path).expect("a proof");
+            for (i, line) in text.lines().enumerate() {
+                let quoted = line.trim_start().starts_with("∷ \"");
+                if !quoted && line.chars().count() > 300 {
+                    found.push(format!("{}:{}", path.display(), i + 1));
+                }
+            }
+        }
+    }
+}
+
+#[test]
+fn no_line_of_a_proof_passes_300_characters() {
+    let text = crates_txt();
+    for line in lines(&text) {
+        let Line::Crate { name, .. } = line else {
+            continue;
+        };
+        let mut found = Vec::new();
+        long_lines(&root().join("crates").join(name), &mut found);
+        assert!(
+            found.is_empty() || LONG_LINES.contains(&name),
+            "lines of more than 300 characters: {found:?}"
+        );
+    }
 }
 
 #[test]

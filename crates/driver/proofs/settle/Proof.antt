@@ -24,13 +24,21 @@ same-length : tie.Need-same-length
 same-length c = search needs
 
 returns : tie.Need-returns
-returns c = let a = c .before .before .before .before .before .before .before .before .args in settled-fine (enumsOf (a .enums .now)) (a .file .now) (a .words .now) (a .rows) (a .readers) (a .shared) (a .padding) (rw (c .before .before .before .before .grid .ensures) at (c .before .before .from-41 .ensures)) (c .enum-told .given .1)
+returns c =
+    let a = c .before .before .before .before .before .before .before .before .args in
+    let grid = c .before .before .before .before .grid in
+    settled-fine (enumsOf (a .enums .now)) (a .file .now) (a .words .now) (a .rows) (a .readers) (a .shared) (a .padding) (rw (grid .ensures) at (c .before .before .from-41 .ensures)) (c .enum-told .given .1)
 
 same-length-2 : tie.Need-same-length-2
 same-length-2 c = search needs
 
 returns-2 : tie.Need-returns-2
-returns-2 c = let a = c .before .before .before .before .before .before .before .before .before .before .before .before .before .args in settled-fault (enumsOf (a .enums .now)) (a .file .now) (a .words .now) (a .rows) (a .readers) (a .shared) (a .padding) (rw (c .before .before .before .before .before .before .before .before .before .grid .ensures) at (c .before .before .before .before .before .before .before .from-41 .ensures)) (c .before .before .before .before .before .number .given .1) (c .before .before .clear .ensures ∙ all-cleared (a .words .now))
+returns-2 c =
+    let a = c .before .before .before .before .before .before .before .before .before .before .before .before .before .args in
+    let grid = c .before .before .before .before .before .before .before .before .before .grid in
+    let from-41 = c .before .before .before .before .before .before .before .from-41 in
+    let number = c .before .before .before .before .before .number in
+    settled-fault (enumsOf (a .enums .now)) (a .file .now) (a .words .now) (a .rows) (a .readers) (a .shared) (a .padding) (rw (grid .ensures) at (from-41 .ensures)) (number .given .1) (c .before .before .clear .ensures ∙ all-cleared (a .words .now))
 
 pub settle-spec : {M : Type 1} → statement M
 settle-spec = tie.close (tie.spec grid-requires from-41-requires enum-told enum-known-number clear-requires same-length returns same-length-2 returns-2)

@@ -30,14 +30,27 @@ filled-requires-4 c κs = search needs
 
 returns-4 : tie.Need-returns-4
 unfolding allThere
-returns-4 c = yes (c .before .before .before .before .before .before .before .filled .ensures) (c .before .before .before .before .before .before .if1 .left) (yes (c .before .before .before .before .before .filled2 .ensures) (c .before .before .before .before .if2 .left) (yes (c .before .before .before .filled3 .ensures) (c .before .before .if3 .left) (no _ (c .before .filled4 .ensures) (c .if4 .taken))))
+returns-4 c =
+    let filled = c .before .before .before .before .before .before .before .filled in
+    let if1 = c .before .before .before .before .before .before .if1 in
+    let filled2 = c .before .before .before .before .before .filled2 in
+    let if2 = c .before .before .before .before .if2 in
+    let filled3 = c .before .before .before .filled3 in
+    yes (filled .ensures) (if1 .left) (yes (filled2 .ensures) (if2 .left) (yes (filled3 .ensures) (c .before .before .if3 .left) (no _ (c .before .filled4 .ensures) (c .if4 .taken))))
 
 filled-requires-5 : tie.Need-filled-requires-5
 filled-requires-5 c κs = search needs
 
 returns-5 : tie.Need-returns-5
 unfolding allThere
-returns-5 c = yes (c .before .before .before .before .before .before .before .before .filled .ensures) (c .before .before .before .before .before .before .before .if1 .left) (yes (c .before .before .before .before .before .before .filled2 .ensures) (c .before .before .before .before .before .if2 .left) (yes (c .before .before .before .before .filled3 .ensures) (c .before .before .before .if3 .left) (yes (c .before .before .filled4 .ensures) (c .before .if4 .left) (c .filled5 .ensures))))
+returns-5 c =
+    let filled = c .before .before .before .before .before .before .before .before .filled in
+    let if1 = c .before .before .before .before .before .before .before .if1 in
+    let filled2 = c .before .before .before .before .before .before .filled2 in
+    let if2 = c .before .before .before .before .before .if2 in
+    let filled3 = c .before .before .before .before .filled3 in
+    let if3 = c .before .before .before .if3 in
+    yes (filled .ensures) (if1 .left) (yes (filled2 .ensures) (if2 .left) (yes (filled3 .ensures) (if3 .left) (yes (c .before .before .filled4 .ensures) (c .before .if4 .left) (c .filled5 .ensures))))
 
 pub all-there-spec : {M : Type 1} → statement M
 all-there-spec =

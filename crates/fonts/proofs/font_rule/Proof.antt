@@ -61,13 +61,17 @@ rising-requires c κs = search needs
 returns-3 : tie.Need-returns-3
 unfolding wordAt
 returns-3 c =
+    let all-there = c .before .before .before .before .before .before .all-there in
+    let if1 = c .before .before .before .before .before .if1 in
+    let all-equal = c .before .before .before .before .all-equal in
+    let if2 = c .before .before .before .if2 in
     let k = c .before .before .before .before .before .before .before in
     let four = k .before in
     let three = four .before in
     let two = three .before in
     let one = two .before in
     let rows = by-rows _ _ _ _ (one .before .row-beyond .ensures) (one .row-after .ensures) (two .row-after2 .ensures) (three .row-after3 .ensures) (k .row-beyond2 .ensures ∙ ap (λ r. beyond r 2) (four .row-after4 .ensures)) (c .before .before .row-beyond3 .ensures) in
-    yes (c .before .before .before .before .before .before .all-there .ensures) (c .before .before .before .before .before .if1 .left) (yes (c .before .before .before .before .all-equal .ensures) (c .before .before .before .if2 .left) (c .rising .ensures ∙ rw (c .before .word-of .ensures))) ∙ sym rows
+    yes (all-there .ensures) (if1 .left) (yes (all-equal .ensures) (if2 .left) (c .rising .ensures ∙ rw (c .before .word-of .ensures))) ∙ sym rows
 
 pub font-rule-spec : {M : Type 1} → statement M
 font-rule-spec =

@@ -39,8 +39,11 @@ same-length-4 : tie.Need-same-length-4
 same-length-4 c = search needs
 
 returns-5 : tie.Need-returns-5
-returns-5 c = let a = c .before .before .before .before .before .before .before .before .before .before .before .before .before .before .before .before .before .before .before .before .before .before .before .args in
-    λ e. certificate (a .file .now) (a .grid) (a .words .now) (a .keys .now) (a .n) (c .before .before .before .before .before .before .before .before .before .before .before .before .sort-keys .last .1 .1 .1 .1 .0) (c .before .before .before .before .before .covered .last .1 .0) (c .before .before .before .before .before .covered .ensures .1 (not-false (c .before .before .before .before .before .covered .result) (c .before .before .if4 .left))) (c .rising .ensures e)
+returns-5 c =
+    let sort-keys = c .before .before .before .before .before .before .before .before .before .before .before .before .sort-keys in
+    let covered = c .before .before .before .before .before .covered in
+    let a = c .before .before .before .before .before .before .before .before .before .before .before .before .before .before .before .before .before .before .before .before .before .before .before .args in
+    λ e. certificate (a .file .now) (a .grid) (a .words .now) (a .keys .now) (a .n) (sort-keys .last .1 .1 .1 .1 .0) (covered .last .1 .0) (covered .ensures .1 (not-false (covered .result) (c .before .before .if4 .left))) (c .rising .ensures e)
 
 pub certified-spec : {M : Type 1} → statement M
 certified-spec = tie.close (tie.spec returns returns-2 returns-3 sort-keys-requires covered-requires same-length same-length-2 returns-4 rising-requires same-length-3 same-length-4 returns-5)

@@ -45,9 +45,10 @@ loop-less c = search needs
 
 loop-again : tie.Need-loop-again Inv-loop μ-loop
 loop-again c =
+    let ordered-at = c .before .before .before .ordered-at in
     let a = c .before .before .before .before .before .before .before .before .before .before .args in
     let l = c .before .before .before .before .before .loop in
-    (search needs, rise-more (a .file .now) (a .grid) (a .words .now) (a .keys .now) (a .order .now) (l .j) (l .inv .0) (l .inv .1) (c .before .before .before .ordered-at .ensures) (c .before .before .ordered-at2 .ensures) (c .before .stands-before .ensures (not-false (c .before .stands-before .result) (c .if1 .left))))
+    (search needs, rise-more (a .file .now) (a .grid) (a .words .now) (a .keys .now) (a .order .now) (l .j) (l .inv .0) (l .inv .1) (ordered-at .ensures) (c .before .before .ordered-at2 .ensures) (c .before .stands-before .ensures (not-false (c .before .stands-before .result) (c .if1 .left))))
 
 returns-2 : tie.Need-returns-2 Inv-loop μ-loop
 returns-2 c =

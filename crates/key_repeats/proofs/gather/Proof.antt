@@ -44,8 +44,15 @@ loop-less : tie.Need-loop-less Inv-loop μ-loop
 loop-less c = search needs
 
 loop-again : tie.Need-loop-again Inv-loop μ-loop
-loop-again c = let a = c .before .before .before .before .before .before .before .before .before .before .before .before .args in let l = c .before .before .before .before .before .before .before .before .before .loop in let w = c .before .before .before .before .note .ensures in
-    (omega (arith, w .within), w .size ∙ l .inv .1, λ rows d. one-gathered (a .grid) (a .words .now) (a .used) (a .n) (a .first) rows d (l .left) (l .row) (c .before .before .before .before .before .before .before .before .loop-test .taken) (c .before .before .before .before .before .before .before .if1 .left) (c .before .next-row .ensures) (c .next-row2 .ensures) (c .before .before .before .before .before .before .word-in .ensures) _ _ _ _ (omega arith) w (l .inv .2 rows d))
+loop-again c =
+    let a = c .before .before .before .before .before .before .before .before .before .before .before .before .args in
+    let l = c .before .before .before .before .before .before .before .before .before .loop in
+    let note = c .before .before .before .before .note in
+    let test = c .before .before .before .before .before .before .before .before .loop-test in
+    let if1 = c .before .before .before .before .before .before .before .if1 in
+    let word-in = c .before .before .before .before .before .before .word-in in
+    let w = note .ensures in
+    (omega (arith, w .within), w .size ∙ l .inv .1, λ rows d. one-gathered (a .grid) (a .words .now) (a .used) (a .n) (a .first) rows d (l .left) (l .row) (test .taken) (if1 .left) (c .before .next-row .ensures) (c .next-row2 .ensures) (word-in .ensures) _ _ _ _ (omega arith) w (l .inv .2 rows d))
 
 same-length-2 : tie.Need-same-length-2 Inv-loop μ-loop
 same-length-2 c = search needs

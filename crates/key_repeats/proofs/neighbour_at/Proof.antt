@@ -25,13 +25,21 @@ alike-requires : tie.Need-alike-requires
 alike-requires c κs = search needs
 
 returns-2 : tie.Need-returns-2
-returns-2 c = let a = c .before .before .before .before .before .before .before .before .before .args in second-other (a .file .now) (a .grid) (a .words .now) (a .keys .now) (a .order .now) (a .m) (a .j) (c .before .before .before .before .ordered-at .ensures) (c .before .before .ordered-at2 .ensures) (c .before .alike .ensures) (c .if2 .taken)
+returns-2 c =
+    let a = c .before .before .before .before .before .before .before .before .before .args in
+    let ordered-at = c .before .before .before .before .ordered-at in
+    second-other (a .file .now) (a .grid) (a .words .now) (a .keys .now) (a .order .now) (a .m) (a .j) (ordered-at .ensures) (c .before .before .ordered-at2 .ensures) (c .before .alike .ensures) (c .if2 .taken)
 
 key-place-requires : tie.Need-key-place-requires
 key-place-requires c κs = search needs
 
 returns-3 : tie.Need-returns-3
-returns-3 c = let a = c .before .before .before .before .before .before .before .before .before .before .args in second-same (a .file .now) (a .grid) (a .words .now) (a .keys .now) (a .order .now) (a .m) (a .j) (c .before .before .before .before .before .ordered-at .ensures) (c .before .before .before .before .if1 .left) (c .before .before .before .ordered-at2 .ensures) (c .before .before .alike .ensures) (c .before .if2 .left) (c .key-place .ensures)
+returns-3 c =
+    let a = c .before .before .before .before .before .before .before .before .before .before .args in
+    let ordered-at = c .before .before .before .before .before .ordered-at in
+    let if1 = c .before .before .before .before .if1 in
+    let ordered-at2 = c .before .before .before .ordered-at2 in
+    second-same (a .file .now) (a .grid) (a .words .now) (a .keys .now) (a .order .now) (a .m) (a .j) (ordered-at .ensures) (if1 .left) (ordered-at2 .ensures) (c .before .before .alike .ensures) (c .before .if2 .left) (c .key-place .ensures)
 
 pub neighbour-at-spec : {M : Type 1} → statement M
 neighbour-at-spec = tie.close (tie.spec add-ordered-at ordered-at-requires cast-b returns ordered-at-requires-2 cast-a alike-requires returns-2 key-place-requires returns-3)

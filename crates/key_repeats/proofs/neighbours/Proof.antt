@@ -38,7 +38,10 @@ loop-less : tie.Need-loop-less Inv-loop μ-loop
 loop-less c = search needs
 
 loop-again : tie.Need-loop-again Inv-loop μ-loop
-loop-again c = let a = c .before .before .before .before .before .before .before .before .before .args in let l = c .before .before .before .loop in (search needs, neighbours-more (a .file .now) (a .grid) (a .words .now) (a .keys .now) (a .order .now) (a .m) (l .j) (l .best) (c .before .neighbour-at .result) (c .lower .result) (c .lower .ensures) (l .inv .1) (c .before .neighbour-at .ensures))
+loop-again c =
+    let a = c .before .before .before .before .before .before .before .before .before .args in
+    let l = c .before .before .before .loop in
+    (search needs, neighbours-more (a .file .now) (a .grid) (a .words .now) (a .keys .now) (a .order .now) (a .m) (l .j) (l .best) (c .before .neighbour-at .result) (c .lower .result) (c .lower .ensures) (l .inv .1) (c .before .neighbour-at .ensures))
 
 returns-2 : tie.Need-returns-2 Inv-loop μ-loop
 returns-2 c = let a = c .before .before .before .before .before .before .before .args in let l = c .before .loop in neighbours-all (a .file .now) (a .grid) (a .words .now) (a .keys .now) (a .order .now) (a .m) (l .j) (l .best) (omega arith) (l .inv .1)

@@ -31,7 +31,12 @@ loop-less : tie.Need-loop-less Inv-loop μ-loop
 loop-less c = search needs
 
 loop-again : tie.Need-loop-again Inv-loop μ-loop
-loop-again c = let a = c .before .before .before .before .before .before .before .args in let l = c .before .before .before .loop in (search needs, pairs-more (keyText (a .file .now) (a .grid) (a .words .now) (a .keys .now)) (keyPlace (a .grid) (a .words .now) (a .keys .now)) (l .i) (l .best) (c .before .repeat-at .result) (c .lower .result) (c .lower .ensures) (l .inv .1) (c .before .repeat-at .ensures))
+loop-again c =
+    let a = c .before .before .before .before .before .before .before .args in
+    let l = c .before .before .before .loop in
+    let texts = keyText (a .file .now) (a .grid) (a .words .now) (a .keys .now) in
+    let places = keyPlace (a .grid) (a .words .now) (a .keys .now) in
+    (search needs, pairs-more texts places (l .i) (l .best) (c .before .repeat-at .result) (c .lower .result) (c .lower .ensures) (l .inv .1) (c .before .repeat-at .ensures))
 
 returns : tie.Need-returns Inv-loop μ-loop
 returns c = let a = c .before .before .before .before .before .args in let l = c .before .loop in pairs-all (keyText (a .file .now) (a .grid) (a .words .now) (a .keys .now)) (keyPlace (a .grid) (a .words .now) (a .keys .now)) (l .i) (a .m) (l .best) (omega arith) (l .inv .1)

@@ -28,7 +28,10 @@ loop-less : tie.Need-loop-less Inv-loop μ-loop
 loop-less c = search needs
 
 loop-again : tie.Need-loop-again Inv-loop μ-loop
-loop-again c = let a = c .before .before .before .before .before .before .args in let l = c .before .before .before .loop in (search needs, one-dictionary-as (a .file .now) (a .grid) (a .words .now) (a .used) (l .row) (l .best) (c .before .dictionary .result) (c .lower .result) (c .lower .ensures) (c .before .before .loop-test .taken) (l .inv .1) (c .before .dictionary .ensures))
+loop-again c =
+    let a = c .before .before .before .before .before .before .args in
+    let l = c .before .before .before .loop in
+    (search needs, one-dictionary-as (a .file .now) (a .grid) (a .words .now) (a .used) (l .row) (l .best) (c .before .dictionary .result) (c .lower .result) (c .lower .ensures) (c .before .before .loop-test .taken) (l .inv .1) (c .before .dictionary .ensures))
 
 returns : tie.Need-returns Inv-loop μ-loop
 returns c = let a = c .before .before .before .before .args in let l = c .before .loop in all-dictionaries (a .file .now) (a .grid) (a .words .now) (a .used) (l .row) (l .best) (c .loop-test .left) (l .inv .1)

@@ -28,7 +28,10 @@ loop-less : tie.Need-loop-less Inv-loop μ-loop
 loop-less c = search needs
 
 loop-again : tie.Need-loop-again Inv-loop μ-loop
-loop-again c = let a = c .before .before .before .before .before .before .before .args in (search needs, none-more (keyText (a .file .now) (a .grid) (a .words .now) (a .keys .now)) (c .before .before .before .loop .h) (a .i) (c .before .before .before .loop .inv .1) (c .before .alike .ensures) (c .if1 .left))
+loop-again c =
+    let a = c .before .before .before .before .before .before .before .args in
+    let loop = c .before .before .before .loop in
+    (search needs, none-more (keyText (a .file .now) (a .grid) (a .words .now) (a .keys .now)) (loop .h) (a .i) (loop .inv .1) (c .before .alike .ensures) (c .if1 .left))
 
 returns-2 : tie.Need-returns-2 Inv-loop μ-loop
 returns-2 c = let a = c .before .before .before .before .before .args in earlier-none (keyText (a .file .now) (a .grid) (a .words .now) (a .keys .now)) (c .before .loop .h) (a .i) (a .i) (c .loop-test .left) (c .before .loop .inv .1)

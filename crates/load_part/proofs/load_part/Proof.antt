@@ -32,11 +32,14 @@ same-length-2 : tie.Need-same-length-2
 same-length-2 c = search needs
 
 returns-2 : tie.Need-returns-2
-returns-2 c = let a = c .before .before .before .before .before .before .before .before .before .before .before .before .before .before .before .before .args in
+returns-2 c =
+    let stands = c .before .before .before .before .before .before .before .stands in
+    let if1 = c .before .before .before .before .before .before .if1 in
+    let a = c .before .before .before .before .before .before .before .before .before .before .before .before .before .before .before .before .args in
     let few = c .before .before .before .before .before .before .before .before .before .before .load-within in
     let more = c .before .before .before .before .load-within2 in
     let n : length (few .last .1 .1 .0) ≡ length (a .words .now) = search needs in
-    let zeros = first-fails (a .enums .now) (a .file .now) (a .words .now) _ _ (few .ensures) (c .before .before .before .before .before .before .before .stands .result) (c .before .before .before .before .before .before .before .stands .ensures) (c .before .before .before .before .before .before .if1 .left) in
+    let zeros = first-fails (a .enums .now) (a .file .now) (a .words .now) _ _ (few .ensures) (stands .result) (stands .ensures) (if1 .left) in
     again (a .enums .now) (a .file .now) (a .words .now) _ (few .last .1 .1 .0) n zeros
     (first-stands (a .enums .now) (a .file .now) (few .last .1 .1 .0) _ _ (more .ensures) (c .before .stands2 .result) (c .before .stands2 .ensures) (c .if2 .taken))
 

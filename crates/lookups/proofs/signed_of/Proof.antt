@@ -49,8 +49,10 @@ returns c =
 returns-2 : tie.Need-returns-2
 unfolding signedOf
 returns-2 c =
+    let the-first = c .before .before .before .before .first in
+    let part-of = c .before .before .before .before .before .before .part-of in
     let a = c .before .before .before .before .before .before .before .before .before .args in
-    c .signed-in .ensures ∙ lookup-found (a .grid) (a .file .now) (a .words .now) (a .row .0) Refused (λ bytes first kind. signedIn bytes kind (a .row .0)) (sym (c .before .before .before .before .first .given .1) ∙ c .before .before .before .before .before .before .part-of .ensures) (c .before .before .word-of .ensures)
+    c .signed-in .ensures ∙ lookup-found (a .grid) (a .file .now) (a .words .now) (a .row .0) Refused (λ bytes first kind. signedIn bytes kind (a .row .0)) (sym (the-first .given .1) ∙ part-of .ensures) (c .before .before .word-of .ensures)
 
 pub signed-of-spec : {M : Type 1} → statement M
 signed-of-spec =

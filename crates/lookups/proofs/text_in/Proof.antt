@@ -28,7 +28,10 @@ sub-left c =
 
 returns-2 : tie.Need-returns-2
 returns-2 c =
-    other-count (c .before .before .before .before .before .before .before .args .bytes .now) (c .before .before .before .before .before .before .before .args .first) (c .before .before .before .before .before .before .before .args .kind) (c .before .before .before .before .before .before .before .args .row) (c .before .before .before .before .before .if1 .left) (sym (c .before .before .before .before .count-at .ensures) ∙ ap told (c .before .before .count .given .1)) (c .if2 .taken)
+    let args = c .before .before .before .before .before .before .before .args in
+    let if1 = c .before .before .before .before .before .if1 in
+    let count-at = c .before .before .before .before .count-at in
+    other-count (args .bytes .now) (args .first) (args .kind) (args .row) (if1 .left) (sym (count-at .ensures) ∙ ap told (c .before .before .count .given .1)) (c .if2 .taken)
 
 add-t12 : tie.Need-add-t12
 add-t12 c =
@@ -39,11 +42,16 @@ add-t12 c =
 
 returns-3 : tie.Need-returns-3
 returns-3 c =
-    no-count (c .before .before .before .before .before .args .bytes .now) (c .before .before .before .before .before .args .first) (c .before .before .before .before .before .args .kind) (c .before .before .before .before .before .args .row) (c .before .before .before .if1 .left) (sym (c .before .before .count-at .ensures) ∙ ap told (c .enum-told .given .1))
+    let args = c .before .before .before .before .before .args in
+    let if1 = c .before .before .before .if1 in
+    no-count (args .bytes .now) (args .first) (args .kind) (args .row) (if1 .left) (sym (c .before .before .count-at .ensures) ∙ ap told (c .enum-told .given .1))
 
 returns-4 : tie.Need-returns-4
 returns-4 c =
-    whole-text (c .before .before .before .before .before .before .before .args .bytes .now) (c .before .before .before .before .before .before .before .args .first) (c .before .before .before .before .before .before .before .args .kind) (c .before .before .before .before .before .before .before .args .row) (c .before .before .before .before .before .if1 .left) (sym (c .before .before .before .before .count-at .ensures) ∙ ap told (c .before .before .count .given .1)) (c .if2 .left)
+    let args = c .before .before .before .before .before .before .before .args in
+    let if1 = c .before .before .before .before .before .if1 in
+    let count-at = c .before .before .before .before .count-at in
+    whole-text (args .bytes .now) (args .first) (args .kind) (args .row) (if1 .left) (sym (count-at .ensures) ∙ ap told (c .before .before .count .given .1)) (c .if2 .left)
 
 pub text-in-spec : {M : Type 1} → statement M
 text-in-spec =

@@ -36,9 +36,12 @@ returns-2 c =
 
 returns-3 : tie.Need-returns-3
 returns-3 c =
+    let count = c .before .before .before .before .count in
+    let known-told2 = c .before .before .before .known-told2 in
+    let signed-of = c .before .before .before .before .before .before .signed-of in
     let a = c .before .before .before .before .before .before .before .before .before .args in
-    let f : SFits w64 (c .before .before .before .before .count .given .0 .0) = record { sfits = c .before .before .before .known-told2 .given .0 .1 } in
-    ap At (c .split-ticks .ensures ∙ ap splitOf (toZ-ofZ {w = w64} f)) ∙ a-time (a .grid) (a .file .now) (a .words .now) (a .row .0) (sym (c .before .before .before .before .count .given .1) ∙ c .before .before .before .before .before .before .signed-of .ensures) (c .before .before .word-of .ensures) (c .before .if1 .left)
+    let f : SFits w64 (count .given .0 .0) = record { sfits = known-told2 .given .0 .1 } in
+    ap At (c .split-ticks .ensures ∙ ap splitOf (toZ-ofZ {w = w64} f)) ∙ a-time (a .grid) (a .file .now) (a .words .now) (a .row .0) (sym (count .given .1) ∙ signed-of .ensures) (c .before .before .word-of .ensures) (c .before .if1 .left)
 
 pub time-of-spec : {M : Type 1} → statement M
 time-of-spec =

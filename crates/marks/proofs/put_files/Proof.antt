@@ -49,7 +49,12 @@ loop-less : tie.Need-loop-less Inv-loop μ-loop
 loop-less c = search needs
 
 loop-again : tie.Need-loop-again Inv-loop μ-loop
-loop-again c = turn _ _ _ _ (c .before .before .before .before .before .before .before .before .before .loop .inv) (c .before .before .before .before .before .before .before .before .loop-test .taken) (sym (c .before .before .before .before .before .first .given .1) ∙ c .before .before .before .before .before .before .before .record-at .ensures) (c .before .before .put-record .ensures)
+loop-again c =
+    let loop = c .before .before .before .before .before .before .before .before .before .loop in
+    let test = c .before .before .before .before .before .before .before .before .loop-test in
+    let first = c .before .before .before .before .before .first in
+    let record-at = c .before .before .before .before .before .before .before .record-at in
+    turn _ _ _ _ (loop .inv) (test .taken) (sym (first .given .1) ∙ record-at .ensures) (c .before .before .put-record .ensures)
 
 same-length-2 : tie.Need-same-length-2 Inv-loop μ-loop
 same-length-2 c =

@@ -33,7 +33,11 @@ same-length : tie.Need-same-length
 same-length c = search needs
 
 returns : tie.Need-returns
-returns c = rw (c .before .before .copy2 .ensures .1, c .before .before .before .before .before .before .copy .ensures .1, c .before .before .before .before .before .before .before .before .before .mark-size2 .ensures, c .before .before .before .before .before .before .before .before .before .before .mark-size .ensures)
+returns c =
+    let copy = c .before .before .before .before .before .before .copy in
+    let mark-size2 = c .before .before .before .before .before .before .before .before .before .mark-size2 in
+    let mark-size = c .before .before .before .before .before .before .before .before .before .before .mark-size in
+    rw (c .before .before .copy2 .ensures .1, copy .ensures .1, mark-size2 .ensures, mark-size .ensures)
 
 pub put-record-spec : {M : Type 1} → statement M
 put-record-spec =

@@ -25,7 +25,12 @@ enum-known-place : tie.Need-enum-known-place Inv-loop μ-loop
 enum-known-place c = search needs
 
 returns : tie.Need-returns Inv-loop μ-loop
-returns c = let a = c .before .before .before .before .before .before .before .args in let l = c .before .before .before .before .before .loop in λ h n. entry-wrong (a .file .now) (a .readers) (a .from) (l .left) (l .at) (l .inv .1 h n) (c .before .before .before .before .loop-test .taken) (rw (c .before .place .given .1) at (c .before .before .before .number-at .ensures))
+returns c =
+    let a = c .before .before .before .before .before .before .before .args in
+    let l = c .before .before .before .before .before .loop in
+    let test = c .before .before .before .before .loop-test in
+    let number-at = c .before .before .before .number-at in
+    λ h n. entry-wrong (a .file .now) (a .readers) (a .from) (l .left) (l .at) (l .inv .1 h n) (test .taken) (rw (c .before .place .given .1) at (number-at .ensures))
 
 entry-at-requires : tie.Need-entry-at-requires Inv-loop μ-loop
 entry-at-requires c κs = search needs
@@ -37,7 +42,17 @@ loop-less : tie.Need-loop-less Inv-loop μ-loop
 loop-less c = search needs
 
 loop-again : tie.Need-loop-again Inv-loop μ-loop
-loop-again c = let a = c .before .before .before .before .before .before .before .args in let l = c .before .before .before .before .before .loop in (search needs, λ h n. let w = l .inv .1 h n in one-reached (a .file .now) (a .readers) (a .from) (l .left) (l .at) w (c .before .before .before .before .loop-test .taken) (c .entry-at .result) (c .entry-at .ensures h (omega (arith, w .near, w .few, c .before .before .before .before .before .before .before .fits .readers .fits))) (rw (c .before .enum-told .given .1) at (c .before .before .before .number-at .ensures)))
+loop-again c =
+    let a = c .before .before .before .before .before .before .before .args in
+    let l = c .before .before .before .before .before .loop in
+    let test = c .before .before .before .before .loop-test in
+    let fits = c .before .before .before .before .before .before .before .fits in
+    let number-at = c .before .before .before .number-at in (
+      search needs,
+      λ h n.
+          let w = l .inv .1 h n in
+          one-reached (a .file .now) (a .readers) (a .from) (l .left) (l .at) w (test .taken) (c .entry-at .result) (c .entry-at .ensures h (omega (arith, w .near, w .few, fits .readers .fits))) (rw (c .before .enum-told .given .1) at (number-at .ensures)),
+    )
 
 returns-2 : tie.Need-returns-2 Inv-loop μ-loop
 returns-2 c = let a = c .before .before .before .args in let l = c .before .loop in λ h n. all-reached (a .file .now) (a .readers) (a .from) (l .left) (l .at) (l .inv .1 h n) (c .loop-test .left)

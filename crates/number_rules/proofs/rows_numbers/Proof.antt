@@ -32,7 +32,12 @@ enum-known-place : tie.Need-enum-known-place Inv-loop μ-loop
 enum-known-place c = search needs
 
 returns : tie.Need-returns Inv-loop μ-loop
-returns c = let a = c .before .before .before .before .before .before .before .before .args in let l = c .before .before .before .before .before .loop in λ rows d. row-wrong (a .file .now) (a .grid) (a .words .now) (a .used) (l .row) (c .before .before .before .before .loop-test .taken) (rw (c .before .place .given .1) at (c .before .before .before .row-numbers .ensures)) rows d ∙ sym (l .inv .1 rows d)
+returns c =
+    let a = c .before .before .before .before .before .before .before .before .args in
+    let l = c .before .before .before .before .before .loop in
+    let test = c .before .before .before .before .loop-test in
+    let row-numbers = c .before .before .before .row-numbers in
+    λ rows d. row-wrong (a .file .now) (a .grid) (a .words .now) (a .used) (l .row) (test .taken) (rw (c .before .place .given .1) at (row-numbers .ensures)) rows d ∙ sym (l .inv .1 rows d)
 
 add-row : tie.Need-add-row Inv-loop μ-loop
 add-row c = search needs
@@ -41,7 +46,11 @@ loop-less : tie.Need-loop-less Inv-loop μ-loop
 loop-less c = search needs
 
 loop-again : tie.Need-loop-again Inv-loop μ-loop
-loop-again c = let a = c .before .before .before .before .before .before .before .args in let l = c .before .before .before .before .loop in (search needs, λ rows d. l .inv .1 rows d ∙ row-fine (a .file .now) (a .grid) (a .words .now) (a .used) (l .row) (c .before .before .before .loop-test .taken) (rw (c .enum-told .given .1) at (c .before .before .row-numbers .ensures)) rows d)
+loop-again c =
+    let a = c .before .before .before .before .before .before .before .args in
+    let l = c .before .before .before .before .loop in
+    let test = c .before .before .before .loop-test in
+    (search needs, λ rows d. l .inv .1 rows d ∙ row-fine (a .file .now) (a .grid) (a .words .now) (a .used) (l .row) (test .taken) (rw (c .enum-told .given .1) at (c .before .before .row-numbers .ensures)) rows d)
 
 returns-2 : tie.Need-returns-2 Inv-loop μ-loop
 returns-2 c = let a = c .before .before .before .before .args in let l = c .before .loop in λ rows d. sym (l .inv .1 rows d ∙ no-more-rows (a .file .now) (a .grid) (a .words .now) (a .used) (l .row) (c .loop-test .left) rows d)

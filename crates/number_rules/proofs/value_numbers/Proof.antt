@@ -33,10 +33,22 @@ count-at-requires-2 : tie.Need-count-at-requires-2
 count-at-requires-2 c κs = search needs
 
 returns-2 : tie.Need-returns-2
-returns-2 c = let a = c .before .before .before .before .before .before .before .args in id-wrong (a .file .now) (a .kind) (a .first) (a .detail) (c .before .before .before .before .before .numbered .result) (c .before .before .before .before .before .numbered .ensures) (c .before .before .before .before .if1 .left) (rw (c .before .place .given .1) at (c .before .before .before .number-at .ensures))
+returns-2 c =
+    let a = c .before .before .before .before .before .before .before .args in
+    let numbered = c .before .before .before .before .before .numbered in
+    let if1 = c .before .before .before .before .if1 in
+    let number-at = c .before .before .before .number-at in
+    id-wrong (a .file .now) (a .kind) (a .first) (a .detail) (numbered .result) (numbered .ensures) (if1 .left) (rw (c .before .place .given .1) at (number-at .ensures))
 
 returns-3 : tie.Need-returns-3
-returns-3 c = let a = c .before .before .before .before .before .before .before .before .args in with-id (a .file .now) (a .kind) (a .first) (a .detail) (c .before .before .before .before .before .before .numbered .result) (c .count-at2 .result) (c .before .before .before .before .before .before .numbered .ensures) (c .before .before .before .before .before .if1 .left) (rw (c .before .before .enum-told .given .1) at (c .before .before .before .before .number-at .ensures)) (c .count-at2 .ensures ∙ ap (λ (k : ℕ). firstPlace (padded (a .file .now) (countPlaces (a .file .now) (a .kind) k))) (c .before .behind .ensures))
+returns-3 c =
+    let a = c .before .before .before .before .before .before .before .before .args in
+    let numbered = c .before .before .before .before .before .before .numbered in
+    let if1 = c .before .before .before .before .before .if1 in
+    let number-at = c .before .before .before .before .number-at in
+    let fine = rw (c .before .before .enum-told .given .1) at (number-at .ensures) in
+    with-id (a .file .now) (a .kind) (a .first) (a .detail) (numbered .result) (c .count-at2 .result) (numbered .ensures) (if1 .left) fine
+    (c .count-at2 .ensures ∙ ap (λ (k : ℕ). firstPlace (padded (a .file .now) (countPlaces (a .file .now) (a .kind) k))) (c .before .behind .ensures))
 
 pub value-numbers-spec : {M : Type 1} → statement M
 value-numbers-spec = tie.close (tie.spec numbered-requires count-at-requires returns number-at-requires enum-known-place enum-told behind-requires count-at-requires-2 returns-2 returns-3)

@@ -16,7 +16,11 @@ same-length : tie.Need-same-length
 same-length c = search needs
 
 returns : tie.Need-returns
-returns c = let a = c .before .before .before .before .before .before .before .before .before .before .before .before .before .before .before .args in rw (c .before .before .count-rows .ensures, c .before .before .before .before .before .before .raise2 .ensures, c .before .before .before .before .before .before .before .before .before .before .raise .ensures) (all-rows (a .file .now) (a .grid) (a .words .now) (a .used) (a .figures .now))
+returns c =
+    let a = c .before .before .before .before .before .before .before .before .before .before .before .before .before .before .before .args in
+    let raise2 = c .before .before .before .before .before .before .raise2 in
+    let raise = c .before .before .before .before .before .before .before .before .before .before .raise in
+    rw (c .before .before .count-rows .ensures, raise2 .ensures, raise .ensures) (all-rows (a .file .now) (a .grid) (a .words .now) (a .used) (a .figures .now))
 
 pub count-loaded-spec : {M : Type 1} → statement M
 count-loaded-spec = tie.close (tie.spec raise-requires raise-requires-2 count-rows-requires same-length returns)

@@ -23,7 +23,11 @@ same-length-2 : tie.Need-same-length-2
 same-length-2 c = search needs
 
 returns-2 : tie.Need-returns-2
-returns-2 c = rw (c .before .before .before .before .before .before .before .raise .ensures) at (c .before .before .raise2 .ensures) ∙ refusal-counted (c .before .before .before .before .before .before .before .before .before .before .args .number) (c .before .before .before .before .if1 .left) (c .before .before .before .before .before .before .before .before .before .before .args .figures .now)
+returns-2 c =
+    let raise = c .before .before .before .before .before .before .before .raise in
+    let args = c .before .before .before .before .before .before .before .before .before .before .args in
+    let if1 = c .before .before .before .before .if1 in
+    rw (raise .ensures) at (c .before .before .raise2 .ensures) ∙ refusal-counted (args .number) (if1 .left) (args .figures .now)
 
 pub count-refused-spec : {M : Type 1} → statement M
 count-refused-spec = tie.close (tie.spec raise-requires same-length returns add-raise raise-requires-2 same-length-2 returns-2)

@@ -19,8 +19,12 @@ same-length-2 : tie.Need-same-length-2
 same-length-2 c = search needs
 
 returns : tie.Need-returns
-returns c = let a = c .before .before .before .before .before .before .before .before .before .before .before .before .before .args in
-    (λ k. c .before .before .before .before .count-xnb .ensures .0 k ∙ counted-alike _ _ (is-xnb (opened (a .enums .now)) (a .content .now) (sym (c .before .before .before .before .before .before .before .before .is-xnb .ensures) ∙ c .before .before .before .before .before .before .before .if1 .taken)) (a .figures .now), c .before .before .before .before .count-xnb .ensures .1)
+returns c =
+    let count-xnb = c .before .before .before .before .count-xnb in
+    let the-is-xnb = c .before .before .before .before .before .before .before .before .is-xnb in
+    let if1 = c .before .before .before .before .before .before .before .if1 in
+    let a = c .before .before .before .before .before .before .before .before .before .before .before .before .before .args in
+    (λ k. count-xnb .ensures .0 k ∙ counted-alike _ _ (is-xnb (opened (a .enums .now)) (a .content .now) (sym (the-is-xnb .ensures) ∙ if1 .taken)) (a .figures .now), count-xnb .ensures .1)
 
 count-other-requires : tie.Need-count-other-requires
 count-other-requires c κs = search needs

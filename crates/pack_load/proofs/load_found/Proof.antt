@@ -60,11 +60,14 @@ same-length-2 c = search needs
 
 returns-2 : tie.Need-returns-2
 returns-2 c =
+    let first = c .before .before .before .before .before .before .before .before .before .first in
+    let find = c .before .before .before .before .before .before .before .before .before .before .before .find in
+    let load = c .before .before .before .before .before .load in
     let a = c .before .before .before .before .before .before .before .before .before .before .before .before .before .before .before .before .before .args in
     let x = findOf (a .pack .now) (a .table .now) (a .path .now) in
-    let bytes = part (a .pack .now) (c .before .before .before .before .before .before .before .before .before .first .given .0 .0) (c .before .before .before .before .before .before .before .before .before .first .given .0 .1 .0) in
+    let bytes = part (a .pack .now) (first .given .0 .0) (first .given .0 .1 .0) in
     let y = loadUnder (a .enums .now) bytes (length (a .words .now)) in
-    let t = told-found (a .enums .now) (a .pack .now) (length (a .words .now)) x _ _ (sym (c .before .before .before .before .before .before .before .before .before .first .given .1) ∙ c .before .before .before .before .before .before .before .before .before .before .before .find .ensures) (as-refused bytes y (sym (c .before .number .given .1) ∙ c .before .before .before .before .before .load .ensures .0)) (c .before .before .before .before .before .load .ensures .1) in
+    let t = told-found (a .enums .now) (a .pack .now) (length (a .words .now)) x _ _ (sym (first .given .1) ∙ find .ensures) (as-refused bytes y (sym (c .before .number .given .1) ∙ load .ensures .0)) (load .ensures .1) in
     (t .answers, t .leaves)
 
 same-length-3 : tie.Need-same-length-3
@@ -72,11 +75,14 @@ same-length-3 c = search needs
 
 returns-3 : tie.Need-returns-3
 returns-3 c =
+    let first = c .before .before .before .before .before .before .before .before .before .first in
+    let find = c .before .before .before .before .before .before .before .before .before .before .before .find in
+    let load = c .before .before .before .before .before .load in
     let a = c .before .before .before .before .before .before .before .before .before .before .before .before .before .before .before .before .before .args in
     let x = findOf (a .pack .now) (a .table .now) (a .path .now) in
-    let bytes = part (a .pack .now) (c .before .before .before .before .before .before .before .before .before .first .given .0 .0) (c .before .before .before .before .before .before .before .before .before .first .given .0 .1 .0) in
+    let bytes = part (a .pack .now) (first .given .0 .0) (first .given .0 .1 .0) in
     let y = loadUnder (a .enums .now) bytes (length (a .words .now)) in
-    let t = told-found (a .enums .now) (a .pack .now) (length (a .words .now)) x _ _ (sym (c .before .before .before .before .before .before .before .before .before .first .given .1) ∙ c .before .before .before .before .before .before .before .before .before .before .before .find .ensures) (as-loaded bytes y (sym (c .before .rows .given .1) ∙ c .before .before .before .before .before .load .ensures .0)) (c .before .before .before .before .before .load .ensures .1) in
+    let t = told-found (a .enums .now) (a .pack .now) (length (a .words .now)) x _ _ (sym (first .given .1) ∙ find .ensures) (as-loaded bytes y (sym (c .before .rows .given .1) ∙ load .ensures .0)) (load .ensures .1) in
     (t .answers, t .leaves)
 
 pub load-found-spec : {M : Type 1} → statement M

@@ -28,7 +28,10 @@ has-bytes-requires c κs = search needs
 
 returns-3 : tie.Need-returns-3
 returns-3 c =
-    path-missing _ _ (sym (c .before .before .before .before .before .before .before .seven-at .ensures) ∙ ap told (c .before .before .before .before .before .n .given .1)) (c .before .before .before .if1 .left) (c .before .before .if2 .left) (sym (c .before .has-bytes .ensures) ∙ not-true _ (c .if3 .taken))
+    let seven-at = c .before .before .before .before .before .before .before .seven-at in
+    let n = c .before .before .before .before .before .n in
+    let if1 = c .before .before .before .if1 in
+    path-missing _ _ (sym (seven-at .ensures) ∙ ap told (n .given .1)) (if1 .left) (c .before .before .if2 .left) (sym (c .before .has-bytes .ensures) ∙ not-true _ (c .if3 .taken))
 
 add-end : tie.Need-add-end
 add-end c =
@@ -53,7 +56,13 @@ is-short-utf8-requires c κs = search needs
 
 returns-4 : tie.Need-returns-4
 returns-4 c =
-    path-other _ _ (sym (c .before .before .before .before .before .before .before .before .before .before .seven-at .ensures) ∙ ap told (c .before .before .before .before .before .before .before .before .n .given .1)) (c .before .before .before .before .before .before .if1 .left) (c .before .before .before .before .before .if2 .left) (sym (c .before .before .before .before .has-bytes .ensures) ∙ not-false _ (c .before .before .before .if3 .left))
+    let seven-at = c .before .before .before .before .before .before .before .before .before .before .seven-at in
+    let n = c .before .before .before .before .before .before .before .before .n in
+    let if1 = c .before .before .before .before .before .before .if1 in
+    let if2 = c .before .before .before .before .before .if2 in
+    let has-bytes = c .before .before .before .before .has-bytes in
+    let if3 = c .before .before .before .if3 in
+    path-other _ _ (sym (seven-at .ensures) ∙ ap told (n .given .1)) (if1 .left) (if2 .left) (sym (has-bytes .ensures) ∙ not-false _ (if3 .left))
     (sym (c .before .is-short-utf8 .ensures) ∙ not-true _ (c .if4 .taken))
 
 returns-5 : tie.Need-returns-5
@@ -61,8 +70,16 @@ returns-5 c = path-refused _ _ (sym (c .before .before .before .seven-at .ensure
 
 returns-6 : tie.Need-returns-6
 returns-6 c =
-    let small = small-by-index (c .before .before .before .before .before .before .before .before .before .before .before .before .args .pack .now) (λ i h. omega (arith, c .before .before .before .before .before .before .before .before .before .before .before .shared-slice-known .given i)) in
-    path-there _ _ (sym (c .before .before .before .before .before .before .before .before .before .before .seven-at .ensures) ∙ ap told (c .before .before .before .before .before .before .before .before .n .given .1)) (c .before .before .before .before .before .before .if1 .left) (c .before .before .before .before .before .if2 .left) (sym (c .before .before .before .before .has-bytes .ensures) ∙ not-false _ (c .before .before .before .if3 .left)) small
+    let args = c .before .before .before .before .before .before .before .before .before .before .before .before .args in
+    let shared-slice-known = c .before .before .before .before .before .before .before .before .before .before .before .shared-slice-known in
+    let seven-at = c .before .before .before .before .before .before .before .before .before .before .seven-at in
+    let n = c .before .before .before .before .before .before .before .before .n in
+    let if1 = c .before .before .before .before .before .before .if1 in
+    let if2 = c .before .before .before .before .before .if2 in
+    let has-bytes = c .before .before .before .before .has-bytes in
+    let if3 = c .before .before .before .if3 in
+    let small = small-by-index (args .pack .now) (λ i h. omega (arith, shared-slice-known .given i)) in
+    path-there _ _ (sym (seven-at .ensures) ∙ ap told (n .given .1)) (if1 .left) (if2 .left) (sym (has-bytes .ensures) ∙ not-false _ (if3 .left)) small
     (sym (c .before .is-short-utf8 .ensures) ∙ not-false _ (c .if4 .left))
 
 pub path-at-spec : {M : Type 1} → statement M

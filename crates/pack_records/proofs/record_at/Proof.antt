@@ -36,7 +36,11 @@ returns c = record-unmarked (markOf (c .before .before .before .before .before .
 
 returns-2 : tie.Need-returns-2
 returns-2 c =
-    record-unnamed (markOf (c .before .before .before .before .before .before .before .before .before .args .marked)) _ _ (sym (c .before .before .before .before .before .before .before .start-at .ensures) ∙ ap told (c .before .before .before .before .before .path .given .1)) (sym (c .before .number2 .given .1) ∙ c .before .before .before .path-at .ensures)
+    let args = c .before .before .before .before .before .before .before .before .before .args in
+    let start-at = c .before .before .before .before .before .before .before .start-at in
+    let path = c .before .before .before .before .before .path in
+    let path-at = c .before .before .before .path-at in
+    record-unnamed (markOf (args .marked)) _ _ (sym (start-at .ensures) ∙ ap told (path .given .1)) (sym (c .before .number2 .given .1) ∙ path-at .ensures)
 
 returns-3 : tie.Need-returns-3
 returns-3 c =

@@ -47,7 +47,11 @@ part-result-end-2 : tie.Need-part-result-end-2
 part-result-end-2 c = search needs
 
 returns-2 : tie.Need-returns-2
-returns-2 c = let a = c .before .before .before .before .before .before .before .args in past-pack (a .pack .now) (a .table .now) (a .i) (c .before .before .before .before .word-at .ensures) (c .before .before .before .word-at2 .ensures) (omega (arith, c .before .before .if1 .left, c .before .if2 .taken))
+returns-2 c =
+    let a = c .before .before .before .before .before .before .before .args in
+    let word-at = c .before .before .before .before .word-at in
+    let word-at2 = c .before .before .before .word-at2 in
+    past-pack (a .pack .now) (a .table .now) (a .i) (word-at .ensures) (word-at2 .ensures) (omega (arith, c .before .before .if1 .left, c .before .if2 .taken))
 
 add-end : tie.Need-add-end
 add-end c = search needs
@@ -62,7 +66,33 @@ part-result-end-3 : tie.Need-part-result-end-3
 part-result-end-3 c = search needs
 
 returns-3 : tie.Need-returns-3
-returns-3 c = let a = c .before .before .before .before .before .before .before .args in in-pack (a .pack .now) (a .table .now) (a .i) (c .before .before .before .before .word-at .ensures) (c .before .before .before .word-at2 .ensures) (omega (arith, c .before .before .if1 .left, c .before .if2 .left))
+returns-3 c =
+    let a = c .before .before .before .before .before .before .before .args in
+    let word-at = c .before .before .before .before .word-at in
+    let word-at2 = c .before .before .before .word-at2 in
+    in-pack (a .pack .now) (a .table .now) (a .i) (word-at .ensures) (word-at2 .ensures) (omega (arith, c .before .before .if1 .left, c .before .if2 .left))
 
 pub content-at-spec : {M : Type 1} → statement M
-content-at-spec = tie.close (tie.spec mul-word-at add-word-at word-at-requires mul-word-at-2 add-word-at-2 word-at-requires-2 sub-result part-result-start part-result-end returns sub-if2 sub-result-2 part-result-start-2 part-result-end-2 returns-2 add-end sub-result-3 part-result-start-3 part-result-end-3 returns-3)
+content-at-spec =
+    tie.close
+    (tie.spec
+    mul-word-at
+    add-word-at
+    word-at-requires
+    mul-word-at-2
+    add-word-at-2
+    word-at-requires-2
+    sub-result
+    part-result-start
+    part-result-end
+    returns
+    sub-if2
+    sub-result-2
+    part-result-start-2
+    part-result-end-2
+    returns-2
+    add-end
+    sub-result-3
+    part-result-start-3
+    part-result-end-3
+    returns-3)

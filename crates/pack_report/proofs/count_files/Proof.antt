@@ -32,10 +32,15 @@ loop-less : tie.Need-loop-less Inv-loop μ-loop
 loop-less c = search needs
 
 loop-again : tie.Need-loop-again Inv-loop μ-loop
-loop-again c = let a = c .before .before .before .before .before .before .before .before .before .before .before .before .before .before .before .args in
+loop-again c =
+    let pre = c .before .before .before .before .before .before .before .before .before .before .before .before .before .before .before .pre in
+    let test = c .before .before .before .before .before .before .before .before .loop-test in
+    let count-file = c .before .before .before .before .count-file in
+    let content-at = c .before .before .before .before .before .before .before .content-at in
+    let a = c .before .before .before .before .before .before .before .before .before .before .before .before .before .before .before .args in
     let l = c .before .before .before .before .before .before .before .before .before .loop in
-    let k : Clear (l .words) = rw (l .inv .1) (c .before .before .before .before .before .before .before .before .before .before .before .before .before .before .before .pre .1) in
-    (omega (arith, c .before .before .before .before .before .before .before .before .loop-test .taken), c .before .before .before .before .count-file .ensures .1 k ∙ l .inv .1, search needs, rw (c .before .before .before .before .count-file .ensures .0 k, c .before .before .before .before .before .before .before .content-at .ensures) (l .inv .3 ∙ one-file (opened (a .enums .now)) (a .pack .now) (a .table .now) (a .files) (l .i) (c .before .before .before .before .before .before .before .before .loop-test .taken) (l .figures)))
+    let k : Clear (l .words) = rw (l .inv .1) (pre .1) in
+    (omega (arith, test .taken), count-file .ensures .1 k ∙ l .inv .1, search needs, rw (count-file .ensures .0 k, content-at .ensures) (l .inv .3 ∙ one-file (opened (a .enums .now)) (a .pack .now) (a .table .now) (a .files) (l .i) (test .taken) (l .figures)))
 
 same-length : tie.Need-same-length Inv-loop μ-loop
 same-length c = search needs

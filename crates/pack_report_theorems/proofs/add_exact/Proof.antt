@@ -19,8 +19,8 @@ same-length-3 c = search needs
 returns : tie.Need-returns
 returns c =
     let a = c .before .before .before .before .before .before .before .before .before .before .before .before .before .before .before .args in
-    let e = c .before .before .before .before .before .before .add .ensures in
-    (carry (a .enums .now) (length (a .words .now)) (length (a .table .now)) (a .pack .now) (a .report .now) (e .0) (e .1 .0), e .0)
+    let add = c .before .before .before .before .before .before .add in
+    (carry (a .enums .now) (length (a .words .now)) (length (a .table .now)) (a .pack .now) (a .report .now) (add .ensures .0) (add .ensures .1 .0), add .ensures .0)
 
 pub add-exact-spec : {M : Type 1} → statement M
 add-exact-spec = tie.close (tie.spec add-requires same-length same-length-2 same-length-3 returns)

@@ -37,9 +37,13 @@ shared-slice-read-into : tie.Need-shared-slice-read-into Inv-loop μ-loop
 shared-slice-read-into c = search needs
 
 add-into : tie.Need-add-into Inv-loop μ-loop
-add-into c = let a = c .before .before .before .before .before .args in
-    let e : getD (c .before .before .before .before .loop .into) (c .before .before .before .before .loop .i) 0 ≡ getD (a .into .now) (c .before .before .before .before .loop .i) 0 = ap (λ (l : List ℕ). getD l (c .before .before .before .before .loop .i) 0) (c .before .before .before .before .loop .inv .1) ∙ sums-word (c .before .before .before .before .loop .i) (a .into .now) (a .other .now) in
-    omega (arith, e, fits-word (c .before .before .before .before .loop .i) (a .into .now) (a .other .now) (c .before .before .before .before .before .pre) (omega (arith, c .before .before .before .loop-test .taken, c .before .before .before .before .loop .inv .0)) (c .before .before .if1 .left))
+add-into c =
+    let loop = c .before .before .before .before .loop in
+    let pre = c .before .before .before .before .before .pre in
+    let test = c .before .before .before .loop-test in
+    let a = c .before .before .before .before .before .args in
+    let e : getD (loop .into) (loop .i) 0 ≡ getD (a .into .now) (loop .i) 0 = ap (λ (l : List ℕ). getD l (loop .i) 0) (loop .inv .1) ∙ sums-word (loop .i) (a .into .now) (a .other .now) in
+    omega (arith, e, fits-word (loop .i) (a .into .now) (a .other .now) pre (omega (arith, test .taken, loop .inv .0)) (c .before .before .if1 .left))
 
 mul-into-3 : tie.Need-mul-into-3 Inv-loop μ-loop
 mul-into-3 c = search needs
@@ -54,8 +58,11 @@ loop-less : tie.Need-loop-less Inv-loop μ-loop
 loop-less c = search needs
 
 loop-again : tie.Need-loop-again Inv-loop μ-loop
-loop-again c = let a = c .before .before .before .before .before .args in
-    (search needs, ap (λ (l : List ℕ). set l (c .before .before .before .before .loop .i) (getD l (c .before .before .before .before .loop .i) 0 + getD (a .other .now) (c .before .before .before .before .loop .i) 0)) (c .before .before .before .before .loop .inv .1) ∙ sums-on (c .before .before .before .before .loop .i) (a .into .now) (a .other .now) (omega (arith, c .before .before .before .loop-test .taken, c .before .before .before .before .loop .inv .0)) (c .before .before .if1 .left))
+loop-again c =
+    let loop = c .before .before .before .before .loop in
+    let test = c .before .before .before .loop-test in
+    let a = c .before .before .before .before .before .args in
+    (search needs, ap (λ (l : List ℕ). set l (loop .i) (getD l (loop .i) 0 + getD (a .other .now) (loop .i) 0)) (loop .inv .1) ∙ sums-on (loop .i) (a .into .now) (a .other .now) (omega (arith, test .taken, loop .inv .0)) (c .before .before .if1 .left))
 
 same-length-2 : tie.Need-same-length-2 Inv-loop μ-loop
 same-length-2 c = search needs

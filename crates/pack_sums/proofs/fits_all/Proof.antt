@@ -37,7 +37,12 @@ shared-slice-read-if2 : tie.Need-shared-slice-read-if2 Inv-loop μ-loop
 shared-slice-read-if2 c = search needs
 
 returns-2 : tie.Need-returns-2 Inv-loop μ-loop
-returns-2 c = let a = c .before .before .before .before .before .before .args in fits-not (c .before .before .before .before .before .loop .i) (a .into .now) (a .other .now) (c .before .before .before .before .loop-test .taken) (c .before .before .before .if1 .left) (c .if2 .taken) ∙ sym (c .before .before .before .before .before .loop .inv)
+returns-2 c =
+    let a = c .before .before .before .before .before .before .args in
+    let loop = c .before .before .before .before .before .loop in
+    let test = c .before .before .before .before .loop-test in
+    let if1 = c .before .before .before .if1 in
+    fits-not (loop .i) (a .into .now) (a .other .now) (test .taken) (if1 .left) (c .if2 .taken) ∙ sym (loop .inv)
 
 add-i : tie.Need-add-i Inv-loop μ-loop
 add-i c = search needs
@@ -46,7 +51,12 @@ loop-less : tie.Need-loop-less Inv-loop μ-loop
 loop-less c = search needs
 
 loop-again : tie.Need-loop-again Inv-loop μ-loop
-loop-again c = let a = c .before .before .before .before .before .before .args in c .before .before .before .before .before .loop .inv ∙ fits-on (c .before .before .before .before .before .loop .i) (a .into .now) (a .other .now) (c .before .before .before .before .loop-test .taken) (c .before .before .before .if1 .left) (c .if2 .left) (omega (arith, c .before .before .shared-slice-known .given (c .before .before .before .before .before .loop .i)))
+loop-again c =
+    let a = c .before .before .before .before .before .before .args in
+    let loop = c .before .before .before .before .before .loop in
+    let test = c .before .before .before .before .loop-test in
+    let if1 = c .before .before .before .if1 in
+    loop .inv ∙ fits-on (loop .i) (a .into .now) (a .other .now) (test .taken) (if1 .left) (c .if2 .left) (omega (arith, c .before .before .shared-slice-known .given (loop .i)))
 
 returns-3 : tie.Need-returns-3 Inv-loop μ-loop
 returns-3 c = let a = c .before .before .args in sym (c .before .loop .inv ∙ fits-end (c .before .loop .i) (a .into .now) (a .other .now) (c .loop-test .left))

@@ -21,7 +21,10 @@ same-length-2 : tie.Need-same-length-2
 same-length-2 c = search needs
 
 returns : tie.Need-returns
-returns c = (not-salvaged (salvageFor (c .before .before .before .before .before .before .before .before .before .before .before .before .before .args .pack .now) (c .before .before .before .before .before .before .before .before .before .before .before .before .before .args .out .now) (c .before .before .before .before .before .before .before .before .before .before .before .before .before .args .list .now)) (sym (c .before .number .given .1) ∙ c .before .before .before .before .before .before .before .salvage .ensures .0), c .before .before .before .before .before .before .before .salvage .ensures .1)
+returns c =
+    let args = c .before .before .before .before .before .before .before .before .before .before .before .before .before .args in
+    let salvage = c .before .before .before .before .before .before .before .salvage in
+    (not-salvaged (salvageFor (args .pack .now) (args .out .now) (args .list .now)) (sym (c .before .number .given .1) ∙ salvage .ensures .0), salvage .ensures .1)
 
 same-length-3 : tie.Need-same-length-3
 same-length-3 c = search needs
@@ -30,7 +33,10 @@ same-length-4 : tie.Need-same-length-4
 same-length-4 c = search needs
 
 returns-2 : tie.Need-returns-2
-returns-2 c = (all-salvaged (salvageFor (c .before .before .before .before .before .before .before .before .before .before .before .before .before .args .pack .now) (c .before .before .before .before .before .before .before .before .before .before .before .before .before .args .out .now) (c .before .before .before .before .before .before .before .before .before .before .before .before .before .args .list .now)) (sym (c .before .size .given .1) ∙ c .before .before .before .before .before .before .before .salvage .ensures .0), c .before .before .before .before .before .before .before .salvage .ensures .1)
+returns-2 c =
+    let args = c .before .before .before .before .before .before .before .before .before .before .before .before .before .args in
+    let salvage = c .before .before .before .before .before .before .before .salvage in
+    (all-salvaged (salvageFor (args .pack .now) (args .out .now) (args .list .now)) (sym (c .before .size .given .1) ∙ salvage .ensures .0), salvage .ensures .1)
 
 pub salvage-told-spec : {M : Type 1} → statement M
 salvage-told-spec =

@@ -37,9 +37,13 @@ same-length c = search needs
 
 returns-3 : tie.Need-returns-3
 returns-3 c =
+    let shared-slice-known = c .before .before .before .before .before .before .before .before .before .before .shared-slice-known in
+    let little4 = c .before .before .before .before .before .before .before .before .little4 in
+    let n = c .before .before .before .before .before .before .n in
+    let if1 = c .before .before .before .before .if1 in
     let a = c .before .before .before .before .before .before .before .before .before .before .before .args in
-    let small = small-by-index (a .pack .now) (λ i h. omega (arith, c .before .before .before .before .before .before .before .before .before .before .shared-slice-known .given i)) in
-    rw (count-few (markOf (a .marked)) (a .pack .now) (filesRoom (length (a .table .now))) small (sym (c .before .before .before .before .before .before .before .before .little4 .ensures) ∙ ap told (c .before .before .before .before .before .before .n .given .1)) (c .before .before .before .before .if1 .left))
+    let small = small-by-index (a .pack .now) (λ i h. omega (arith, shared-slice-known .given i)) in
+    rw (count-few (markOf (a .marked)) (a .pack .now) (filesRoom (length (a .table .now))) small (sym (little4 .ensures) ∙ ap told (n .given .1)) (if1 .left))
     (c .before .before .read-files .ensures)
 
 pub read-counted-spec : {M : Type 1} → statement M

@@ -97,10 +97,14 @@ same-length-2 c = search needs
 
 returns-2 : tie.Need-returns-2 Inv-loop μ-loop
 returns-2 c =
+    let loop = c .before .before .before .before .before .before .before .before .loop in
+    let test = c .before .before .before .before .before .before .before .loop-test in
+    let if1 = c .before .before .before .before .before .before .if1 in
+    let record-at = c .before .before .before .record-at in
     let a = c .before .before .before .before .before .before .before .before .before .before .before .args in
-    let v = c .before .before .before .before .before .before .before .before .loop .inv in
+    let v = loop .inv in
     let m = markOf (a .marked) in
-    rw (← v .1) (fills-refused m (a .pack .now) (a .n) _ _ (refuse _ _ _ _ (v .2 .walked) (c .before .before .before .before .before .before .before .loop-test .taken) (c .before .before .before .before .before .before .if1 .left) (none m _ _ (sym (c .before .number .given .1) ∙ c .before .before .before .record-at .ensures))))
+    rw (← v .1) (fills-refused m (a .pack .now) (a .n) _ _ (refuse _ _ _ _ (v .2 .walked) (test .taken) (if1 .left) (none m _ _ (sym (c .before .number .given .1) ∙ record-at .ensures))))
 
 enum-known-start : tie.Need-enum-known-start Inv-loop μ-loop
 enum-known-start c = search needs

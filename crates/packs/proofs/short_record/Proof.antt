@@ -55,9 +55,18 @@ returns-5 c = λ e. absurd (omega arith)
 
 add-result : tie.Need-add-result
 add-result c =
-    let small = small-by-index (c .before .before .before .before .before .before .before .before .before .before .before .before .before .args .pack .now) (λ i h. omega (arith, c .before .before .before .before .before .before .before .before .before .before .before .before .shared-slice-known .given i)) in
-    let s = short-there _ _ small (c .before .before .before .before .before .before .before .before .before .before .before .if1 .left) (c .before .before .before .before .before .before .before .before .before .before .if2 .left) (c .before .before .before .before .before .before .before .before .if3 .left) (c .before .before .before .before .before .before .before .is-path .ensures (not-false _ (c .before .before .before .before .before .before .if4 .left)))
-    (sym (c .before .before .before .before .before .little4 .ensures) ∙ ap told (c .before .before .before .n .given .1)) (sym (c .before .has-bytes .ensures) ∙ not-false _ (c .if5 .left)) in
+    let args = c .before .before .before .before .before .before .before .before .before .before .before .before .before .args in
+    let shared-slice-known = c .before .before .before .before .before .before .before .before .before .before .before .before .shared-slice-known in
+    let if1 = c .before .before .before .before .before .before .before .before .before .before .before .if1 in
+    let if2 = c .before .before .before .before .before .before .before .before .before .before .if2 in
+    let if3 = c .before .before .before .before .before .before .before .before .if3 in
+    let is-path = c .before .before .before .before .before .before .before .is-path in
+    let if4 = c .before .before .before .before .before .before .if4 in
+    let little4 = c .before .before .before .before .before .little4 in
+    let n = c .before .before .before .n in
+    let small = small-by-index (args .pack .now) (λ i h. omega (arith, shared-slice-known .given i)) in
+    let s = short-there _ _ small (if1 .left) (if2 .left) (if3 .left) (is-path .ensures (not-false _ (if4 .left)))
+    (sym (little4 .ensures) ∙ ap told (n .given .1)) (sym (c .before .has-bytes .ensures) ∙ not-false _ (c .if5 .left)) in
     omega (arith, s .ends)
 
 returns-6 : tie.Need-returns-6
@@ -65,9 +74,18 @@ returns-6 c = λ e. absurd (omega arith)
 
 returns-7 : tie.Need-returns-7
 returns-7 c =
-    let small = small-by-index (c .before .before .before .before .before .before .before .before .before .before .before .before .before .args .pack .now) (λ i h. omega (arith, c .before .before .before .before .before .before .before .before .before .before .before .before .shared-slice-known .given i)) in
-    λ e. short-there _ _ small (c .before .before .before .before .before .before .before .before .before .before .before .if1 .left) (c .before .before .before .before .before .before .before .before .before .before .if2 .left) (c .before .before .before .before .before .before .before .before .if3 .left) (c .before .before .before .before .before .before .before .is-path .ensures (not-false _ (c .before .before .before .before .before .before .if4 .left)))
-    (sym (c .before .before .before .before .before .little4 .ensures) ∙ ap told (c .before .before .before .n .given .1)) (sym (c .before .has-bytes .ensures) ∙ not-false _ (c .if5 .left))
+    let args = c .before .before .before .before .before .before .before .before .before .before .before .before .before .args in
+    let shared-slice-known = c .before .before .before .before .before .before .before .before .before .before .before .before .shared-slice-known in
+    let if1 = c .before .before .before .before .before .before .before .before .before .before .before .if1 in
+    let if2 = c .before .before .before .before .before .before .before .before .before .before .if2 in
+    let if3 = c .before .before .before .before .before .before .before .before .if3 in
+    let is-path = c .before .before .before .before .before .before .before .is-path in
+    let if4 = c .before .before .before .before .before .before .if4 in
+    let little4 = c .before .before .before .before .before .little4 in
+    let n = c .before .before .before .n in
+    let small = small-by-index (args .pack .now) (λ i h. omega (arith, shared-slice-known .given i)) in
+    λ e. short-there _ _ small (if1 .left) (if2 .left) (if3 .left) (is-path .ensures (not-false _ (if4 .left)))
+    (sym (little4 .ensures) ∙ ap told (n .given .1)) (sym (c .before .has-bytes .ensures) ∙ not-false _ (c .if5 .left))
 
 pub short-record-spec : {M : Type 1} → statement M
 short-record-spec =

@@ -63,16 +63,32 @@ mul-result-5 : tie.Need-mul-result-5
 mul-result-5 c = search needs
 
 returns-3 : tie.Need-returns-3
-returns-3 c = judged-is _ _ _ _ _ (λ z. (c .before .before .before .before .before .before .before .if1) .left z) ((c .before .before .before .before .before .before .if2) .left) refl (search needs) ((c .before .before .before .resolve) .ensures) _ (ap (λ (x : Resolved). number (told x)) ((c .enum-told) .given .1))
+returns-3 c =
+    let if1 = c .before .before .before .before .before .before .before .if1 in
+    let if2 = c .before .before .before .before .before .before .if2 in
+    let resolve = c .before .before .before .resolve in
+    judged-is _ _ _ _ _ (λ z. if1 .left z) (if2 .left) refl (search needs) (resolve .ensures) _ (ap (λ (x : Resolved). number (told x)) ((c .enum-told) .given .1))
 
 returns-4 : tie.Need-returns-4
-returns-4 c = judged-is _ _ _ _ _ (λ z. (c .before .before .before .before .before .before .before .before .if1) .left z) ((c .before .before .before .before .before .before .before .if2) .left) refl (search needs) ((c .before .before .before .before .resolve) .ensures) _ (ap (λ (x : Resolved). number (told x)) ((c .before .number) .given .1))
+returns-4 c =
+    let if1 = c .before .before .before .before .before .before .before .before .if1 in
+    let if2 = c .before .before .before .before .before .before .before .if2 in
+    let resolve = c .before .before .before .before .resolve in
+    judged-is _ _ _ _ _ (λ z. if1 .left z) (if2 .left) refl (search needs) (resolve .ensures) _ (ap (λ (x : Resolved). number (told x)) ((c .before .number) .given .1))
 
 returns-5 : tie.Need-returns-5
-returns-5 c = judged-is _ _ _ _ _ (λ z. (c .before .before .before .before .before .before .before .before .if1) .left z) ((c .before .before .before .before .before .before .before .if2) .left) refl (search needs) ((c .before .before .before .before .resolve) .ensures) _ (ap (λ (x : Resolved). number (told x)) ((c .before .place) .given .1))
+returns-5 c =
+    let if1 = c .before .before .before .before .before .before .before .before .if1 in
+    let if2 = c .before .before .before .before .before .before .before .if2 in
+    let resolve = c .before .before .before .before .resolve in
+    judged-is _ _ _ _ _ (λ z. if1 .left z) (if2 .left) refl (search needs) (resolve .ensures) _ (ap (λ (x : Resolved). number (told x)) ((c .before .place) .given .1))
 
 returns-6 : tie.Need-returns-6
-returns-6 c = judged-is _ _ _ _ _ (λ z. (c .before .before .before .before .before .before .before .if1) .left z) ((c .before .before .before .before .before .before .if2) .left) refl (search needs) ((c .before .before .before .resolve) .ensures) _ (ap (λ (x : Resolved). number (told x)) ((c .enum-told2) .given .1))
+returns-6 c =
+    let if1 = c .before .before .before .before .before .before .before .if1 in
+    let if2 = c .before .before .before .before .before .before .if2 in
+    let resolve = c .before .before .before .resolve in
+    judged-is _ _ _ _ _ (λ z. if1 .left z) (if2 .left) refl (search needs) (resolve .ensures) _ (ap (λ (x : Resolved). number (told x)) ((c .enum-told2) .given .1))
 
 pub judge-spec : {M : Type 1} → statement M
 judge-spec =

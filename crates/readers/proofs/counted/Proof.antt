@@ -31,16 +31,25 @@ enum-known-shared : tie.Need-enum-known-shared
 enum-known-shared c = search needs
 
 add-total : tie.Need-add-total
-add-total c = omega (arith, (rw ((c .before .before .before .before .before .names) .given .1) at ((c .before .before .before .before .before .before .before .before .before .before .before .before .before .readers-at) .ensures .0)) .1 .few, (c .before .before .before .before .before .before .before .before .before .before .before .before .before .before .before .before .before .before .before .before .before .before .pre) .0 .1, (c .before .before .before .before .before .before .before .before .before .before .before .before .before .before .before .before .before .before .before .before .before .before .pre) .1)
+add-total c =
+    let names = c .before .before .before .before .before .names in
+    let readers-at = c .before .before .before .before .before .before .before .before .before .before .before .before .before .readers-at in
+    let pre = c .before .before .before .before .before .before .before .before .before .before .before .before .before .before .before .before .before .before .before .before .before .before .pre in
+    omega (arith, (rw (names .given .1) at (readers-at .ensures .0)) .1 .few, pre .0 .1, pre .1)
 
 padding-at-requires : tie.Need-padding-at-requires
 padding-at-requires c κs = search needs
 
 add-total-2 : tie.Need-add-total-2
 add-total-2 c =
-    let file = (c .before .before .before .before .before .before .before .before .before .before .before .before .before .before .before .before .before .before .before .before .before .before .before .args) .file .now in
-    let small = small-by-index file (λ i h. omega (arith, (c .before .before .before .before .before .before .before .before .before .before .before .before .before .before .before .before .before .before .before .before .before .before .shared-slice-known) .given i)) in
-    omega (arith, (rw ((c .before .before .before .before .before .before .names) .given .1) at ((c .before .before .before .before .before .before .before .before .before .before .before .before .before .before .readers-at) .ensures .0)) .1 .few, (c .before .before .before .before .before .before .before .before .before .before .before .before .before .before .before .before .before .before .before .before .before .before .before .pre) .0 .1, (c .before .before .before .before .before .before .before .before .before .before .before .before .before .before .before .before .before .before .before .before .before .before .before .pre) .1, (c .padding-at) .ensures, pad-few file small ((c .before .before .before .before .before .before .names) .given .0 .1 .0))
+    let args = c .before .before .before .before .before .before .before .before .before .before .before .before .before .before .before .before .before .before .before .before .before .before .before .args in
+    let shared-slice-known = c .before .before .before .before .before .before .before .before .before .before .before .before .before .before .before .before .before .before .before .before .before .before .shared-slice-known in
+    let names = c .before .before .before .before .before .before .names in
+    let readers-at = c .before .before .before .before .before .before .before .before .before .before .before .before .before .before .readers-at in
+    let pre = c .before .before .before .before .before .before .before .before .before .before .before .before .before .before .before .before .before .before .before .before .before .before .before .pre in
+    let file = args .file .now in
+    let small = small-by-index file (λ i h. omega (arith, shared-slice-known .given i)) in
+    omega (arith, (rw (names .given .1) at (readers-at .ensures .0)) .1 .few, pre .0 .1, pre .1, (c .padding-at) .ensures, pad-few file small (names .given .0 .1 .0))
 
 cast-t28 : tie.Need-cast-t28
 cast-t28 c = omega (arith, (c .before .before .before .before .before .before .before .before .before .before .before .before .before .before .before .before .before .before .before .before .before .before .before .pre) .0 .1)
@@ -88,13 +97,21 @@ same-length-9 c = search needs
 returns-3 : tie.Need-returns-3
 unfolding countedTotal
 returns-3 c =
-    let p = (c .before .before .before .before .before .before .before .before .before .before .before .before .before .before .before .before .before .before .before .before .before .before .before .pre) .0 in
-    let e = (c .before .before .before .before .before .before .before .before .before .before .before .before .before .before .readers-at) .ensures in
-    let r = rw ((c .before .before .before .before .before .before .names) .given .1) at (e .0) in
-    let a = all-passed ((c .before .before .before .before .before .before .before .before .before .before .before .before .before .before .before .before .before .before .before .before .before .before .before .args) .file .now) ((c .before .before .before .before .before .before .before .before .before .before .before .before .before .before .before .before .before .before .before .before .before .before .before .args) .n) ((c .before .before .before .before .before .before .before .before .before .before .before .before .before .before .before .before .before .before .before .before .before .before .before .args) .at) ((c .before .before .before .before .before .before .names) .given .0 .1 .0) ((c .before .before .before .before .before .before .names) .given .0 .0) (r .1) in (
+    let pre = c .before .before .before .before .before .before .before .before .before .before .before .before .before .before .before .before .before .before .before .before .before .before .before .pre in
+    let readers-at = c .before .before .before .before .before .before .before .before .before .before .before .before .before .before .readers-at in
+    let names = c .before .before .before .before .before .before .names in
+    let args = c .before .before .before .before .before .before .before .before .before .before .before .before .before .before .before .before .before .before .before .before .before .before .before .args in
+    let codes = c .before .before .before .before .before .before .before .before .before .before .before .before .before .codes in
+    let targets = c .before .before .before .before .before .before .before .before .before .before .before .targets in
+    let starts = c .before .before .before .before .before .before .before .before .before .starts in
+    let up-to = c .before .before .before .before .up-to in
+    let p = pre .0 in
+    let e = readers-at .ensures in
+    let r = rw (names .given .1) at (e .0) in
+    let a = all-passed (args .file .now) (args .n) (args .at) (names .given .0 .1 .0) (names .given .0 .0) (r .1) in (
       (
         refl,
-        shared-read _ _ _ _ (r .0) (p .1) ((c .before .before .before .before .before .before .before .before .before .before .before .before .before .codes) .given) ((c .before .before .before .before .before .before .before .before .before .before .before .targets) .given ∙ p .3) ((c .before .before .before .before .before .before .before .before .before .starts) .given ∙ p .4) (sym ((c .before .before .before .before .up-to) .ensures) ∙ ap told ((c .before .before .shared) .given .1)),
+        shared-read _ _ _ _ (r .0) (p .1) (codes .given) (targets .given ∙ p .3) (starts .given ∙ p .4) (sym (up-to .ensures) ∙ ap told ((c .before .before .shared) .given .1)),
         rw ((c .padding-at) .ensures, a .1, ← a .0),
       ),
       ap (λ o. o .1) (e .1),

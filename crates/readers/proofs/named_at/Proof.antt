@@ -3,10 +3,7 @@ use mathlib.Core.Path.{sym, ap, _∙_}
 use native.Mathlib.Omega.{arith}
 use lib.ListN.{length, drop, length-drop}
 use borrow.Author.Tests.{leb-true, not-true, not-false}
-use Rattle.names.specs.Entries.{enums-sized}
-use Rattle.targets.specs.Contract.{told as resolved}
-use Rattle.targets.specs.Meaning.{target-is}
-use Rattle.readers.proofs.Parts.{name-part, named-missing, named-room, named-refused, named-target}
+use Rattle.readers.proofs.Parts.{name-part}
 use Rattle.readers.specs.Left.{name-missing, name-resolved}
 use borrow.Author.Needs.{needs}
 use Rattle.readers.proofs.named_at.Statement.{statement}
@@ -17,9 +14,9 @@ has-bytes-requires c κs = search needs
 
 returns : tie.Need-returns
 returns c =
-    let a = (c .before .before .before .before .before .args) in
-    let t = sym ((c .before .has-bytes) .ensures) ∙ not-true _ ((c .if1) .taken) in
-    (named-missing _ (a .file .now) (a .n) (a .at) (a .first) t, name-missing _ (a .file .now) (a .codes .now) (a .used) (a .at) (a .first) (a .n) t)
+    let a = c .before .before .before .before .before .args in
+    let short = sym (c .before .has-bytes .ensures) ∙ not-true _ (c .if1 .taken) in
+    name-missing _ (a .file .now) (a .codes .now) (a .used) (a .at) (a .first) (a .n) short
 
 add-version : tie.Need-add-version
 add-version c = search needs
@@ -33,7 +30,7 @@ part-resolve-start c = search needs
 part-resolve-end : tie.Need-part-resolve-end
 part-resolve-end c =
     let a = (c .before .before .before .before .before .args) in
-    omega (arith, leb-true (a .n) (length (drop (a .first) (a .file .now))) (sym ((c .before .has-bytes) .ensures) ∙ not-false _ ((c .if1) .left)), length-drop (a .first) (a .file .now), (c .before .before .before .before .before .pre) .0)
+    omega (arith, leb-true (a .n) (length (drop (a .first) (a .file .now))) (sym ((c .before .has-bytes) .ensures) ∙ not-false _ ((c .if1) .left)), length-drop (a .first) (a .file .now), c .before .before .before .before .before .pre .0)
 
 resolve-requires : tie.Need-resolve-requires
 resolve-requires c κs = search needs
@@ -58,43 +55,36 @@ same-length c = search needs
 
 returns-2 : tie.Need-returns-2
 returns-2 c =
-    let a = (c .before .before .before .before .before .before .before .before .before .before .before .before .args) in
-    let pre = (c .before .before .before .before .before .before .before .before .before .before .before .before .pre) in
-    absurd (named-room _ (a .file .now) (a .n) (a .at) (a .first) (sym ((c .before .before .before .before .before .before .before .before .has-bytes) .ensures) ∙ not-false _ ((c .before .before .before .before .before .before .before .if1) .left)) _ _ _ (a .used) (name-part (a .file .now) (a .first) (a .n)) (pre .1) (pre .2 .2) (pre .2 .1) (pre .0) (pre .2 .0) ((c .before .before .before .before .resolve) .ensures) (ap resolved ((c .enum-told) .given .1)))
+    let a = c .before .before .before .before .before .before .before .before .before .before .before .before .args in
+    let long = sym (c .before .before .before .before .before .before .before .before .has-bytes .ensures) ∙ not-false _ (c .before .before .before .before .before .before .before .if1 .left) in
+    rw (c .enum-told .given .1) at (name-resolved _ (a .file .now) (a .codes .now) (a .used) (a .at) (a .first) (a .n) long _ _ _ (name-part (a .file .now) (a .first) (a .n)) (c .before .before .before .before .resolve .ensures))
 
 same-length-2 : tie.Need-same-length-2
 same-length-2 c = search needs
 
 returns-3 : tie.Need-returns-3
 returns-3 c =
-    let a = (c .before .before .before .before .before .before .before .before .before .before .before .before .before .args) in
-    let pre = (c .before .before .before .before .before .before .before .before .before .before .before .before .before .pre) in (
-      named-refused _ (a .file .now) (a .n) (a .at) (a .first) (sym ((c .before .before .before .before .before .before .before .before .before .has-bytes) .ensures) ∙ not-false _ ((c .before .before .before .before .before .before .before .before .if1) .left)) _ _ _ (a .used) (name-part (a .file .now) (a .first) (a .n)) (pre .1) (pre .2 .2) (pre .2 .1) (pre .0) (pre .2 .0) _ _ ((c .before .before .before .before .before .resolve) .ensures) (ap resolved ((c .before .number) .given .1)),
-      rw ((c .before .number) .given .1) at (name-resolved _ (a .file .now) (a .codes .now) (a .used) (a .at) (a .first) (a .n) (sym ((c .before .before .before .before .before .before .before .before .before .has-bytes) .ensures) ∙ not-false _ ((c .before .before .before .before .before .before .before .before .if1) .left)) _ _ _ (name-part (a .file .now) (a .first) (a .n)) ((c .before .before .before .before .before .resolve) .ensures)),
-    )
+    let a = c .before .before .before .before .before .before .before .before .before .before .before .before .before .args in
+    let long = sym (c .before .before .before .before .before .before .before .before .before .has-bytes .ensures) ∙ not-false _ (c .before .before .before .before .before .before .before .before .if1 .left) in
+    rw (c .before .number .given .1) at (name-resolved _ (a .file .now) (a .codes .now) (a .used) (a .at) (a .first) (a .n) long _ _ _ (name-part (a .file .now) (a .first) (a .n)) (c .before .before .before .before .before .resolve .ensures))
 
 same-length-3 : tie.Need-same-length-3
 same-length-3 c = search needs
 
 returns-4 : tie.Need-returns-4
 returns-4 c =
-    let a = (c .before .before .before .before .before .before .before .before .before .before .before .before .before .args) in
-    let pre = (c .before .before .before .before .before .before .before .before .before .before .before .before .before .pre) in (
-      named-refused _ (a .file .now) (a .n) (a .at) (a .first) (sym ((c .before .before .before .before .before .before .before .before .before .has-bytes) .ensures) ∙ not-false _ ((c .before .before .before .before .before .before .before .before .if1) .left)) _ _ _ (a .used) (name-part (a .file .now) (a .first) (a .n)) (pre .1) (pre .2 .2) (pre .2 .1) (pre .0) (pre .2 .0) _ _ ((c .before .before .before .before .before .resolve) .ensures) (ap resolved ((c .before .place) .given .1)),
-      rw ((c .before .place) .given .1) at (name-resolved _ (a .file .now) (a .codes .now) (a .used) (a .at) (a .first) (a .n) (sym ((c .before .before .before .before .before .before .before .before .before .has-bytes) .ensures) ∙ not-false _ ((c .before .before .before .before .before .before .before .before .if1) .left)) _ _ _ (name-part (a .file .now) (a .first) (a .n)) ((c .before .before .before .before .before .resolve) .ensures)),
-    )
+    let a = c .before .before .before .before .before .before .before .before .before .before .before .before .before .args in
+    let long = sym (c .before .before .before .before .before .before .before .before .before .has-bytes .ensures) ∙ not-false _ (c .before .before .before .before .before .before .before .before .if1 .left) in
+    rw (c .before .place .given .1) at (name-resolved _ (a .file .now) (a .codes .now) (a .used) (a .at) (a .first) (a .n) long _ _ _ (name-part (a .file .now) (a .first) (a .n)) (c .before .before .before .before .before .resolve .ensures))
 
 same-length-4 : tie.Need-same-length-4
 same-length-4 c = search needs
 
 returns-5 : tie.Need-returns-5
 returns-5 c =
-    let a = (c .before .before .before .before .before .before .before .before .before .before .before .before .before .before .args) in
-    let pre = (c .before .before .before .before .before .before .before .before .before .before .before .before .before .before .pre) in
-    rw ((c .versioned) .ensures) (
-      named-target _ (a .file .now) (a .n) (a .at) (a .first) (sym ((c .before .before .before .before .before .before .before .before .before .before .has-bytes) .ensures) ∙ not-false _ ((c .before .before .before .before .before .before .before .before .before .if1) .left)) _ _ _ (a .used) (name-part (a .file .now) (a .first) (a .n)) (pre .1) (pre .2 .2) (pre .2 .1) (pre .0) (pre .2 .0) _ (target-is _ (enums-sized _) _ _ _ _ _ _ ((c .before .before .before .before .before .before .resolve) .ensures) (ap resolved ((c .before .before .end) .given .1))),
-      rw ((c .before .before .end) .given .1) at (name-resolved _ (a .file .now) (a .codes .now) (a .used) (a .at) (a .first) (a .n) (sym ((c .before .before .before .before .before .before .before .before .before .before .has-bytes) .ensures) ∙ not-false _ ((c .before .before .before .before .before .before .before .before .before .if1) .left)) _ _ _ (name-part (a .file .now) (a .first) (a .n)) ((c .before .before .before .before .before .before .resolve) .ensures)),
-    )
+    let a = c .before .before .before .before .before .before .before .before .before .before .before .before .before .before .args in
+    let long = sym (c .before .before .before .before .before .before .before .before .before .before .has-bytes .ensures) ∙ not-false _ (c .before .before .before .before .before .before .before .before .before .if1 .left) in
+    rw (c .versioned .ensures) (rw (c .before .before .end .given .1) at (name-resolved _ (a .file .now) (a .codes .now) (a .used) (a .at) (a .first) (a .n) long _ _ _ (name-part (a .file .now) (a .first) (a .n)) (c .before .before .before .before .before .before .resolve .ensures)))
 
 pub named-at-spec : {M : Type 1} → statement M
 named-at-spec =

@@ -45,10 +45,17 @@ padding-at-requires c κs = search needs
 
 counted-requires : tie.Need-counted-requires
 counted-requires c κs =
-    let file = (c .before .before .before .before .before .before .before .before .before .before .before .before .before .before .args) .file .now in
-    let small = small-by-index file (λ i h. omega (arith, (c .before .before .before .before .before .before .before .before .before .before .before .before .before .shared-slice-known) .given i)) in (
-      ((c .before .before .before .before .before .before .before .before .before .before .if1) .left, up-to-bound _ _ _ (sym ((c .before .before .before .before .before .before .before .before .before .reader-count) .ensures) ∙ ap told ((c .before .before .before .before .before .before .before .count) .given .1)), rw ((c .before .before .before .before .before .codes-for) .ensures) at ((c .before .before .before .before .if2) .left), search needs, search needs),
-      omega (arith, (c .padding-at) .ensures, pad-few file small ((c .before .before .before .before .before .before .before .before .before .before .before .before .before .before .args) .at)),
+    let args = c .before .before .before .before .before .before .before .before .before .before .before .before .before .before .args in
+    let shared-slice-known = c .before .before .before .before .before .before .before .before .before .before .before .before .before .shared-slice-known in
+    let if1 = c .before .before .before .before .before .before .before .before .before .before .if1 in
+    let reader-count = c .before .before .before .before .before .before .before .before .before .reader-count in
+    let count = c .before .before .before .before .before .before .before .count in
+    let codes-for = c .before .before .before .before .before .codes-for in
+    let if2 = c .before .before .before .before .if2 in
+    let file = args .file .now in
+    let small = small-by-index file (λ i h. omega (arith, shared-slice-known .given i)) in (
+      (if1 .left, up-to-bound _ _ _ (sym (reader-count .ensures) ∙ ap told (count .given .1)), rw (codes-for .ensures) at (if2 .left), search needs, search needs),
+      omega (arith, (c .padding-at) .ensures, pad-few file small (args .at)),
     )
 
 returns-3 : tie.Need-returns-3

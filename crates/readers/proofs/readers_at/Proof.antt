@@ -1,15 +1,19 @@
 -- `readers::readers_at` meets its contract: before each turn the first `i` readers are in the arrays. Assumes nothing.
 use mathlib.Core.Path.{_≡_, refl, sym, ap, subst, _∙_}
-use Prim.Native.Nat.{_-_}
+use mathlib.Core.List.{List}
+use Prim.Native.Nat.{ℕ, _-_, _<_, _≤_}
 use native.Mathlib.Omega.{arith}
 use lib.ListN.{length}
-use Rattle.names.specs.Entries.{enumsOf}
+use Rattle.layout.specs.EnumList.{EnumEntry}
+use Rattle.names.specs.Entries.{enumsOf, enums-sized}
+use Rattle.readers.specs.Parts.{Ready}
+use Rattle.readers.specs.Meaning.{reader-takes}
 use Rattle.readers.specs.Turns.{Reached}
 use Rattle.readers.specs.Passed.{Passed, none-passed, one-passed}
 use Rattle.readers.proofs.Turns.{start, refuse, stop, turn}
 use Rattle.reading.specs.Reads.{small-by-index}
 use Rattle.places.specs.Padding.{pad-few}
-use Rattle.readers.specs.Left.{codes-enough, readersFrom, readersLeft, readers-start, reader-turn, readers-end}
+use Rattle.readers.specs.Left.{codesFor, codes-enough, readersFrom, readersLeft, readers-start, reader-turn, readers-end}
 use borrow.Author.Needs.{needs}
 use Rattle.readers.proofs.readers_at.Statement.{statement}
 use Rattle.readers.proofs.readers_at.Tie as tie
@@ -23,15 +27,18 @@ Inv-loop file enums codes₀ targets₀ starts₀ n at i₀ used₀ next₀ padd
 abbrev μ-loop : tie.MeasureT-loop
 μ-loop file enums codes₀ targets₀ starts₀ n at i₀ used₀ next₀ padding₀ codes targets starts i used next padding = n - i
 
+-- the codes have room for those of one more name
+ready-before : {es : List EnumEntry} {file codes codes₀ targets starts : List ℕ} {n at i used next : ℕ} → length file ≤ 16777216 → n ≤ 64 → codesFor n ≤ length codes₀ → length codes ≡ length codes₀
+    → Reached es file codes₀ codes targets starts n at i used next → i < n → Ready file used codes
+ready-before {n = n} {i = i} size few room same r h =
+    let e = codes-enough n i h in
+    (size, omega (arith, r .room, r .few), omega (arith, r .room))
+
 loop-holds : tie.Need-loop-holds Inv-loop μ-loop
 loop-holds c = (refl, refl, refl, start _ _ _ _ _ _ _, readers-start _ _ _ _ _ _ _, none-passed _ _ _)
 
 reader-at-requires : tie.Need-reader-at-requires Inv-loop μ-loop
-reader-at-requires c κs =
-    let v = (c .before .before .loop) .inv in
-    let p = (c .before .before .before .before .before .before .before .before .pre) in
-    let e = codes-enough ((c .before .before .before .before .before .before .before .before .args) .n) ((c .before .before .loop) .i) ((c .before .loop-test) .taken) in
-    (p .0, omega (arith, v .3 .room, v .3 .few, p .1), omega (arith, v .0, v .3 .room, p .2))
+reader-at-requires c κs = search needs
 
 enum-known-number : tie.Need-enum-known-number Inv-loop μ-loop
 enum-known-number c = search needs
@@ -47,15 +54,24 @@ same-length-3 c = search needs
 
 returns : tie.Need-returns Inv-loop μ-loop
 returns c =
-    let e = (c .before .before .before .before .before .reader-at) .ensures in
-    let one = sym ((c .before .number) .given .1) ∙ ap (λ o. o .0) (sym (e .1)) in
-    (refuse ((c .before .before .before .before .before .before .before .before .loop) .inv .3) ((c .before .before .before .before .before .before .before .loop-test) .taken) (rw ((c .before .number) .given .1) at (e .0)), (sym ((c .before .before .before .before .before .before .before .before .loop) .inv .4) ∙ reader-turn _ _ _ _ _ _ _ _ _ _ _ _ ((c .before .before .before .before .before .before .before .loop-test) .taken) one (ap (λ o. o .1) (sym (e .1)))))
+    let v = c .before .before .before .before .before .before .before .before .loop .inv in
+    let h = c .before .before .before .before .before .before .before .loop-test .taken in
+    let p = c .before .before .before .before .before .before .before .before .before .before .before .before .before .before .pre in
+    let file = c .before .before .before .before .before .before .before .before .before .before .before .before .before .before .args .file .now in
+    let small = small-by-index file (λ i h. omega (arith, c .before .before .before .before .before .before .before .before .before .before .before .before .before .shared-slice-known .given i)) in
+    let e = c .before .before .before .before .before .reader-at .ensures in
+    let is = c .before .number .given .1 in
+    let takes = rw is at (reader-takes _ (enums-sized _) file _ _ _ (ready-before (p .0) (p .1) (p .2) (v .0) (v .3) h) small e) in
+    (refuse (v .3) h takes, sym (v .4) ∙ reader-turn _ _ _ _ _ _ _ _ _ _ _ _ h (sym is ∙ ap (λ o. o .0) (sym e)) (ap (λ o. o .1) (sym e)))
 
 enum-known-first : tie.Need-enum-known-first Inv-loop μ-loop
 enum-known-first c = search needs
 
 cast-targets : tie.Need-cast-targets Inv-loop μ-loop
-cast-targets c = omega (arith, (c .before .before .before .before .before .before .before .before .loop) .inv .3 .room, (c .before .before .before .before .before .before .before .before .loop) .inv .3 .few, (c .before .before .before .before .before .before .before .before .before .before .before .before .before .before .pre) .1)
+cast-targets c =
+    let loop = c .before .before .before .before .before .before .before .before .loop in
+    let pre = c .before .before .before .before .before .before .before .before .before .before .before .before .before .before .pre in
+    omega (arith, loop .inv .3 .room, loop .inv .3 .few, pre .1)
 
 mul-targets : tie.Need-mul-targets Inv-loop μ-loop
 mul-targets c = search needs
@@ -65,8 +81,13 @@ slice-write-targets c = search needs
 
 cast-starts : tie.Need-cast-starts Inv-loop μ-loop
 cast-starts c =
-    let t = rw ((c .before .first) .given .1) at ((c .before .before .before .before .before .reader-at) .ensures .0) in
-    omega (arith, t .inside, (c .before .before .before .before .before .before .before .before .before .before .before .before .before .before .pre) .0)
+    let v = c .before .before .before .before .before .before .before .before .loop .inv in
+    let h = c .before .before .before .before .before .before .before .loop-test .taken in
+    let p = c .before .before .before .before .before .before .before .before .before .before .before .before .before .before .pre in
+    let file = c .before .before .before .before .before .before .before .before .before .before .before .before .before .before .args .file .now in
+    let small = small-by-index file (λ i h. omega (arith, c .before .before .before .before .before .before .before .before .before .before .before .before .before .shared-slice-known .given i)) in
+    let takes = rw (c .before .first .given .1) at (reader-takes _ (enums-sized _) file _ _ _ (ready-before (p .0) (p .1) (p .2) (v .0) (v .3) h) small (c .before .before .before .before .before .reader-at .ensures)) in
+    omega (arith, takes .inside, p .0)
 
 mul-starts : tie.Need-mul-starts Inv-loop μ-loop
 mul-starts c = search needs
@@ -79,9 +100,14 @@ padding-at-requires c κs = search needs
 
 add-padding : tie.Need-add-padding Inv-loop μ-loop
 add-padding c =
-    let file = (c .before .before .before .before .before .before .before .before .before .before .before .before .before .before .before .args) .file .now in
-    let small = small-by-index file (λ i h. omega (arith, (c .before .before .before .before .before .before .before .before .before .before .before .before .before .before .shared-slice-known) .given i)) in
-    omega (arith, (c .padding-at) .ensures, pad-few file small ((c .before .before .before .before .before .before .before .before .before .loop) .next), (c .before .before .before .before .before .before .before .before .before .loop) .inv .5 .few, (c .before .before .before .before .before .before .before .before .loop-test) .taken, (c .before .before .before .before .before .before .before .before .before .before .before .before .before .before .before .pre) .1)
+    let args = c .before .before .before .before .before .before .before .before .before .before .before .before .before .before .before .args in
+    let shared-slice-known = c .before .before .before .before .before .before .before .before .before .before .before .before .before .before .shared-slice-known in
+    let loop = c .before .before .before .before .before .before .before .before .before .loop in
+    let test = c .before .before .before .before .before .before .before .before .loop-test in
+    let pre = c .before .before .before .before .before .before .before .before .before .before .before .before .before .before .before .pre in
+    let file = args .file .now in
+    let small = small-by-index file (λ i h. omega (arith, shared-slice-known .given i)) in
+    omega (arith, (c .padding-at) .ensures, pad-few file small (loop .next), loop .inv .5 .few, test .taken, pre .1)
 
 add-i : tie.Need-add-i Inv-loop μ-loop
 add-i c = search needs
@@ -97,14 +123,14 @@ loop-again c =
     let v = (c .before .before .before .before .before .before .before .before .before .loop) .inv in
     let p = (c .before .before .before .before .before .before .before .before .before .before .before .before .before .before .before .pre) in
     let e = (c .before .before .before .before .before .before .reader-at) .ensures in
-    let t = rw ((c .before .before .first) .given .1) at (e .0) in
-    let one = sym ((c .before .before .first) .given .1) ∙ ap (λ o. o .0) (sym (e .1)) in
+    let t = rw ((c .before .before .first) .given .1) at (reader-takes _ (enums-sized _) file _ _ _ (ready-before (p .0) (p .1) (p .2) (v .0) (v .3) h) small e) in
+    let one = sym ((c .before .before .first) .given .1) ∙ ap (λ o. o .0) (sym e) in
     rw ((c .padding-at) .ensures) (
       search needs,
       search needs,
       search needs,
       turn (v .3) t h (omega (arith, v .1, p .1, p .3)) (omega (arith, v .2, p .1, p .4)),
-      sym (reader-turn _ _ _ _ _ _ _ _ _ _ _ _ h one (ap (λ o. o .1) (sym (e .1)))) ∙ v .4,
+      sym (reader-turn _ _ _ _ _ _ _ _ _ _ _ _ h one (ap (λ o. o .1) (sym e))) ∙ v .4,
       one-passed file _ _ _ _ _ _ small h (t .answer) (v .5),
     )
 
@@ -119,9 +145,11 @@ same-length-6 c = search needs
 
 returns-2 : tie.Need-returns-2 Inv-loop μ-loop
 returns-2 c =
-    let v = (c .before .loop) .inv in
-    let all : (c .before .loop) .i ≡ (c .before .before .before .before .before .before .before .args) .n = omega (arith, v .3 .few, (c .loop-test) .left) in
-    ((stop (v .3) ((c .loop-test) .left), subst (λ k. Passed ((c .before .before .before .before .before .before .before .args) .file .now) ((c .before .before .before .before .before .before .before .args) .n) ((c .before .before .before .before .before .before .before .args) .at) k ((c .before .loop) .next) ((c .before .loop) .padding)) all (v .5)), (sym (v .4) ∙ readers-end _ _ _ _ _ _ _ _ _ _ ((c .loop-test) .left)))
+    let loop = c .before .loop in
+    let args = c .before .before .before .before .before .before .before .args in
+    let v = loop .inv in
+    let all : loop .i ≡ args .n = omega (arith, v .3 .few, (c .loop-test) .left) in
+    ((stop (v .3) ((c .loop-test) .left), subst (λ k. Passed (args .file .now) (args .n) (args .at) k (loop .next) (loop .padding)) all (v .5)), (sym (v .4) ∙ readers-end _ _ _ _ _ _ _ _ _ _ ((c .loop-test) .left)))
 
 pub readers-at-spec : {M : Type 1} → statement M
 readers-at-spec =

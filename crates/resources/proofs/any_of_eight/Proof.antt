@@ -28,10 +28,17 @@ cell-requires : tie.Need-cell-requires Inv-loop μ-loop
 cell-requires c κs = search needs
 
 mul-found : tie.Need-mul-found Inv-loop μ-loop
-mul-found c = record { fits = omega (arith, c .cell .ensures, cell-inside (shapeOf (c .before .before .before .before .args .grid .columns)) (c .before .before .before .before .args .grid .room) (c .before .before .before .before .args .from + c .before .before .loop .j) 0 (length (c .before .before .before .before .args .words .now)) (omega (arith, c .before .before .before .before .pre .0, c .before .loop-test .taken)) (omega arith) (c .before .before .before .before .pre .1)) }
+mul-found c =
+    let args = c .before .before .before .before .args in
+    let pre = c .before .before .before .before .pre in
+    record { fits = omega (arith, c .cell .ensures, cell-inside (shapeOf (args .grid .columns)) (args .grid .room) (args .from + c .before .before .loop .j) 0 (length (args .words .now)) (omega (arith, pre .0, c .before .loop-test .taken)) (omega arith) (pre .1)) }
 
 shared-slice-read-found : tie.Need-shared-slice-read-found Inv-loop μ-loop
-shared-slice-read-found c = omega (arith, c .before .cell .ensures, cell-inside (shapeOf (c .before .before .before .before .before .args .grid .columns)) (c .before .before .before .before .before .args .grid .room) (c .before .before .before .before .before .args .from + c .before .before .before .loop .j) 0 (length (c .before .before .before .before .before .args .words .now)) (omega (arith, c .before .before .before .before .before .pre .0, c .before .before .loop-test .taken)) (omega arith) (c .before .before .before .before .before .pre .1))
+shared-slice-read-found c =
+    let args = c .before .before .before .before .before .args in
+    let loop = c .before .before .before .loop in
+    let pre = c .before .before .before .before .before .pre in
+    omega (arith, c .before .cell .ensures, cell-inside (shapeOf (args .grid .columns)) (args .grid .room) (args .from + loop .j) 0 (length (args .words .now)) (omega (arith, pre .0, c .before .before .loop-test .taken)) (omega arith) (pre .1))
 
 add-j : tie.Need-add-j Inv-loop μ-loop
 add-j c = search needs

@@ -13,7 +13,10 @@ use Rattle.rewrite.proofs.pass_entries.Statement.{statement}
 use Rattle.rewrite.proofs.pass_entries.Tie as tie
 
 abbrev Inv-loop : tie.InvT-loop
-Inv-loop file out₀ readers at done₀ place₀ left₀ out done place left = (length out ≡ length out₀) × ((s : Small file) → Passed file s readers at left place × ((base places whole : List ℕ) → Pending file base out₀ (done₀ .from) (done₀ .to) (entriesPlaces file readers at ++ places) whole → Pending file base out (done .from) (done .to) (entriesPlaces file left place ++ places) whole))
+Inv-loop file out₀ readers at done₀ place₀ left₀ out done place left =
+    (length out ≡ length out₀) × ((s : Small file) → Passed file s readers at left place × ((base places whole : List ℕ)
+    → Pending file base out₀ (done₀ .from) (done₀ .to) (entriesPlaces file readers at ++ places) whole
+    → Pending file base out (done .from) (done .to) (entriesPlaces file left place ++ places) whole))
 
 abbrev μ-loop : tie.MeasureT-loop
 μ-loop file out₀ readers at done₀ place₀ left₀ out done place left = left
@@ -32,15 +35,25 @@ cast-place c = search needs
 
 add-place : tie.Need-add-place Inv-loop μ-loop
 add-place c =
-    let s = c .before .before .before .before .before .before .before .before .before .before .before .args .file .now in
-    let small = small-by-index s (λ i h. omega (arith, c .before .before .before .before .before .before .before .before .before .before .shared-slice-known .given i)) in
-    omega (arith, end-fits s small (c .before .before .before .before .before .before .before .before .before .before .before .args .readers) (c .before .before .before .before .before .before .before .before .before .before .before .args .at) (c .before .before .before .before .before .before .before .before .loop .left) (c .before .before .before .before .before .before .before .before .loop .place) (c .before .before .before .before .before .before .measure .result) (c .before .before .before .before .before .before .before .before .before .before .before .pre .0) (c .before .before .before .before .before .before .measure .ensures) (c .before .before .before .before .before .before .before .before .loop .inv .1 small .0))
+    let args = c .before .before .before .before .before .before .before .before .before .before .before .args in
+    let shared-slice-known = c .before .before .before .before .before .before .before .before .before .before .shared-slice-known in
+    let loop = c .before .before .before .before .before .before .before .before .loop in
+    let measure = c .before .before .before .before .before .before .measure in
+    let pre = c .before .before .before .before .before .before .before .before .before .before .before .pre in
+    let s = args .file .now in
+    let small = small-by-index s (λ i h. omega (arith, shared-slice-known .given i)) in
+    omega (arith, end-fits s small (args .readers) (args .at) (loop .left) (loop .place) (measure .result) (pre .0) (measure .ensures) (loop .inv .1 small .0))
 
 add-place-2 : tie.Need-add-place-2 Inv-loop μ-loop
 add-place-2 c =
-    let s = c .before .before .before .before .before .before .before .before .before .before .before .args .file .now in
-    let small = small-by-index s (λ i h. omega (arith, c .before .before .before .before .before .before .before .before .before .before .shared-slice-known .given i)) in
-    omega (arith, end-fits s small (c .before .before .before .before .before .before .before .before .before .before .before .args .readers) (c .before .before .before .before .before .before .before .before .before .before .before .args .at) (c .before .before .before .before .before .before .before .before .loop .left) (c .before .before .before .before .before .before .before .before .loop .place) (c .before .before .before .before .before .before .measure .result) (c .before .before .before .before .before .before .before .before .before .before .before .pre .0) (c .before .before .before .before .before .before .measure .ensures) (c .before .before .before .before .before .before .before .before .loop .inv .1 small .0))
+    let args = c .before .before .before .before .before .before .before .before .before .before .before .args in
+    let shared-slice-known = c .before .before .before .before .before .before .before .before .before .before .shared-slice-known in
+    let loop = c .before .before .before .before .before .before .before .before .loop in
+    let measure = c .before .before .before .before .before .before .measure in
+    let pre = c .before .before .before .before .before .before .before .before .before .before .before .pre in
+    let s = args .file .now in
+    let small = small-by-index s (λ i h. omega (arith, shared-slice-known .given i)) in
+    omega (arith, end-fits s small (args .readers) (args .at) (loop .left) (loop .place) (measure .result) (pre .0) (measure .ensures) (loop .inv .1 small .0))
 
 sub-left : tie.Need-sub-left Inv-loop μ-loop
 sub-left c = search needs
@@ -49,14 +62,20 @@ loop-less : tie.Need-loop-less Inv-loop μ-loop
 loop-less c = search needs
 
 loop-again : tie.Need-loop-again Inv-loop μ-loop
-loop-again c = (
-  search needs,
-  λ s. let a = c .before .before .before .before .before .before .before .before .loop .inv .1 s in
-      let r = rest-places (c .before .before .before .before .before .before .before .before .before .before .before .args .file .now) s (c .before .before .before .before .before .before .before .before .before .before .before .args .readers) (c .before .before .before .before .before .before .before .before .before .before .before .args .at) (c .before .before .before .before .before .before .before .before .loop .left) (c .before .before .before .before .before .before .before .before .loop .place) (c .before .before .before .before .before .before .measure .result) (c .before .before .before .before .before .before .before .before .before .before .before .pre .0) (c .before .before .before .before .before .before .measure .ensures) (a .0) (c .before .before .before .before .before .before .before .loop-test .taken) in (
-        one-passed (c .before .before .before .before .before .before .before .before .before .before .before .args .file .now) s (c .before .before .before .before .before .before .before .before .before .before .before .args .readers) (c .before .before .before .before .before .before .before .before .before .before .before .args .at) (c .before .before .before .before .before .before .before .before .loop .left) (c .before .before .before .before .before .before .before .before .loop .place) (c .before .before .before .before .before .before .measure .result) (c .before .before .before .before .before .before .before .before .before .before .before .pre .0) (c .before .before .before .before .before .before .measure .ensures) (a .0) (c .before .before .before .before .before .before .before .loop-test .taken),
-        λ base places whole p. c .before .before .before .before .pass .ensures base (entriesPlaces (c .before .before .before .before .before .before .before .before .before .before .before .args .file .now) (c .before .before .before .before .before .before .before .before .loop .left - 1) (c .before .before .before .before .before .before .measure .result .next + c .before .before .before .before .before .before .measure .result .value + 4) ++ places) whole (c .before .before .before .before .before .before .measure .ensures) (rw r at (a .1 base places whole p)),
-      ),
-)
+loop-again c =
+    let loop = c .before .before .before .before .before .before .before .before .loop in
+    let args = c .before .before .before .before .before .before .before .before .before .before .before .args in
+    let measure = c .before .before .before .before .before .before .measure in
+    let pre = c .before .before .before .before .before .before .before .before .before .before .before .pre in
+    let test = c .before .before .before .before .before .before .before .loop-test in
+    let pass = c .before .before .before .before .pass in (
+      search needs,
+      λ s. let a = loop .inv .1 s in
+          let r = rest-places (args .file .now) s (args .readers) (args .at) (loop .left) (loop .place) (measure .result) (pre .0) (measure .ensures) (a .0) (test .taken) in (
+            one-passed (args .file .now) s (args .readers) (args .at) (loop .left) (loop .place) (measure .result) (pre .0) (measure .ensures) (a .0) (test .taken),
+            λ base places whole p. pass .ensures base (entriesPlaces (args .file .now) (loop .left - 1) (measure .result .next + measure .result .value + 4) ++ places) whole (measure .ensures) (rw r at (a .1 base places whole p)),
+          ),
+    )
 
 same-length : tie.Need-same-length Inv-loop μ-loop
 same-length c = search needs

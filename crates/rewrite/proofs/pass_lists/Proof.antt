@@ -30,15 +30,22 @@ same-length c = search needs
 
 returns : tie.Need-returns
 unfolding listsPlaces
-returns c = λ base places whole p.
-    let s = c .before .before .before .before .before .before .before .before .before .before .before .before .before .before .before .before .args .file .now in
-    let f = found s (small-by-index s (λ i h. omega (arith, c .before .before .before .before .before .before .before .before .before .before .before .before .before .before .before .shared-slice-known .given i))) 10 (c .before .before .before .before .before .before .before .before .before .before .before .before .before .measure .result) (c .before .before .before .before .before .before .before .before .before .before .before .before .before .measure .ensures) in
-    let first = c .before .before .before .before .before .before .before .before .before .before .before .before .before .measure .result .next in
-    let end = entriesEnd s (c .before .before .before .before .before .before .before .before .before .before .before .before .before .before .before .before .args .readers) first in
-    let q = rw (← f .next-is, append-assoc (entriesPlaces s (c .before .before .before .before .before .before .before .before .before .before .before .before .before .before .before .before .args .readers) first) (end ∷ []) places) at p in
-    let p₁ = c .before .before .before .before .before .before .before .before .before .before .before .pass .ensures base (entriesPlaces s (c .before .before .before .before .before .before .before .before .before .before .before .before .before .before .before .before .args .readers) first ++ (end ∷ places)) whole (c .before .before .before .before .before .before .before .before .before .before .before .before .before .measure .ensures) q in
-    let p₂ = c .before .before .before .before .before .before .before .pass-entries .ensures .1 base (end ∷ places) whole p₁ in
-    c .before .before .pass2 .ensures base places whole (c .before .before .before .measure2 .ensures) (rw (← c .before .before .before .before .before .before .before .pass-entries .ensures .0) at p₂)
+returns c =
+    let args = c .before .before .before .before .before .before .before .before .before .before .before .before .before .before .before .before .args in
+    let shared-slice-known = c .before .before .before .before .before .before .before .before .before .before .before .before .before .before .before .shared-slice-known in
+    let measure = c .before .before .before .before .before .before .before .before .before .before .before .before .before .measure in
+    let pass = c .before .before .before .before .before .before .before .before .before .before .before .pass in
+    let pass-entries = c .before .before .before .before .before .before .before .pass-entries in
+    let measure2 = c .before .before .before .measure2 in
+    λ base places whole p.
+    let s = args .file .now in
+    let f = found s (small-by-index s (λ i h. omega (arith, shared-slice-known .given i))) 10 (measure .result) (measure .ensures) in
+    let first = measure .result .next in
+    let end = entriesEnd s (args .readers) first in
+    let q = rw (← f .next-is, append-assoc (entriesPlaces s (args .readers) first) (end ∷ []) places) at p in
+    let p₁ = pass .ensures base (entriesPlaces s (args .readers) first ++ (end ∷ places)) whole (measure .ensures) q in
+    let p₂ = pass-entries .ensures .1 base (end ∷ places) whole p₁ in
+    c .before .before .pass2 .ensures base places whole (measure2 .ensures) (rw (← pass-entries .ensures .0) at p₂)
 
 pub pass-lists-spec : {M : Type 1} → statement M
 pass-lists-spec =

@@ -42,12 +42,22 @@ same-length : tie.Need-same-length
 same-length c = search needs
 
 returns : tie.Need-returns
-returns c = λ base places whole p.
+returns c =
+    let shared-slice-known = c .before .before .before .before .before .before .before .before .before .before .before .before .before .before .before .before .before .shared-slice-known in
+    let word-of2 = c .before .before .before .before .before .before .before .before .before .before .before .before .word-of2 in
+    let measure = c .before .before .before .before .before .before .before .before .measure in
+    let grid = c .before .before .before .before .before .before .before .before .before .before .before .before .before .before .grid in
+    let word-of = c .before .before .before .before .before .before .before .before .before .before .before .before .before .word-of in
+    let word-of3 = c .before .before .before .before .before .before .before .before .before .before .before .word-of3 in
+    let if1 = c .before .before .before .before .before .before .before .before .before .if1 in
+    let numbered = c .before .before .before .before .before .before .before .before .before .before .numbered in
+    let pass = c .before .before .before .before .before .before .pass in
+    λ base places whole p.
     let a = c .before .before .before .before .before .before .before .before .before .before .before .before .before .before .before .before .before .before .args in
     let s = a .file .now in
-    let f = found s (small-by-index s (λ i h. omega (arith, c .before .before .before .before .before .before .before .before .before .before .before .before .before .before .before .before .before .shared-slice-known .given i))) (c .before .before .before .before .before .before .before .before .before .before .before .before .word-of2 .result) (c .before .before .before .before .before .before .before .before .measure .result) (c .before .before .before .before .before .before .before .before .measure .ensures) in
-    let e = with-id s (a .words .now) (c .before .before .before .before .before .before .before .before .before .before .before .before .before .before .grid .result) (a .row) (c .before .before .before .before .before .before .before .before .before .before .before .before .before .word-of .result) (c .before .before .before .before .before .before .before .before .before .before .before .before .word-of2 .result) (c .before .before .before .before .before .before .before .before .before .before .before .word-of3 .result) (c .before .before .before .before .before .before .before .before .before .before .before .before .before .before .grid .ensures) (c .before .before .before .before .before .before .before .before .before .before .before .before .before .word-of .ensures) (c .before .before .before .before .before .before .before .before .before .before .before .before .word-of2 .ensures) (c .before .before .before .before .before .before .before .before .before .before .before .word-of3 .ensures) (sym (c .before .before .before .before .before .before .before .before .before .if1 .taken) ∙ c .before .before .before .before .before .before .before .before .before .before .numbered .ensures) in
-    let q = c .before .before .before .before .before .before .pass .ensures base (countPlaces s (c .before .before .before .before .before .before .before .before .before .before .before .before .before .word-of .result) (past (sevenAt s (c .before .before .before .before .before .before .before .before .before .before .before .before .word-of2 .result)) (c .before .before .before .before .before .before .before .before .before .before .before .before .word-of2 .result)) ++ places) whole (c .before .before .before .before .before .before .before .before .measure .ensures) (rw e at p) in
+    let f = found s (small-by-index s (λ i h. omega (arith, shared-slice-known .given i))) (word-of2 .result) (measure .result) (measure .ensures) in
+    let e = with-id s (a .words .now) (grid .result) (a .row) (word-of .result) (word-of2 .result) (word-of3 .result) (grid .ensures) (word-of .ensures) (word-of2 .ensures) (word-of3 .ensures) (sym (if1 .taken) ∙ numbered .ensures) in
+    let q = pass .ensures base (countPlaces s (word-of .result) (past (sevenAt s (word-of2 .result)) (word-of2 .result)) ++ places) whole (measure .ensures) (rw e at p) in
     c .before .before .pass-count .ensures base places whole (rw (← f .next-is) at q)
 
 pass-count-requires-2 : tie.Need-pass-count-requires-2
@@ -57,9 +67,16 @@ same-length-2 : tie.Need-same-length-2
 same-length-2 c = search needs
 
 returns-2 : tie.Need-returns-2
-returns-2 c = λ base places whole p.
+returns-2 c =
+    let grid = c .before .before .before .before .before .before .before .before .before .grid in
+    let word-of = c .before .before .before .before .before .before .before .before .word-of in
+    let word-of2 = c .before .before .before .before .before .before .before .word-of2 in
+    let word-of3 = c .before .before .before .before .before .before .word-of3 in
+    let if1 = c .before .before .before .before .if1 in
+    let numbered = c .before .before .before .before .before .numbered in
+    λ base places whole p.
     let a = c .before .before .before .before .before .before .before .before .before .before .before .before .before .args in
-    let e = without-id (a .file .now) (a .words .now) (c .before .before .before .before .before .before .before .before .before .grid .result) (a .row) (c .before .before .before .before .before .before .before .before .word-of .result) (c .before .before .before .before .before .before .before .word-of2 .result) (c .before .before .before .before .before .before .word-of3 .result) (c .before .before .before .before .before .before .before .before .before .grid .ensures) (c .before .before .before .before .before .before .before .before .word-of .ensures) (c .before .before .before .before .before .before .before .word-of2 .ensures) (c .before .before .before .before .before .before .word-of3 .ensures) (sym (c .before .before .before .before .if1 .left) ∙ c .before .before .before .before .before .numbered .ensures) in
+    let e = without-id (a .file .now) (a .words .now) (grid .result) (a .row) (word-of .result) (word-of2 .result) (word-of3 .result) (grid .ensures) (word-of .ensures) (word-of2 .ensures) (word-of3 .ensures) (sym (if1 .left) ∙ numbered .ensures) in
     c .before .before .pass-count2 .ensures base places whole (rw e at p)
 
 pub pass-row-spec : {M : Type 1} → statement M

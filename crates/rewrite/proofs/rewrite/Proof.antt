@@ -21,18 +21,24 @@ cast-fit c = search needs
 
 fit-requires : tie.Need-fit-requires
 fit-requires c κs =
-    let s = c .before .before .before .before .before .before .before .before .before .before .before .before .before .args .file .now in
-    let n = c .before .before .before .before .before .before .before .before .before .before .before .before .before .args .enums .now in
-    let g = loaded n s (length (c .before .before .before .before .before .before .before .before .before .before .before .before .before .args .words .now)) (small-by-index s (λ i h. omega (arith, c .before .before .before .before .before .before .before .before .before .before .before .before .shared-slice-known .given i))) (sym (c .before .before .before .rows .given .1) ∙ c .before .before .before .before .before .before .before .load .ensures .0) in
-    rw (c .before .before .before .before .before .before .before .load .ensures .1) (g .ready)
+    let args = c .before .before .before .before .before .before .before .before .before .before .before .before .before .args in
+    let shared-slice-known = c .before .before .before .before .before .before .before .before .before .before .before .before .shared-slice-known in
+    let rows = c .before .before .before .rows in
+    let load = c .before .before .before .before .before .before .before .load in
+    let s = args .file .now in
+    let n = args .enums .now in
+    let g = loaded n s (length (args .words .now)) (small-by-index s (λ i h. omega (arith, shared-slice-known .given i))) (sym (rows .given .1) ∙ load .ensures .0) in
+    rw (load .ensures .1) (g .ready)
 
 same-length : tie.Need-same-length
 same-length c = search needs
 
 returns : tie.Need-returns
 returns c =
-    let r = load-refused (c .before .before .before .before .before .before .before .before .before .before .before .args .enums .now) (c .before .before .before .before .before .before .before .before .before .before .before .args .file .now) (length (c .before .before .before .before .before .before .before .before .before .before .before .args .words .now)) (c .before .before .before .before .before .before .before .before .before .before .before .args .out .now) (sym (c .before .number .given .1) ∙ c .before .before .before .before .before .load .ensures .0) in
-    (r .0, (r .1, c .before .before .before .before .before .load .ensures .1 ∙ r .2))
+    let args = c .before .before .before .before .before .before .before .before .before .before .before .args in
+    let load = c .before .before .before .before .before .load in
+    let r = load-refused (args .enums .now) (args .file .now) (length (args .words .now)) (args .out .now) (sym (c .before .number .given .1) ∙ load .ensures .0) in
+    (r .0, (r .1, load .ensures .1 ∙ r .2))
 
 same-length-2 : tie.Need-same-length-2
 same-length-2 c = search needs
@@ -42,10 +48,15 @@ same-length-3 c = search needs
 
 returns-2 : tie.Need-returns-2
 returns-2 c =
-    let s = c .before .before .before .before .before .before .before .before .before .before .before .before .before .before .before .before .before .before .args .file .now in
-    let n = c .before .before .before .before .before .before .before .before .before .before .before .before .before .before .before .before .before .before .args .enums .now in
-    let g = loaded n s (length (c .before .before .before .before .before .before .before .before .before .before .before .before .before .before .before .before .before .before .args .words .now)) (small-by-index s (λ i h. omega (arith, c .before .before .before .before .before .before .before .before .before .before .before .before .before .before .before .before .before .shared-slice-known .given i))) (sym (c .before .before .before .before .before .before .before .before .rows .given .1) ∙ c .before .before .before .before .before .before .before .before .before .before .before .before .load .ensures .0) in
-    let r = fitted-is n s (length (c .before .before .before .before .before .before .before .before .before .before .before .before .before .before .before .before .before .before .args .words .now)) g (c .before .before .before .before .before .before .before .before .before .before .before .before .before .before .before .before .before .before .args .out .now) _ _ (c .before .before .before .before .before .before .before .before .before .before .before .before .load .ensures .1) (c .before .before .before .before .fit .ensures) in
+    let args = c .before .before .before .before .before .before .before .before .before .before .before .before .before .before .before .before .before .before .args in
+    let shared-slice-known = c .before .before .before .before .before .before .before .before .before .before .before .before .before .before .before .before .before .shared-slice-known in
+    let rows = c .before .before .before .before .before .before .before .before .rows in
+    let load = c .before .before .before .before .before .before .before .before .before .before .before .before .load in
+    let fit = c .before .before .before .before .fit in
+    let s = args .file .now in
+    let n = args .enums .now in
+    let g = loaded n s (length (args .words .now)) (small-by-index s (λ i h. omega (arith, shared-slice-known .given i))) (sym (rows .given .1) ∙ load .ensures .0) in
+    let r = fitted-is n s (length (args .words .now)) g (args .out .now) _ _ (load .ensures .1) (fit .ensures) in
     (r .0, (r .1, r .2))
 
 pub rewrite-spec : {M : Type 1} → statement M

@@ -21,8 +21,9 @@ same-length c = search needs
 
 returns-2 : tie.Need-returns-2
 returns-2 c =
+    let args = c .before .before .before .before .before .before .before .args in
     λ base whole p.
-    c .before .before .copy .ensures .1 ∙ rest-copied (c .before .before .before .before .before .before .before .args .file .now) base (c .before .before .before .before .before .before .before .args .out .now) (c .before .before .before .before .before .before .before .args .c .from) (c .before .before .before .before .before .before .before .args .c .to) whole p .1
+    c .before .before .copy .ensures .1 ∙ rest-copied (args .file .now) base (args .out .now) (args .c .from) (args .c .to) whole p .1
 
 pub write-rest-spec : {M : Type 1} → statement M
 write-rest-spec = tie.close (tie.spec returns sub-n copy-requires same-length returns-2)

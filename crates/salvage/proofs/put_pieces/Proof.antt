@@ -18,7 +18,10 @@ put-count-requires : tie.Need-put-count-requires Inv-loop μ-loop
 put-count-requires c κs = count-fits (c .before .before .before .before .args .pack .now) (c .before .before .before .before .args .records) (c .before .before .before .before .args .out .now) (c .before .before .before .before .args .list .now) (c .before .before .before .before .pre)
 
 loop-holds : tie.Need-loop-holds Inv-loop μ-loop
-loop-holds c = put-start (c .before .before .before .before .before .before .before .args .pack .now) (c .before .before .before .before .before .before .before .args .records) (c .before .before .before .before .before .before .before .args .out .now) (c .before .before .before .before .before .before .before .args .list .now) (c .before .before .before .before .before .before .before .pre) (c .before .before .put-count .ensures)
+loop-holds c =
+    let args = c .before .before .before .before .before .before .before .args in
+    let pre = c .before .before .before .before .before .before .before .pre in
+    put-start (args .pack .now) (args .records) (args .out .now) (args .list .now) pre (c .before .before .put-count .ensures)
 
 next-record-requires : tie.Need-next-record-requires Inv-loop μ-loop
 next-record-requires c κs = c .before .loop .inv .reached .inside
@@ -36,8 +39,17 @@ copy-requires c κs = search needs
 
 add-to : tie.Need-add-to Inv-loop μ-loop
 add-to c =
-    let small = small-by-index (c .before .before .before .before .before .before .before .before .before .before .before .before .before .before .before .before .before .before .args .pack .now) (λ i h. omega (arith, c .before .before .before .before .before .before .before .before .before .before .before .before .before .before .before .before .before .shared-slice-known .given i)) in
-    omega (arith, copy-ends _ _ _ _ (c .before .before .before .before .before .before .before .before .before .before .loop .inv) small (c .before .before .before .before .before .before .before .before .before .loop-test .taken) (c .before .before .before .before .before .before .before .before .next-record .ensures))
+    omega (
+      arith,
+      (
+          let args = c .before .before .before .before .before .before .before .before .before .before .before .before .before .before .before .before .before .before .args in
+          let shared-slice-known = c .before .before .before .before .before .before .before .before .before .before .before .before .before .before .before .before .before .shared-slice-known in
+          let loop = c .before .before .before .before .before .before .before .before .before .before .loop in
+          let test = c .before .before .before .before .before .before .before .before .before .loop-test in
+          let next-record = c .before .before .before .before .before .before .before .before .next-record in
+          let small = small-by-index (args .pack .now) (λ i h. omega (arith, shared-slice-known .given i)) in
+          copy-ends _ _ _ _ (loop .inv) small (test .taken) (next-record .ensures)),
+    )
 
 add-i : tie.Need-add-i Inv-loop μ-loop
 add-i c = search needs
@@ -47,8 +59,14 @@ loop-less c = search needs
 
 loop-again : tie.Need-loop-again Inv-loop μ-loop
 loop-again c =
-    let small = small-by-index (c .before .before .before .before .before .before .before .before .before .before .before .before .before .before .before .before .before .before .args .pack .now) (λ i h. omega (arith, c .before .before .before .before .before .before .before .before .before .before .before .before .before .before .before .before .before .shared-slice-known .given i)) in
-    put-turn _ _ _ _ (c .before .before .before .before .before .before .before .before .before .before .loop .inv) small (c .before .before .before .before .before .before .before .before .before .loop-test .taken) (c .before .before .before .before .before .before .before .before .next-record .ensures) (c .before .before .before .before .before .before .put-gap .ensures) (c .before .before .copy .ensures .1)
+    let args = c .before .before .before .before .before .before .before .before .before .before .before .before .before .before .before .before .before .before .args in
+    let shared-slice-known = c .before .before .before .before .before .before .before .before .before .before .before .before .before .before .before .before .before .shared-slice-known in
+    let loop = c .before .before .before .before .before .before .before .before .before .before .loop in
+    let test = c .before .before .before .before .before .before .before .before .before .loop-test in
+    let next-record = c .before .before .before .before .before .before .before .before .next-record in
+    let put-gap = c .before .before .before .before .before .before .put-gap in
+    let small = small-by-index (args .pack .now) (λ i h. omega (arith, shared-slice-known .given i)) in
+    put-turn _ _ _ _ (loop .inv) small (test .taken) (next-record .ensures) (put-gap .ensures) (c .before .before .copy .ensures .1)
 
 put-gap-requires-2 : tie.Need-put-gap-requires-2 Inv-loop μ-loop
 put-gap-requires-2 c κs =
@@ -56,17 +74,34 @@ put-gap-requires-2 c κs =
     last-fits _ _ _ _ (c .before .before .loop .inv) small (c .before .loop-test .left)
 
 same-length : tie.Need-same-length Inv-loop μ-loop
-same-length c = same-long (c .before .before .before .before .before .loop .inv .output) ∙ base-long (c .before .before .before .before .before .before .before .before .before .before .before .before .before .args .pack .now) (c .before .before .before .before .before .before .before .before .before .before .before .before .before .args .records) (c .before .before .before .before .before .before .before .before .before .before .before .before .before .args .out .now) (c .before .before .before .before .before .before .before .before .before .before .before .before .before .args .list .now) (c .before .before .before .before .before .before .before .before .before .before .before .before .before .pre) (c .before .before .before .before .before .before .before .before .put-count .ensures)
+same-length c =
+    let loop = c .before .before .before .before .before .loop in
+    let args = c .before .before .before .before .before .before .before .before .before .before .before .before .before .args in
+    let pre = c .before .before .before .before .before .before .before .before .before .before .before .before .before .pre in
+    let put-count = c .before .before .before .before .before .before .before .before .put-count in
+    same-long (loop .inv .output) ∙ base-long (args .pack .now) (args .records) (args .out .now) (args .list .now) pre (put-count .ensures)
 
 same-length-2 : tie.Need-same-length-2 Inv-loop μ-loop
 same-length-2 c =
-    let small = small-by-index (c .before .before .before .before .before .before .before .before .before .before .before .before .before .args .pack .now) (λ i h. omega (arith, c .before .before .before .before .before .before .before .before .before .before .before .before .shared-slice-known .given i)) in
-    list-long _ _ _ _ (c .before .before .before .before .before .loop .inv) small (c .before .before .before .before .loop-test .left) (c .before .before .put-gap2 .ensures)
+    let args = c .before .before .before .before .before .before .before .before .before .before .before .before .before .args in
+    let shared-slice-known = c .before .before .before .before .before .before .before .before .before .before .before .before .shared-slice-known in
+    let loop = c .before .before .before .before .before .loop in
+    let test = c .before .before .before .before .loop-test in
+    let small = small-by-index (args .pack .now) (λ i h. omega (arith, shared-slice-known .given i)) in
+    list-long _ _ _ _ (loop .inv) small (test .left) (c .before .before .put-gap2 .ensures)
 
 returns : tie.Need-returns Inv-loop μ-loop
 returns c =
-    let small = small-by-index (c .before .before .before .before .before .before .before .before .before .before .before .before .before .args .pack .now) (λ i h. omega (arith, c .before .before .before .before .before .before .before .before .before .before .before .before .shared-slice-known .given i)) in
-    (whole-output (c .before .before .before .before .before .before .before .before .before .before .before .before .before .args .pack .now) (c .before .before .before .before .before .before .before .before .before .before .before .before .before .args .records) (c .before .before .before .before .before .before .before .before .before .before .before .before .before .args .out .now) (c .before .before .before .before .before .before .before .before .before .before .before .before .before .args .list .now) (c .before .before .before .before .before .before .before .before .before .before .before .before .before .pre) (c .before .before .before .before .before .before .before .before .put-count .ensures) (put-output _ _ _ _ (c .before .before .before .before .before .loop .inv) small (c .before .before .before .before .loop-test .left)), whole-list (c .before .before .before .before .before .before .before .before .before .before .before .before .before .args .pack .now) (c .before .before .before .before .before .before .before .before .before .before .before .before .before .args .records) (c .before .before .before .before .before .before .before .before .before .before .before .before .before .args .out .now) (c .before .before .before .before .before .before .before .before .before .before .before .before .before .args .list .now) (c .before .before .before .before .before .before .before .before .before .before .before .before .before .pre) (put-list _ _ _ _ (c .before .before .before .before .before .loop .inv) small (c .before .before .before .before .loop-test .left) (c .before .before .put-gap2 .ensures)))
+    let args = c .before .before .before .before .before .before .before .before .before .before .before .before .before .args in
+    let shared-slice-known = c .before .before .before .before .before .before .before .before .before .before .before .before .shared-slice-known in
+    let pre = c .before .before .before .before .before .before .before .before .before .before .before .before .before .pre in
+    let put-count = c .before .before .before .before .before .before .before .before .put-count in
+    let loop = c .before .before .before .before .before .loop in
+    let test = c .before .before .before .before .loop-test in
+    let small = small-by-index (args .pack .now) (λ i h. omega (arith, shared-slice-known .given i)) in (
+      whole-output (args .pack .now) (args .records) (args .out .now) (args .list .now) pre (put-count .ensures) (put-output _ _ _ _ (loop .inv) small (test .left)),
+      whole-list (args .pack .now) (args .records) (args .out .now) (args .list .now) pre (put-list _ _ _ _ (loop .inv) small (test .left) (c .before .before .put-gap2 .ensures)),
+    )
 
 pub put-pieces-spec : {M : Type 1} → statement M
 put-pieces-spec =

@@ -25,9 +25,12 @@ returns-2 c =
 
 returns-3 : tie.Need-returns-3
 returns-3 c =
-    let b : c .before .before .measure .result .bytes ≡ length (newPack (c .before .before .before .before .before .before .before .args .pack .now)) = ap (λ (s : Size). s .bytes) (c .before .before .measure .ensures) in
-    let s : c .before .before .measure .result .stretches ≡ length (skippedOf (c .before .before .before .before .before .before .before .args .pack .now)) = ap (λ (s : Size). s .stretches) (c .before .before .measure .ensures) in
-    let x = no-list (c .before .before .before .before .before .before .before .args .pack .now) (c .before .before .before .before .before .before .before .args .out .now) (c .before .before .before .before .before .before .before .args .list .now) (c .before .before .before .if1 .left) (omega (arith, b, c .before .if2 .left)) (omega (arith, s, c .if3 .taken)) in
+    let measure = c .before .before .measure in
+    let args = c .before .before .before .before .before .before .before .args in
+    let if1 = c .before .before .before .if1 in
+    let b : measure .result .bytes ≡ length (newPack (args .pack .now)) = ap (λ (s : Size). s .bytes) (measure .ensures) in
+    let s : measure .result .stretches ≡ length (skippedOf (args .pack .now)) = ap (λ (s : Size). s .stretches) (measure .ensures) in
+    let x = no-list (args .pack .now) (args .out .now) (args .list .now) (if1 .left) (omega (arith, b, c .before .if2 .left)) (omega (arith, s, c .if3 .taken)) in
     (rw s (x .answer), (x .same-output, x .same-list))
 
 put-pieces-requires : tie.Need-put-pieces-requires
@@ -45,10 +48,16 @@ same-length-2 c = search needs
 
 returns-4 : tie.Need-returns-4
 returns-4 c =
-    let b : c .before .before .before .before .before .before .before .before .before .measure .result .bytes ≡ length (newPack (c .before .before .before .before .before .before .before .before .before .before .before .before .before .before .args .pack .now)) = ap (λ (s : Size). s .bytes) (c .before .before .before .before .before .before .before .before .before .measure .ensures) in
-    let s : c .before .before .before .before .before .before .before .before .before .measure .result .stretches ≡ length (skippedOf (c .before .before .before .before .before .before .before .before .before .before .before .before .before .before .args .pack .now)) = ap (λ (s : Size). s .stretches) (c .before .before .before .before .before .before .before .before .before .measure .ensures) in
-    let r : c .before .before .before .before .before .before .before .before .before .measure .result .records ≡ length (keptOf (piecesOf (c .before .before .before .before .before .before .before .before .before .before .before .before .before .before .args .pack .now))) = ap (λ (s : Size). s .records) (c .before .before .before .before .before .before .before .before .before .measure .ensures) in
-    (rw (b, s) (sym (put-answer (c .before .before .before .before .before .before .before .before .before .before .before .before .before .before .args .pack .now) (c .before .before .before .before .before .before .before .before .before .measure .result .records) (c .before .before .before .before .before .before .before .before .before .before .before .before .before .before .args .out .now) (c .before .before .before .before .before .before .before .before .before .before .before .before .before .before .args .list .now) (record { long = c .before .before .before .before .before .before .before .before .before .before .if1 .left; count = r; room = omega (arith, b, c .before .before .before .before .before .before .before .before .if2 .left); listed = omega (arith, s, c .before .before .before .before .before .before .before .if3 .left) }))), c .before .before .before .before .put-pieces .ensures)
+    let measure = c .before .before .before .before .before .before .before .before .before .measure in
+    let args = c .before .before .before .before .before .before .before .before .before .before .before .before .before .before .args in
+    let if1 = c .before .before .before .before .before .before .before .before .before .before .if1 in
+    let if2 = c .before .before .before .before .before .before .before .before .if2 in
+    let if3 = c .before .before .before .before .before .before .before .if3 in
+    let put-pieces = c .before .before .before .before .put-pieces in
+    let b : measure .result .bytes ≡ length (newPack (args .pack .now)) = ap (λ (s : Size). s .bytes) (measure .ensures) in
+    let s : measure .result .stretches ≡ length (skippedOf (args .pack .now)) = ap (λ (s : Size). s .stretches) (measure .ensures) in
+    let r : measure .result .records ≡ length (keptOf (piecesOf (args .pack .now))) = ap (λ (s : Size). s .records) (measure .ensures) in
+    (rw (b, s) (sym (put-answer (args .pack .now) (measure .result .records) (args .out .now) (args .list .now) (record { long = if1 .left; count = r; room = omega (arith, b, if2 .left); listed = omega (arith, s, if3 .left) }))), put-pieces .ensures)
 
 pub salvage-spec : {M : Type 1} → statement M
 salvage-spec =

@@ -28,7 +28,12 @@ equal-requires : tie.Need-equal-requires Inv-loop μ-loop
 equal-requires c κs = search needs
 
 returns : tie.Need-returns Inv-loop μ-loop
-returns c = let a = c .before .before .before .before .before .before .before .before .before .args in let l = c .before .before .before .before .loop in one-equal (a .file .now) (a .codes .now) (a .targets .now) (a .j) (l .i) (c .before .before .before .loop-test .taken) (l .inv .0) (c .before .before .target-at2 .ensures) (c .before .before .before .before .before .target-at .ensures) (c .before .equal .ensures) (c .if1 .taken) (l .inv .1)
+returns c =
+    let a = c .before .before .before .before .before .before .before .before .before .args in
+    let l = c .before .before .before .before .loop in
+    let test = c .before .before .before .loop-test in
+    let target-at = c .before .before .before .before .before .target-at in
+    one-equal (a .file .now) (a .codes .now) (a .targets .now) (a .j) (l .i) (test .taken) (l .inv .0) (c .before .before .target-at2 .ensures) (target-at .ensures) (c .before .equal .ensures) (c .if1 .taken) (l .inv .1)
 
 sub-i : tie.Need-sub-i Inv-loop μ-loop
 sub-i c = search needs
@@ -37,7 +42,12 @@ loop-less : tie.Need-loop-less Inv-loop μ-loop
 loop-less c = search needs
 
 loop-again : tie.Need-loop-again Inv-loop μ-loop
-loop-again c = let a = c .before .before .before .before .before .before .before .before .before .args in let l = c .before .before .before .before .loop in (search needs, one-other (a .file .now) (a .codes .now) (a .targets .now) (a .j) (l .i) (c .before .before .before .loop-test .taken) (l .inv .0) (c .before .before .target-at2 .ensures) (c .before .before .before .before .before .target-at .ensures) (c .before .equal .ensures) (c .if1 .left) (l .inv .1))
+loop-again c =
+    let a = c .before .before .before .before .before .before .before .before .before .args in
+    let l = c .before .before .before .before .loop in
+    let test = c .before .before .before .loop-test in
+    let target-at = c .before .before .before .before .before .target-at in
+    (search needs, one-other (a .file .now) (a .codes .now) (a .targets .now) (a .j) (l .i) (test .taken) (l .inv .0) (c .before .before .target-at2 .ensures) (target-at .ensures) (c .before .equal .ensures) (c .if1 .left) (l .inv .1))
 
 returns-2 : tie.Need-returns-2 Inv-loop μ-loop
 returns-2 c = let a = c .before .before .before .before .before .before .args in let l = c .before .loop in none-equal (a .file .now) (a .codes .now) (a .targets .now) (a .j) (l .i) (c .loop-test .left) (l .inv .1)

@@ -28,7 +28,10 @@ same-length : tie.Need-same-length
 same-length c = search needs
 
 returns : tie.Need-returns
-returns c = let a = c .before .before .before .before .before .before .before .before .before .before .before .args in λ t h names readers shared next q. no-room (enumsOf (a .enums .now)) (a .file .now) (length (a .codes .now)) t (rw (c .enum-told .given .1) at (c .before .before .before .before .read-lists .ensures .0))
+returns c =
+    let a = c .before .before .before .before .before .before .before .before .before .before .before .args in
+    let read-lists = c .before .before .before .before .read-lists in
+    λ t h names readers shared next q. no-room (enumsOf (a .enums .now)) (a .file .now) (length (a .codes .now)) t (rw (c .enum-told .given .1) at (read-lists .ensures .0))
 
 same-length-2 : tie.Need-same-length-2
 same-length-2 c = search needs

@@ -18,7 +18,10 @@ behind-requires : tie.Need-behind-requires Inv-loop μ-loop
 behind-requires c κs = search needs
 
 loop-holds : tie.Need-loop-holds Inv-loop μ-loop
-loop-holds c = let a = c .before .before .before .before .args in (omega arith, (λ h. first-stands (a .file .now) (small-by-index (a .file .now) (λ i h. omega (arith, c .before .before .before .shared-slice-known .given i))) h (c .behind .ensures)), none-passed (a .file .now) (a .codes .now) (a .targets .now) (a .count))
+loop-holds c =
+    let a = c .before .before .before .before .args in
+    let shared-slice-known = c .before .before .before .shared-slice-known in
+    (omega arith, (λ h. first-stands (a .file .now) (small-by-index (a .file .now) (λ i h. omega (arith, shared-slice-known .given i))) h (c .behind .ensures)), none-passed (a .file .now) (a .codes .now) (a .targets .now) (a .count))
 
 entry-at-requires : tie.Need-entry-at-requires Inv-loop μ-loop
 entry-at-requires c κs = search needs
@@ -27,7 +30,17 @@ among-earlier-requires : tie.Need-among-earlier-requires Inv-loop μ-loop
 among-earlier-requires c κs = search needs
 
 returns : tie.Need-returns Inv-loop μ-loop
-returns c = let a = c .before .before .before .before .before .before .before .before .before .args in let l = c .before .before .before .before .loop in λ h. let w = l .inv .1 h in reader-doubled (a .file .now) (a .codes .now) (a .targets .now) (a .count) (l .j) (c .before .before .before .loop-test .taken) (c .before .among-earlier .ensures) (c .if1 .taken) (name-is-start (a .file .now) (l .j) (l .at) w (c .before .before .entry-at .result) (c .before .before .entry-at .ensures h (stands-near (a .file .now) (l .j) (l .at) w (omega (arith, c .before .before .before .before .before .before .before .before .before .fits .count .fits))))) (l .inv .2)
+returns c =
+    let a = c .before .before .before .before .before .before .before .before .before .args in
+    let l = c .before .before .before .before .loop in
+    let test = c .before .before .before .loop-test in
+    let entry-at = c .before .before .entry-at in
+    let fits = c .before .before .before .before .before .before .before .before .before .fits in
+    λ h.
+    let w = l .inv .1 h in
+    let near = stands-near (a .file .now) (l .j) (l .at) w (omega (arith, fits .count .fits)) in
+    let starts = name-is-start (a .file .now) (l .j) (l .at) w (entry-at .result) (entry-at .ensures h near) in
+    reader-doubled (a .file .now) (a .codes .now) (a .targets .now) (a .count) (l .j) (test .taken) (c .before .among-earlier .ensures) (c .if1 .taken) starts (l .inv .2)
 
 add-j : tie.Need-add-j Inv-loop μ-loop
 add-j c = search needs
@@ -36,7 +49,19 @@ loop-less : tie.Need-loop-less Inv-loop μ-loop
 loop-less c = search needs
 
 loop-again : tie.Need-loop-again Inv-loop μ-loop
-loop-again c = let a = c .before .before .before .before .before .before .before .before .before .args in let l = c .before .before .before .before .loop in (search needs, (λ h. let w = l .inv .1 h in next-stands (a .file .now) (l .j) (l .at) w (c .before .before .entry-at .result) (c .before .before .entry-at .ensures h (stands-near (a .file .now) (l .j) (l .at) w (omega (arith, c .before .before .before .before .before .before .before .before .before .fits .count .fits))))), reader-other (a .file .now) (a .codes .now) (a .targets .now) (a .count) (l .j) (c .before .before .before .loop-test .taken) (c .before .among-earlier .ensures) (c .if1 .left) (l .inv .2))
+loop-again c =
+    let a = c .before .before .before .before .before .before .before .before .before .args in
+    let l = c .before .before .before .before .loop in
+    let entry-at = c .before .before .entry-at in
+    let fits = c .before .before .before .before .before .before .before .before .before .fits in
+    let test = c .before .before .before .loop-test in (
+      search needs,
+      (λ h.
+          let w = l .inv .1 h in
+          let near = stands-near (a .file .now) (l .j) (l .at) w (omega (arith, fits .count .fits)) in
+          next-stands (a .file .now) (l .j) (l .at) w (entry-at .result) (entry-at .ensures h near)),
+      reader-other (a .file .now) (a .codes .now) (a .targets .now) (a .count) (l .j) (test .taken) (c .before .among-earlier .ensures) (c .if1 .left) (l .inv .2),
+    )
 
 returns-2 : tie.Need-returns-2 Inv-loop μ-loop
 returns-2 c = let a = c .before .before .before .before .before .before .args in let l = c .before .loop in λ h. all-passed (a .file .now) (a .codes .now) (a .targets .now) (a .count) (l .j) (c .loop-test .left) (l .inv .2)

@@ -52,8 +52,11 @@ bad-arguments-requires c κs = search needs
 
 returns-3 : tie.Need-returns-3
 returns-3 c =
-    let s = (c .before .before .before .before .before .before .before .args) .s .now in
-    sym (ap complaint (reader-some s ((c .before .before .before .before .before .if1) .left)) ∙ rw (ne-eqb _ _ ((c .before .before .before .if2) .left), eq-eqb _ _ ((c .before .before .if3) .taken)) (ap (λ (l : List ℕ). complaint (badArguments false l)) (sym (rest s 1)) ∙ sym ((c .bad-arguments) .ensures)))
+    let args = c .before .before .before .before .before .before .before .args in
+    let if1 = c .before .before .before .before .before .if1 in
+    let if2 = c .before .before .before .if2 in
+    let s = args .s .now in
+    sym (ap complaint (reader-some s (if1 .left)) ∙ rw (ne-eqb _ _ (if2 .left), eq-eqb _ _ ((c .before .before .if3) .taken)) (ap (λ (l : List ℕ). complaint (badArguments false l)) (sym (rest s 1)) ∙ sym ((c .bad-arguments) .ensures)))
 
 head-ok-requires : tie.Need-head-ok-requires
 head-ok-requires c κs = search needs
@@ -82,8 +85,14 @@ bad-arguments-requires-2 c κs = search needs
 returns-5 : tie.Need-returns-5
 unfolding unless
 returns-5 c =
-    let s = (c .before .before .before .before .before .before .before .before .before .args) .s .now in
-    sym (ap complaint (reader-some s ((c .before .before .before .before .before .before .before .if1) .left)) ∙ rw (ne-eqb _ _ ((c .before .before .before .before .before .if2) .left), ne-eqb _ _ ((c .before .before .before .before .if3) .left), sym ((c .before .before .before .head-ok) .ensures) ∙ not-false _ ((c .before .before .if4) .left)) (ap (λ (l : List ℕ). complaint (badArguments (eqb (getD s 0 0 % 256) 80) l)) (sym (rest s 1)) ∙ sym ((c .bad-arguments2) .ensures)))
+    let args = c .before .before .before .before .before .before .before .before .before .args in
+    let if1 = c .before .before .before .before .before .before .before .if1 in
+    let if2 = c .before .before .before .before .before .if2 in
+    let if3 = c .before .before .before .before .if3 in
+    let head-ok = c .before .before .before .head-ok in
+    let s = args .s .now in
+    let known = sym (head-ok .ensures) ∙ not-false _ (c .before .before .if4 .left) in
+    sym (ap complaint (reader-some s (if1 .left)) ∙ rw (ne-eqb _ _ (if2 .left), ne-eqb _ _ (if3 .left), known) (ap (λ (l : List ℕ). complaint (badArguments (eqb (getD s 0 0 % 256) 80) l)) (sym (rest s 1)) ∙ sym ((c .bad-arguments2) .ensures)))
 
 pub bad-reader-spec : {M : Type 1} → statement M
 bad-reader-spec =

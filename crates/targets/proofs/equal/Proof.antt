@@ -20,10 +20,16 @@ unfolding equalAt
 loop-holds c = (refl, omega arith)
 
 returns : tie.Need-returns Inv-loop μ-loop
-returns c = agree-short ((c .before .before .before .before .before .args) .file .now) ((c .before .before .before .before .before .args) .codes .now) ((c .before .before .loop) .i) ((c .before .before .loop) .j) ((c .before .before .loop) .need) ((c .before .before .loop) .inv .0) ((c .before .loop-test) .taken) ((c .if1) .taken)
+returns c =
+    let args = c .before .before .before .before .before .args in
+    let loop = c .before .before .loop in
+    agree-short (args .file .now) (args .codes .now) (loop .i) (loop .j) (loop .need) (loop .inv .0) ((c .before .loop-test) .taken) ((c .if1) .taken)
 
 returns-2 : tie.Need-returns-2 Inv-loop μ-loop
-returns-2 c = agree-short-2 ((c .before .before .before .before .before .before .args) .file .now) ((c .before .before .before .before .before .before .args) .codes .now) ((c .before .before .before .loop) .i) ((c .before .before .before .loop) .j) ((c .before .before .before .loop) .need) ((c .before .before .before .loop) .inv .0) ((c .before .before .loop-test) .taken) ((c .before .if1) .left) ((c .if2) .taken)
+returns-2 c =
+    let args = c .before .before .before .before .before .before .args in
+    let loop = c .before .before .before .loop in
+    agree-short-2 (args .file .now) (args .codes .now) (loop .i) (loop .j) (loop .need) (loop .inv .0) ((c .before .before .loop-test) .taken) ((c .before .if1) .left) ((c .if2) .taken)
 
 mul-x : tie.Need-mul-x Inv-loop μ-loop
 mul-x c = search needs
@@ -41,7 +47,13 @@ same-code-requires : tie.Need-same-code-requires Inv-loop μ-loop
 same-code-requires c κs = search needs
 
 returns-3 : tie.Need-returns-3 Inv-loop μ-loop
-returns-3 c = agree-no ((c .before .before .before .before .before .before .before .before .before .before .args) .file .now) ((c .before .before .before .before .before .before .before .before .before .before .args) .codes .now) ((c .before .before .before .before .before .before .before .loop) .i) ((c .before .before .before .before .before .before .before .loop) .j) ((c .before .before .before .before .before .before .before .loop) .need) ((c .before .before .before .before .before .before .before .loop) .inv .0) ((c .before .before .before .before .before .before .loop-test) .taken) ((c .before .before .before .before .before .if1) .left) ((c .before .before .before .before .if2) .left) (sym ((c .before .same-code) .ensures) ∙ not-true _ ((c .if3) .taken))
+returns-3 c =
+    let args = c .before .before .before .before .before .before .before .before .before .before .args in
+    let loop = c .before .before .before .before .before .before .before .loop in
+    let test = c .before .before .before .before .before .before .loop-test in
+    let if1 = c .before .before .before .before .before .if1 in
+    let if2 = c .before .before .before .before .if2 in
+    agree-no (args .file .now) (args .codes .now) (loop .i) (loop .j) (loop .need) (loop .inv .0) (test .taken) (if1 .left) (if2 .left) (sym ((c .before .same-code) .ensures) ∙ not-true _ ((c .if3) .taken))
 
 sub-need : tie.Need-sub-need Inv-loop μ-loop
 sub-need c = search needs
@@ -62,7 +74,13 @@ loop-less : tie.Need-loop-less Inv-loop μ-loop
 loop-less c = search needs
 
 loop-again : tie.Need-loop-again Inv-loop μ-loop
-loop-again c = (agree-step ((c .before .before .before .before .before .before .before .before .before .before .args) .file .now) ((c .before .before .before .before .before .before .before .before .before .before .args) .codes .now) ((c .before .before .before .before .before .before .before .loop) .i) ((c .before .before .before .before .before .before .before .loop) .j) ((c .before .before .before .before .before .before .before .loop) .need) ((c .before .before .before .before .before .before .before .loop) .inv .0) ((c .before .before .before .before .before .before .loop-test) .taken) ((c .before .before .before .before .before .if1) .left) ((c .before .before .before .before .if2) .left) (sym ((c .before .same-code) .ensures) ∙ not-false _ ((c .if3) .left)), omega (arith, (c .before .before .before .before .before .before .before .loop) .inv .1))
+loop-again c =
+    let args = c .before .before .before .before .before .before .before .before .before .before .args in
+    let loop = c .before .before .before .before .before .before .before .loop in
+    let test = c .before .before .before .before .before .before .loop-test in
+    let if1 = c .before .before .before .before .before .if1 in
+    let if2 = c .before .before .before .before .if2 in
+    (agree-step (args .file .now) (args .codes .now) (loop .i) (loop .j) (loop .need) (loop .inv .0) (test .taken) (if1 .left) (if2 .left) (sym ((c .before .same-code) .ensures) ∙ not-false _ ((c .if3) .left)), omega (arith, loop .inv .1))
 
 returns-4 : tie.Need-returns-4 Inv-loop μ-loop
 returns-4 c = agree-none ((c .before .before .before .before .args) .file .now) ((c .before .before .before .before .args) .codes .now) ((c .before .loop) .i) ((c .before .loop) .j) ((c .before .loop) .need) ((c .before .loop) .inv .0) ((c .loop-test) .left)

@@ -24,14 +24,21 @@ kind-at-requires-2 c κs = search needs
 
 returns-3 : tie.Need-returns-3
 unfolding fitsAt
-returns-3 c = rw (ne-eqb _ _ (λ q. (c .before .before .before .if1) .left ((c .before .before .before .before .kind-at) .ensures ∙ q)), eq-eqb _ _ (sym ((c .before .before .before .before .kind-at) .ensures) ∙ (c .before .before .if2) .left), eq-eqb _ _ (sym ((c .before .kind-at2) .ensures) ∙ (c .if3) .taken))
+returns-3 c =
+    let if1 = c .before .before .before .if1 in
+    let kind-at = c .before .before .before .before .kind-at in
+    rw (ne-eqb _ _ (λ q. if1 .left (kind-at .ensures ∙ q)), eq-eqb _ _ (sym (kind-at .ensures) ∙ (c .before .before .if2) .left), eq-eqb _ _ (sym ((c .before .kind-at2) .ensures) ∙ (c .if3) .taken))
 
 equal-requires-2 : tie.Need-equal-requires-2
 equal-requires-2 c κs = search needs
 
 returns-4 : tie.Need-returns-4
 unfolding fitsAt
-returns-4 c = rw (ne-eqb _ _ (λ q. (c .before .before .before .before .if1) .left ((c .before .before .before .before .before .kind-at) .ensures ∙ q)), eq-eqb _ _ (sym ((c .before .before .before .before .before .kind-at) .ensures) ∙ (c .before .before .before .if2) .left), ne-eqb _ _ (λ q. (c .before .if3) .left ((c .before .before .kind-at2) .ensures ∙ q))) ((c .equal2) .ensures)
+returns-4 c =
+    let if1 = c .before .before .before .before .if1 in
+    let kind-at = c .before .before .before .before .before .kind-at in
+    let if2 = c .before .before .before .if2 in
+    rw (ne-eqb _ _ (λ q. if1 .left (kind-at .ensures ∙ q)), eq-eqb _ _ (sym (kind-at .ensures) ∙ if2 .left), ne-eqb _ _ (λ q. (c .before .if3) .left ((c .before .before .kind-at2) .ensures ∙ q))) ((c .equal2) .ensures)
 
 pub fits-spec : {M : Type 1} → statement M
 fits-spec =

@@ -68,13 +68,22 @@ same-length-3 : tie.Need-same-length-3
 same-length-3 c = search needs
 
 returns-3 : tie.Need-returns-3
-returns-3 c = unknown-is _ (enums-sized _) _ _ _ _ _ (got-is _ (enums-sized _) _ _ _ _ _ ((c .before .before .before .before .before .before .before .before .before .before .before .read-name) .ensures) _ ((c .before .before .before .before .before .before .before .end) .given .1)) _ (sym ((c .before .before .before .bad-reader) .ensures) ∙ (c .before .place) .given .1)
+returns-3 c =
+    let read-name = c .before .before .before .before .before .before .before .before .before .before .before .read-name in
+    let end = c .before .before .before .before .before .before .before .end in
+    let bad-reader = c .before .before .before .bad-reader in
+    unknown-is _ (enums-sized _) _ _ _ _ _ (got-is _ (enums-sized _) _ _ _ _ _ (read-name .ensures) _ (end .given .1)) _ (sym (bad-reader .ensures) ∙ (c .before .place) .given .1)
 
 same-length-4 : tie.Need-same-length-4
 same-length-4 c = search needs
 
 returns-4 : tie.Need-returns-4
-returns-4 c = known-is _ (enums-sized _) _ _ _ _ _ (got-is _ (enums-sized _) _ _ _ _ _ ((c .before .before .before .before .before .before .before .before .before .before .before .before .before .before .read-name) .ensures) _ ((c .before .before .before .before .before .before .before .before .before .before .end) .given .1)) (sym ((c .before .before .before .before .before .before .bad-reader) .ensures) ∙ (c .before .before .before .before .enum-told2) .given .1) ((c .before .before .settle) .ensures)
+returns-4 c =
+    let read-name = c .before .before .before .before .before .before .before .before .before .before .before .before .before .before .read-name in
+    let end = c .before .before .before .before .before .before .before .before .before .before .end in
+    let bad-reader = c .before .before .before .before .before .before .bad-reader in
+    let enum-told2 = c .before .before .before .before .enum-told2 in
+    known-is _ (enums-sized _) _ _ _ _ _ (got-is _ (enums-sized _) _ _ _ _ _ (read-name .ensures) _ (end .given .1)) (sym (bad-reader .ensures) ∙ enum-told2 .given .1) ((c .before .before .settle) .ensures)
 
 pub resolve-spec : {M : Type 1} → statement M
 resolve-spec =

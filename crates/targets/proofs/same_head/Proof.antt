@@ -25,7 +25,10 @@ run-requires : tie.Need-run-requires
 run-requires c κs = search needs
 
 add-m : tie.Need-add-m
-add-m c = omega (arith, head-ends ((c .before .before .before .before .before .args) .file .now) ((c .before .before .before .before .before .args) .a) ((c .before .before .before .inside) .result) ((c .run) .result) ((c .before .before .before .inside) .ensures .0) ((c .before .before .before .inside) .ensures .1) ((c .run) .ensures))
+add-m c =
+    let args = c .before .before .before .before .before .args in
+    let inside = c .before .before .before .inside in
+    omega (arith, head-ends (args .file .now) (args .a) (inside .result) ((c .run) .result) (inside .ensures .0) (inside .ensures .1) ((c .run) .ensures))
 
 sub-run-2 : tie.Need-sub-run-2
 sub-run-2 c = search needs
@@ -40,7 +43,10 @@ run-requires-2 : tie.Need-run-requires-2
 run-requires-2 c κs = search needs
 
 add-n : tie.Need-add-n
-add-n c = omega (arith, head-ends ((c .before .before .before .before .before .before .before .args) .file .now) ((c .before .before .before .before .before .before .before .args) .b) ((c .before .before .before .before .inside2) .result) ((c .run2) .result) ((c .before .before .before .before .inside2) .ensures .0) ((c .before .before .before .before .inside2) .ensures .1) ((c .run2) .ensures))
+add-n c =
+    let args = c .before .before .before .before .before .before .before .args in
+    let inside2 = c .before .before .before .before .inside2 in
+    omega (arith, head-ends (args .file .now) (args .b) (inside2 .result) ((c .run2) .result) (inside2 .ensures .0) (inside2 .ensures .1) ((c .run2) .ensures))
 
 sub-same-text : tie.Need-sub-same-text
 sub-same-text c = search needs
@@ -49,7 +55,11 @@ part-same-text-start : tie.Need-part-same-text-start
 part-same-text-start c = search needs
 
 part-same-text-end : tie.Need-part-same-text-end
-part-same-text-end c = head-ends ((c .before .before .before .before .before .before .before .args) .file .now) ((c .before .before .before .before .before .before .before .args) .a) ((c .before .before .before .before .before .inside) .result) ((c .before .before .run) .result) ((c .before .before .before .before .before .inside) .ensures .0) ((c .before .before .before .before .before .inside) .ensures .1) ((c .before .before .run) .ensures)
+part-same-text-end c =
+    let args = c .before .before .before .before .before .before .before .args in
+    let inside = c .before .before .before .before .before .inside in
+    let run = c .before .before .run in
+    head-ends (args .file .now) (args .a) (inside .result) (run .result) (inside .ensures .0) (inside .ensures .1) (run .ensures)
 
 sub-same-text-2 : tie.Need-sub-same-text-2
 sub-same-text-2 c = search needs
@@ -58,15 +68,23 @@ part-same-text-start-2 : tie.Need-part-same-text-start-2
 part-same-text-start-2 c = search needs
 
 part-same-text-end-2 : tie.Need-part-same-text-end-2
-part-same-text-end-2 c = head-ends ((c .before .before .before .before .before .before .before .before .args) .file .now) ((c .before .before .before .before .before .before .before .before .args) .b) ((c .before .before .before .before .before .inside2) .result) ((c .before .run2) .result) ((c .before .before .before .before .before .inside2) .ensures .0) ((c .before .before .before .before .before .inside2) .ensures .1) ((c .before .run2) .ensures)
+part-same-text-end-2 c =
+    let args = c .before .before .before .before .before .before .before .before .args in
+    let inside2 = c .before .before .before .before .before .inside2 in
+    head-ends (args .file .now) (args .b) (inside2 .result) ((c .before .run2) .result) (inside2 .ensures .0) (inside2 .ensures .1) ((c .before .run2) .ensures)
 
 same-text-requires : tie.Need-same-text-requires
 same-text-requires c κs = search needs
 
 returns : tie.Need-returns
 returns c =
-    let p = head-part ((c .before .before .before .before .before .before .before .before .before .before .args) .file .now) ((c .before .before .before .before .before .before .before .before .before .before .args) .a) ((c .before .before .before .before .before .before .before .before .inside) .result) ((c .before .before .before .before .before .run) .result) ((c .before .before .before .before .before .before .before .before .inside) .ensures .0) ((c .before .before .before .before .before .before .before .before .inside) .ensures .1) ((c .before .before .before .before .before .run) .ensures) in
-    let q = head-part ((c .before .before .before .before .before .before .before .before .before .before .args) .file .now) ((c .before .before .before .before .before .before .before .before .before .before .args) .b) ((c .before .before .before .before .before .before .before .inside2) .result) ((c .before .before .before .run2) .result) ((c .before .before .before .before .before .before .before .inside2) .ensures .0) ((c .before .before .before .before .before .before .before .inside2) .ensures .1) ((c .before .before .before .run2) .ensures) in
+    let args = c .before .before .before .before .before .before .before .before .before .before .args in
+    let inside = c .before .before .before .before .before .before .before .before .inside in
+    let run = c .before .before .before .before .before .run in
+    let inside2 = c .before .before .before .before .before .before .before .inside2 in
+    let run2 = c .before .before .before .run2 in
+    let p = head-part (args .file .now) (args .a) (inside .result) (run .result) (inside .ensures .0) (inside .ensures .1) (run .ensures) in
+    let q = head-part (args .file .now) (args .b) (inside2 .result) (run2 .result) (inside2 .ensures .0) (inside2 .ensures .1) (run2 .ensures) in
     (c .same-text) .ensures ∙ rw (p, q)
 
 pub same-head-spec : {M : Type 1} → statement M

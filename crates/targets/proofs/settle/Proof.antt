@@ -43,7 +43,11 @@ same-length : tie.Need-same-length
 same-length c = search needs
 
 returns-3 : tie.Need-returns-3
-returns-3 c = some-enum _ _ _ (omega (arith, (c .before .before .before .before .before .before .pre), (c .before .before .before .before .if1) .left)) ((c .before .before .if2) .left) (ap (set ((c .before .before .before .before .before .before .args) .codes .now) ((c .before .before .before .before .before .before .args) .used)) ((c .enum-word) .ensures))
+returns-3 c =
+    let pre = c .before .before .before .before .before .before .pre in
+    let if1 = c .before .before .before .before .if1 in
+    let args = c .before .before .before .before .before .before .args in
+    some-enum _ _ _ (omega (arith, pre, if1 .left)) ((c .before .before .if2) .left) (ap (set (args .codes .now) (args .used)) ((c .enum-word) .ensures))
 
 pub settle-spec : {M : Type 1} → statement M
 settle-spec =

@@ -30,7 +30,12 @@ shared-slice-read-if2-2 : tie.Need-shared-slice-read-if2-2 Inv-loop μ-loop
 shared-slice-read-if2-2 c = search needs
 
 returns-2 : tie.Need-returns-2 Inv-loop μ-loop
-returns-2 c = let s = c .before .before .before .before .before .before .before .before .before .args in let l = c .before .before .before .before .before .loop in sym (l .inv .1 ∙ first-less (s .a .now) (s .b .now) (l .i) (c .before .before .before .before .loop-test .taken) (c .before .before .before .if1 .left) (c .if2 .taken))
+returns-2 c =
+    let s = c .before .before .before .before .before .before .before .before .before .args in
+    let l = c .before .before .before .before .before .loop in
+    let test = c .before .before .before .before .loop-test in
+    let if1 = c .before .before .before .if1 in
+    sym (l .inv .1 ∙ first-less (s .a .now) (s .b .now) (l .i) (test .taken) (if1 .left) (c .if2 .taken))
 
 shared-slice-read-if3 : tie.Need-shared-slice-read-if3 Inv-loop μ-loop
 shared-slice-read-if3 c = search needs
@@ -39,7 +44,12 @@ shared-slice-read-if3-2 : tie.Need-shared-slice-read-if3-2 Inv-loop μ-loop
 shared-slice-read-if3-2 c = search needs
 
 returns-3 : tie.Need-returns-3 Inv-loop μ-loop
-returns-3 c = let s = c .before .before .before .before .before .before .before .before .before .before .before .before .args in let l = c .before .before .before .before .before .before .before .before .loop in sym (l .inv .1 ∙ first-more (s .a .now) (s .b .now) (l .i) (c .before .before .before .before .before .before .before .loop-test .taken) (c .before .before .before .before .before .before .if1 .left) (c .if3 .taken))
+returns-3 c =
+    let s = c .before .before .before .before .before .before .before .before .before .before .before .before .args in
+    let l = c .before .before .before .before .before .before .before .before .loop in
+    let test = c .before .before .before .before .before .before .before .loop-test in
+    let if1 = c .before .before .before .before .before .before .if1 in
+    sym (l .inv .1 ∙ first-more (s .a .now) (s .b .now) (l .i) (test .taken) (if1 .left) (c .if3 .taken))
 
 add-i : tie.Need-add-i Inv-loop μ-loop
 add-i c = search needs
@@ -48,7 +58,13 @@ loop-less : tie.Need-loop-less Inv-loop μ-loop
 loop-less c = search needs
 
 loop-again : tie.Need-loop-again Inv-loop μ-loop
-loop-again c = let s = c .before .before .before .before .before .before .before .before .before .before .before .before .args in let l = c .before .before .before .before .before .before .before .before .loop in (search needs, rw add-one (l .inv .1 ∙ first-same (s .a .now) (s .b .now) (l .i) (c .before .before .before .before .before .before .before .loop-test .taken) (c .before .before .before .before .before .before .if1 .left) (c .before .before .before .if2 .left) (c .if3 .left)))
+loop-again c =
+    let s = c .before .before .before .before .before .before .before .before .before .before .before .before .args in
+    let l = c .before .before .before .before .before .before .before .before .loop in
+    let test = c .before .before .before .before .before .before .before .loop-test in
+    let if1 = c .before .before .before .before .before .before .if1 in
+    let if2 = c .before .before .before .if2 in
+    (search needs, rw add-one (l .inv .1 ∙ first-same (s .a .now) (s .b .now) (l .i) (test .taken) (if1 .left) (if2 .left) (c .if3 .left)))
 
 returns-4 : tie.Need-returns-4 Inv-loop μ-loop
 returns-4 c = let s = c .before .before .before .before .before .before .args in let l = c .before .before .loop in sym (l .inv .1 ∙ first-ended (s .a .now) (s .b .now) (l .i) (c .before .loop-test .left) (c .if4 .taken))

@@ -48,9 +48,16 @@ same-block-requires : tie.Need-same-block-requires
 same-block-requires c κs = search needs
 
 returns-3 : tie.Need-returns-3
-returns-3 c = λ e.
+returns-3 c =
+    let has-bytes = c .before .before .before .before .before .before .has-bytes in
+    let if1 = c .before .before .before .before .before .if1 in
+    let has-bytes2 = c .before .before .before .before .has-bytes2 in
+    let if2 = c .before .before .before .if2 in
+    λ e.
     let a = c .before .before .before .before .before .before .before .before .before .args in
-    part-pass 32 (a .i) (a .i + 32 - a .i) (a .i + 32 - a .i) (a .a .now) (a .b .now) (omega arith) (omega arith) (has-some 32 (a .i) (a .a .now) (sym (c .before .before .before .before .before .before .has-bytes .ensures) ∙ not-false _ (c .before .before .before .before .before .if1 .left)) (omega arith)) (has-some 32 (a .i) (a .b .now) (sym (c .before .before .before .before .has-bytes2 .ensures) ∙ not-false _ (c .before .before .before .if2 .left)) (omega arith)) (c .same-block .ensures e)
+    let in-a = has-some 32 (a .i) (a .a .now) (sym (has-bytes .ensures) ∙ not-false _ (if1 .left)) (omega arith) in
+    let in-b = has-some 32 (a .i) (a .b .now) (sym (has-bytes2 .ensures) ∙ not-false _ (if2 .left)) (omega arith) in
+    part-pass 32 (a .i) (a .i + 32 - a .i) (a .i + 32 - a .i) (a .a .now) (a .b .now) (omega arith) (omega arith) in-a in-b (c .same-block .ensures e)
 
 pub same-block-at-spec : {M : Type 1} → statement M
 same-block-at-spec =

@@ -40,7 +40,10 @@ same-length-4 : tie.Need-same-length-4
 same-length-4 c = search needs
 
 returns-2 : tie.Need-returns-2
-returns-2 c = loaded-again (c .before .before .before .before .before .before .before .before .before .before .before .before .rewrite-exact .ensures .0) (c .before .before .before .before .before .before .n .given .1) (c .before .before .before .before .before .before .before .before .before .before .before .before .rewrite-exact .kept .1 .1 .0) (c .before .before .load-exact .ensures .0)
+returns-2 c =
+    let rewrite-exact = c .before .before .before .before .before .before .before .before .before .before .before .before .rewrite-exact in
+    let n = c .before .before .before .before .before .before .n in
+    loaded-again (rewrite-exact .ensures .0) (n .given .1) (rewrite-exact .kept .1 .1 .0) (c .before .before .load-exact .ensures .0)
 
 pub load-again-spec : {M : Type 1} → statement M
 load-again-spec =

@@ -44,7 +44,10 @@ same-length-5 c = search needs
 
 returns-2 : tie.Need-returns-2
 returns-2 c =
-    rewritten-again (c .before .before .before .before .before .before .before .before .before .before .before .before .before .before .before .rewrite-exact .ensures .0) (c .before .before .before .before .before .before .before .before .before .n .given .1) (c .before .before .before .before .before .before .before .before .before .before .before .before .before .before .before .rewrite-exact .kept .1 .1 .0) (c .before .before .before .before .rewrite-exact2 .ensures .0)
+    let rewrite-exact = c .before .before .before .before .before .before .before .before .before .before .before .before .before .before .before .rewrite-exact in
+    let n = c .before .before .before .before .before .before .before .before .before .n in
+    let rewrite-exact2 = c .before .before .before .before .rewrite-exact2 in
+    rewritten-again (rewrite-exact .ensures .0) (n .given .1) (rewrite-exact .kept .1 .1 .0) (rewrite-exact2 .ensures .0)
 
 pub rewrite-twice-spec : {M : Type 1} → statement M
 rewrite-twice-spec =

@@ -134,27 +134,22 @@ parse-returns-4 t c =
     (omega (arith, span-le headByte (start .args .name .now), run .long-run .ensures))
     coded (test4 .if4 .taken) (c .tailed-at .ensures)
 
-parse-add-a : (t : ℕ) → parse-lts.Need-add-a (claims t) (parse-at t) parse.Post
-parse-add-a t c =
+-- behind what opens arguments the first one starts within the name
+first-fits : (t : ℕ) → parse-lts.Need-sub-parse (claims t) (parse-at t) parse.Post
+first-fits t c =
     let test3 = c .before .before .before .before .before .before .before in
     let opening = test3 .before in
     let run = opening .before .before in
-    let g = opening-fits _ _ _ (run .long-run .ensures) (opening .opening-at .ensures) (c .if4 .left) (test3 .if3 .left) in
-    omega arith
+    opening-fits _ _ _ (run .long-run .ensures) (opening .opening-at .ensures) (c .if4 .left) (test3 .if3 .left)
+
+parse-add-a : (t : ℕ) → parse-lts.Need-add-a (claims t) (parse-at t) parse.Post
+parse-add-a t c = omega (arith, first-fits t c)
 
 parse-sub-parse : (t : ℕ) → parse-lts.Need-sub-parse (claims t) (parse-at t) parse.Post
-parse-sub-parse t c =
-    let test3 = c .before .before .before .before .before .before .before in
-    let opening = test3 .before in
-    let run = opening .before .before in
-    opening-fits _ _ _ (run .long-run .ensures) (opening .opening-at .ensures) (c .if4 .left) (test3 .if3 .left)
+parse-sub-parse t c = first-fits t c
 
 parse-part-parse-start : (t : ℕ) → parse-lts.Need-part-parse-start (claims t) (parse-at t) parse.Post
-parse-part-parse-start t c =
-    let test3 = c .before .before .before .before .before .before .before in
-    let opening = test3 .before in
-    let run = opening .before .before in
-    opening-fits _ _ _ (run .long-run .ensures) (opening .opening-at .ensures) (c .if4 .left) (test3 .if3 .left)
+parse-part-parse-start t c = first-fits t c
 
 parse-part-parse-end : (t : ℕ) → parse-lts.Need-part-parse-end (claims t) (parse-at t) parse.Post
 parse-part-parse-end t c = search needs
@@ -169,7 +164,7 @@ parse-add-parse t c =
     let opening = test3 .before in
     let run = opening .before .before in
     let start = run .before .before .before .before .before in
-    let g = opening-fits _ _ _ (run .long-run .ensures) (opening .opening-at .ensures) (test4 .if4 .left) (test3 .if3 .left) in
+    let g = first-fits t test4 in
     omega (arith, start .pre .1 .0)
 
 parse-parse-requires : (t : ℕ) → parse-lts.Need-parse-requires (claims t) (parse-at t) parse.Post
@@ -181,7 +176,7 @@ parse-parse-requires t c κs =
     let test1 = run .before in
     let start = test1 .before .before .before .before in
     let s = start .args .name .now in
-    let g = opening-fits _ _ _ (run .long-run .ensures) (opening .opening-at .ensures) (test4 .if4 .left) (test3 .if3 .left) in
+    let g = first-fits t test4 in
     let l = part-length s (run .long-run .result + 4) in
     (omega (arith, test1 .if1 .left, start .pre .0), (omega (arith, start .pre .1 .0), omega (arith, start .pre .1 .1)))
 
@@ -193,7 +188,7 @@ parse-close-requires t c κs =
     let opening = test3 .before in
     let run = opening .before .before in
     let start = run .before .before .before .before .before in
-    let fits = opening-fits _ _ _ (run .long-run .ensures) (opening .opening-at .ensures) (test4 .if4 .left) (test3 .if3 .left) in
+    let fits = first-fits t test4 in
     (part-inside (start .args .name .now) _ (first .parse .ensures) fits, start .pre .1 .0)
 
 parse-same-length-2 : (t : ℕ) → parse-lts.Need-same-length-2 (claims t) (parse-at t) parse.Post
@@ -232,7 +227,7 @@ parse-past-requires t c κs =
     let opening = test3 .before in
     let run = opening .before .before in
     let start = run .before .before .before .before .before in
-    let fits = opening-fits _ _ _ (run .long-run .ensures) (opening .opening-at .ensures) (test4 .if4 .left) (test3 .if3 .left) in
+    let fits = first-fits t test4 in
     (part-inside (start .args .name .now) _ (first .parse .ensures) fits, start .pre .1 .0)
 
 parse-enum-known-number : (t : ℕ) → parse-lts.Need-enum-known-number (claims t) (parse-at t) parse.Post
@@ -241,9 +236,10 @@ parse-enum-known-number t c = search needs
 parse-enum-known-b : (t : ℕ) → parse-lts.Need-enum-known-b (claims t) (parse-at t) parse.Post
 parse-enum-known-b t c = search needs
 
-parse-sub-parse-3 : (t : ℕ) → parse-lts.Need-sub-parse-3 (claims t) (parse-at t) parse.Post
+-- behind the comma the second one does
+second-starts : (t : ℕ) → parse-lts.Need-sub-parse-3 (claims t) (parse-at t) parse.Post
 unfolding ascii
-parse-sub-parse-3 t c =
+second-starts t c =
     let arm = c .before in
     let comma = arm .before .before in
     let first = comma .before .before .before .before .before in
@@ -252,26 +248,16 @@ parse-sub-parse-3 t c =
     let opening = test3 .before in
     let run = opening .before .before in
     let start = run .before .before .before .before .before in
-    let fits = opening-fits _ _ _ (run .long-run .ensures) (opening .opening-at .ensures) (test4 .if4 .left) (test3 .if3 .left) in
+    let fits = first-fits t test4 in
     second-fits (start .args .at) (start .args .name .now) _ _ _ _ fits (first .parse .ensures)
     (sym (comma .past .ensures) ∙ arm .b .given .1)
     .0
 
+parse-sub-parse-3 : (t : ℕ) → parse-lts.Need-sub-parse-3 (claims t) (parse-at t) parse.Post
+parse-sub-parse-3 t c = second-starts t c
+
 parse-part-parse-start-2 : (t : ℕ) → parse-lts.Need-part-parse-start-2 (claims t) (parse-at t) parse.Post
-unfolding ascii
-parse-part-parse-start-2 t c =
-    let arm = c .before in
-    let comma = arm .before .before in
-    let first = comma .before .before .before .before .before in
-    let test4 = first .before .before .before in
-    let test3 = test4 .before .before .before .before .before .before .before in
-    let opening = test3 .before in
-    let run = opening .before .before in
-    let start = run .before .before .before .before .before in
-    let fits = opening-fits _ _ _ (run .long-run .ensures) (opening .opening-at .ensures) (test4 .if4 .left) (test3 .if3 .left) in
-    second-fits (start .args .at) (start .args .name .now) _ _ _ _ fits (first .parse .ensures)
-    (sym (comma .past .ensures) ∙ arm .b .given .1)
-    .0
+parse-part-parse-start-2 t c = second-starts t c
 
 parse-part-parse-end-2 : (t : ℕ) → parse-lts.Need-part-parse-end-2 (claims t) (parse-at t) parse.Post
 parse-part-parse-end-2 t c = search needs
@@ -280,19 +266,12 @@ parse-sub-parse-4 : (t : ℕ) → parse-lts.Need-sub-parse-4 (claims t) (parse-a
 parse-sub-parse-4 t c = search needs
 
 parse-add-parse-2 : (t : ℕ) → parse-lts.Need-add-parse-2 (claims t) (parse-at t) parse.Post
-unfolding ascii
 parse-add-parse-2 t c =
-    let arm = c .before .before in
-    let comma = arm .before .before in
+    let comma = c .before .before .before .before in
     let first = comma .before .before .before .before .before in
-    let test4 = first .before .before .before in
-    let test3 = test4 .before .before .before .before .before .before .before in
-    let opening = test3 .before in
-    let run = opening .before .before in
+    let run = first .before .before .before .before .before .before .before .before .before .before .before .before .before in
     let start = run .before .before .before .before .before in
-    let fits = opening-fits _ _ _ (run .long-run .ensures) (opening .opening-at .ensures) (test4 .if4 .left) (test3 .if3 .left) in
-    let b = second-fits (start .args .at) (start .args .name .now) _ _ _ _ fits (first .parse .ensures) (sym (comma .past .ensures) ∙ arm .b .given .1) in
-    omega (arith, b .0, start .pre .1 .0)
+    omega (arith, second-starts t (c .before), start .pre .1 .0)
 
 parse-parse-requires-2 : (t : ℕ) → parse-lts.Need-parse-requires-2 (claims t) (parse-at t) parse.Post
 unfolding ascii
@@ -307,7 +286,7 @@ parse-parse-requires-2 t c κs =
     let test1 = run .before in
     let start = test1 .before .before .before .before in
     let s = start .args .name .now in
-    let g = opening-fits _ _ _ (run .long-run .ensures) (opening .opening-at .ensures) (test4 .if4 .left) (test3 .if3 .left) in
+    let g = first-fits t test4 in
     let b = second-fits (start .args .at) s _ _ _ _ g (first .parse .ensures) (sym (comma .past .ensures) ∙ arm .b .given .1) in
     let l = part-length s (arm .b .given .0 .1 .0) in
     (omega (arith, test1 .if1 .left, start .pre .0), (omega (arith, b .0, start .pre .1 .0), omega (arith, b .0, b .1, start .pre .1 .1)))
@@ -324,7 +303,7 @@ parse-close-requires-2 t c κs =
     let opening = test3 .before in
     let run = opening .before .before in
     let start = run .before .before .before .before .before in
-    let fits = opening-fits _ _ _ (run .long-run .ensures) (opening .opening-at .ensures) (test4 .if4 .left) (test3 .if3 .left) in (
+    let fits = first-fits t test4 in (
       part-inside (start .args .name .now) _ (second .parse2 .ensures) (second-fits (start .args .at) (start .args .name .now) _ _ _ _ fits (first .parse .ensures) (sym (comma .past .ensures) ∙ arm .b .given .1) .0),
       start .pre .1 .0,
     )
@@ -389,7 +368,7 @@ parse-returns-7 t c =
     let start = test1 .before .before .before .before in
     let is-opened = opened _ _ _ _ (test1 .if1 .left) (run .long-run .ensures) (test2 .if2 .left) _ (opening .opening-at .ensures) in
     let coded = put .put .ensures ∙ ap (set (start .args .codes .now) (start .args .used)) (word .word-of .ensures) in
-    let fits = opening-fits _ _ _ (run .long-run .ensures) (opening .opening-at .ensures) (test4 .if4 .left) (test3 .if3 .left) in
+    let fits = first-fits t test4 in
     both-done _ _ is-opened
     (omega (arith, span-le headByte (start .args .name .now), run .long-run .ensures))
     coded (first .parse .ensures) _ _ _

@@ -59,9 +59,14 @@ same-length-4 c = search needs
 
 returns-2 : tie.Need-returns-2
 returns-2 c =
+    let read = c .before .before .before .before .before .before .before .before .before .before .before .before .before .before .before .before .before .before .before .read in
+    let convert-exact = c .before .before .before .before .before .before .before .before .before .before .before .before .before .convert-exact in
+    let find = c .before .before .before .before .before .before .before .before .before .before .before .before .before .before .before .find in
+    let n = c .before .before .before .before .before .before .before .before .before .n in
+    let read2 = c .before .before .before .before .before .read2 in
     let a = c .before .before .before .before .before .before .before .before .before .before .before .before .before .before .before .before .before .before .before .before .before .before .before .before .before .args in
-    let l : length (c .before .before .before .before .before .before .before .before .before .before .before .before .before .before .before .before .before .before .before .read .last .1 .0) ≡ length (a .table .now) = search needs in
-    same-data (c .before .before .before .before .before .before .before .before .before .before .before .before .before .convert-exact .ensures .0) (a .path .now) (c .before .before .before .before .before .before .before .before .before .before .before .before .before .before .before .before .before .before .before .read .ensures .1) (c .before .before .before .before .before .before .before .before .before .before .before .before .before .before .before .find .ensures) (c .before .before .before .before .before .before .before .before .before .n .given .1) (rw l at (c .before .before .before .before .before .read2 .ensures .1)) (c .find2 .ensures)
+    let l : length (read .last .1 .0) ≡ length (a .table .now) = search needs in
+    same-data (convert-exact .ensures .0) (a .path .now) (read .ensures .1) (find .ensures) (n .given .1) (rw l at (read2 .ensures .1)) (c .find2 .ensures)
 
 pub find-both-spec : {M : Type 1} → statement M
 find-both-spec =

@@ -16,8 +16,11 @@ same-length-2 c = search needs
 
 returns : tie.Need-returns
 returns c =
-    let small = small-by-index (c .before .before .before .before .before .before .before .before .before .before .args .pack .now) (λ i h. omega (arith, c .before .before .before .before .before .before .before .before .before .shared-slice-known .given i)) in
-    salvage-exact (c .before .before .before .before .before .before .before .before .before .before .args .pack .now) (c .before .before .before .before .before .before .before .before .before .before .args .out .now) (c .before .before .before .before .before .before .before .before .before .before .args .list .now) small (c .before .before .before .before .salvage .ensures .0) (c .before .before .before .before .salvage .ensures .1 .0) (c .before .before .before .before .salvage .ensures .1 .1)
+    let args = c .before .before .before .before .before .before .before .before .before .before .args in
+    let shared-slice-known = c .before .before .before .before .before .before .before .before .before .shared-slice-known in
+    let salvage = c .before .before .before .before .salvage in
+    let small = small-by-index (args .pack .now) (λ i h. omega (arith, shared-slice-known .given i)) in
+    salvage-exact (args .pack .now) (args .out .now) (args .list .now) small (salvage .ensures .0) (salvage .ensures .1 .0) (salvage .ensures .1 .1)
 
 pub salvage-exact-spec : {M : Type 1} → statement M
 salvage-exact-spec = tie.close (tie.spec salvage-requires same-length same-length-2 returns)

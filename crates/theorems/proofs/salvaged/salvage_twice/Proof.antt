@@ -43,7 +43,11 @@ same-length-5 : tie.Need-same-length-5
 same-length-5 c = search needs
 
 returns-2 : tie.Need-returns-2
-returns-2 c = twice (c .before .before .before .before .before .before .before .before .before .before .before .before .before .before .before .salvage-exact .ensures) (c .before .before .before .before .before .before .before .before .before .n .given .1) (c .before .before .before .before .salvage-exact2 .ensures)
+returns-2 c =
+    let salvage-exact = c .before .before .before .before .before .before .before .before .before .before .before .before .before .before .before .salvage-exact in
+    let n = c .before .before .before .before .before .before .before .before .before .n in
+    let salvage-exact2 = c .before .before .before .before .salvage-exact2 in
+    twice (salvage-exact .ensures) (n .given .1) (salvage-exact2 .ensures)
 
 pub salvage-twice-spec : {M : Type 1} → statement M
 salvage-twice-spec =

@@ -1,6 +1,6 @@
-use Rattle.number_rules.specs.Numbers.{has-detail, kind-null, kind-reference}
-use Rattle.number_rules.proofs.numbered.Statement.{statement}
-use Rattle.number_rules.proofs.numbered.Tie as tie
+use Rattle.places.proofs.Laws.{has-detail, kind-null, kind-reference}
+use Rattle.places.proofs.numbered.Statement.{statement}
+use Rattle.places.proofs.numbered.Tie as tie
 
 returns : tie.Need-returns
 returns c = let a = c .before .args in has-detail (a .kind) (a .detail) (c .if1 .taken)
