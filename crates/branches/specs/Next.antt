@@ -6,11 +6,10 @@ use Prim.Native.Nat.{ℕ, _+_}
 use native.Mathlib.Omega.{arith}
 use lib.Dec.{ltb, leb}
 use lib.ListN.{length, getD}
-use Rattle.ids.specs.declared.Grid.{Grid}
-use Rattle.ids.specs.Position.{cellOf}
+use Rattle.table.specs.declared.Grid.{Grid}
+use Rattle.table.specs.Grids.{cellOf, rowsGrid, columnsGrid}
+use Rattle.table.specs.Same.{SameRows}
 use borrow.Author.Tests.{ltb-true}
-use Rattle.words.specs.Same.{SameRows}
-use Rattle.words.specs.Grids.{rowsGrid, columnsGrid}
 
 -- a row's seventh word
 unfoldable pub branchIn : Grid → (words : List ℕ) (row : ℕ) → ℕ

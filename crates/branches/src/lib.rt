@@ -1,6 +1,6 @@
 // Skipping a row and all below it (02, Req 09).
-use ids::Grid;
 use ids::RowNumber;
+use table::Grid;
 ghost use mathlib.Core.Path.{_≡_};
 ghost use Rattle.branches.specs.Next.{nextOf, rowsNext};
 
@@ -12,7 +12,7 @@ pub fn next_of(words: &[u32], grid: Grid, row: RowNumber) -> u32
     if grid.room <= number {
         return 0;
     }
-    let branch = words::word_of(words, grid, row, ids::BRANCH);
+    let branch = table::word_of(words, grid, row, table::BRANCH);
     if branch == 0 {
         return 0;
     }
@@ -26,5 +26,5 @@ pub fn next_of(words: &[u32], grid: Grid, row: RowNumber) -> u32
 pub fn next(words: &[u32], row: RowNumber) -> u32
     ensures { λ r. ⌜ r ≡ rowsNext (now (words .entry)) (row .0) ⌝ }
 {
-    next_of(words, words::grid(words.len()), row)
+    next_of(words, table::rows_grid(words.len()), row)
 }

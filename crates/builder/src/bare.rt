@@ -1,5 +1,5 @@
 // Loading with no enum types listed, into words of its own: a short file needs few rows, and more are cleared only for one that needs more.
-use ids::WIDTH;
+use table::WIDTH;
 ghost use mathlib.Core.Path.{_≡_};
 ghost use mathlib.Core.List.{[]};
 ghost use Prim.Native.Nat.{_*_};

@@ -35,7 +35,7 @@ pub extern "C" fn xnb_load_columns(
 pub extern "C" fn xnb_columns_next(words: &[u32], row: u32) -> u32
     ensures { λ r. ⌜ r ≡ columnsNext (now (words .entry)) row ⌝ }
 {
-    branches::next_of(words, words::columns_grid(words.len()), RowNumber(row))
+    branches::next_of(words, table::columns_grid(words.len()), RowNumber(row))
 }
 
 // The part of the file that a row names.
@@ -49,7 +49,7 @@ pub extern "C" fn xnb_columns_part(
 ) -> u32
     ensures { λ r. ⌜ (r, now (first .exit), now (len .exit)) ≡ spanTold (columnsPart (now (file .entry)) (now (words .entry)) row) ⌝ }
 {
-    let grid = words::columns_grid(words.len());
+    let grid = table::columns_grid(words.len());
     crate::tell_span(
         lookups::part_of(file, words, grid, RowNumber(row)),
         first,
@@ -68,7 +68,7 @@ pub extern "C" fn xnb_columns_text(
 ) -> u32
     ensures { λ r. ⌜ (r, now (first .exit), now (len .exit)) ≡ spanTold (columnsText (now (file .entry)) (now (words .entry)) row) ⌝ }
 {
-    let grid = words::columns_grid(words.len());
+    let grid = table::columns_grid(words.len());
     crate::tell_span(
         lookups::text_of(file, words, grid, RowNumber(row)),
         first,
@@ -81,7 +81,7 @@ pub extern "C" fn xnb_columns_text(
 pub extern "C" fn xnb_columns_signed(file: &[u8], words: &[u32], row: u32, value: &mut i64) -> u32
     ensures { λ r. ⌜ (r, now (value .exit)) ≡ signedTold (columnsSigned (now (file .entry)) (now (words .entry)) row) ⌝ }
 {
-    let grid = words::columns_grid(words.len());
+    let grid = table::columns_grid(words.len());
     crate::tell_signed(lookups::signed_of(file, words, grid, RowNumber(row)), value)
 }
 
@@ -96,7 +96,7 @@ pub extern "C" fn xnb_columns_time(
 ) -> u32
     ensures { λ r. ⌜ (r, now (seconds .exit), now (ticks .exit)) ≡ timeTold (columnsTime (now (file .entry)) (now (words .entry)) row) ⌝ }
 {
-    let grid = words::columns_grid(words.len());
+    let grid = table::columns_grid(words.len());
     crate::tell_time(
         lookups::time_of(file, words, grid, RowNumber(row)),
         seconds,

@@ -20,7 +20,7 @@ use Rattle.reading.specs.Accepts.{entries-length}
 use Rattle.reading.specs.File.{listsAt, Load, refusal, accepted, loadOf, tableOf, tableIn}
 use Rattle.layout.specs.Fits.{FittingTree, rowsIn}
 use Rattle.reading.specs.Theorems.{accepted-is}
-use Rattle.words.specs.Grids.{rowsGrid}
+use Rattle.table.specs.Grids.{rowsGrid}
 use Rattle.places.specs.Padding.{filePadding}
 use Rattle.names.specs.Entries.{enumsOf, enums-written}
 use Rattle.enums.specs.Judge.{Judgement, lawful, enumsAt}

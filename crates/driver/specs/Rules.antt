@@ -8,7 +8,7 @@ use borrow.Author.Tests.{eq-eqb, ne-eqb}
 use Rattle.layout.specs.Target.{Target}
 use Rattle.layout.specs.EnumList.{EnumEntry}
 use Rattle.layout.specs.Rows.{Row}
-use Rattle.ids.specs.declared.Grid.{Grid}
+use Rattle.table.specs.declared.Grid.{Grid}
 use Rattle.reading.specs.Answer.{read}
 use Rattle.reading.specs.File.{listsAt}
 use Rattle.readers.specs.Judged.{judgedName}

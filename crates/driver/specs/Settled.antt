@@ -8,7 +8,7 @@ use Rattle.fill.specs.Fill.{cleared}
 use Rattle.layout.specs.Target.{Target}
 use Rattle.layout.specs.EnumList.{EnumEntry}
 use Rattle.layout.specs.Rows.{Row}
-use Rattle.words.specs.Grids.{rowsGrid}
+use Rattle.table.specs.Grids.{rowsGrid}
 use Rattle.load.specs.declared.Loading.{Loading}
 use Rattle.load.specs.declared.Loading.the-variants.{Refused, Loaded}
 use Rattle.profile.specs.Offences.{fine, fault, faultOf, Offence}

@@ -1,7 +1,7 @@
 // The driver's loader (02, Req 07): the plain loader, then 41 to 47 in their order.
 use fault_places::Place;
-use ids::Grid;
 use load::Loading;
+use table::Grid;
 ghost use mathlib.Core.Path.{_≡_};
 ghost use lib.ListN.{length};
 ghost use Rattle.reading.specs.File.{tableOf};
@@ -134,7 +134,7 @@ fn settle(
 ) -> Loading
     ensures { λ r. ⌜ Settles (enumsOf (now (enums .entry))) (now (file .entry)) (now (words .entry)) (now (words .exit)) rows readers shared padding r ⌝ }
 {
-    let grid = words::grid(words.len());
+    let grid = table::rows_grid(words.len());
     match from_41(file, enums, words, grid, rows, readers, padding) {
         Broken::None => Loading::Loaded {
             rows,

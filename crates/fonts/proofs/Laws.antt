@@ -9,7 +9,7 @@ use Rattle.laws.specs.Small.{differ}
 use Rattle.reading.specs.Answer.{Answer}
 use Rattle.reading.specs.Utf8.{charAt}
 use Rattle.reading.specs.Walk.{valueOr}
-use Rattle.ids.specs.declared.Grid.{Grid}
+use Rattle.table.specs.declared.Grid.{Grid}
 use Rattle.fonts.specs.FontWords.{beyond, wordAt, codeAt, nextAbove, risingRows}
 
 -- a test that failed, and one that passed

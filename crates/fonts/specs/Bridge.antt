@@ -20,10 +20,10 @@ use Rattle.reading.specs.Font.{rising, fontTest, fontIf, fontOk}
 use Rattle.reading.specs.Drafts.{draftsOf}
 use Rattle.reading.specs.Walk.{Taken, point, sequence, walk}
 use Rattle.reading.specs.Sound.{walks-sound}
-use Rattle.ids.specs.declared.Grid.{Grid}
-use Rattle.table.specs.Written.{written}
+use Rattle.table.specs.declared.Grid.{Grid}
+use Rattle.walked.specs.Written.{written}
 use Rattle.fonts.specs.FontWords.{beyond, beyond-is, wordAt, after, some, equal, allThere, allEqual, fontWords, by-rows}
-use Rattle.fonts.specs.Stands.{Stands, written-stands}
+use Rattle.fonts.specs.Held.{HoldsDrafts, written-holds}
 use Rattle.fonts.specs.Children.{childRow, row-next, lays-count, fixed-childless, There, Placed, placed-at, object-row}
 use Rattle.fonts.specs.Characters.{map-rising}
 
@@ -58,7 +58,7 @@ module _ (g : Grid) (file words : List ℕ) (readers : List Target) (refers : �
 
   -- a font's children that are laid down in the file, with their rows in the words
   pub laid-words : (ts : Trees) (bs : List ℕ) (w : Lays readers refers (each fontSlots) ts bs) (at number parent used : ℕ)
-      → There file at bs → Stands g words (suc used) (draftsOf readers refers (each fontSlots) ts bs w at number parent) → fontWords g file words used ≡ fontTest point ts
+      → There file at bs → HoldsDrafts g words (suc used) (draftsOf readers refers (each fontSlots) ts bs w at number parent) → fontWords g file words used ≡ fontTest point ts
   unfolding fontSlots allThere allEqual some equal fontTest
   laid-words ts bs w at number parent used t s =
       let n = suc used in
@@ -114,7 +114,7 @@ module _ (g : Grid) (file : List ℕ) (small : Small file) (readers : List Targe
   pub font-words : fontWords g file w′ used ≡ fontTest point (a .2)
   font-words =
       let v = walks-sound file readers shared room small d (each fontSlots) at (suc used) (suc used) .got q in
-      let s : Stands g w′ (suc used) (a .1) = rw ew (written-stands g w (suc used) (a .1) long few fits) in
+      let s : HoldsDrafts g w′ (suc used) (a .1) = rw ew (written-holds g w (suc used) (a .1) long few fits) in
       laid-words g file w′ readers (Within shared) (a .2) (v .bytes) (v .laid) at (suc used) (suc used) used (drop e file, v .there) (rw (v .rows-are) at s)
 
   -- the walk's test of a font whose children were read, over the words

@@ -14,9 +14,9 @@ use Rattle.layout.specs.Rows.{row, rawRows, valueRows, notedRows}
 use Rattle.reading.specs.Reads.{seam}
 use Rattle.reading.specs.Bounds.{rows-length}
 use Rattle.reading.specs.Drafts.{Draft, valueDrafts, draftsOf}
-use Rattle.ids.specs.declared.Grid.{Grid}
+use Rattle.table.specs.declared.Grid.{Grid}
 use Rattle.fonts.specs.FontWords.{wordAt}
-use Rattle.fonts.specs.Stands.{Stands, stands-left, stands-right, stands-row}
+use Rattle.fonts.specs.Held.{HoldsDrafts, holds-left, holds-right, holds-row}
 
 -- the row of child i, where the first child's row is n
 unfoldable pub childRow : ℕ → Trees → ℕ → ℕ
@@ -102,12 +102,12 @@ module _ (g : Grid) (file words : List ℕ) (readers : List Target) (refers : �
     pub number : ℕ
     pub parent : ℕ
     pub there : There file at bytes
-    pub stands : Stands g words n (rowsAt readers refers x kind id own cs bytes value at number parent)
+    pub stands : HoldsDrafts g words n (rowsAt readers refers x kind id own cs bytes value at number parent)
     pub few : n < 2 ^ 32
 
   -- a child of the values that a list of slots has laid down
   pub placed-at : (i : ℕ) (slots : List Slot) (x : Slot) (ts : Trees) (bs : List ℕ) (w : Lays readers refers (each slots) ts bs) (at number parent n : ℕ)
-      → There file at bs → Stands g words n (draftsOf readers refers (each slots) ts bs w at number parent)
+      → There file at bs → HoldsDrafts g words n (draftsOf readers refers (each slots) ts bs w at number parent)
       → i < length slots → getD slots i x ≡ x → Placed x (kindAt i ts) (childrenAt i ts) (childRow i ts n)
   unfolding Lays each kindAt childrenAt childRow notedRows
   placed-at i [] x ts bs w at number parent n t s h e = absurd (omega arith)
@@ -122,7 +122,7 @@ module _ (g : Grid) (file words : List ℕ) (readers : List Target) (refers : �
         number = number;
         parent = parent;
         there = there-left file at bs (w .0) (w .1) (w .2) t;
-        stands = stands-left g words n _ _ s;
+        stands = holds-left g words n _ _ s;
         few = omega (arith, s .fits);
       } in
       rw e at first
@@ -130,17 +130,17 @@ module _ (g : Grid) (file words : List ℕ) (readers : List Target) (refers : �
       let v = rowsAt readers refers y k d own cs (w .0) (w .3) at number parent in
       let l : length v ≡ suc (size cs) = value-length readers refers y k d own cs (w .0) (w .3) at number parent in
       placed-at i slots x rest (w .1) (w .4) (at + length (w .0)) (number + suc (size cs)) parent (n + suc (size cs))
-      (there-right file at bs (w .0) (w .1) (w .2) t) (rw l at (stands-right g words n v _ s)) (omega arith) e
+      (there-right file at bs (w .0) (w .1) (w .2) t) (rw l at (holds-right g words n v _ s)) (omega arith) e
 
   -- the kind and the number of children of a value, and how many rows it has with all below it
   object-words : (t : Target) (k i : ℕ) (own : List ℕ) (cs : Trees) (b : List ℕ) (v : Value readers refers (λ plan b. Lays readers refers plan cs b) (object t) k i own cs b) (at number parent n : ℕ)
-      → Stands g words n (rowsAt readers refers (object t) k i own cs b v at number parent) → (wordAt g words n 0 ≡ k) × (wordAt g words n 3 ≡ count cs) × (wordAt g words n 6 ≡ suc (size cs))
+      → HoldsDrafts g words n (rowsAt readers refers (object t) k i own cs b v at number parent) → (wordAt g words n 0 ≡ k) × (wordAt g words n 3 ≡ count cs) × (wordAt g words n 6 ≡ suc (size cs))
   unfolding Value valueRows rawRows count size
   object-words t k i own cs b (inl v) at number parent n s =
-      let r = stands-row g words n (row 0 at (length b) 0 parent 0 1) [] s in
+      let r = holds-row g words n (row 0 at (length b) 0 parent 0 1) [] s in
       (r .0 ∙ sym (v .kind-of), r .2 ∙ sym (ap count (v .childless)), r .3 ∙ sym (ap (λ (ts : Trees). suc (size ts)) (v .childless)))
   object-words t k i own cs b (inr v) at number parent n s =
-      let r = stands-row g words n (row k at (length b) (count cs) parent i (suc (size cs))) _ s in
+      let r = holds-row g words n (row k at (length b) (count cs) parent i (suc (size cs))) _ s in
       (r .0, r .2, r .3)
 
   pub object-row : {t : Target} {k n : ℕ} {cs : Trees} → Placed (object t) k cs n → (wordAt g words n 0 ≡ k) × (wordAt g words n 3 ≡ count cs) × (wordAt g words n 6 ≡ suc (size cs))

@@ -7,9 +7,9 @@ use lib.Dec.{ltb, eqb}
 use lib.ListN.{getD}
 use Rattle.reading.specs.Utf8.{charAt}
 use Rattle.reading.specs.Walk.{valueOr}
-use Rattle.ids.specs.declared.Grid.{Grid}
-use Rattle.ids.specs.Position.{cellOf}
-use Rattle.places.specs.Word.{inWord, in-word}
+use Rattle.table.specs.declared.Grid.{Grid}
+use Rattle.table.specs.Grids.{cellOf}
+use Rattle.table.specs.Word.{inWord, in-word}
 
 -- the number of the row so many rows after another, as a word holds it
 unfoldable pub beyond : (row n : ℕ) → ℕ

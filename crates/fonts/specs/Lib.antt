@@ -1,5 +1,5 @@
 pub mod FontWords
-pub mod Stands
+pub mod Held
 pub mod Children
 pub mod Characters
 pub mod Bridge

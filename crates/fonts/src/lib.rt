@@ -1,9 +1,9 @@
 // The font rule (01, refusal 22), judged by the file and the rows of the font's children in the words.
 use answers::Number;
-use ids::Grid;
 use ids::RowNumber;
+use table::Grid;
+use table::word_of;
 use text::char_at;
-use words::word_of;
 ghost use mathlib.Core.Path.{_≡_};
 ghost use Rattle.fonts.specs.FontWords.{beyond, after, some, equal, codeAt, risingRows, allThere, allEqual, fontWords};
 
@@ -23,7 +23,7 @@ pub fn font_rule(file: &[u8], words: &[u32], grid: Grid, row: RowNumber) -> bool
         return false;
     }
     let first = row_beyond(characters, 1);
-    let count = word_of(words, grid, characters, ids::CHILDREN);
+    let count = word_of(words, grid, characters, table::CHILDREN);
     rising(file, words, grid, first, count)
 }
 
@@ -78,14 +78,14 @@ fn all_equal(
 fn filled(words: &[u32], grid: Grid, row: RowNumber) -> bool
     ensures { λ r. ⌜ r ≡ some grid (now (words .entry)) (row .0) ⌝ }
 {
-    0 < word_of(words, grid, row, ids::KIND)
+    0 < word_of(words, grid, row, table::KIND)
 }
 
 // Two rows' values have equal numbers of children.
 fn equal_counts(words: &[u32], grid: Grid, a: RowNumber, b: RowNumber) -> bool
     ensures { λ r. ⌜ r ≡ equal grid (now (words .entry)) (a .0) (b .0) ⌝ }
 {
-    word_of(words, grid, a, ids::CHILDREN) == word_of(words, grid, b, ids::CHILDREN)
+    word_of(words, grid, a, table::CHILDREN) == word_of(words, grid, b, table::CHILDREN)
 }
 
 // The characters of `n` rows from `first` on rise strictly.
@@ -111,7 +111,7 @@ fn rising(file: &[u8], words: &[u32], grid: Grid, first: RowNumber, n: u32) -> b
 fn code(file: &[u8], words: &[u32], grid: Grid, row: RowNumber) -> u64
     ensures { λ r. ⌜ r ≡ codeAt grid (now (file .entry)) (now (words .entry)) (row .0) ⌝ }
 {
-    let first = word_of(words, grid, row, ids::FIRST) as usize;
+    let first = word_of(words, grid, row, table::FIRST) as usize;
     match char_at(file, first) {
         Number::Refused(_, _) => 0,
         Number::Read(c, _) => c,
@@ -122,7 +122,7 @@ fn code(file: &[u8], words: &[u32], grid: Grid, row: RowNumber) -> u64
 fn row_after(words: &[u32], grid: Grid, row: RowNumber) -> RowNumber
     ensures { λ r. ⌜ (r .0) ≡ after grid (now (words .entry)) (row .0) ⌝ }
 {
-    row_beyond(row, word_of(words, grid, row, ids::BRANCH))
+    row_beyond(row, word_of(words, grid, row, table::BRANCH))
 }
 
 // The row `n` rows after another; the number of a row in the room fits, any other is its remainder by 2 to the 32.

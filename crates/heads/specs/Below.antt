@@ -18,7 +18,7 @@ use Rattle.reading.specs.Reads.{some, field}
 use Rattle.reading.specs.Little.{littleAt}
 use Rattle.reading.specs.Fixed.{isBoolean}
 use Rattle.reading.specs.Heads.{Opening, headAt, countAt, flagAt, flagPlan, always}
-use Rattle.table.specs.Leaf.{mute}
+use Rattle.walked.specs.Leaf.{mute}
 use Rattle.heads.specs.declared.nest.Below.{Below}
 use Rattle.heads.specs.declared.nest.Below.the-variants.{Nothing, Nested}
 use Rattle.heads.specs.declared.nest.Nest.the-variants.{Mesh as Nest-mesh}

@@ -22,7 +22,7 @@ use Rattle.reading.specs.Reads.{some, field}
 use Rattle.reading.specs.Fixed.{rule, fixedAt, sized}
 use Rattle.reading.specs.Heads.{Opening, headAt, imageAt, fixedHeadAt, textAt, whole, ownAt}
 use Rattle.numbers.specs.Padded.{beside}
-use Rattle.table.specs.Leaf.{mute}
+use Rattle.walked.specs.Leaf.{mute}
 use Rattle.leaves.specs.Text.{ownSize}
 use Rattle.leaves.specs.declared.run.Run.the-variants.{Levels}
 use Rattle.heads.specs.declared.nest.Below.the-variants.{Simple}

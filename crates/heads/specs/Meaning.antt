@@ -17,7 +17,7 @@ use Rattle.layout.specs.Fixed.{sizes}
 use Rattle.reading.specs.Answer.{Answer, refused, read}
 use Rattle.reading.specs.Little.{littleAt}
 use Rattle.reading.specs.Heads.{Opening, headAt}
-use Rattle.table.specs.Leaf.{mute}
+use Rattle.walked.specs.Leaf.{mute}
 use Rattle.targets.specs.Code.{codeKind, Stands}
 use Rattle.targets.specs.Place.{placeAfter}
 use Rattle.targets.specs.Word.{fixed-has-size}

@@ -1,4 +1,5 @@
 // What stands below a value, where some of it needs the reader list.
+use crate::prelude;
 use crate::slot::Slot;
 use leaves::plain::Plain;
 use leaves::run::Run;
@@ -30,21 +31,19 @@ pub enum Below {
     Nested(Nest),
 }
 
-// Field i of a font. The types that fonts, pages and meshes declare stand at the start of the codes: Texture2D at 0,
-// list of Rectangle at 1, list of Char at 3, list of Vector3 at 5, String at 7, nullable Char at 8, Object at 10,
-// VertexDeclaration at 11.
+// Field i of a font.
 fn font_child(i: u32) -> Slot
     ensures { λ r. ⌜ r ≡ fontChild i ⌝ }
 {
     match i {
-        0 => Slot::Object(0),
-        1 => Slot::Object(1),
-        2 => Slot::Object(1),
-        3 => Slot::Object(3),
+        0 => Slot::Object(prelude::TEXTURE_2D),
+        1 => Slot::Object(prelude::RECTANGLES),
+        2 => Slot::Object(prelude::RECTANGLES),
+        3 => Slot::Object(prelude::CHARS),
         4 => Slot::Simple(Plain::Fixed(5, 4)),
         5 => Slot::Simple(Plain::Fixed(9, 4)),
-        6 => Slot::Object(5),
-        _ => Slot::Raw(8),
+        6 => Slot::Object(prelude::VECTORS),
+        _ => Slot::Raw(prelude::NULLABLE_CHAR),
     }
 }
 
@@ -53,22 +52,22 @@ fn page_child(i: u32) -> Slot
     ensures { λ r. ⌜ r ≡ pageChild i ⌝ }
 {
     match i {
-        0 => Slot::Object(7),
+        0 => Slot::Object(prelude::STRING),
         1 => Slot::Simple(Plain::Fixed(30, 16)),
         2 => Slot::Simple(Plain::Reference(32)),
         _ => Slot::Simple(Plain::Reference(34)),
     }
 }
 
-// A field of a mesh type: String is declared at 7 and Object at 10, and VertexDeclaration stands at 11.
+// A field of a mesh type.
 fn field_child(field: Field) -> Slot
     ensures { λ r. ⌜ r ≡ fieldChild field ⌝ }
 {
     match field {
         Field::Plain(plain) => Slot::Simple(plain),
-        Field::Text => Slot::Object(7),
-        Field::Anything => Slot::Object(10),
-        Field::Declaration => Slot::Raw(11),
+        Field::Text => Slot::Object(prelude::STRING),
+        Field::Anything => Slot::Object(prelude::OBJECT),
+        Field::Declaration => Slot::Raw(prelude::VERTEX_DECLARATION),
     }
 }
 

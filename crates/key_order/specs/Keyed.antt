@@ -9,8 +9,8 @@ use lib.Dec.{ltb, eqb}
 use lib.ListN.{length, getD}
 use borrow.Author.Tests.{ltb-true, eqb-true, eqb-false}
 use Rattle.laws.specs.Small.{differ}
-use Rattle.ids.specs.declared.Grid.{Grid}
-use Rattle.ids.specs.Position.{cellOf}
+use Rattle.table.specs.declared.Grid.{Grid}
+use Rattle.table.specs.Grids.{cellOf}
 use Rattle.key_order.specs.declared.spans.Span.{Span}
 use Rattle.text_order.specs.declared.Order.{Order}
 use Rattle.text_order.specs.declared.Order.the-variants.{Below, Same}

@@ -2,13 +2,13 @@
 // Nothing is promised of what the sort leaves but its length: `covered` and `rising` test it.
 mod spans;
 
-use ids::Grid;
 use ids::RowNumber;
 use spans::Span;
 use spans::text_span;
+use table::Grid;
+use table::word_of;
 use text_order::Order;
 use text_order::compare;
-use words::word_of;
 ghost use mathlib.Core.Path.{_≡_};
 ghost use mathlib.Core.Bool.{true};
 ghost use Prim.Native.Nat.{_≤_};
@@ -42,8 +42,8 @@ fn key_text(file: &[u8], words: &[u32], grid: Grid, keys: &[u32], key: u32) -> S
     ensures { λ r. ⌜ Spans (now (file .entry)) (keyText (now (file .entry)) grid (now (words .entry)) (now (keys .entry)) key) r ⌝ }
 {
     let row = number_at(keys, key as usize);
-    let first = word_of(words, grid, RowNumber(row), ids::FIRST);
-    let detail = word_of(words, grid, RowNumber(row), ids::DETAIL);
+    let first = word_of(words, grid, RowNumber(row), table::FIRST);
+    let detail = word_of(words, grid, RowNumber(row), table::DETAIL);
     text_span(file, first as usize, detail)
 }
 

@@ -10,8 +10,8 @@ use lib.Seq.{getD-set-same, getD-set-other, drop-cons}
 use borrow.Author.Tests.{eqb-true, eqb-false}
 use Rattle.laws.specs.Small.{differ}
 use Rattle.layout.specs.Rows.{Row, row, words, width}
-use Rattle.ids.specs.declared.Grid.{Grid}
-use Rattle.ids.specs.Position.{cellOf}
+use Rattle.table.specs.declared.Grid.{Grid}
+use Rattle.table.specs.Grids.{cellOf}
 use Rattle.profile.specs.Stand.{textOf}
 use Rattle.profile.specs.Offences.{next, skip, kindOf, keyRows, twins}
 use Rattle.fault_places.specs.declared.Place.{Place}

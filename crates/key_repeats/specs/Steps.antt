@@ -9,7 +9,7 @@ use lib.ListN.{drop, getD}
 use borrow.Author.Tests.{eqb-true, eqb-false, eq-eqb, ne-eqb, not-true, not-false}
 use Rattle.laws.specs.Small.{differ}
 use Rattle.layout.specs.Rows.{Row, words}
-use Rattle.ids.specs.declared.Grid.{Grid}
+use Rattle.table.specs.declared.Grid.{Grid}
 use Rattle.profile.specs.Offences.{repeated}
 use Rattle.fault_places.specs.declared.Place.{Place}
 use Rattle.fault_places.specs.declared.Place.the-variants.{Fine, At}

@@ -2,16 +2,16 @@
 // Dictionaries nest, so the answer is the lowest place over all of them.
 use fault_places::Place;
 use fault_places::lower;
-use ids::Grid;
 use ids::RowNumber;
 use key_order::certified;
 use key_order::key_order;
 use key_order::number_at;
 use key_order::ordered_at;
+use table::Grid;
+use table::word_of;
 use text_order::Order;
 use used_rows::next_row;
 use used_rows::word_in;
-use words::word_of;
 ghost use mathlib.Core.Path.{_≡_};
 ghost use mathlib.Core.Bool.{true, false};
 ghost use Prim.Native.Nat.{_<_, _≤_, _+_};
@@ -50,7 +50,7 @@ fn gather(words: &[u32], grid: Grid, used: u32, first: u32, n: u32, keys: &mut [
         if used <= row {
             return m;
         }
-        let kind = word_in(words, grid, used, row, ids::KIND);
+        let kind = word_in(words, grid, used, row, table::KIND);
         m = note(keys, m, row, kind);
         let value = next_row(words, grid, used, row);
         row = next_row(words, grid, used, value);
@@ -75,7 +75,7 @@ fn key_place(words: &[u32], grid: Grid, keys: &[u32], key: u32) -> usize
     ensures { λ r. ⌜ r ≡ keyPlace grid (now (words .entry)) (now (keys .entry)) key ⌝ }
 {
     let row = number_at(keys, key as usize);
-    word_of(words, grid, RowNumber(row), ids::FIRST) as usize
+    word_of(words, grid, RowNumber(row), table::FIRST) as usize
 }
 
 // A key has the text of an earlier one.
@@ -216,11 +216,11 @@ fn dictionary(file: &[u8], words: &[u32], grid: Grid, used: u32, row: u32) -> Pl
     requires { ⌜ row < used ⌝ }
     ensures { λ r. ⌜ KeysFault (now (file .entry)) grid (now (words .entry)) used row r ⌝ }
 {
-    let kind = word_in(words, grid, used, row, ids::KIND);
+    let kind = word_in(words, grid, used, row, table::KIND);
     if kind != 19 {
         return Place::Fine;
     }
-    let children = word_in(words, grid, used, row, ids::CHILDREN);
+    let children = word_in(words, grid, used, row, table::CHILDREN);
     if 65535 < children {
         return Place::Fine;
     }

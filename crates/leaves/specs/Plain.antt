@@ -23,17 +23,17 @@ use Rattle.reading.specs.Rules.{same, decided}
 use Rattle.reading.specs.Font.{fontOk, fontIf}
 use Rattle.reading.specs.Heads.{Opening, headAt, leafAt, whole, ownAt, fixedHeadAt, leaf-reads}
 use Rattle.reading.specs.Walk.{Outcome, done, sequence, rawAt, valueAt, walk}
-use Rattle.table.specs.declared.Head.{Head}
-use Rattle.table.specs.Contract.{Seen, seen, Free, Ahead, Walked}
-use Rattle.table.specs.Loop.{refusing}
-use Rattle.table.specs.Leaf.{leafOf, leafAnswer, leafWords, Pads, leaf-walked}
+use Rattle.table.specs.declared.Grid.{Grid}
+use Rattle.table.specs.Word.{inWord, in-word}
+use Rattle.walked.specs.declared.Head.{Head}
+use Rattle.walked.specs.Contract.{Seen, seen, Free, Ahead, Walked}
+use Rattle.walked.specs.Loop.{refusing}
+use Rattle.walked.specs.Leaf.{leafOf, leafAnswer, leafWords, Pads, leaf-walked}
 use Rattle.numbers.specs.Padded.{padOf}
-use Rattle.places.specs.Word.{inWord, in-word}
 use Rattle.places.specs.Padding.{no-number, id-alone, reference-numbered, sized-plain, pad-few}
 use Rattle.leaves.specs.declared.plain.Plain.{Plain}
 use Rattle.leaves.specs.declared.plain.Plain.the-variants.{Fixed, Enum, Char, Level, Reference, Blob, Bone, Code, DataSize}
 use Rattle.reading.specs.Drafts.{nothing, resource, drafted}
-use Rattle.ids.specs.declared.Grid.{Grid}
 
 -- how the value stands; an enum's name makes no difference to its values, so it stands for those of every name
 abbrev pub plainSlot : Plain → Slot

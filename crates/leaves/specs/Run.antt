@@ -22,15 +22,15 @@ use Rattle.reading.specs.Answer.{Answer}
 use Rattle.reading.specs.Reads.{Small}
 use Rattle.reading.specs.Walk.{Outcome, sequence, walk}
 use Rattle.reading.specs.Bounds.{walk-bounds, walk-single}
-use Rattle.table.specs.declared.Walk.{Walk}
-use Rattle.table.specs.declared.Walk.the-variants.{Done, Refused}
-use Rattle.table.specs.Written.{written}
-use Rattle.table.specs.Contract.{seen, reaching, padded, Walked}
-use Rattle.table.specs.Leaf.{leafAnswer}
-use Rattle.table.specs.Loop.{Reading, start, same, turn, ended, give-up, got, lost, refusing, reading, counted-read, counted-refused}
+use Rattle.table.specs.declared.Grid.{Grid}
+use Rattle.table.specs.Word.{inWord}
+use Rattle.walked.specs.declared.Walk.{Walk}
+use Rattle.walked.specs.declared.Walk.the-variants.{Done, Refused}
+use Rattle.walked.specs.Written.{written}
+use Rattle.walked.specs.Contract.{seen, reaching, padded, Walked}
+use Rattle.walked.specs.Leaf.{leafAnswer}
+use Rattle.walked.specs.Loop.{Reading, start, same, turn, ended, give-up, got, lost, refusing, reading, counted-read, counted-refused}
 use Rattle.leaves.specs.Plain.{plainSlot, Lawful, Begin, plainPad, plainValue, valueLeft, plain-walked}
-use Rattle.places.specs.Word.{inWord}
-use Rattle.ids.specs.declared.Grid.{Grid}
 
 -- the slots that the values stand in
 abbrev pub runSlots : Run → List Slot

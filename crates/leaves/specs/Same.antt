@@ -17,14 +17,14 @@ use Rattle.reading.specs.Answer.{Answer, refused, read, bind, check, within}
 use Rattle.reading.specs.Reads.{some, field}
 use Rattle.reading.specs.Fixed.{isBoolean, rule, fixedAt, sized}
 use Rattle.reading.specs.Utf8.{charAt, charOf, size, size-one, follow, bits, mark}
-use Rattle.places.specs.Word.{inWord, in-word}
-use Rattle.ids.specs.declared.Grid.{Grid}
-use Rattle.table.specs.declared.Head.{Head}
-use Rattle.table.specs.declared.Walk.{Walk}
-use Rattle.table.specs.Contract.{reaching}
-use Rattle.table.specs.Written.{putRow}
-use Rattle.table.specs.Leaf.{mute, valueRow, leafAnswer, leafWords}
+use Rattle.table.specs.declared.Grid.{Grid}
+use Rattle.table.specs.Word.{inWord, in-word}
+use Rattle.table.specs.Put.{putRow}
 use Rattle.table.specs.Runs.{putRun, hasRows}
+use Rattle.walked.specs.declared.Head.{Head}
+use Rattle.walked.specs.declared.Walk.{Walk}
+use Rattle.walked.specs.Contract.{reaching}
+use Rattle.walked.specs.Leaf.{mute, valueRow, leafAnswer, leafWords}
 use Rattle.leaves.specs.declared.plain.Plain.{Plain}
 use Rattle.leaves.specs.declared.plain.Plain.the-variants.{Fixed, Enum, Char, Level, Reference, Blob, Bone, Code, DataSize}
 use Rattle.leaves.specs.declared.run.Run.the-variants.{Same}

@@ -1,15 +1,15 @@
 // A value that has no children and needs no reader list.
 use answers::Number;
-use ids::Grid;
 use ids::Position;
 use ids::ResourceId;
 use ids::RowNumber;
 use numbers::seven::Padded;
-use table::Head;
-use table::Walk;
+use table::Grid;
+use walked::Head;
+use walked::Walk;
 ghost use mathlib.Core.Path.{_≡_};
 ghost use lib.Dec.{ltb};
-ghost use Rattle.table.specs.Leaf.{leafAnswer};
+ghost use Rattle.walked.specs.Leaf.{leafAnswer};
 ghost use Rattle.leaves.specs.Plain.{plainAt, plainPad, plainValue, plainLeft, valueLeft};
 
 // How such a value stands: raw of a kind of fixed size, with the size; a raw enum of a size; a raw character; an image level of a size;
@@ -59,7 +59,7 @@ fn reference(file: &[u8], words: &mut [u32], grid: Grid, shared: u32, wanted: u3
                 detail: id,
                 padding,
             };
-            table::leaf(words, grid, named, 36, wanted, Number::Read(value, next))
+            walked::leaf(words, grid, named, 36, wanted, Number::Read(value, next))
         }
     }
 }
@@ -81,22 +81,29 @@ fn plain_value(
     match slot {
         Plain::Fixed(kind, size) => {
             let read = values::fixed_at(file, kind, size, at);
-            table::leaf(words, grid, h, kind, 0, read)
+            walked::leaf(words, grid, h, kind, 0, read)
         }
         Plain::Enum(size) => {
             let read = values::fixed_at(file, 15, size, at);
-            table::leaf(words, grid, h, 15, 0, read)
+            walked::leaf(words, grid, h, 15, 0, read)
         }
-        Plain::Char => table::leaf(words, grid, h, 12, 0, text::char_at(file, at)),
+        Plain::Char => walked::leaf(words, grid, h, 12, 0, text::char_at(file, at)),
         Plain::Level(size) => {
             let read = crate::read::level_at(file, size, at);
-            table::leaf(words, grid, h, 35, 0, read)
+            walked::leaf(words, grid, h, 35, 0, read)
         }
         Plain::Reference(wanted) => reference(file, words, grid, shared, wanted, h),
-        Plain::Blob(size) => table::leaf(words, grid, h, 41, 0, fields::data_at(file, size, at)),
-        Plain::Bone(bones) => table::leaf(words, grid, h, 42, 0, fields::bone_at(file, bones, at)),
-        Plain::Code(last) => table::leaf(words, grid, h, 5, 0, fields::code_at(file, last, at)),
-        Plain::DataSize(flag) => table::leaf(words, grid, h, 6, 0, fields::size_at(file, flag, at)),
+        Plain::Blob(size) => walked::leaf(words, grid, h, 41, 0, fields::data_at(file, size, at)),
+        Plain::Bone(bones) => walked::leaf(words, grid, h, 42, 0, fields::bone_at(file, bones, at)),
+        Plain::Code(last) => walked::leaf(words, grid, h, 5, 0, fields::code_at(file, last, at)),
+        Plain::DataSize(flag) => walked::leaf(
+            words,
+            grid,
+            h,
+            6,
+            0,
+            fields::size_at(file, flag, at),
+        ),
     }
 }
 

@@ -1,8 +1,8 @@
 // Values one after the other that have no children and need no reader list.
 use crate::plain::Plain;
-use ids::Grid;
-use table::Reached;
-use table::Walk;
+use table::Grid;
+use walked::Reached;
+use walked::Walk;
 ghost use mathlib.Core.Path.{_≡_};
 ghost use mathlib.Core.Bool.{true, cond};
 ghost use Prim.Native.Nat.{_+_, _*_, _≤_, _<_};

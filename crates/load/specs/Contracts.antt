@@ -11,10 +11,11 @@ use Rattle.reading.specs.Answer.{bind}
 use Rattle.reading.specs.Walk.{Taken}
 use Rattle.reading.specs.File.{finished, objectsAt, fileAt}
 use Rattle.readers.specs.Judged.{judgedName}
-use Rattle.table.specs.declared.Head.{Head}
-use Rattle.ids.specs.declared.Grid.{Grid}
-use Rattle.table.specs.declared.Walk.{Walk}
-use Rattle.table.specs.Contract.{seen, Walked}
+use Rattle.table.specs.declared.Grid.{Grid}
+use Rattle.table.specs.Word.{inWord}
+use Rattle.walked.specs.declared.Head.{Head}
+use Rattle.walked.specs.declared.Walk.{Walk}
+use Rattle.walked.specs.Contract.{seen, Walked}
 use Rattle.readers.specs.declared.Readers.{Readers}
 use Rattle.readers.specs.Listed.{Listed}
 use Rattle.resources.specs.Settled.{Drafted}
@@ -36,7 +37,6 @@ use Rattle.load.specs.Under.{fileUnder}
 use Rattle.load.specs.Loads.{Total, fileTotal, Loads, behindHeader}
 use Rattle.layout.specs.Rows.{Row}
 use Rattle.reading.specs.Drafts.{bare}
-use Rattle.places.specs.Word.{inWord}
 use Rattle.places.specs.Padding.{rowsPadding}
 
 -- a raw value of a kind, whose head was read up to `next`, is walked, or its children are left

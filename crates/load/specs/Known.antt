@@ -7,14 +7,14 @@ use Rattle.layout.specs.Slot as L
 use Rattle.layout.specs.Rows.{width}
 use Rattle.readers.specs.declared.Readers.{Readers}
 use Rattle.readers.specs.Listed.{Listed}
-use Rattle.table.specs.declared.Head.{Head}
+use Rattle.table.specs.declared.Grid.{Grid}
+use Rattle.walked.specs.declared.Head.{Head}
 use Rattle.heads.specs.declared.slot.Slot.{Slot}
 use Rattle.heads.specs.declared.nest.Nest.{Nest}
 use Rattle.leaves.specs.Plain.{Begin}
 use Rattle.heads.specs.Slots.{SlotIs}
 use Rattle.heads.specs.Nests.{Prelude, NestIs}
 use Rattle.objects.specs.Start.{Has, Ided, positionAt}
-use Rattle.ids.specs.declared.Grid.{Grid}
 
 -- the codes hold the types of some readers and those that fonts, pages and meshes declare
 pub record Known (file codes : List ℕ) (rd : Readers) : Type 0 where

@@ -23,15 +23,19 @@ use Rattle.reading.specs.Reads.{Small, reads-bounds}
 use Rattle.reading.specs.Seven.{sevenAt}
 use Rattle.reading.specs.References.{length-flat}
 use Rattle.reading.specs.Walk.{Taken, sequence, walk}
-use Rattle.reading.specs.Grid.{writtenRows}
 use Rattle.reading.specs.Drafts.{bare, length-bare}
 use Rattle.reading.specs.File.{Loaded as FileLoaded, accepted, rootKinds, headerAt, listsAt, objectsAt, finished, fileAt, toLoad, loadOf, tableOf, tableIn}
 use Rattle.reading.specs.Front.{header-sound, lists-reads}
-use Rattle.ids.specs.declared.Grid.{Grid}
-use Rattle.ids.specs.Position.{cellOf}
-use Rattle.table.specs.declared.Reached.{Reached}
-use Rattle.table.specs.Written.{written, length-written}
-use Rattle.table.specs.Loop.{Counted, got}
+use Rattle.table.specs.declared.Grid.{Grid}
+use Rattle.table.specs.Stores.{writtenRows}
+use Rattle.table.specs.Grids.{cellOf, gridOf}
+use Rattle.table.specs.Cleared.{clearedBehind, behind-columns, behind-rows}
+use Rattle.table.specs.Stored.{settled-columns}
+use Rattle.table.specs.Word.{inWord, in-word, word-more}
+use Rattle.walked.specs.declared.Reached.{Reached}
+use Rattle.walked.specs.Written.{written, length-written}
+use Rattle.walked.specs.Loop.{Counted, got}
+use Rattle.walked.specs.Contract.{padded}
 use Rattle.fill.specs.Fill.{cleared}
 use Rattle.answers.specs.declared.Number.the-variants.{Read as Header-read, Refused as Header-refused}
 use Rattle.header.specs.Header.{toHeader, headerOf}
@@ -43,9 +47,6 @@ use Rattle.resources.specs.declared.Settled.{Settled}
 use Rattle.resources.specs.declared.Settled.the-variants.{Fine, Wrong}
 use Rattle.resources.specs.Settled.{settledOf, settled as rows-settled, answered, judged-is, Drafted}
 use Rattle.resources.specs.Flat.{rows-flat}
-use Rattle.table.specs.Cleared.{clearedBehind, behind-columns, behind-rows}
-use Rattle.columns.specs.Stored.{settled-columns}
-use Rattle.words.specs.Grids.{gridOf}
 use Rattle.resources.specs.Objects.{objects-drafted}
 use Rattle.load.specs.declared.Loading.{Loading}
 use Rattle.load.specs.declared.Loading.the-variants.{Refused, Loaded}
@@ -61,8 +62,6 @@ use Rattle.enums.specs.Judge.{refused as list-refused}
 use Rattle.load.specs.Under.{underList, fileUnder, loadUnder}
 use Rattle.readers.specs.Contract.{listsTotal}
 use Rattle.reading.specs.Theorems.{accepted-is, rows-fit}
-use Rattle.table.specs.Contract.{padded}
-use Rattle.places.specs.Word.{inWord, in-word, word-more}
 use Rattle.places.specs.Padding.{rowsPadding, filePadding, file-padding, file-few}
 
 module _ (file : List ℕ) (platform flags : ℕ) (names : List (List ℕ)) (readers shared : ℕ) (a : Taken) (next : ℕ) where

@@ -3,14 +3,14 @@ use mathlib.Core.Path.{_≡_}
 use mathlib.Core.List.{List}
 use Prim.Native.Nat.{ℕ}
 use lib.ListN.{length}
-use Rattle.ids.specs.declared.Grid.{Grid}
+use Rattle.table.specs.declared.Grid.{Grid}
+use Rattle.table.specs.Word.{inWord}
 use Rattle.reading.specs.Answer.{Answer, refused, read, bind}
 use Rattle.reading.specs.File as File
 use Rattle.reading.specs.File.{Loaded as FileLoaded, refusal, accepted, listsAt, objectsAt, finished}
 use Rattle.layout.specs.EnumList.{EnumEntry}
 use Rattle.layout.specs.Rows.{Row}
 use Rattle.layout.specs.Table.{wordsWith, shapeOf}
-use Rattle.places.specs.Word.{inWord}
 use Rattle.places.specs.Padding.{filePadding}
 use Rattle.readers.specs.Judged.{judgedName}
 use Rattle.load.specs.declared.Loading.{Loading}

@@ -23,17 +23,18 @@ use Rattle.reading.specs.Answer.{refused, read, bind, check}
 use Rattle.reading.specs.Drafts.{nothing}
 use Rattle.reading.specs.Walk.{Taken, Outcome, sequence, rawAt, walk}
 use Rattle.reading.specs.Bounds.{sequence-bounds}
-use Rattle.table.specs.declared.Head.{Head}
-use Rattle.table.specs.declared.Walk.{Walk}
-use Rattle.table.specs.declared.Walk.the-variants.{Done as Walk-done, Refused as Walk-refused}
-use Rattle.table.specs.Contract.{seen, atop, Free, Walked}
-use Rattle.table.specs.Leaf.{valueRow, leafOf, leafAnswer, leafWords, Pads, leaf-walked}
-use Rattle.table.specs.Written.{putRow}
-use Rattle.places.specs.Word.{inWord, in-word}
+use Rattle.table.specs.declared.Grid.{Grid}
+use Rattle.table.specs.Put.{putRow}
+use Rattle.table.specs.Word.{inWord, in-word}
+use Rattle.walked.specs.declared.Head.{Head}
+use Rattle.walked.specs.declared.Walk.{Walk}
+use Rattle.walked.specs.declared.Walk.the-variants.{Done as Walk-done, Refused as Walk-refused}
+use Rattle.walked.specs.Contract.{seen, atop, Free, Walked}
+use Rattle.walked.specs.Leaf.{valueRow, leafOf, leafAnswer, leafWords, Pads, leaf-walked}
+use Rattle.walked.specs.Loop.{Got, refusing}
 use Rattle.numbers.specs.Padded.{padOf}
 use Rattle.reading.specs.Seven.{sevenAt}
 use Rattle.places.specs.Padding.{no-rows, id-alone, pad-few}
-use Rattle.table.specs.Loop.{Got, refusing}
 use Rattle.leaves.specs.Plain.{headOf}
 use Rattle.targets.specs.Code.{Stands}
 use Rattle.targets.specs.Place.{kindAt}
@@ -52,7 +53,6 @@ use Rattle.load.specs.declared.walk.Stepped.{Stepped}
 use Rattle.load.specs.declared.walk.Stepped.the-variants.{Done, Refused, Nested}
 use Rattle.load.specs.Known.{Ready}
 use Rattle.load.specs.Walks.{OpenedAs, close-ready}
-use Rattle.ids.specs.declared.Grid.{Grid}
 
 -- a value that was walked
 abbrev pub stepOf : Walk → Stepped

@@ -12,12 +12,12 @@ use Rattle.reading.specs.Answer.{Answer, refused, read}
 use Rattle.reading.specs.Reads.{Small}
 use Rattle.reading.specs.Walk.{Taken, Outcome, sequence, walk}
 use Rattle.reading.specs.Bounds.{walk-bounds, walk-single}
-use Rattle.ids.specs.declared.Grid.{Grid}
-use Rattle.table.specs.declared.Reached.{Reached}
-use Rattle.table.specs.Written.{written}
-use Rattle.table.specs.Contract.{seen, reaching, padded, Walked}
-use Rattle.places.specs.Word.{inWord}
-use Rattle.table.specs.Loop.{Counted, counted, Got, Reading, start, turn, ended, give-up}
+use Rattle.table.specs.declared.Grid.{Grid}
+use Rattle.table.specs.Word.{inWord}
+use Rattle.walked.specs.declared.Reached.{Reached}
+use Rattle.walked.specs.Written.{written}
+use Rattle.walked.specs.Contract.{seen, reaching, padded, Walked}
+use Rattle.walked.specs.Loop.{Counted, counted, Got, Reading, start, turn, ended, give-up}
 use Rattle.leaves.specs.Plain.{Begin}
 use Rattle.leaves.specs.Run.{begin-on}
 use Rattle.heads.specs.declared.nest.Nest.{Nest}

@@ -13,11 +13,12 @@ use Rattle.reading.specs.Heads.{Opening, headAt, head-reads}
 use Rattle.reading.specs.Walk.{Taken, sequence, walk}
 use Rattle.reading.specs.Sound.{walk-sound}
 use Rattle.reading.specs.Bounds.{sequence-bounds}
-use Rattle.table.specs.declared.Head.{Head}
-use Rattle.table.specs.declared.Walk.{Walk}
-use Rattle.table.specs.declared.Walk.the-variants.{Done, Refused}
-use Rattle.table.specs.Contract.{seen, Walked}
-use Rattle.table.specs.Loop.{got}
+use Rattle.table.specs.declared.Grid.{Grid}
+use Rattle.walked.specs.declared.Head.{Head}
+use Rattle.walked.specs.declared.Walk.{Walk}
+use Rattle.walked.specs.declared.Walk.the-variants.{Done, Refused}
+use Rattle.walked.specs.Contract.{seen, Walked}
+use Rattle.walked.specs.Loop.{got}
 use Rattle.leaves.specs.Plain.{Begin}
 use Rattle.heads.specs.declared.nest.Below.{Below}
 use Rattle.heads.specs.declared.open.Opened.{Opened}
@@ -29,7 +30,6 @@ use Rattle.places.specs.Places.{countPlaces}
 use Rattle.places.specs.Padding.{padding}
 use Rattle.objects.specs.Close.{Closable}
 use Rattle.load.specs.Known.{Ready}
-use Rattle.ids.specs.declared.Grid.{Grid}
 
 -- a head that was read, with the padding of its count
 pub record OpenedAs (file codes : List ℕ) (t : Target) (at next : ℕ) (below : Below) : Type 0 where

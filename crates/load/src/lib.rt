@@ -4,12 +4,14 @@ mod walk;
 use answers::Number;
 use enums::Judged;
 use heads::nest::Nest;
+use heads::prelude;
 use heads::slot::Slot;
-use ids::Grid;
 use ids::RowNumber;
+use names::kinds;
 use readers::Lists;
 use readers::Readers;
 use resources::Settled;
+use table::Grid;
 use walk::Children;
 ghost use mathlib.Core.Path.{_≡_};
 ghost use mathlib.Core.Bool.{true};
@@ -85,7 +87,7 @@ fn objects(
     ensures { λ r. ⌜ ObjectsLoad grid (now (file .entry)) (now (codes .entry)) rd shared padding at (now (words .entry)) (now (words .exit)) r ⌝ }
 {
     let n = shared + 1;
-    let nest = Nest::Each(Slot::Object(10), n);
+    let nest = Nest::Each(Slot::Object(prelude::OBJECT), n);
     match walk::nested(file, codes, rd, words, grid, shared, nest, at, 0, 32) {
         Children::Refused(number, place) => Loading::Refused(number, place),
         Children::Done { count: _, reached } => finish(
@@ -106,18 +108,18 @@ fn put_prelude(codes: &mut [u32])
     requires { ⌜ preludeSize ≤ length (now codes) ⌝ }
     ensures { λ _. ⌜ take preludeSize (now (codes .exit)) ≡ prelude ⌝ }
 {
-    codes[0] = 32;
-    codes[1] = 82;
-    codes[2] = 30;
-    codes[3] = 82;
-    codes[4] = 12;
-    codes[5] = 82;
-    codes[6] = 24;
-    codes[7] = 13;
-    codes[8] = 80;
-    codes[9] = 12;
-    codes[10] = 14;
-    codes[11] = 38;
+    codes[prelude::TEXTURE_2D] = kinds::TEXTURE_2D;
+    codes[prelude::RECTANGLES] = kinds::LIST;
+    codes[prelude::LISTED_RECTANGLE] = kinds::RECTANGLE;
+    codes[prelude::CHARS] = kinds::LIST;
+    codes[prelude::LISTED_CHAR] = kinds::CHAR;
+    codes[prelude::VECTORS] = kinds::LIST;
+    codes[prelude::LISTED_VECTOR] = kinds::VECTOR_3;
+    codes[prelude::STRING] = kinds::STRING;
+    codes[prelude::NULLABLE_CHAR] = kinds::NULLABLE;
+    codes[prelude::WRAPPED_CHAR] = kinds::CHAR;
+    codes[prelude::OBJECT] = kinds::OBJECT;
+    codes[prelude::VERTEX_DECLARATION] = kinds::VERTEX_DECLARATION;
 }
 
 // What stands behind the header, where the codes suffice for the file's readers.
@@ -232,7 +234,7 @@ pub fn load_in(file: &[u8], enums: &[u8], words: &mut [u32], columns: bool) -> L
     ensures { λ _. ⌜ now (words .exit)
         ≡ tableIn (shapeOf columns) (loadUnder (now (enums .entry)) (now (file .entry)) (length (now (words .entry)))) (length (now (words .entry))) ⌝ }
 {
-    let grid = words::shaped(words.len(), columns);
+    let grid = table::shaped(words.len(), columns);
     match load_under(file, enums, words, grid) {
         Loading::Refused(number, place) => {
             fill::clear(words, 0);

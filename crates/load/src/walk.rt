@@ -4,14 +4,14 @@ use heads::nest::Below;
 use heads::nest::Nest;
 use heads::open::Opened;
 use heads::slot::Slot;
-use ids::Grid;
 use ids::RowNumber;
 use ids::TypeId;
 use objects::start::Started;
 use readers::Readers;
-use table::Head;
-use table::Reached;
-use table::Walk;
+use table::Grid;
+use walked::Head;
+use walked::Reached;
+use walked::Walk;
 ghost use mathlib.Core.Path.{_≡_};
 ghost use Rattle.leaves.specs.Plain.{Begin};
 ghost use Rattle.load.specs.Known.{Known, KnownNest, KnownValue, Ready};
@@ -66,7 +66,7 @@ fn close_plain(
         Walk::Done(reached) => {
             let row = h.row;
             let branch = table::rows_from(row, reached.used);
-            let r = table::row_words(h, kind, children, branch, reached.next);
+            let r = walked::row_words(h, kind, children, branch, reached.next);
             table::put_row(words, grid, row, r);
             Stepped::Done(Reached {
                 used: reached.used,
@@ -106,7 +106,7 @@ fn close_flat(
                 detail: h.detail,
                 padding: table::sum(h.padding, count),
             };
-            walked_step(table::leaf(words, grid, whole, kind, 0, Number::Read(0, next)))
+            walked_step(walked::leaf(words, grid, whole, kind, 0, Number::Read(0, next)))
         }
         Below::Simple(run) => {
             let n = table::word(leaves::run::turns(run));
@@ -212,7 +212,7 @@ fn value(
                 detail: 0,
                 padding,
             };
-            walked_step(table::leaf(words, grid, h, 0, 0, Number::Read(0, next)))
+            walked_step(walked::leaf(words, grid, h, 0, 0, Number::Read(0, next)))
         }
         Started::Raw(place, from, id, padding) => {
             let h = Head {

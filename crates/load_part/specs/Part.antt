@@ -41,10 +41,10 @@ room-first : (rows words : ℕ) → roomOf (firstWords rows words) ≤ roomOf wo
 unfolding roomOf firstWords
 room-first rows words = omega arith
 
--- whether an answer stands with more room too: any but 19 does
-abbrev pub Stands : Bool → Loading → Type 0
-Stands true told = (p : ℕ) → told ≡ code.Refused 19 p → ⊥
-Stands false told = (p : ℕ) × (told ≡ code.Refused 19 p)
+-- whether an answer is any but 19, so that it is the same with more room
+abbrev pub NotFull : Bool → Loading → Type 0
+NotFull true told = (p : ℕ) → told ≡ code.Refused 19 p → ⊥
+NotFull false told = (p : ℕ) × (told ≡ code.Refused 19 p)
 
 -- a file is loaded in so many of the words; where all were zeros, they hold its table
 abbrev pub LoadsIn : (enums file entry exit : List ℕ) (part : ℕ) → Loading → Type 0
@@ -110,19 +110,19 @@ refused-table n p words = refl
 -- ---- One load after another
 
 module _ (enums file entry exit : List ℕ) {told : Loading} where
-  -- where the answer in the first words stands, the file is loaded in all
-  pub first-stands : (rows : ℕ) → LoadsIn enums file entry exit (firstWords rows (length entry)) told → (b : Bool) → Stands b told → b ≡ true
+  -- where the answer in the first words is not 19, the file is loaded in all
+  pub first-not-full : (rows : ℕ) → LoadsIn enums file entry exit (firstWords rows (length entry)) told → (b : Bool) → NotFull b told → b ≡ true
       → LoadsIn enums file entry exit (length entry) told
-  first-stands rows (e, t) true s b =
+  first-not-full rows (e, t) true s b =
       let x = same-answer enums file (firstWords rows (length entry)) (length entry) (room-first rows (length entry)) (λ p q. s p (e ∙ ap (answerOf file) q)) in
       (e ∙ ap (answerOf file) x, λ z. t z ∙ ap (λ y. tableOf y (length entry)) x)
-  first-stands rows l false s b = differ cc
+  first-not-full rows l false s b = differ cc
 
   -- where it does not, the words are still zeros
-  pub first-fails : (part : ℕ) → LoadsIn enums file entry exit part told → (b : Bool) → Stands b told → b ≡ false
+  pub first-full : (part : ℕ) → LoadsIn enums file entry exit part told → (b : Bool) → NotFull b told → b ≡ false
       → entry ≡ replicate (length entry) 0 → exit ≡ replicate (length entry) 0
-  first-fails part l true s b z = differ cc
-  first-fails part (e, t) false (p, q) b z = t z ∙ zeros (loadUnder enums file part) e where
+  first-full part l true s b z = differ cc
+  first-full part (e, t) false (p, q) b z = t z ∙ zeros (loadUnder enums file part) e where
     zeros : (x : Load) → told ≡ answerOf file x → tableOf x (length entry) ≡ replicate (length entry) 0
     zeros (refusal n i) f = refused-table n i (length entry)
     zeros (accepted rows readers shared) f = differ cc

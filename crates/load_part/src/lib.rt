@@ -1,19 +1,19 @@
 // Loading a file in a part of a lent row table, so that a short file costs no more than its length.
-use ids::WIDTH;
 use load::Loading;
+use table::WIDTH;
 ghost use mathlib.Core.Path.{_≡_};
 ghost use Prim.Native.Nat.{_≤_, min};
 ghost use lib.ListN.{length, replicate};
 ghost use Rattle.reading.specs.File.{tableOf};
 ghost use Rattle.load.specs.Under.{loadUnder};
 ghost use Rattle.load.specs.Loads.{answerOf};
-ghost use Rattle.load_part.specs.Part.{firstWords, LoadsIn, Stands};
+ghost use Rattle.load_part.specs.Part.{firstWords, LoadsIn, NotFull};
 
 // How many words so many rows have, as far as there is room.
 fn first_words(rows: usize, words: usize) -> usize
     ensures { λ r. ⌜ (r ≡ firstWords rows words) × (r ≤ words) ⌝ }
 {
-    let room = words::room(words) as usize;
+    let room = table::room(words) as usize;
     if rows < room {
         return WIDTH as usize * rows;
     }
@@ -30,9 +30,9 @@ fn few_rows(bytes: usize) -> usize
     128
 }
 
-// Whether an answer stands with more room too: any but 19 does.
-fn stands(told: Loading) -> bool
-    ensures { λ r. ⌜ Stands r told ⌝ }
+// Whether an answer is any but 19, so that it is the same with more room.
+fn not_full(told: Loading) -> bool
+    ensures { λ r. ⌜ NotFull r told ⌝ }
 {
     match told {
         Loading::Refused(number, _) => {
@@ -66,11 +66,11 @@ pub fn load_part(file: &[u8], enums: &[u8], words: &mut [u32]) -> Loading
         ≡ tableOf (loadUnder (now (enums .entry)) (now (file .entry)) (length (now (words .entry)))) (length (now (words .entry)))) ⌝ }
 {
     let few = load_within(file, enums, words, few_rows(file.len()));
-    if stands(few) {
+    if not_full(few) {
         return few;
     }
     let more = load_within(file, enums, words, file.len());
-    if stands(more) {
+    if not_full(more) {
         return more;
     }
     load::load(file, enums, words)

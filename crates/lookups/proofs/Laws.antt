@@ -12,8 +12,8 @@ use Rattle.laws.specs.Small.{differ}
 use Rattle.reading.specs.Answer.{Answer, refused, read, bind}
 use Rattle.reading.specs.Reads.{Small}
 use Rattle.reading.specs.Seven.{sevenAt, seven-next}
-use Rattle.ids.specs.declared.Grid.{Grid}
-use Rattle.ids.specs.Position.{cellOf}
+use Rattle.table.specs.declared.Grid.{Grid}
+use Rattle.table.specs.Grids.{cellOf}
 use Rattle.lookups.specs.declared.Span.the-variants.{Refused, Found}
 use Rattle.lookups.specs.Parts.{orRefused, kindOf, firstOf, lengthOf, partOf, inPart, lookup}
 use Rattle.lookups.specs.Texts.{countAt, behind, textIn}

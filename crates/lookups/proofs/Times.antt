@@ -5,8 +5,8 @@ use Prim.Native.Nat.{ℕ}
 use lib.IntN.{ℤ}
 use lib.ListN.{getD}
 use borrow.Author.Tests.{eq-eqb, ne-eqb}
-use Rattle.ids.specs.declared.Grid.{Grid}
-use Rattle.ids.specs.Position.{cellOf}
+use Rattle.table.specs.declared.Grid.{Grid}
+use Rattle.table.specs.Grids.{cellOf}
 use Rattle.ticks.specs.Split.{splitOf}
 use Rattle.lookups.specs.declared.Whole.the-variants as whole
 use Rattle.lookups.specs.declared.Moment.the-variants.{Refused, At}

@@ -5,8 +5,8 @@ use lib.IntN.{pos, negsuc}
 use Rattle.layout.specs.Number.{valueOf}
 use Rattle.layout.specs.Rows.{width}
 use Rattle.layout.specs.Table.{roomOf, cell}
-use Rattle.ids.specs.declared.Grid.{Grid}
-use Rattle.words.specs.Grids.{rowsGrid}
+use Rattle.table.specs.declared.Grid.{Grid}
+use Rattle.table.specs.Grids.{rowsGrid}
 use Rattle.reading.specs.Answer.{bind, check}
 use Rattle.reading.specs.Seven.{group, groups, sevenAt}
 use Rattle.reading.specs.Reads.{some}

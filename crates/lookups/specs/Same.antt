@@ -7,8 +7,8 @@ use native.Mathlib.Omega.{arith}
 use lib.Dec.{ltb, leb, eqb}
 use lib.ListN.{length, take, drop}
 use borrow.Author.Tests.{ltb-true}
-use Rattle.ids.specs.declared.Grid.{Grid}
-use Rattle.words.specs.Same.{SameRows}
+use Rattle.table.specs.declared.Grid.{Grid}
+use Rattle.table.specs.Same.{SameRows}
 use Rattle.lookups.specs.declared.Span.{Span}
 use Rattle.lookups.specs.declared.Span.the-variants.{Refused, Found}
 use Rattle.lookups.specs.declared.Whole.{Whole}

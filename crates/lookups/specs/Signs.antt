@@ -5,8 +5,8 @@ use Prim.Native.Nat.{ℕ, _-_, _/_, _≤_, _^_}
 use lib.Dec.{leb, eqb}
 use lib.IntN.{ℤ, pos, negsuc}
 use lib.ListN.{length}
-use Rattle.ids.specs.declared.Grid.{Grid}
-use Rattle.words.specs.Grids.{rowsGrid, columnsGrid}
+use Rattle.table.specs.declared.Grid.{Grid}
+use Rattle.table.specs.Grids.{rowsGrid, columnsGrid}
 use Rattle.reading.specs.Answer.{Answer, refused, read}
 use Rattle.reading.specs.Little.{littleAt}
 use Rattle.lookups.specs.declared.Whole.{Whole}

@@ -3,8 +3,8 @@ use mathlib.Core.List.{List}
 use Prim.Native.Nat.{ℕ, _+_, _-_}
 use lib.Dec.{eqb}
 use lib.ListN.{length}
-use Rattle.ids.specs.declared.Grid.{Grid}
-use Rattle.words.specs.Grids.{rowsGrid, columnsGrid}
+use Rattle.table.specs.declared.Grid.{Grid}
+use Rattle.table.specs.Grids.{rowsGrid, columnsGrid}
 use Rattle.reading.specs.Answer.{Answer, refused, read, bind}
 use Rattle.reading.specs.Seven.{sevenAt}
 use Rattle.lookups.specs.declared.Span.{Span}

@@ -4,8 +4,8 @@ use mathlib.Core.List.{List}
 use Prim.Native.Nat.{ℕ}
 use lib.ListN.{length}
 use lib.Dec.{eqb}
-use Rattle.ids.specs.declared.Grid.{Grid}
-use Rattle.words.specs.Grids.{rowsGrid, columnsGrid}
+use Rattle.table.specs.declared.Grid.{Grid}
+use Rattle.table.specs.Grids.{rowsGrid, columnsGrid}
 use Rattle.ticks.specs.Split.{splitOf}
 use Rattle.lookups.specs.declared.Whole.{Whole}
 use Rattle.lookups.specs.declared.Whole.the-variants as whole

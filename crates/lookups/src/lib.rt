@@ -1,7 +1,7 @@
 // Looking up the values of rows (01, "Looking up").
 use answers::Number;
-use ids::Grid;
 use ids::RowNumber;
+use table::Grid;
 ghost use mathlib.Core.Path.{_≡_};
 ghost use Prim.Native.Nat.{_+_, _-_, _≤_, _<_, _^_};
 ghost use lib.ListN.{length};
@@ -25,8 +25,8 @@ pub fn part_of(file: &[u8], words: &[u32], grid: Grid, row: RowNumber) -> Span
     if grid.room <= number {
         return Span::Refused(23, number);
     }
-    let first = words::word_of(words, grid, row, ids::FIRST) as usize;
-    let length = words::word_of(words, grid, row, ids::LENGTH) as usize;
+    let first = table::word_of(words, grid, row, table::FIRST) as usize;
+    let length = table::word_of(words, grid, row, table::LENGTH) as usize;
     if length == 0 {
         return Span::Refused(23, number);
     }
@@ -41,7 +41,7 @@ pub fn part_of(file: &[u8], words: &[u32], grid: Grid, row: RowNumber) -> Span
 pub fn part(file: &[u8], words: &[u32], row: RowNumber) -> Span
     ensures { λ r. ⌜ r ≡ rowsPart (now (file .entry)) (now (words .entry)) (row .0) ⌝ }
 {
-    part_of(file, words, words::grid(words.len()), row)
+    part_of(file, words, table::rows_grid(words.len()), row)
 }
 
 // The bytes of a span, none where it is a refusal.
@@ -112,7 +112,7 @@ pub fn text_of(file: &[u8], words: &[u32], grid: Grid, row: RowNumber) -> Span
         Span::Refused(refusal, at) => Span::Refused(refusal, at),
         Span::Found(first, length) => {
             let end = first + length;
-            let kind = words::word_of(words, grid, row, ids::KIND);
+            let kind = table::word_of(words, grid, row, table::KIND);
             text_in(&file[first..end], first, kind, number)
         }
     }
@@ -122,7 +122,7 @@ pub fn text_of(file: &[u8], words: &[u32], grid: Grid, row: RowNumber) -> Span
 pub fn text(file: &[u8], words: &[u32], row: RowNumber) -> Span
     ensures { λ r. ⌜ r ≡ rowsText (now (file .entry)) (now (words .entry)) (row .0) ⌝ }
 {
-    text_of(file, words, words::grid(words.len()), row)
+    text_of(file, words, table::rows_grid(words.len()), row)
 }
 
 // The bytes of a text, none on a refusal.
@@ -214,7 +214,7 @@ pub fn signed_of(file: &[u8], words: &[u32], grid: Grid, row: RowNumber) -> Whol
         Span::Refused(refusal, at) => Whole::Refused(refusal, at),
         Span::Found(first, length) => {
             let end = first + length;
-            let kind = words::word_of(words, grid, row, ids::KIND);
+            let kind = table::word_of(words, grid, row, table::KIND);
             signed_in(&file[first..end], kind, number)
         }
     }
@@ -224,7 +224,7 @@ pub fn signed_of(file: &[u8], words: &[u32], grid: Grid, row: RowNumber) -> Whol
 pub fn signed(file: &[u8], words: &[u32], row: RowNumber) -> Whole
     ensures { λ r. ⌜ r ≡ rowsSigned (now (file .entry)) (now (words .entry)) (row .0) ⌝ }
 {
-    signed_of(file, words, words::grid(words.len()), row)
+    signed_of(file, words, table::rows_grid(words.len()), row)
 }
 
 // A refusal's number and the row number; or a time.
@@ -241,7 +241,7 @@ pub fn time_of(file: &[u8], words: &[u32], grid: Grid, row: RowNumber) -> Moment
     match signed_of(file, words, grid, row) {
         Whole::Refused(refusal, at) => Moment::Refused(refusal, at),
         Whole::Number(count) => {
-            let kind = words::word_of(words, grid, row, ids::KIND);
+            let kind = table::word_of(words, grid, row, table::KIND);
             if kind != 20 {
                 return Moment::Refused(24, number);
             }
@@ -254,5 +254,5 @@ pub fn time_of(file: &[u8], words: &[u32], grid: Grid, row: RowNumber) -> Moment
 pub fn time(file: &[u8], words: &[u32], row: RowNumber) -> Moment
     ensures { λ r. ⌜ r ≡ rowsTime (now (file .entry)) (now (words .entry)) (row .0) ⌝ }
 {
-    time_of(file, words, words::grid(words.len()), row)
+    time_of(file, words, table::rows_grid(words.len()), row)
 }

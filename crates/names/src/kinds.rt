@@ -5,9 +5,13 @@ pub const BOOLEAN: u32 = 11;
 
 pub const CHAR: u32 = 12;
 
+pub const STRING: u32 = 13;
+
 pub const OBJECT: u32 = 14;
 
 pub const TIME_SPAN: u32 = 20;
+
+pub const VECTOR_3: u32 = 24;
 
 pub const RECTANGLE: u32 = 30;
 
@@ -18,6 +22,8 @@ pub const TEXTURE_2D: u32 = 32;
 pub const PAGE: u32 = 34;
 
 pub const INDEX_BUFFER: u32 = 37;
+
+pub const VERTEX_DECLARATION: u32 = 38;
 
 pub const MODEL: u32 = 40;
 

@@ -10,7 +10,7 @@ use borrow.Author.Tests.{eq-eqb, ne-eqb}
 use Rattle.laws.specs.Small.{differ}
 use Rattle.layout.specs.Rows.{Row}
 use Rattle.layout.specs.Shortest.{numbered}
-use Rattle.ids.specs.declared.Grid.{Grid}
+use Rattle.table.specs.declared.Grid.{Grid}
 use Rattle.reading.specs.Answer.{refused}
 use Rattle.reading.specs.Seven.{sevenAt}
 use Rattle.numbers.specs.Padded.{past, padOf}

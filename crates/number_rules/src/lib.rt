@@ -1,10 +1,10 @@
 // 42 over a loaded file (02, Req 07): a seven-bit number that is not shortest, at the number; and where the readers of a file stand.
 use answers::Number;
 use fault_places::Place;
-use ids::Grid;
 use numbers::seven::Padded;
 use numbers::seven::seven_at;
 use numbers::seven::seven_padded;
+use table::Grid;
 use used_rows::word_in;
 ghost use mathlib.Core.Path.{_≡_};
 ghost use mathlib.Core.List.{[], _∷_};
@@ -96,9 +96,9 @@ fn row_numbers(file: &[u8], words: &[u32], grid: Grid, used: u32, row: u32) -> P
     requires { ⌜ row < used ⌝ }
     ensures { λ r. ⌜ RowFound (now (file .entry)) grid (now (words .entry)) used row r ⌝ }
 {
-    let kind = word_in(words, grid, used, row, ids::KIND);
-    let first = word_in(words, grid, used, row, ids::FIRST);
-    let detail = word_in(words, grid, used, row, ids::DETAIL);
+    let kind = word_in(words, grid, used, row, table::KIND);
+    let first = word_in(words, grid, used, row, table::FIRST);
+    let detail = word_in(words, grid, used, row, table::DETAIL);
     value_numbers(file, kind, first as usize, detail)
 }
 

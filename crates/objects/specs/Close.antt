@@ -30,16 +30,17 @@ use Rattle.targets.specs.Word.{fixed-has-size}
 use Rattle.targets.specs.Laws.{of-kind, kind-of-code}
 use Rattle.fonts.specs.FontWords.{fontWords}
 use Rattle.fonts.specs.Bridge.{font-judged, other-kind}
-use Rattle.table.specs.declared.Head.{Head}
-use Rattle.table.specs.declared.Walk.{Walk}
-use Rattle.table.specs.declared.Walk.the-variants.{Done, Refused}
-use Rattle.ids.specs.declared.Grid.{Grid}
-use Rattle.table.specs.Written.{written, putRow, written-under, length-written}
-use Rattle.table.specs.Contract.{seen, reaching, atop, padded, Walked, Free, put-leaf}
-use Rattle.table.specs.Leaf.{valueRow, value-row}
-use Rattle.table.specs.Loop.{Got, got, lost, refusing, reading}
+use Rattle.table.specs.declared.Grid.{Grid}
+use Rattle.table.specs.Put.{putRow}
+use Rattle.table.specs.Word.{inWord, word-more}
+use Rattle.walked.specs.declared.Head.{Head}
+use Rattle.walked.specs.declared.Walk.{Walk}
+use Rattle.walked.specs.declared.Walk.the-variants.{Done, Refused}
+use Rattle.walked.specs.Written.{written, written-under, length-written}
+use Rattle.walked.specs.Contract.{seen, reaching, atop, padded, Walked, Free, put-leaf}
+use Rattle.walked.specs.Leaf.{valueRow, value-row}
+use Rattle.walked.specs.Loop.{Got, got, lost, refusing, reading}
 use Rattle.heads.specs.Below.{font-head}
-use Rattle.places.specs.Word.{inWord, word-more}
 use Rattle.places.specs.Places.{countPlaces}
 use Rattle.places.specs.Padding.{rowsPadding, row-first, id-of, sized-plain}
 use Rattle.places.specs.Padding.{padding as paddingOf}

@@ -1,9 +1,9 @@
 // How a value ends: the rule of its kind, and its row.
-use ids::Grid;
 use ids::RowNumber;
-use table::Head;
-use table::Reached;
-use table::Walk;
+use table::Grid;
+use walked::Head;
+use walked::Reached;
+use walked::Walk;
 ghost use mathlib.Core.Path.{_≡_};
 ghost use Rattle.objects.specs.Close.{keeps, closeAnswer, closeWords};
 
@@ -37,7 +37,7 @@ pub fn close(
             let row = h.row;
             if keeps_rule(file, words, grid, kind, row) {
                 let branch = table::rows_from(row, reached.used);
-                let r = table::row_words(h, kind, children, branch, reached.next);
+                let r = walked::row_words(h, kind, children, branch, reached.next);
                 table::put_row(words, grid, row, r);
                 return Walk::Done(Reached {
                     used: reached.used,

@@ -13,9 +13,8 @@ use Rattle.layout.specs.Shortest.{numbered}
 use Rattle.reading.specs.Seven.{sevenAt}
 use Rattle.numbers.specs.Padded.{numberOf, past}
 use Rattle.places.specs.Places.{rawPlace}
-use Rattle.ids.specs.declared.Grid.{Grid}
-use Rattle.ids.specs.Position.{cellOf}
-use Rattle.words.specs.Grids.{rowsGrid}
+use Rattle.table.specs.declared.Grid.{Grid}
+use Rattle.table.specs.Grids.{cellOf, rowsGrid}
 use Rattle.pack_figures.specs.Figures.{Figure, refusals, rows, one, ofOther, ofRefusal}
 use Rattle.pack_figures.specs.Digest.{Mark, rowBytes, markOf, marks, ofAccepted, ofMark, ofMarks}
 use Rattle.pack_figures.specs.Counted.{byRows}

@@ -1,9 +1,9 @@
 // Counting a file of a pack into the words of a report (02, Req 14).
 use answers::Number;
-use ids::Grid;
 use ids::RowNumber;
 use numbers::seven::seven_at;
-use words::word_of;
+use table::Grid;
+use table::word_of;
 ghost use mathlib.Core.Path.{_≡_};
 ghost use Prim.Native.Nat.{_-_};
 ghost use Rattle.reading.specs.Seven.{sevenAt};
@@ -80,18 +80,18 @@ fn level_bytes(length: u32) -> u64
 fn count_row(file: &[u8], words: &[u32], grid: Grid, row: u32, figures: &mut [u64])
     ensures { λ _. ⌜ now (figures .exit) ≡ counted (ofMark (markOf (now (file .entry)) (rowAt grid (now (words .entry)) row))) (now (figures .entry)) ⌝ }
 {
-    let kind = word_of(words, grid, RowNumber(row), ids::KIND);
+    let kind = word_of(words, grid, RowNumber(row), table::KIND);
     raise(figures, 68 + kind as usize, 1);
     if kind == 13 {
-        let first = word_of(words, grid, RowNumber(row), ids::FIRST);
-        let id = word_of(words, grid, RowNumber(row), ids::DETAIL);
+        let first = word_of(words, grid, RowNumber(row), table::FIRST);
+        let id = word_of(words, grid, RowNumber(row), table::DETAIL);
         raise(figures, 2, text_bytes(file, first as usize, id));
         return;
     }
     if kind != 35 {
         return;
     }
-    let length = word_of(words, grid, RowNumber(row), ids::LENGTH);
+    let length = word_of(words, grid, RowNumber(row), table::LENGTH);
     raise(figures, 3, level_bytes(length));
 }
 

@@ -22,7 +22,7 @@ use Rattle.fill.specs.Fill.{wiped}
 use Rattle.enums.specs.Judge.{Judgement, lawful, enumsAt}
 use Rattle.enums.specs.Judge.{refused as list-refused}
 use Rattle.readers.specs.Judged.{judgedName, judges}
-use Rattle.words.specs.Grids.{rowsGrid}
+use Rattle.table.specs.Grids.{rowsGrid}
 use Rattle.load.specs.declared.Loading.the-variants as code
 use Rattle.load.specs.Under.{underList, fileUnder, loadUnder}
 use Rattle.load.specs.Loads.{answerOf}

@@ -1,6 +1,6 @@
 // Counting a file of a pack, under a list of enum types (02, Req 14).
-use ids::WIDTH;
 use load::Loading;
+use table::WIDTH;
 ghost use mathlib.Core.Path.{_≡_};
 ghost use lib.ListN.{take};
 ghost use Rattle.layout.specs.Text.{ascii};
@@ -42,7 +42,7 @@ fn count_xnb(content: &[u8], enums: &[u8], words: &mut [u32], figures: &mut [u64
             shared: _,
             padding: _,
         } => {
-            pack_counts::count_loaded(content, words, words::grid(words.len()), rows, figures);
+            pack_counts::count_loaded(content, words, table::rows_grid(words.len()), rows, figures);
             fill::clear_range(words, 0, WIDTH as usize * rows as usize);
         }
     }

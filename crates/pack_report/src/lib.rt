@@ -111,7 +111,7 @@ pub fn add(
     ensures { λ _. ⌜ now (words .exit) ≡ replicate (length (now (words .entry))) 0 ⌝ }
 {
     fill::clear(words, 0);
-    if words::room(words.len()) < 65536 {
+    if table::room(words.len()) < 65536 {
         fill::clear64(table, 0);
         return Adding::Refused(72, 0);
     }

@@ -9,7 +9,7 @@ use lib.ListN.{drop}
 use borrow.Author.Tests.{eq-eqb, ne-eqb}
 use Rattle.laws.specs.Small.{differ}
 use Rattle.layout.specs.Rows.{Row}
-use Rattle.ids.specs.declared.Grid.{Grid}
+use Rattle.table.specs.declared.Grid.{Grid}
 use Rattle.profile.specs.Offences.{wrongAt, next, skip, kindOf, detailOf, noPage, nextless}
 use Rattle.profile.specs.Profile.{firstOf}
 use Rattle.fault_places.specs.declared.Place.the-variants.{Fine, At}

@@ -1,6 +1,6 @@
 // The rules of pages over the rows of a loaded file (02, Req 07): 46, a first object that is no Page, and 47, a page whose next has resource id 0.
 use fault_places::Place;
-use ids::Grid;
+use table::Grid;
 use used_rows::next_row;
 use used_rows::word_in;
 ghost use Prim.Native.Nat.{suc, _<_};
@@ -13,11 +13,11 @@ ghost use Rattle.page_rules.specs.Pages.{pageFault};
 pub fn no_page(words: &[u32], grid: Grid, used: u32) -> Place
     ensures { λ r. ⌜ Finds grid (now (words .entry)) used noPage r ⌝ }
 {
-    let kind = word_in(words, grid, used, 0, ids::KIND);
+    let kind = word_in(words, grid, used, 0, table::KIND);
     if kind == 34 {
         return Place::Fine;
     }
-    let first = word_in(words, grid, used, 0, ids::FIRST);
+    let first = word_in(words, grid, used, 0, table::FIRST);
     Place::At(first as usize)
 }
 
@@ -37,16 +37,16 @@ fn nextless_at(words: &[u32], grid: Grid, used: u32, row: u32) -> Place
     requires { ⌜ row < used ⌝ }
     ensures { λ r. ⌜ Finds grid (now (words .entry)) used (λ rows. pageFault (drop row rows)) r ⌝ }
 {
-    let kind = word_in(words, grid, used, row, ids::KIND);
+    let kind = word_in(words, grid, used, row, table::KIND);
     if kind != 34 {
         return Place::Fine;
     }
     let next = next_of_page(words, grid, used, row);
-    let detail = word_in(words, grid, used, next, ids::DETAIL);
+    let detail = word_in(words, grid, used, next, table::DETAIL);
     if detail != 0 {
         return Place::Fine;
     }
-    let first = word_in(words, grid, used, next, ids::FIRST);
+    let first = word_in(words, grid, used, next, table::FIRST);
     Place::At(first as usize)
 }
 

@@ -1,4 +1,3 @@
 -- Where the seven-bit numbers of a file start, by its rows, and how many bytes they have beyond their shortest forms.
-pub mod Word
 pub mod Places
 pub mod Padding

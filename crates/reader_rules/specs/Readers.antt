@@ -8,7 +8,7 @@ use lib.Dec.{eqb}
 use lib.ListN.{length, drop}
 use borrow.Author.Tests.{eq-eqb, ne-eqb}
 use Rattle.layout.specs.Rows.{Row}
-use Rattle.ids.specs.declared.Grid.{Grid}
+use Rattle.table.specs.declared.Grid.{Grid}
 use Rattle.profile.specs.Offences.{wrongAt, kindOf, detailOf, nameStart, uses, unused}
 use Rattle.fault_places.specs.declared.Place.{Place}
 use Rattle.fault_places.specs.declared.Place.the-variants.{Fine, At}

@@ -11,7 +11,6 @@ pub mod Rules
 pub mod Font
 pub mod Resource
 pub mod Heads
-pub mod Grid
 pub mod Drafts
 pub mod Walk
 pub mod Complete

@@ -12,8 +12,8 @@ use Rattle.laws.specs.Small.{differ}
 use Rattle.layout.specs.Table.{Shape, byRows, byColumns, shapeOf, cell}
 use Rattle.reading.specs.Drafts.{resource}
 use Rattle.reading.specs.Resource.{suit, suits}
-use Rattle.ids.specs.declared.Grid.{Grid}
-use Rattle.ids.specs.Position.{cellOf}
+use Rattle.table.specs.declared.Grid.{Grid}
+use Rattle.table.specs.Grids.{cellOf}
 use Rattle.resources.specs.declared.Settled.{Settled}
 use Rattle.resources.specs.declared.Settled.the-variants.{Fine}
 use Rattle.resources.specs.Total.{rootsFrom, rootsOf, fitted, suited, rowSettled, settleFrom, nulled, nullCleared}

@@ -8,8 +8,8 @@ use lib.Seq.{set-at, getD-drop, take-all, take-append-le}
 use Rattle.reading.specs.Drafts.{Wants, nothing, resource}
 use Rattle.reading.specs.File.{rootKind}
 use Rattle.reading.specs.Resource.{suits}
-use Rattle.ids.specs.declared.Grid.{Grid}
-use Rattle.ids.specs.Position.{cellOf}
+use Rattle.table.specs.declared.Grid.{Grid}
+use Rattle.table.specs.Grids.{cellOf}
 use Rattle.resources.specs.declared.Settled.{Settled}
 use Rattle.resources.specs.declared.Settled.the-variants.{Fine, Wrong}
 use Rattle.resources.specs.Roots.{padded, Holds}

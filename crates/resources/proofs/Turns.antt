@@ -3,7 +3,7 @@ use mathlib.Core.Path.{_≡_}
 use mathlib.Core.List.{List}
 use Prim.Native.Nat.{ℕ, suc, _+_, _-_, _≤_, _<_}
 use native.Mathlib.Omega.{arith}
-use Rattle.ids.specs.declared.Grid.{Grid}
+use Rattle.table.specs.declared.Grid.{Grid}
 use Rattle.resources.specs.declared.Settled.{Settled}
 use Rattle.resources.specs.declared.Settled.the-variants.{Fine}
 use Rattle.resources.specs.Total.{rowSettled, onward, rowsSettled}

@@ -9,8 +9,8 @@ use lib.Dec.{eqb}
 use lib.ListN.{getD, drop}
 use borrow.Author.Tests.{eq-eqb, ne-eqb, eqb-false}
 use Rattle.laws.specs.Small.{differ, neither}
-use Rattle.ids.specs.declared.Grid.{Grid}
-use Rattle.ids.specs.Position.{cellOf}
+use Rattle.table.specs.declared.Grid.{Grid}
+use Rattle.table.specs.Grids.{cellOf}
 use Rattle.resources.specs.declared.Settled.the-variants.{Fine}
 use Rattle.resources.specs.Total.{fitted, suited, rowSettled, onward, rowsSettled, NoneAmong, anyReference, rootsOf, settleOf}
 

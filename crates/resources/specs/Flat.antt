@@ -7,7 +7,7 @@ use lib.ListN.{length, drop, set}
 use lib.Seq.{sets, sets-eq}
 use Rattle.layout.specs.Rows.{Row, words, flat, width}
 use Rattle.layout.specs.Table.{byRows, cell}
-use Rattle.reading.specs.Grid.{puts, writtenRows}
+use Rattle.table.specs.Stores.{puts, writtenRows}
 use Rattle.reading.specs.References.{length-flat}
 
 -- stores one after the other, and more behind them

@@ -7,12 +7,12 @@ use native.Mathlib.Omega.{arith}
 use lib.ListN.{length, drop, length-append}
 use lib.Seq.{take-all}
 use Rattle.layout.specs.Rows.{words, width}
-use Rattle.reading.specs.Grid.{Wide}
 use Rattle.reading.specs.Drafts.{Draft, bare}
 use Rattle.reading.specs.Resource.{suits}
 use Rattle.reading.specs.File.{rootKinds}
-use Rattle.ids.specs.declared.Grid.{Grid}
-use Rattle.table.specs.Written.{marked, drafts, length-drafts, wide-drafts, written}
+use Rattle.table.specs.declared.Grid.{Grid}
+use Rattle.table.specs.Stores.{Wide}
+use Rattle.walked.specs.Written.{marked, drafts, length-drafts, wide-drafts, written}
 use Rattle.resources.specs.declared.Settled.{Settled}
 use Rattle.resources.specs.Marked.{Marked}
 use Rattle.resources.specs.Settled.{settledOf, settled, Settles, Drafted}

@@ -18,8 +18,8 @@ use Rattle.reading.specs.Walk.{Taken}
 use Rattle.reading.specs.Sound.{Read, walks-sound}
 use Rattle.reading.specs.File.{objectsAt, rootKinds}
 use Rattle.reading.specs.References.{roots-are, rows-length, slots-count}
-use Rattle.ids.specs.declared.Grid.{Grid}
-use Rattle.table.specs.Written.{written}
+use Rattle.table.specs.declared.Grid.{Grid}
+use Rattle.walked.specs.Written.{written}
 use Rattle.resources.specs.Marked.{marked-rows}
 use Rattle.resources.specs.Settled.{Drafted}
 

@@ -9,12 +9,12 @@ use lib.Seq.{getD-at, set-at}
 use borrow.Author.Tests.{eq-eqb, ne-eqb}
 use Rattle.layout.specs.Rows.{Row, words, width}
 use Rattle.layout.specs.Table.{shapeOf}
-use Rattle.reading.specs.Grid.{writtenRows, Wide, rows-at, set-row}
 use Rattle.reading.specs.Drafts.{Wants, nothing, resource}
 use Rattle.reading.specs.Resource.{suits}
-use Rattle.ids.specs.declared.Grid.{Grid}
-use Rattle.ids.specs.Position.{cellOf}
-use Rattle.table.specs.Written.{marked}
+use Rattle.table.specs.declared.Grid.{Grid}
+use Rattle.table.specs.Stores.{writtenRows, Wide, rows-at, set-row}
+use Rattle.table.specs.Grids.{cellOf}
+use Rattle.walked.specs.Written.{marked}
 use Rattle.resources.specs.declared.Settled.{Settled}
 use Rattle.resources.specs.declared.Settled.the-variants.{Fine, Wrong}
 use Rattle.resources.specs.Marked.{RowMarked}

@@ -4,8 +4,8 @@ use mathlib.Core.List.{List, [], _++_}
 use Prim.Native.Nat.{ℕ, _-_, _≤_}
 use lib.ListN.{length, getD, take, replicate}
 use Rattle.reading.specs.File.{rootKind}
-use Rattle.ids.specs.declared.Grid.{Grid}
-use Rattle.ids.specs.Position.{cellOf}
+use Rattle.table.specs.declared.Grid.{Grid}
+use Rattle.table.specs.Grids.{cellOf}
 
 -- kinds in an array of 257, for the primary and the shared objects; 01: "shared count (0 to 256)"
 unfoldable pub padded : List ℕ → List ℕ

@@ -8,11 +8,11 @@ use Rattle.layout.specs.Rows.{width, words}
 use Rattle.layout.specs.Table.{shapeOf}
 use Rattle.reading.specs.Answer.{Answer, refused, check}
 use Rattle.reading.specs.Resource.{suits}
-use Rattle.reading.specs.Grid.{writtenRows}
 use Rattle.reading.specs.Drafts.{Draft, bare}
 use Rattle.reading.specs.File.{rootKinds, judged}
-use Rattle.ids.specs.declared.Grid.{Grid}
-use Rattle.table.specs.Written.{written}
+use Rattle.table.specs.declared.Grid.{Grid}
+use Rattle.table.specs.Stores.{writtenRows}
+use Rattle.walked.specs.Written.{written}
 use Rattle.resources.specs.declared.Settled.{Settled}
 use Rattle.resources.specs.declared.Settled.the-variants.{Fine, Wrong}
 use Rattle.resources.specs.Marked.{Marked}

@@ -8,8 +8,8 @@ use lib.ListN.{getD, take, drop, set}
 use Rattle.reading.specs.Drafts.{resource}
 use Rattle.reading.specs.Resource.{suits}
 use Rattle.reading.specs.File.{rootKind}
-use Rattle.ids.specs.declared.Grid.{Grid}
-use Rattle.ids.specs.Position.{cellOf}
+use Rattle.table.specs.declared.Grid.{Grid}
+use Rattle.table.specs.Grids.{cellOf}
 use Rattle.resources.specs.declared.Settled.{Settled}
 use Rattle.resources.specs.declared.Settled.the-variants.{Fine, Wrong}
 

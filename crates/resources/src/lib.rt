@@ -1,11 +1,11 @@
 // The last pass over the rows (01, "17 last, in row order"): it judges whether each shared reference names a resource
 // of the type that it wants, and clears the kind that the reference's row has in the place of its number of children.
-use ids::Grid;
 use ids::Position;
 use ids::ResourceId;
 use ids::RowNumber;
-use ids::WIDTH;
-use words::word_of;
+use table::Grid;
+use table::WIDTH;
+use table::word_of;
 ghost use mathlib.Core.Path.{_≡_};
 ghost use mathlib.Core.Bool.{false};
 ghost use Prim.Native.Nat.{_+_, _*_, _-_, _≤_};
@@ -38,10 +38,10 @@ fn note(kinds: &mut [u32; 257], n: usize, words: &[u32], grid: Grid, row: RowNum
     if 257 <= n {
         return n;
     }
-    if word_of(words, grid, row, ids::PARENT) != 0 {
+    if word_of(words, grid, row, table::PARENT) != 0 {
         return n;
     }
-    kinds[n] = word_of(words, grid, row, ids::KIND);
+    kinds[n] = word_of(words, grid, row, table::KIND);
     n + 1
 }
 
@@ -97,16 +97,16 @@ fn judge_row(words: &mut [u32], grid: Grid, row: RowNumber, kinds: &[u32]) -> Se
     ensures { λ r. ⌜ r ≡ rowSettled grid (drop 1 (now (kinds .entry))) (now (words .entry)) (row .0) .0 ⌝ }
     ensures { λ _. ⌜ now (words .exit) ≡ rowSettled grid (drop 1 (now (kinds .entry))) (now (words .entry)) (row .0) .1 ⌝ }
 {
-    if word_of(words, grid, row, ids::KIND) != 36 {
+    if word_of(words, grid, row, table::KIND) != 36 {
         return Settled::Fine;
     }
-    let wanted = word_of(words, grid, row, ids::CHILDREN);
-    let id = word_of(words, grid, row, ids::DETAIL);
+    let wanted = word_of(words, grid, row, table::CHILDREN);
+    let id = word_of(words, grid, row, table::DETAIL);
     if suits_id(kinds, ResourceId(id), wanted) {
-        put_word(words, row.cell(grid, ids::CHILDREN), 0);
+        put_word(words, grid.cell(row, table::CHILDREN), 0);
         return Settled::Fine;
     }
-    Settled::Wrong(word_of(words, grid, row, ids::FIRST))
+    Settled::Wrong(word_of(words, grid, row, table::FIRST))
 }
 
 // Judges the rows in order, from one on.
@@ -141,13 +141,13 @@ fn clear_null(words: &mut [u32], grid: Grid, row: RowNumber) -> bool
     ensures { λ r. ⌜ r ≡ nullCleared grid (now (words .entry)) (row .0) .0 ⌝ }
     ensures { λ _. ⌜ now (words .exit) ≡ nullCleared grid (now (words .entry)) (row .0) .1 ⌝ }
 {
-    if word_of(words, grid, row, ids::KIND) != 36 {
+    if word_of(words, grid, row, table::KIND) != 36 {
         return false;
     }
-    if word_of(words, grid, row, ids::DETAIL) != 0 {
+    if word_of(words, grid, row, table::DETAIL) != 0 {
         return true;
     }
-    let mark = row.cell(grid, ids::CHILDREN);
+    let mark = grid.cell(row, table::CHILDREN);
     put_word(words, mark, 0);
     false
 }
@@ -177,7 +177,7 @@ fn any_of_eight(words: &[u32], grid: Grid, from: u32) -> bool
     let mut j = 0;
     while j < 8 {
         let row = from + j;
-        let at = RowNumber(row).cell(grid, ids::KIND);
+        let at = grid.cell(RowNumber(row), table::KIND);
         found = found | (words[at] == 36);
         j += 1;
     }
@@ -227,7 +227,7 @@ fn any_reference(words: &[u32], grid: Grid, used: u32) -> bool
 {
     let mut i = past_many(words, grid, used);
     while i < used {
-        if word_of(words, grid, RowNumber(i), ids::KIND) == 36 {
+        if word_of(words, grid, RowNumber(i), table::KIND) == 36 {
             return true;
         }
         i += 1;

@@ -20,7 +20,7 @@ use Rattle.reading.specs.Walk.{Taken, walk}
 use Rattle.reading.specs.Front.{header-sound}
 use Rattle.reading.specs.File.{headerAt, Named, unknown, known, judge, rootKinds, judged, Loaded, objectsAt, finished, readerAt, readersAt, listsAt, fileAt, toLoad, loadOf}
 use Rattle.retyped.specs.Texts.{Span, SequenceText, WalkText, FileText, In, InText, Retyped, EachRead}
-use Rattle.retyped.specs.Twin.{Behind, ends-at, no-end, WasRead, SameBy, both-refused, both-read, same-equal, Covered, typed as covers, behind, Stands, Agree, Overlap, Twin, Wordless, Quiet, wordless, twin-read, twin-refused, twin-then, then-twin, quiet-check, quiet-bind, tail-same, plainly}
+use Rattle.retyped.specs.Twin.{Behind, ends-at, no-end, WasRead, SameBy, both-refused, both-read, same-equal, Covered, typed as covers, behind, InSome, Agree, Overlap, Twin, Wordless, Quiet, wordless, twin-read, twin-refused, twin-then, then-twin, quiet-check, quiet-bind, tail-same, plainly}
 use Rattle.retyped.specs.Leaves.{some-twin, seven-twin, little-twin}
 use Rattle.retyped.specs.Alike.{Alike, TakenAlike, taken-own}
 use Rattle.retyped.specs.Walks.{sequence-twin, walk-twin}
@@ -178,14 +178,14 @@ module _ (nameOf : ℕ → List ℕ → Named) (f g : List ℕ) (room : ℕ) (sm
 module _ (nameOf : ℕ → List ℕ → Named) (f g : List ℕ) (room : ℕ) (small : Small f) (r : EachRead (FileText nameOf room) f g) where
   overlap : Overlap f g (FileText nameOf room f) (FileText nameOf room g) (fileAt nameOf f room) (fileAt nameOf g room) 0
   overlap i l = go (r .elsewhere i) where
-    go : (getD f i 0 ≡ getD g i 0) ⊎ (Stands (FileText nameOf room f) i × Stands (FileText nameOf room g) i)
-        → (getD f i 0 ≡ getD g i 0) ⊎ ((Stands (FileText nameOf room f) i ⊎ Behind (fileAt nameOf f room) i) × (Stands (FileText nameOf room g) i ⊎ WasRead (fileAt nameOf g room)))
+    go : (getD f i 0 ≡ getD g i 0) ⊎ (InSome (FileText nameOf room f) i × InSome (FileText nameOf room g) i)
+        → (getD f i 0 ≡ getD g i 0) ⊎ ((InSome (FileText nameOf room f) i ⊎ Behind (fileAt nameOf f room) i) × (InSome (FileText nameOf room g) i ⊎ WasRead (fileAt nameOf g room)))
     go (inl e) = inl e
     go (inr w) = inr (inl (w .0), inl (w .1))
 
   pub each-read : Retyped (FileText nameOf room) f g
   each-read = record { as-long = r .as-long; elsewhere = λ i. go i (r .elsewhere i) (file-twin f g small (r .as-long) nameOf room .agreed overlap i (omega arith)) } where
-    go : (i : ℕ) → (getD f i 0 ≡ getD g i 0) ⊎ (Stands (FileText nameOf room f) i × Stands (FileText nameOf room g) i)
+    go : (i : ℕ) → (getD f i 0 ≡ getD g i 0) ⊎ (InSome (FileText nameOf room f) i × InSome (FileText nameOf room g) i)
         → (getD f i 0 ≡ getD g i 0) ⊎ Covered g (FileText nameOf room f) (fileAt nameOf f room) i → (getD f i 0 ≡ getD g i 0) ⊎ InText (FileText nameOf room) f g i
     go i (inl e) c = inl e
     go i (inr w) (inl e) = inl e

@@ -24,7 +24,7 @@ use Rattle.reading.specs.Utf8.{charAt, utf8s, utf8s-sound, utf8s-complete}
 use Rattle.reading.specs.Fixed.{rule, fixedAt, isBoolean}
 use Rattle.reading.specs.Heads.{Opening, always, keeps, flagPlan, ownAt, whole, fixedHeadAt, textAt, flagAt, countAt, imageAt, leafAt, headAt, head-reads}
 use Rattle.retyped.specs.Texts.{Span, HeadText}
-use Rattle.retyped.specs.Twin.{Behind, check-behind, WasRead, check-read, SameBy, both-refused, both-read, Covered, typed, behind, Stands, Agree, Twin, Quiet, twin-map, twin-weaken, twin-read, twin-refused, twin-check, then-twin, quiet-check, quiet-bind, tail-same, plainly, reader-twin}
+use Rattle.retyped.specs.Twin.{Behind, check-behind, WasRead, check-read, SameBy, both-refused, both-read, Covered, typed, behind, InSome, Agree, Twin, Quiet, twin-map, twin-weaken, twin-read, twin-refused, twin-check, then-twin, quiet-check, quiet-bind, tail-same, plainly, reader-twin}
 
 -- heads that are read alike: the same plan, and only a text's own bytes may differ, which are as many
 abbrev pub HeadAlike : Target → Opening → Opening → Type 0
@@ -222,15 +222,15 @@ module _ (f g : List ℕ) (small : Small f) (equal : length f ≡ length g) wher
         by false t h = rw (← unread t h, t) both-refused
 
         -- the second reads a text there, or all, so it is valid
-        second : (i : ℕ) → Stands (TextBytes g n e) i ⊎ WasRead (judgedText g) → utf8s (own g) ≡ true
+        second : (i : ℕ) → InSome (TextBytes g n e) i ⊎ WasRead (judgedText g) → utf8s (own g) ≡ true
         second i (inl s) = s .2 .2
         second i (inr w) = check-read (utf8s (own g)) 15 at (read (own g, stop) (e + n)) w
 
-        cover : (i : ℕ) → utf8s (own g) ≡ true → Stands Here i ⊎ Behind (judgedText f) i → Covered g Here (judgedText f) i
+        cover : (i : ℕ) → utf8s (own g) ≡ true → InSome Here i ⊎ Behind (judgedText f) i → Covered g Here (judgedText f) i
         cover i t (inl s) = let w = s .2 in typed (s .0) (s .1) w (rw (w .0, w .1) (utf8s-sound (own g) t))
         cover i t (inr b) = behind b
 
-        covered : (i : ℕ) → (getD f i 0 ≡ getD g i 0) ⊎ ((Stands Here i ⊎ Behind (judgedText f) i) × (Stands (TextBytes g n e) i ⊎ WasRead (judgedText g)))
+        covered : (i : ℕ) → (getD f i 0 ≡ getD g i 0) ⊎ ((InSome Here i ⊎ Behind (judgedText f) i) × (InSome (TextBytes g n e) i ⊎ WasRead (judgedText g)))
             → (getD f i 0 ≡ getD g i 0) ⊎ Covered g Here (judgedText f) i
         covered i (inl q) = inl q
         covered i (inr w) = inr (cover i (second i (w .1)) (w .0))

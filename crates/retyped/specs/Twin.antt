@@ -108,9 +108,9 @@ pub data Covered {A : Type 0} (g : List ℕ) (T : Span → Type 0) (o : Answer A
   typed : (x : Span) → In i x → T x → Utf8s (take (x .1) (drop (x .0) g)) → Covered g T o i
   behind : Behind o i → Covered g T o i
 
--- a place stands in a text
-abbrev pub Stands : (Span → Type 0) → ℕ → Type 0
-Stands T i = (x : Span) × In i x × T x
+-- a place is in some text
+abbrev pub InSome : (Span → Type 0) → ℕ → Type 0
+InSome T i = (x : Span) × In i x × T x
 
 module _ (f g : List ℕ) where
   -- from a place on the files have the same bytes but there
@@ -132,29 +132,29 @@ module _ (f g : List ℕ) where
   -- from a place on the files have the same bytes but in texts of both: one that is read here or stands behind, and one that the second reads, if it does not
   -- read all
   abbrev pub Overlap : {A : Type 0} → (T T′ : Span → Type 0) → (o o′ : Answer A) → (at : ℕ) → Type 0
-  Overlap T T′ o o′ at = (i : ℕ) → at ≤ i → (getD f i 0 ≡ getD g i 0) ⊎ ((Stands T i ⊎ Behind o i) × (Stands T′ i ⊎ WasRead o′))
+  Overlap T T′ o o′ at = (i : ℕ) → at ≤ i → (getD f i 0 ≡ getD g i 0) ⊎ ((InSome T i ⊎ Behind o i) × (InSome T′ i ⊎ WasRead o′))
 
   overlap-by : {A B : Type 0} {T U T′ U′ : Span → Type 0} (o o′ : Answer A) (p p′ : Answer B) {at at′ : ℕ} → at ≤ at′
       → ((x : Span) (i : ℕ) → at′ ≤ i → In i x → T x → U x ⊎ Behind p i) → ((i : ℕ) → at′ ≤ i → Behind o i → Behind p i)
       → ((x : Span) (i : ℕ) → at′ ≤ i → In i x → T′ x → U′ x ⊎ WasRead p′) → (WasRead o′ → WasRead p′) → Overlap T T′ o o′ at → Overlap U U′ p p′ at′
   overlap-by {T = T} {U = U} {T′ = T′} {U′ = U′} o o′ p p′ l m d m′ d′ h i k = go (h i (omega arith)) where
-    here : (x : Span) → In i x → U x ⊎ Behind p i → Stands U i ⊎ Behind p i
+    here : (x : Span) → In i x → U x ⊎ Behind p i → InSome U i ⊎ Behind p i
     here x j (inl t) = inl (x, j, t)
     here x j (inr b) = inr b
 
-    there : (x : Span) → In i x → U′ x ⊎ WasRead p′ → Stands U′ i ⊎ WasRead p′
+    there : (x : Span) → In i x → U′ x ⊎ WasRead p′ → InSome U′ i ⊎ WasRead p′
     there x j (inl t) = inl (x, j, t)
     there x j (inr b) = inr b
 
-    first : Stands T i ⊎ Behind o i → Stands U i ⊎ Behind p i
+    first : InSome T i ⊎ Behind o i → InSome U i ⊎ Behind p i
     first (inl s) = here (s .0) (s .1) (m (s .0) i k (s .1) (s .2))
     first (inr b) = inr (d i k b)
 
-    second : Stands T′ i ⊎ WasRead o′ → Stands U′ i ⊎ WasRead p′
+    second : InSome T′ i ⊎ WasRead o′ → InSome U′ i ⊎ WasRead p′
     second (inl s) = there (s .0) (s .1) (m′ (s .0) i k (s .1) (s .2))
     second (inr b) = inr (d′ b)
 
-    go : (getD f i 0 ≡ getD g i 0) ⊎ ((Stands T i ⊎ Behind o i) × (Stands T′ i ⊎ WasRead o′)) → (getD f i 0 ≡ getD g i 0) ⊎ ((Stands U i ⊎ Behind p i) × (Stands U′ i ⊎ WasRead p′))
+    go : (getD f i 0 ≡ getD g i 0) ⊎ ((InSome T i ⊎ Behind o i) × (InSome T′ i ⊎ WasRead o′)) → (getD f i 0 ≡ getD g i 0) ⊎ ((InSome U i ⊎ Behind p i) × (InSome U′ i ⊎ WasRead p′))
     go (inl e) = inl e
     go (inr w) = inr (first (w .0), second (w .1))
 
@@ -189,11 +189,11 @@ module _ (f g : List ℕ) where
     back = λ h x t. absurd t;
     agreed = λ h i l. go i (h i l);
   } where
-    by : (i : ℕ) → Stands (λ x. ⊥) i ⊎ Behind o i → Covered g (λ x. ⊥) o i
+    by : (i : ℕ) → InSome (λ x. ⊥) i ⊎ Behind o i → Covered g (λ x. ⊥) o i
     by i (inl s) = absurd (s .2)
     by i (inr b) = behind b
 
-    go : (i : ℕ) → (getD f i 0 ≡ getD g i 0) ⊎ ((Stands (λ x. ⊥) i ⊎ Behind o i) × (Stands (λ x. ⊥) i ⊎ WasRead o′)) → (getD f i 0 ≡ getD g i 0) ⊎ Covered g (λ x. ⊥) o i
+    go : (i : ℕ) → (getD f i 0 ≡ getD g i 0) ⊎ ((InSome (λ x. ⊥) i ⊎ Behind o i) × (InSome (λ x. ⊥) i ⊎ WasRead o′)) → (getD f i 0 ≡ getD g i 0) ⊎ Covered g (λ x. ⊥) o i
     go i (inl e) = inl e
     go i (inr w) = inr (by i (w .0))
 

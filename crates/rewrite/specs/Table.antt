@@ -6,8 +6,7 @@ use native.Mathlib.Omega.{arith}
 use lib.ListN.{length, getD, length-append}
 use Rattle.layout.specs.Rows.{Row, words, width, flat}
 use Rattle.layout.specs.Table.{cell}
-use Rattle.ids.specs.Position.{cellOf}
-use Rattle.words.specs.Grids.{rowsGrid}
+use Rattle.table.specs.Grids.{cellOf, rowsGrid}
 use Rattle.places.specs.Places.{idPlaces, rawPlace, countPlaces, rowsPlaces, listsPlaces, filePlaces}
 
 module _ (file : List ℕ) where

@@ -122,12 +122,12 @@ fn pass_count(file: &[u8], out: &mut [u8], c: Cursor, kind: u32, at: usize) -> C
 fn pass_row(file: &[u8], words: &[u32], out: &mut [u8], c: Cursor, row: u32) -> Cursor
     ensures { λ r. ⌜ Writes (now (file .entry)) (now (out .entry)) (now (out .exit)) c (placesIn (now (file .entry)) (now (words .entry)) row) r ⌝ }
 {
-    let grid = words::grid(words.len());
-    let kind = words::word_of(words, grid, RowNumber(row), ids::KIND);
-    let first = words::word_of(words, grid, RowNumber(row), ids::FIRST) as usize;
+    let grid = table::rows_grid(words.len());
+    let kind = table::word_of(words, grid, RowNumber(row), table::KIND);
+    let first = table::word_of(words, grid, RowNumber(row), table::FIRST) as usize;
     if places::numbered(
         kind,
-        words::word_of(words, grid, RowNumber(row), ids::DETAIL),
+        table::word_of(words, grid, RowNumber(row), table::DETAIL),
     ) {
         let id = measure(file, first);
         let behind = pass(file, out, c, first, id);

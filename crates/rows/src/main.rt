@@ -1,8 +1,8 @@
 // Loads the file on standard input, and prints its rows or its refusal.
-use ids::Grid;
 use ids::RowNumber;
-use ids::WIDTH;
 use load::Loading;
+use table::Grid;
+use table::WIDTH;
 
 // The bytes behind the first `at` of the buffer, and where they end; nothing where they do not fit.
 fn put(out: &mut [u8], at: usize, s: &[u8]) -> usize {
@@ -28,7 +28,7 @@ fn put_row(out: &mut [u8], at: usize, words: &[u32], grid: Grid, row: u32) -> us
     let mut next = put_number(out, at, row as u64);
     let mut k = 0;
     while k < WIDTH {
-        let word = words::word_of(words, grid, RowNumber(row), k);
+        let word = table::word_of(words, grid, RowNumber(row), k);
         next = put(out, next, b" ");
         next = put_number(out, next, word as u64);
         k += 1;
@@ -38,7 +38,7 @@ fn put_row(out: &mut [u8], at: usize, words: &[u32], grid: Grid, row: u32) -> us
 
 // Each row on its line, behind the first `at` bytes of the buffer, and all of it written.
 fn print_rows(out: &mut [u8], at: usize, words: &[u32], rows: u32) {
-    let grid = words::grid(words.len());
+    let grid = table::rows_grid(words.len());
     let mut next = at;
     let mut row = 0;
     while row < rows {

@@ -1,6 +1,6 @@
 // Writes the file on standard input with its seven-bit numbers in their shortest forms; a refusal goes to standard error alone.
-use ids::WIDTH;
 use rewrite::Rewriting;
+use table::WIDTH;
 
 // Rewrites the file, with room for 1,024 rows.
 fn shorten(file: &[u8], out: &mut [u8]) {

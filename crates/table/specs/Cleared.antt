@@ -6,8 +6,8 @@ use Prim.Native.Nat.{ℕ, zero, suc, min}
 use lib.ListN.{length}
 use Rattle.layout.specs.Rows.{width}
 use Rattle.fill.specs.Fill.{cleared, wiped}
-use Rattle.ids.specs.declared.Grid.{Grid}
-use Rattle.ids.specs.Position.{cellOf}
+use Rattle.table.specs.declared.Grid.{Grid}
+use Rattle.table.specs.Grids.{cellOf}
 
 -- the first j columns with zeros from row `used` on
 unfoldable pub columnsWiped : Grid → List ℕ → (used j : ℕ) → List ℕ

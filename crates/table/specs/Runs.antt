@@ -9,9 +9,9 @@ use native.Mathlib.Numerals.{add-one}
 use lib.Dec.{leb}
 use borrow.Author.Tests.{le-leb, lt-leb}
 use Rattle.layout.specs.Rows.{row, width}
-use Rattle.places.specs.Word.{inWord, word-sum}
-use Rattle.ids.specs.declared.Grid.{Grid}
-use Rattle.table.specs.Written.{putRow}
+use Rattle.table.specs.declared.Grid.{Grid}
+use Rattle.table.specs.Word.{inWord, word-sum}
+use Rattle.table.specs.Put.{putRow}
 
 -- the first n of them, from row `used` on, each put as one row is put
 unfoldable pub putRun : Grid → (used kind first size parent : ℕ) → List ℕ → (n : ℕ) → List ℕ

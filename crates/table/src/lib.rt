@@ -1,29 +1,39 @@
-// The row table (01, "The row table"), and what a walk over values answers.
-use answers::Number;
-use ids::Grid;
+// The words of a row table (01, "The row table"; 02, Req 08): where a word of a row is, reading it, putting rows, and zeros behind them.
 use ids::RowNumber;
-use ids::WIDTH;
 ghost use mathlib.Core.Path.{_≡_};
 ghost use mathlib.Core.Bool.{cond};
 ghost use Prim.Native.Nat.{_+_, _-_, _*_, _≤_, _<_};
-ghost use lib.ListN.{length};
+ghost use lib.ListN.{length, getD};
 ghost use Rattle.layout.specs.Rows.{width};
-ghost use Rattle.ids.specs.Position.{cellOf};
-ghost use Rattle.table.specs.Written.{putRow};
+ghost use Rattle.layout.specs.Table.{roomOf};
+ghost use Rattle.table.specs.Word.{inWord};
+ghost use Rattle.table.specs.Grids.{cellOf, gridOf, rowsGrid, columnsGrid};
+ghost use Rattle.table.specs.Put.{rowOf, putRow};
 ghost use Rattle.table.specs.Runs.{putRun, hasRows};
 ghost use Rattle.table.specs.Cleared.{columnsCleared, clearedBehind};
-ghost use Rattle.table.specs.Leaf.{rowOf, valueRow, leafAnswer, leafWords};
-ghost use Rattle.places.specs.Word.{inWord};
-ghost use Rattle.answers.specs.Told.{told};
 
-// What is known of a value before its bytes are read: its row's number, its first byte, its parent's row number plus 1, its type id or resource id,
-// and how many bytes that id has beyond its shortest form.
-pub struct Head {
-    pub row: RowNumber,
-    pub first: usize,
-    pub parent: u32,
-    pub detail: u32,
-    pub padding: u32,
+// How many words make a row.
+pub const WIDTH: u32 = 7;
+
+// The words of a row, by their places in it.
+pub const KIND: u32 = 0;
+
+pub const FIRST: u32 = 1;
+
+pub const LENGTH: u32 = 2;
+
+pub const CHILDREN: u32 = 3;
+
+pub const PARENT: u32 = 4;
+
+pub const DETAIL: u32 = 5;
+
+pub const BRANCH: u32 = 6;
+
+// The shape of a table: how many rows it has room for, and whether it is in columns.
+pub struct Grid {
+    pub room: u32,
+    pub columns: bool,
 }
 
 // The words of a row.
@@ -37,17 +47,72 @@ pub struct RowWords {
     pub branch: u32,
 }
 
-// What a walk reaches: how many bytes the seven-bit numbers of the new rows have beyond their shortest forms, the next byte, and the rows used so far.
-pub struct Reached {
-    pub padding: u32,
-    pub next: usize,
-    pub used: u32,
+// The number of whole rows in so many words, at most 65,536.
+pub fn room(words: usize) -> u32
+    ensures { λ r. ⌜ r ≡ roomOf words ⌝ }
+{
+    let rows = words / WIDTH as usize;
+    if 65536 < rows {
+        return 65536;
+    }
+    rows as u32
 }
 
-// A value, or values one after the other: what the walk reaches, or a refusal's number and place.
-pub enum Walk {
-    Done(Reached),
-    Refused(u32, usize),
+// A table by rows or in columns, with the room of so many words.
+pub fn shaped(words: usize, columns: bool) -> Grid
+    ensures { λ r. ⌜ r ≡ gridOf words columns ⌝ }
+{
+    Grid {
+        room: room(words),
+        columns,
+    }
+}
+
+// A table by rows.
+pub fn rows_grid(words: usize) -> Grid
+    ensures { λ r. ⌜ r ≡ rowsGrid words ⌝ }
+{
+    shaped(words, false)
+}
+
+// A table in columns.
+pub fn columns_grid(words: usize) -> Grid
+    ensures { λ r. ⌜ r ≡ columnsGrid words ⌝ }
+{
+    shaped(words, true)
+}
+
+// The product of two words, which has no more than 64 bits.
+fn product(a: u32, b: u32) -> usize
+    ensures { λ r. ⌜ (r ≡ a * b) × (r ≤ 18446744065119617025) ⌝ }
+{
+    let x = a as usize;
+    let y = b as usize;
+    x * y
+}
+
+impl Grid {
+    // The place of a word of a row.
+    pub fn cell(self, row: RowNumber, word: u32) -> usize
+        ensures { λ r. ⌜ r ≡ cellOf self (row .0) word ⌝ }
+    {
+        if self.columns {
+            let column = product(self.room, word);
+            return row.0 as usize + column;
+        }
+        WIDTH as usize * row.0 as usize + word as usize
+    }
+}
+
+// A word of a row, 0 where there is none.
+pub fn word_of(words: &[u32], grid: Grid, row: RowNumber, word: u32) -> u32
+    ensures { λ r. ⌜ r ≡ getD (now (words .entry)) (cellOf grid (row .0) word) 0 ⌝ }
+{
+    let at = grid.cell(row, word);
+    if at < words.len() {
+        return words[at];
+    }
+    0
 }
 
 // Puts a row into its cells.
@@ -55,13 +120,13 @@ fn store_cells(words: &mut [u32], grid: Grid, row: RowNumber, r: RowWords)
     requires { ⌜ cellOf grid (row .0) 6 < length (now words) ⌝ }
     ensures { λ _. ⌜ now (words .exit) ≡ putRow grid (now (words .entry)) (row .0) (rowOf r) ⌝ }
 {
-    let first = row.cell(grid, ids::KIND);
-    let second = row.cell(grid, ids::FIRST);
-    let third = row.cell(grid, ids::LENGTH);
-    let fourth = row.cell(grid, ids::CHILDREN);
-    let fifth = row.cell(grid, ids::PARENT);
-    let sixth = row.cell(grid, ids::DETAIL);
-    let seventh = row.cell(grid, ids::BRANCH);
+    let first = grid.cell(row, KIND);
+    let second = grid.cell(row, FIRST);
+    let third = grid.cell(row, LENGTH);
+    let fourth = grid.cell(row, CHILDREN);
+    let fifth = grid.cell(row, PARENT);
+    let sixth = grid.cell(row, DETAIL);
+    let seventh = grid.cell(row, BRANCH);
     words[first] = r.kind;
     words[second] = r.first;
     words[third] = r.bytes;
@@ -75,7 +140,7 @@ fn store_cells(words: &mut [u32], grid: Grid, row: RowNumber, r: RowWords)
 fn put_cells(words: &mut [u32], grid: Grid, row: RowNumber, r: RowWords)
     ensures { λ _. ⌜ now (words .exit) ≡ putRow grid (now (words .entry)) (row .0) (rowOf r) ⌝ }
 {
-    if row.cell(grid, ids::BRANCH) < words.len() {
+    if grid.cell(row, BRANCH) < words.len() {
         store_cells(words, grid, row, r);
     }
 }
@@ -101,12 +166,12 @@ fn clear_columns(words: &mut [u32], grid: Grid, used: RowNumber)
 {
     let mut j = 0;
     while j < WIDTH {
-        let from = used.cell(grid, j);
-        let to = RowNumber(grid.room).cell(grid, j);
+        let from = grid.cell(used, j);
+        let to = grid.cell(RowNumber(grid.room), j);
         fill::clear_range(words, from, to);
         j += 1;
     }
-    fill::clear(words, RowNumber(0).cell(grid, WIDTH));
+    fill::clear(words, grid.cell(RowNumber(0), WIDTH));
 }
 
 // Zeros in every word that is in no row before row `used`.
@@ -117,7 +182,7 @@ pub fn clear_behind(words: &mut [u32], grid: Grid, used: RowNumber)
         clear_columns(words, grid, used);
         return;
     }
-    fill::clear(words, used.cell(grid, ids::KIND));
+    fill::clear(words, grid.cell(used, KIND));
 }
 
 // The sum of two words, as a word holds it.
@@ -134,16 +199,6 @@ pub fn word(n: usize) -> u32
     (n % 4294967296) as u32
 }
 
-// The number of bytes from `first` to before `next`, 0 where there are none, as a word holds it.
-pub fn span(first: usize, next: usize) -> u32
-    ensures { λ r. ⌜ r ≡ inWord (next - first) ⌝ }
-{
-    if next < first {
-        return 0;
-    }
-    word(next - first)
-}
-
 // How many rows stand from a row on and before row `used`, 0 where there are none.
 pub fn rows_from(row: RowNumber, used: u32) -> u32
     ensures { λ r. ⌜ r ≡ used - row .0 ⌝ }
@@ -152,23 +207,6 @@ pub fn rows_from(row: RowNumber, used: u32) -> u32
         return 0;
     }
     used - row.0
-}
-
-// The row of a value that ends before `next` and has so many rows with all below it.
-pub fn row_words(h: Head, kind: u32, children: u32, branch: u32, next: usize) -> RowWords
-    ensures { λ r. ⌜ rowOf r ≡ valueRow h kind children branch next ⌝ }
-{
-    let first = word(h.first);
-    let bytes = span(h.first, next);
-    RowWords {
-        kind,
-        first,
-        bytes,
-        children,
-        parent: h.parent,
-        detail: h.detail,
-        branch,
-    }
 }
 
 // Puts the rows of n values of one kind and size that follow each other, where the table has them.
@@ -239,25 +277,4 @@ pub fn put_run(
     };
     store_run(words, by_rows, used, n, kind, first, size, parent);
     true
-}
-
-// A value without children, once its bytes are read; `mark` is the kind that a reference wants, else 0.
-pub fn leaf(words: &mut [u32], grid: Grid, h: Head, kind: u32, mark: u32, read: Number) -> Walk
-    ensures { λ r. ⌜ r ≡ leafAnswer (h .row .0) (h .padding) (told read) ⌝ }
-    ensures { λ _. ⌜ now (words .exit) ≡ leafWords grid (now (words .entry)) h kind mark (told read) ⌝ }
-{
-    match read {
-        Number::Refused(number, place) => Walk::Refused(number, place),
-        Number::Read(_, next) => {
-            let row = h.row;
-            let r = row_words(h, kind, mark, 1, next);
-            put_row(words, grid, row, r);
-            let used = std::num::wrapping_add_u32(row.0, 1);
-            Walk::Done(Reached {
-                used,
-                padding: h.padding,
-                next,
-            })
-        }
-    }
 }

@@ -11,11 +11,10 @@ use Rattle.load.specs.Under.{fileUnder, loadUnder}
 use Rattle.enums.specs.Lists.{Bytes}
 use Rattle.reading.specs.Reads.{Small}
 use Rattle.reading.specs.File.{refusal, tableOf, toLoad, tableIn}
-use Rattle.ids.specs.Position.{cellOf}
+use Rattle.table.specs.Grids.{cellOf, rowsGrid, columnsGrid}
+use Rattle.table.specs.Words.{row-word, column-word}
+use Rattle.table.specs.Same.{SameRows}
 use Rattle.layout.specs.Fits.{Fitting, rowsIn}
-use Rattle.columns.specs.Words.{row-word, column-word}
-use Rattle.words.specs.Grids.{rowsGrid, columnsGrid}
-use Rattle.words.specs.Same.{SameRows}
 use Rattle.theorems.specs.Standing.{zero-words}
 use Rattle.theorems.specs.Fitted.{rows-room}
 use Rattle.theorems.specs.Laws.{Ends, fits, refuses, bad-list, ends, table-in, cleared-in}

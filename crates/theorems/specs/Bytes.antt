@@ -3,9 +3,9 @@ use mathlib.Core.Path.{_≡_}
 use mathlib.Core.List.{List}
 use Prim.Native.Nat.{ℕ}
 use lib.ListN.{length}
-use Rattle.ids.specs.declared.Grid.{Grid}
-use Rattle.words.specs.Grids.{rowsGrid, columnsGrid}
-use Rattle.words.specs.Same.{SameRows}
+use Rattle.table.specs.declared.Grid.{Grid}
+use Rattle.table.specs.Grids.{rowsGrid, columnsGrid}
+use Rattle.table.specs.Same.{SameRows}
 use Rattle.lookups.specs.declared.Span.{Span}
 use Rattle.lookups.specs.Parts.{spanned}
 

@@ -4,14 +4,14 @@ use mathlib.Core.List.{List}
 use Prim.Native.Nat.{ℕ}
 use lib.ListN.{length}
 use Rattle.layout.specs.Table.{roomOf, byRows, byColumns}
-use Rattle.ids.specs.declared.Grid.{Grid}
+use Rattle.table.specs.declared.Grid.{Grid}
+use Rattle.table.specs.Grids.{rowsGrid, columnsGrid}
+use Rattle.table.specs.Same.{SameRows}
 use Rattle.lookups.specs.Parts.{partOf}
 use Rattle.lookups.specs.Texts.{textOf}
 use Rattle.lookups.specs.Signs.{signedOf}
 use Rattle.lookups.specs.Times.{timeOf}
 use Rattle.branches.specs.Next.{nextOf}
-use Rattle.words.specs.Grids.{rowsGrid, columnsGrid}
-use Rattle.words.specs.Same.{SameRows}
 use Rattle.theorems.specs.Loading.{Loads}
 use Rattle.theorems.specs.declared.columned.LoadedBoth.{LoadedBoth}
 use Rattle.theorems.specs.declared.columned.Lookups.{Lookups}

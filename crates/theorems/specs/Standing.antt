@@ -6,7 +6,7 @@ use native.Mathlib.Omega.{arith}
 use lib.ListN.{length, getD, replicate}
 use Rattle.layout.specs.Rows.{Row}
 use Rattle.layout.specs.Table.{byColumns, columnsOf}
-use Rattle.columns.specs.Words.{zero-word, column-word}
+use Rattle.table.specs.Words.{zero-word, column-word}
 use Rattle.branches.specs.Table.{Stand}
 
 pub columns-stand : (room : ℕ) (rows : List Row) → length rows ≤ room → (rest : List ℕ) → Stand byColumns room (columnsOf room rows ++ rest) rows

@@ -6,7 +6,7 @@ use lookups::Span;
 use lookups::Whole;
 ghost use mathlib.Core.Path.{_≡_};
 ghost use lib.ListN.{length};
-ghost use Rattle.words.specs.Grids.{rowsGrid, columnsGrid};
+ghost use Rattle.table.specs.Grids.{rowsGrid, columnsGrid};
 ghost use Rattle.load.specs.Under.{loadUnder};
 ghost use Rattle.load.specs.Loads.{answerOf};
 ghost use Rattle.theorems.specs.Columns.{LoadsBoth, LooksUp, lookedUp};
@@ -53,7 +53,7 @@ fn look_up_both(file: &[u8], words: &[u32], columns: &[u32], row: RowNumber) -> 
     ensures { λ r. ⌜ r .rows ≡ lookedUp (rowsGrid (length (now (words .entry)))) (now (file .entry)) (now (words .entry)) (row .0) ⌝ }
     ensures { λ r. ⌜ r .columns ≡ lookedUp (columnsGrid (length (now (columns .entry)))) (now (file .entry)) (now (columns .entry)) (row .0) ⌝ }
 {
-    let grid = words::columns_grid(columns.len());
+    let grid = table::columns_grid(columns.len());
     let rows = Lookups {
         part: lookups::part(file, words, row),
         text: lookups::text(file, words, row),

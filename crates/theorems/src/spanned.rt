@@ -17,7 +17,7 @@ fn part_bytes_either<'a>(
     ensures { λ r. ⌜ SameBytes partOf (now (file .entry)) (now (words .entry)) (now (columns .entry)) (row .0) (now r) ⌝ }
 {
     if in_columns {
-        let grid = words::columns_grid(columns.len());
+        let grid = table::columns_grid(columns.len());
         return lookups::part_bytes_of(file, columns, grid, row);
     }
     lookups::part_bytes(file, words, row)
@@ -34,7 +34,7 @@ fn text_bytes_either<'a>(
     ensures { λ r. ⌜ SameBytes textOf (now (file .entry)) (now (words .entry)) (now (columns .entry)) (row .0) (now r) ⌝ }
 {
     if in_columns {
-        let grid = words::columns_grid(columns.len());
+        let grid = table::columns_grid(columns.len());
         return lookups::text_bytes_of(file, columns, grid, row);
     }
     lookups::text_bytes(file, words, row)

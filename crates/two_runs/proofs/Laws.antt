@@ -18,11 +18,10 @@ use Rattle.reading.specs.Theorems as R
 use Rattle.reading.specs.Output.{Rewritten}
 use Rattle.shortest.specs.Rewrite.{rewriteOf}
 use Rattle.readers.specs.Judged.{judgedName, judges}
-use Rattle.columns.specs.Cells.{rowWord, seven-columns, length-columns}
-use Rattle.columns.specs.Words.{zero-word, row-word, column-word}
-use Rattle.ids.specs.Position.{cellOf}
-use Rattle.words.specs.Grids.{gridOf}
-use Rattle.words.specs.Same.{SameRows}
+use Rattle.table.specs.Cells.{rowWord, seven-columns, length-columns}
+use Rattle.table.specs.Words.{zero-word, row-word, column-word}
+use Rattle.table.specs.Grids.{cellOf, gridOf}
+use Rattle.table.specs.Same.{SameRows}
 use Rattle.load.specs.Under.{loadUnder, load-lawful, load-refused-list, accepted-list}
 use Rattle.load.specs.Loads.{answerOf}
 use Rattle.load.specs.declared.Loading.the-variants.{Loaded}

@@ -17,10 +17,10 @@ use Rattle.enums.specs.Lists.{Bytes}
 use Rattle.reading.specs.Reads.{Small}
 use Rattle.reading.specs.File.{tableIn}
 use Rattle.readers.specs.Judged.{judgedName, judges}
-use Rattle.words.specs.Grids.{gridOf}
-use Rattle.words.specs.Same.{SameRows}
+use Rattle.table.specs.declared.Grid.{Grid}
+use Rattle.table.specs.Grids.{gridOf}
+use Rattle.table.specs.Same.{SameRows}
 use Rattle.load.specs.Under.{loadUnder}
-use Rattle.ids.specs.declared.Grid.{Grid}
 use Rattle.lookups.specs.Same as same
 use Rattle.lookups.specs.Parts.{orRefused, kindOf, firstOf, lengthOf, partOf, inPart, lookup}
 use Rattle.lookups.specs.Texts.{textIn, textOf}

@@ -16,10 +16,9 @@ use Rattle.rewrite.specs.Whole.{rewritten}
 use Rattle.rewrite.specs.Contract as rewriting
 use Rattle.rewrite.specs.declared.Rewriting.{Rewriting}
 use Rattle.builder.specs.Packed.{packed}
-use Rattle.ids.specs.declared.Grid.{Grid}
-use Rattle.ids.specs.Position.{cellOf}
-use Rattle.words.specs.Grids.{gridOf}
-use Rattle.words.specs.Same.{SameRows}
+use Rattle.table.specs.declared.Grid.{Grid}
+use Rattle.table.specs.Grids.{cellOf, gridOf}
+use Rattle.table.specs.Same.{SameRows}
 use Rattle.retyped.specs.Texts.{Span, InText}
 use Rattle.lookups.specs.Parts.{partOf}
 use Rattle.lookups.specs.Texts.{textOf}

@@ -8,7 +8,7 @@ use lookups::Whole;
 use rewrite::Rewriting;
 ghost use mathlib.Core.Path.{_≡_};
 ghost use lib.ListN.{length};
-ghost use Rattle.words.specs.Grids.{gridOf};
+ghost use Rattle.table.specs.Grids.{gridOf};
 ghost use Rattle.two_runs.specs.Alike.{LoadIs, RewriteIs, NumberIs, LookupsAre};
 ghost use Rattle.two_runs.specs.Alike.{LoadsAlike, RewritesAlike, NumbersAlike, lookupsOf, LookupsAlike, EveryString};
 
@@ -99,7 +99,7 @@ fn number_two(file: &[u8], other: &[u8]) -> TwoNumbers
 fn look_up(file: &[u8], words: &[u32], columns: bool, row: RowNumber) -> Lookups
     ensures { λ r. ⌜ r ≡ lookupsOf (gridOf (length (now (words .entry))) columns) (now (file .entry)) (now (words .entry)) (row .0) ⌝ }
 {
-    let grid = words::shaped(words.len(), columns);
+    let grid = table::shaped(words.len(), columns);
     Lookups {
         part: lookups::part_of(file, words, grid, row),
         text: lookups::text_of(file, words, grid, row),

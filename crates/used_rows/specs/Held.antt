@@ -7,8 +7,8 @@ use native.Mathlib.Omega.{arith}
 use lib.ListN.{length, drop, getD}
 use lib.Seq.{drop-nil}
 use Rattle.layout.specs.Rows.{Row, words, width}
-use Rattle.ids.specs.declared.Grid.{Grid}
-use Rattle.ids.specs.Position.{cellOf}
+use Rattle.table.specs.declared.Grid.{Grid}
+use Rattle.table.specs.Grids.{cellOf}
 use Rattle.profile.specs.Offences.{next, skip, kindOf, detailOf}
 use Rattle.profile.specs.Profile.{firstOf}
 use Rattle.fault_places.specs.declared.Place.{Place}

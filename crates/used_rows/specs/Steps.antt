@@ -5,8 +5,8 @@ use Prim.Native.Nat.{ℕ, suc, _+_, _-_, _<_, _≤_}
 use native.Mathlib.Omega.{arith}
 use lib.ListN.{drop, getD}
 use Rattle.layout.specs.Rows.{Row, width}
-use Rattle.ids.specs.declared.Grid.{Grid}
-use Rattle.ids.specs.Position.{cellOf}
+use Rattle.table.specs.declared.Grid.{Grid}
+use Rattle.table.specs.Grids.{cellOf}
 use Rattle.profile.specs.Offences.{next, kindOf}
 use Rattle.used_rows.specs.Held.{wordIn, Held, Follows, Tells, word-past, word-beyond, kind-word, next-word, drop-past, drop-row}
 

@@ -189,8 +189,8 @@ fn is_list(file: &[u8], enums: &[u8], words: &[u32], rows: u32, shared: u32) -> 
     if shared != 0 {
         return false;
     }
-    let grid = words::grid(words.len());
-    let id = words::word_of(words, grid, RowNumber(0), ids::DETAIL);
+    let grid = table::rows_grid(words.len());
+    let id = table::word_of(words, grid, RowNumber(0), table::DETAIL);
     texts_reader(file, enums, id)
 }
 
@@ -214,8 +214,8 @@ fn answer(file: &[u8], words: &mut [u32], out: &mut [u8], rows: u32, list: bool)
     ensures { λ r. ⌜ Answers (now (file .entry)) (now (words .entry)) (now (words .exit)) (now (out .entry)) (now (out .exit)) rows list r ⌝ }
 {
     if !list {
-        let grid = words::grid(words.len());
-        let first = words::word_of(words, grid, RowNumber(0), ids::FIRST);
+        let grid = table::rows_grid(words.len());
+        let first = table::word_of(words, grid, RowNumber(0), table::FIRST);
         return refuse(words, 61, first as usize);
     }
     match measure(file, words, rows) {

@@ -1,4 +1,4 @@
-use Rattle.places.specs.Word.{inWord}
+use Rattle.table.specs.Word.{inWord}
 use Rattle.fonts.specs.FontWords.{beyond}
 use borrow.Author.Needs.{needs}
 use Rattle.fonts.proofs.row_beyond.Statement.{statement}

@@ -2,7 +2,7 @@ use borrow.Author.Needs.{needs}
 use mathlib.Core.Path.{ap, _∙_}
 use Prim.Native.Nat.{ℕ}
 use lib.ListN.{getD}
-use Rattle.ids.specs.Position.{cellOf}
+use Rattle.table.specs.Grids.{cellOf}
 use Rattle.key_repeats.proofs.key_place.Statement.{statement}
 use Rattle.key_repeats.proofs.key_place.Tie as tie
 

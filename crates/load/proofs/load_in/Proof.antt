@@ -1,7 +1,7 @@
 use mathlib.Core.Path.{ap}
 use native.Mathlib.Omega.{arith}
 use Rattle.layout.specs.Table.{roomOf}
-use Rattle.ids.specs.declared.Grid.{Grid}
+use Rattle.table.specs.declared.Grid.{Grid}
 use Rattle.reading.specs.Reads.{small-by-index}
 use Rattle.load.specs.Laws.{load-refused, load-loaded}
 use borrow.Author.Needs.{needs}

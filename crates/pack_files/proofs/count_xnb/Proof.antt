@@ -19,8 +19,8 @@ count-refused-requires c κs = search needs
 enum-known-rows : tie.Need-enum-known-rows
 enum-known-rows c = search needs
 
-grid-requires : tie.Need-grid-requires
-grid-requires c κs = search needs
+rows-grid-requires : tie.Need-rows-grid-requires
+rows-grid-requires c κs = search needs
 
 count-loaded-requires : tie.Need-count-loaded-requires
 count-loaded-requires c κs = search needs
@@ -61,10 +61,10 @@ returns-2 c = let a = c .before .before .before .before .before .before .before 
     let small = small-by-index (a .content .now) (λ i h. omega (arith, c .before .before .before .before .before .before .before .before .before .before .before .before .before .before .before .before .before .before .before .before .shared-slice-known .given i)) in
     let told = sym (c .before .before .before .before .before .before .before .before .before .before .before .rows .given .1) ∙ c .before .before .before .before .before .before .before .before .before .before .before .before .before .before .before .load-part .ensures .0 in
     let n = c .before .before .before .before .before .before .before .before .before .before .before .before .before .before .before .load-part .kept .1 .1 .0 in
-    let so = rw (c .before .before .before .before .before .before .before .before .grid .ensures) at (c .before .before .before .before .before .before .count-loaded .ensures) in (
+    let so = rw (c .before .before .before .before .before .before .before .before .rows-grid .ensures) at (c .before .before .before .before .before .before .count-loaded .ensures) in (
       λ k. so ∙ counted-alike _ _ (loaded-so (a .enums .now) (a .content .now) (a .words .now) k small n told (c .before .before .before .before .before .before .before .before .before .before .before .before .before .before .before .load-part .ensures .1) .0) (a .figures .now),
       λ k. c .before .before .clear-range .ensures ∙ loaded-so (a .enums .now) (a .content .now) (a .words .now) k small n told (c .before .before .before .before .before .before .before .before .before .before .before .before .before .before .before .load-part .ensures .1) .1 ∙ sym (k .zeros),
     )
 
 pub count-xnb-spec : {M : Type 1} → statement M
-count-xnb-spec = tie.close (tie.spec load-part-requires enum-known-number count-refused-requires enum-known-rows grid-requires count-loaded-requires cast-clear-range cast-clear-range-2 mul-clear-range clear-range-requires same-length same-length-2 returns same-length-3 same-length-4 returns-2)
+count-xnb-spec = tie.close (tie.spec load-part-requires enum-known-number count-refused-requires enum-known-rows rows-grid-requires count-loaded-requires cast-clear-range cast-clear-range-2 mul-clear-range clear-range-requires same-length same-length-2 returns same-length-3 same-length-4 returns-2)

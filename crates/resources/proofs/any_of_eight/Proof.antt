@@ -5,7 +5,7 @@ use Prim.Native.Nat.{_+_, _-_, _≤_}
 use native.Mathlib.Omega.{arith}
 use lib.ListN.{length}
 use Rattle.layout.specs.Table.{shapeOf}
-use Rattle.reading.specs.Grid.{cell-inside}
+use Rattle.table.specs.Stores.{cell-inside}
 use Rattle.resources.specs.Total.{NoneAmong}
 use Rattle.resources.proofs.Unmarked.{none-more}
 use borrow.Author.Needs.{needs}

@@ -11,8 +11,8 @@ use borrow.Author.Needs.{needs}
 use Rattle.rewrite.proofs.pass_row.Statement.{statement}
 use Rattle.rewrite.proofs.pass_row.Tie as tie
 
-grid-requires : tie.Need-grid-requires
-grid-requires c κs = search needs
+rows-grid-requires : tie.Need-rows-grid-requires
+rows-grid-requires c κs = search needs
 
 word-of-requires : tie.Need-word-of-requires
 word-of-requires c κs = search needs
@@ -46,7 +46,7 @@ returns c =
     let shared-slice-known = c .before .before .before .before .before .before .before .before .before .before .before .before .before .before .before .before .before .shared-slice-known in
     let word-of2 = c .before .before .before .before .before .before .before .before .before .before .before .before .word-of2 in
     let measure = c .before .before .before .before .before .before .before .before .measure in
-    let grid = c .before .before .before .before .before .before .before .before .before .before .before .before .before .before .grid in
+    let rows-grid = c .before .before .before .before .before .before .before .before .before .before .before .before .before .before .rows-grid in
     let word-of = c .before .before .before .before .before .before .before .before .before .before .before .before .before .word-of in
     let word-of3 = c .before .before .before .before .before .before .before .before .before .before .before .word-of3 in
     let if1 = c .before .before .before .before .before .before .before .before .before .if1 in
@@ -56,7 +56,7 @@ returns c =
     let a = c .before .before .before .before .before .before .before .before .before .before .before .before .before .before .before .before .before .before .args in
     let s = a .file .now in
     let f = found s (small-by-index s (λ i h. omega (arith, shared-slice-known .given i))) (word-of2 .result) (measure .result) (measure .ensures) in
-    let e = with-id s (a .words .now) (grid .result) (a .row) (word-of .result) (word-of2 .result) (word-of3 .result) (grid .ensures) (word-of .ensures) (word-of2 .ensures) (word-of3 .ensures) (sym (if1 .taken) ∙ numbered .ensures) in
+    let e = with-id s (a .words .now) (rows-grid .result) (a .row) (word-of .result) (word-of2 .result) (word-of3 .result) (rows-grid .ensures) (word-of .ensures) (word-of2 .ensures) (word-of3 .ensures) (sym (if1 .taken) ∙ numbered .ensures) in
     let q = pass .ensures base (countPlaces s (word-of .result) (past (sevenAt s (word-of2 .result)) (word-of2 .result)) ++ places) whole (measure .ensures) (rw e at p) in
     c .before .before .pass-count .ensures base places whole (rw (← f .next-is) at q)
 
@@ -68,7 +68,7 @@ same-length-2 c = search needs
 
 returns-2 : tie.Need-returns-2
 returns-2 c =
-    let grid = c .before .before .before .before .before .before .before .before .before .grid in
+    let rows-grid = c .before .before .before .before .before .before .before .before .before .rows-grid in
     let word-of = c .before .before .before .before .before .before .before .before .word-of in
     let word-of2 = c .before .before .before .before .before .before .before .word-of2 in
     let word-of3 = c .before .before .before .before .before .before .word-of3 in
@@ -76,14 +76,14 @@ returns-2 c =
     let numbered = c .before .before .before .before .before .numbered in
     λ base places whole p.
     let a = c .before .before .before .before .before .before .before .before .before .before .before .before .before .args in
-    let e = without-id (a .file .now) (a .words .now) (grid .result) (a .row) (word-of .result) (word-of2 .result) (word-of3 .result) (grid .ensures) (word-of .ensures) (word-of2 .ensures) (word-of3 .ensures) (sym (if1 .left) ∙ numbered .ensures) in
+    let e = without-id (a .file .now) (a .words .now) (rows-grid .result) (a .row) (word-of .result) (word-of2 .result) (word-of3 .result) (rows-grid .ensures) (word-of .ensures) (word-of2 .ensures) (word-of3 .ensures) (sym (if1 .left) ∙ numbered .ensures) in
     c .before .before .pass-count2 .ensures base places whole (rw e at p)
 
 pub pass-row-spec : {M : Type 1} → statement M
 pass-row-spec =
     tie.close
     (tie.spec
-    grid-requires
+    rows-grid-requires
     word-of-requires
     word-of-requires-2
     cast-first

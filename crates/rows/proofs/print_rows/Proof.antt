@@ -11,8 +11,8 @@ Inv-loop out₀ at words rows grid next₀ row₀ out next row = (row ≤ rows) 
 abbrev μ-loop : tie.MeasureT-loop
 μ-loop out₀ at words rows grid next₀ row₀ out next row = rows - row
 
-grid-requires : tie.Need-grid-requires Inv-loop μ-loop
-grid-requires c κs = search needs
+rows-grid-requires : tie.Need-rows-grid-requires Inv-loop μ-loop
+rows-grid-requires c κs = search needs
 
 loop-holds : tie.Need-loop-holds Inv-loop μ-loop
 loop-holds c = search needs
@@ -44,7 +44,7 @@ print-rows-spec =
     (tie.spec
     Inv-loop
     μ-loop
-    grid-requires
+    rows-grid-requires
     loop-holds
     put-row-requires
     add-row

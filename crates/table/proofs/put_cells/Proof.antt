@@ -4,8 +4,8 @@ use native.Mathlib.Omega.{arith}
 use lib.Dec.{ltb}
 use lib.ListN.{length}
 use borrow.Author.Tests.{le-ltb}
-use Rattle.ids.specs.Position.{cellOf}
-use Rattle.table.specs.Written.{putRow}
+use Rattle.table.specs.Grids.{cellOf}
+use Rattle.table.specs.Put.{putRow}
 use borrow.Author.Needs.{needs}
 use Rattle.table.proofs.put_cells.Statement.{statement}
 use Rattle.table.proofs.put_cells.Tie as tie

@@ -1,5 +1,5 @@
 use borrow.Author.Needs.{needs}
-use Rattle.table.specs.Written.{putRow}
+use Rattle.table.specs.Put.{putRow}
 use Rattle.table.proofs.put_row.Statement.{statement}
 use Rattle.table.proofs.put_row.Tie as tie
 

@@ -6,10 +6,10 @@ use lib.Dec.{ltb}
 use lib.ListN.{length, length-set}
 use borrow.Author.Tests.{lt-ltb}
 use Rattle.layout.specs.Table.{shapeOf}
-use Rattle.reading.specs.Grid.{cell-grows}
-use Rattle.ids.specs.declared.Grid.{Grid}
-use Rattle.ids.specs.Position.{cellOf}
-use Rattle.table.specs.Written.{putRow, seven}
+use Rattle.table.specs.declared.Grid.{Grid}
+use Rattle.table.specs.Grids.{cellOf}
+use Rattle.table.specs.Stores.{cell-grows}
+use Rattle.table.specs.Put.{putRow, seven}
 use borrow.Author.Needs.{needs}
 use Rattle.table.proofs.store_cells.Statement.{statement}
 use Rattle.table.proofs.store_cells.Tie as tie

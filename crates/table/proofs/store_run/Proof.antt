@@ -5,8 +5,8 @@ use native.Mathlib.Omega.{arith}
 use native.Mathlib.Numerals.{add-one}
 use lib.ListN.{length}
 use Rattle.layout.specs.Table.{shapeOf}
-use Rattle.reading.specs.Grid.{cell-inside}
-use Rattle.places.specs.Word.{inWord, word-sum}
+use Rattle.table.specs.Word.{inWord, word-sum}
+use Rattle.table.specs.Stores.{cell-inside}
 use Rattle.table.specs.Runs.{putRun, run-first, run-more}
 use borrow.Author.Needs.{needs}
 use Rattle.table.proofs.store_run.Statement.{statement}

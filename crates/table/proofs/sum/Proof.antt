@@ -1,4 +1,4 @@
-use Rattle.places.specs.Word.{inWord}
+use Rattle.table.specs.Word.{inWord}
 use borrow.Author.Needs.{needs}
 use Rattle.table.proofs.sum.Statement.{statement}
 use Rattle.table.proofs.sum.Tie as tie

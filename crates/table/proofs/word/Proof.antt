@@ -1,5 +1,5 @@
 use mathlib.Core.Path.{refl}
-use Rattle.places.specs.Word.{inWord}
+use Rattle.table.specs.Word.{inWord}
 use borrow.Author.Needs.{needs}
 use Rattle.table.proofs.word.Statement.{statement}
 use Rattle.table.proofs.word.Tie as tie

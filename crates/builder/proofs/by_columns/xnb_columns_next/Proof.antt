@@ -1,5 +1,5 @@
 use mathlib.Core.Path.{ap, _∙_}
-use Rattle.ids.specs.declared.Grid.{Grid}
+use Rattle.table.specs.declared.Grid.{Grid}
 use Rattle.branches.specs.Next.{nextOf}
 use borrow.Author.Needs.{needs}
 use Rattle.builder.proofs.by_columns.xnb_columns_next.Statement.{statement}

@@ -1,5 +1,5 @@
 use mathlib.Core.Path.{ap, _∙_}
-use Rattle.ids.specs.declared.Grid.{Grid}
+use Rattle.table.specs.declared.Grid.{Grid}
 use Rattle.lookups.specs.Times.{timeOf}
 use Rattle.builder.specs.Told.{timeTold}
 use borrow.Author.Needs.{needs}

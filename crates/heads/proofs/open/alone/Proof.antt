@@ -1,4 +1,4 @@
-use Rattle.table.specs.Leaf.{mute}
+use Rattle.walked.specs.Leaf.{mute}
 use borrow.Author.Needs.{needs}
 use Rattle.heads.proofs.open.alone.Statement.{statement}
 use Rattle.heads.proofs.open.alone.Tie as tie

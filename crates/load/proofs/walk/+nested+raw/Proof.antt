@@ -10,8 +10,8 @@ use Rattle.layout.specs.Slot as L
 use Rattle.reading.specs.Reads.{small-by-index}
 use Rattle.reading.specs.Walk.{walk}
 use Rattle.heads.specs.Slots.{row-kind}
-use Rattle.places.specs.Word.{inWord}
-use Rattle.table.specs.Loop.{same, Got, got, lost}
+use Rattle.table.specs.Word.{inWord}
+use Rattle.walked.specs.Loop.{same, Got, got, lost}
 use Rattle.readers.specs.Listed.{Listed}
 use Rattle.heads.specs.Nests.{NestIs, afterOf}
 use Rattle.objects.specs.Start.{position-in-list}

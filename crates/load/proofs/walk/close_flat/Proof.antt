@@ -2,7 +2,7 @@ use mathlib.Core.Path.{refl, sym, ap, subst, _∙_}
 use Prim.Native.Nat.{_+_}
 use native.Mathlib.Omega.{arith}
 use Rattle.reading.specs.Reads.{small-by-index}
-use Rattle.places.specs.Word.{inWord}
+use Rattle.table.specs.Word.{inWord}
 use Rattle.leaves.specs.Run.{run-walked}
 use Rattle.leaves.specs.Like.{like-walk, alike-sequence, alike-length}
 use Rattle.load.specs.Walks.{OpenedAs, begin-below}

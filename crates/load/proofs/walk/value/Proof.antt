@@ -13,9 +13,9 @@ use Rattle.objects.specs.Meaning.{starts-as}
 use Rattle.reading.specs.Drafts.{nothing}
 use Rattle.reading.specs.Answer.{read}
 use Rattle.reading.specs.Reads.{small-by-index}
-use Rattle.table.specs.Contract.{seen, Free}
-use Rattle.table.specs.Loop.{refusing}
-use Rattle.table.specs.Leaf.{leaf-walked}
+use Rattle.walked.specs.Contract.{seen, Free}
+use Rattle.walked.specs.Loop.{refusing}
+use Rattle.walked.specs.Leaf.{leaf-walked}
 use Rattle.leaves.specs.Plain.{headOf, plain-walked}
 use Rattle.load.specs.Steps.{null-pads, value-told, raw-steps}
 use Rattle.leaves.specs.Like.{like-walk}

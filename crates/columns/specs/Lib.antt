@@ -1,3 +1,0 @@
-pub mod Cells
-pub mod Stored
-pub mod Words

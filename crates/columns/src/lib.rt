@@ -1,1 +1,0 @@
-// A table in columns is stated in specifications only: see specs/.

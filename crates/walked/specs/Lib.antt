@@ -1,0 +1,4 @@
+pub mod Written
+pub mod Contract
+pub mod Leaf
+pub mod Loop

@@ -1,2 +1,0 @@
-pub mod Grids
-pub mod Same
