@@ -336,6 +336,12 @@ module _ (file : List ℕ) (room shared : ℕ) (p : Plain) (at used : ℕ) where
   value-there zero ne h = absurd (ne refl)
   value-there (suc d) ne h = rw (lt-ltb used room h)
 
+-- a value of fixed size is read alike whatever the shared count is
+fixed-alike : (file : List ℕ) (room shared other kind size at used depth : ℕ) → plainValue file room shared (Fixed kind size) at used depth ≡ plainValue file room other (Fixed kind size) at used depth
+unfolding plainValue plainAt
+fixed-alike file room shared other kind size at used zero = refl
+fixed-alike file room shared other kind size at used (suc d) = refl
+
 -- what the walk answers, where the value may begin
 module _ (file : List ℕ) (g : Grid) (shared : ℕ) (p : Plain) (at used : ℕ) (w : List ℕ) (small : Small file) (begin : Begin file w g at used) (l : Lawful p) (readers : List Target) where
   by-room : (d parent : ℕ) (t : Bool) → ltb used (g .room) ≡ t
@@ -353,3 +359,10 @@ module _ (file : List ℕ) (g : Grid) (shared : ℕ) (p : Plain) (at used : ℕ)
   unfolding plainValue walk
   plain-walked zero parent = refusing refl
   plain-walked (suc d) parent = by-room d parent (ltb used (g .room)) refl
+
+-- the same for a value of fixed size, read with no word of the shared count
+pub fixed-walked : (file : List ℕ) (g : Grid) (shared kind size at used : ℕ) (w : List ℕ) → Small file → Begin file w g at used → Lawful (Fixed kind size) → (readers : List Target) (depth parent : ℕ)
+    → Walked g file w (valueLeft g file w 0 (Fixed kind size) at used depth parent) used (seen (walk file readers shared (g .room) depth (plainSlot (Fixed kind size)) at used parent)) (leafAnswer used 0 (plainValue file (g .room) 0 (Fixed kind size) at used depth))
+unfolding plainPad
+fixed-walked file g shared kind size at used w small begin l readers depth parent =
+    rw (fixed-alike file (g .room) 0 shared kind size at used depth) (plain-walked file g shared (Fixed kind size) at used w small begin l readers depth parent)

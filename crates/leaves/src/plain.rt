@@ -107,6 +107,38 @@ fn plain_value(
     }
 }
 
+// A raw value of a kind of fixed size, with the depth left: the walk reads one where it stands, without a call of `read_plain`.
+pub fn read_fixed(
+    file: &[u8],
+    words: &mut [u32],
+    grid: Grid,
+    kind: u32,
+    size: usize,
+    at: usize,
+    used: u32,
+    depth: u32,
+    parent: u32,
+) -> Walk
+    ensures { λ r. ⌜ r ≡ leafAnswer used 0 (plainValue (now (file .entry)) (grid .room) 0 (Plain.Fixed kind size) at used depth) ⌝ }
+    ensures { λ _. ⌜ now (words .exit) ≡ valueLeft grid (now (file .entry)) (now (words .entry)) 0 (Plain.Fixed kind size) at used depth parent ⌝ }
+{
+    if depth == 0 {
+        return Walk::Refused(18, at);
+    }
+    if grid.room <= used {
+        return Walk::Refused(19, at);
+    }
+    let h = Head {
+        row: RowNumber(used),
+        first: at,
+        parent,
+        detail: 0,
+        padding: 0,
+    };
+    let read = values::fixed_at(file, kind, size, at);
+    walked::leaf(words, grid, h, kind, 0, read)
+}
+
 // A value in such a slot, with the depth left.
 pub fn read_plain(
     file: &[u8],

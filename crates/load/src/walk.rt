@@ -6,6 +6,7 @@ use heads::open::Opened;
 use heads::slot::Slot;
 use ids::RowNumber;
 use ids::TypeId;
+use leaves::plain::Plain;
 use objects::start::Started;
 use readers::Readers;
 use table::Grid;
@@ -193,17 +194,30 @@ fn value(
     let named = target as usize;
     match objects::start::start(file, codes, count, named, grid.room, slot, at, used, depth) {
         Started::Refused(number, place) => Stepped::Refused(number, place),
-        Started::Plain(plain) => walked_step(leaves::plain::read_plain(
-            file,
-            words,
-            grid,
-            shared,
-            plain,
-            at,
-            used,
-            depth,
-            parent,
-        )),
+        Started::Plain(plain) => match plain {
+            Plain::Fixed(kind, size) => walked_step(leaves::plain::read_fixed(
+                file,
+                words,
+                grid,
+                kind,
+                size,
+                at,
+                used,
+                depth,
+                parent,
+            )),
+            _ => walked_step(leaves::plain::read_plain(
+                file,
+                words,
+                grid,
+                shared,
+                plain,
+                at,
+                used,
+                depth,
+                parent,
+            )),
+        },
         Started::Null(next, padding) => {
             let h = Head {
                 row: RowNumber(used),

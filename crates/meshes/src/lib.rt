@@ -228,31 +228,6 @@ fn onward(stage: Stage) -> Stage
     }
 }
 
-// The stage behind a field that told a number.
-fn behind(stage: Stage, n: u32) -> Stage
-    ensures { λ r. ⌜ r ≡ behindOf stage n ⌝ }
-{
-    let step = stage.step;
-    match step {
-        FLAG => at_field(DATA_SIZE, n, 0, 0),
-        DATA_SIZE => at_field(INDEX_DATA, n, 0, 0),
-        INDEX_DATA => at_field(END, 0, 0, 0),
-        ELEMENT_COUNT => to_elements(n),
-        USAGE_INDEX => to_elements(stage.left),
-        DECLARATION => at_field(VERTEX_COUNT, n, 0, 0),
-        VERTEX_COUNT => at_field(VERTEX_DATA, stage.number, n, 0),
-        VERTEX_DATA => at_field(END, 0, 0, 0),
-        BONE_COUNT => to_names(n, n),
-        BONE_TRANSFORM => to_names(stage.number, stage.left),
-        CHILD_COUNT => to_children(stage.number, stage.left, n),
-        CHILD => to_children(stage.number, stage.left, stage.inner),
-        MESH_COUNT => to_meshes(stage.number, n),
-        PART_COUNT => to_parts(stage.number, stage.left, n),
-        EFFECT => to_parts(stage.number, stage.left, stage.inner),
-        _ => onward(stage),
-    }
-}
-
 // The number of a field that was read, as a word holds it; 0 if it was not.
 fn number_of(read: Number) -> u32
     ensures { λ r. ⌜ r ≡ wordOf (told read) ⌝ }
@@ -273,10 +248,35 @@ fn told_at(file: &[u8], step: u32, at: usize) -> u32
     number_of(numbers::little::little4(file, at))
 }
 
-// The stage behind the field at a stage, which begins at `at`.
+// The stage behind the field at a stage, which begins at `at`. Only where the number that it tells counts is that read.
 pub fn after(file: &[u8], stage: Stage, at: usize) -> Stage
     ensures { λ r. ⌜ r ≡ behindOf stage (toldAt (now (file .entry)) (stage .step) at) ⌝ }
 {
-    let n = told_at(file, stage.step, at);
-    behind(stage, n)
+    let step = stage.step;
+    match step {
+        FLAG => at_field(DATA_SIZE, told_at(file, FLAG, at), 0, 0),
+        DATA_SIZE => at_field(INDEX_DATA, told_at(file, DATA_SIZE, at), 0, 0),
+        INDEX_DATA => at_field(END, 0, 0, 0),
+        ELEMENT_COUNT => to_elements(told_at(file, ELEMENT_COUNT, at)),
+        USAGE_INDEX => to_elements(stage.left),
+        DECLARATION => at_field(VERTEX_COUNT, told_at(file, DECLARATION, at), 0, 0),
+        VERTEX_COUNT => at_field(
+            VERTEX_DATA,
+            stage.number,
+            told_at(file, VERTEX_COUNT, at),
+            0,
+        ),
+        VERTEX_DATA => at_field(END, 0, 0, 0),
+        BONE_COUNT => {
+            let bones = told_at(file, BONE_COUNT, at);
+            to_names(bones, bones)
+        }
+        BONE_TRANSFORM => to_names(stage.number, stage.left),
+        CHILD_COUNT => to_children(stage.number, stage.left, told_at(file, CHILD_COUNT, at)),
+        CHILD => to_children(stage.number, stage.left, stage.inner),
+        MESH_COUNT => to_meshes(stage.number, told_at(file, MESH_COUNT, at)),
+        PART_COUNT => to_parts(stage.number, stage.left, told_at(file, PART_COUNT, at)),
+        EFFECT => to_parts(stage.number, stage.left, stage.inner),
+        _ => onward(stage),
+    }
 }

@@ -16,7 +16,7 @@ use Rattle.reading.specs.Reads.{small-by-index}
 use Rattle.walked.specs.Contract.{seen, Free}
 use Rattle.walked.specs.Loop.{refusing}
 use Rattle.walked.specs.Leaf.{leaf-walked}
-use Rattle.leaves.specs.Plain.{headOf, plain-walked}
+use Rattle.leaves.specs.Plain.{headOf, plain-walked, fixed-walked}
 use Rattle.load.specs.Steps.{null-pads, value-told, raw-steps}
 use Rattle.leaves.specs.Like.{like-walk}
 use borrow.Author.Needs.{needs}
@@ -44,11 +44,20 @@ enum-known-number c = search needs
 enum-known-plain : tie.Need-enum-known-plain
 enum-known-plain c = search needs
 
-read-plain-requires : tie.Need-read-plain-requires
-read-plain-requires c κs = search needs
+enum-known-plain-2 : tie.Need-enum-known-plain-2
+enum-known-plain-2 c = search needs
+
+read-fixed-requires : tie.Need-read-fixed-requires
+read-fixed-requires c κs = search needs
 
 walked-step-requires : tie.Need-walked-step-requires
 walked-step-requires c κs = search needs
+
+read-plain-requires : tie.Need-read-plain-requires
+read-plain-requires c κs = search needs
+
+walked-step-requires-2 : tie.Need-walked-step-requires-2
+walked-step-requires-2 c κs = search needs
 
 enum-known-next : tie.Need-enum-known-next
 enum-known-next c = search needs
@@ -56,8 +65,8 @@ enum-known-next c = search needs
 leaf-requires : tie.Need-leaf-requires
 leaf-requires c κs = search needs
 
-walked-step-requires-2 : tie.Need-walked-step-requires-2
-walked-step-requires-2 c κs = search needs
+walked-step-requires-3 : tie.Need-walked-step-requires-3
+walked-step-requires-3 c κs = search needs
 
 enum-known-place : tie.Need-enum-known-place
 enum-known-place c = search needs
@@ -82,11 +91,12 @@ same-length c = search needs
 
 returns-2 : tie.Need-returns-2
 returns-2 c = λ rd readers x h l s.
-    let a = c .before .before .before .before .before .before .before .before .before .before .before .before .args in
-    let small = small-by-index (a .file .now) (λ i h. omega (arith, c .before .before .before .before .before .before .before .before .before .before .before .shared-slice-known .given i)) in
-    let b = rw (c .before .before .before .before .before .before .plain .given .1) at (starting (c .before .before .before .before .before .before .before .before) rd readers x h l s (c .before .before .before .before .before .before .before .before .before .before .before .before .pre .0 .place)) in
-    let e = c .before .before .before .read-plain .ensures in
-    let w = plain-walked (a .file .now) (a .grid) (a .shared) (c .before .before .before .before .before .before .plain .given .0 .0) (a .at) (a .used) (a .words .now) small (c .before .before .before .before .before .before .before .before .before .before .before .before .pre .0) (b .1) readers (a .depth) (a .parent) in
+    let a = c .before .before .before .before .before .before .before .before .before .before .before .before .before .before .before .args in
+    let p = c .before .before .before .before .before .before .before .before .before .before .before .before .before .before .before .pre .0 in
+    let small = small-by-index (a .file .now) (λ i h. omega (arith, c .before .before .before .before .before .before .before .before .before .before .before .before .before .before .shared-slice-known .given i)) in
+    let b = rw (c .before .before .before .before .before .before .before .before .before .plain .given .1, c .before .before .before .before .before .before .plain2 .given .1) at (starting (c .before .before .before .before .before .before .before .before .before .before .before) rd readers x h l s (p .place)) in
+    let e = c .before .before .before .read-fixed .ensures in
+    let w = fixed-walked (a .file .now) (a .grid) (a .shared) _ _ (a .at) (a .used) (a .words .now) small p (b .1) readers (a .depth) (a .parent) in
     let v = rw (sym (like-walk (a .file .now) readers (a .shared) (a .grid .room) (a .depth) (b .0) (a .at) (a .used) (a .parent))) at w in
     rw (c .walked-step .ensures, e .0, e .1) (value-told (a .grid) (a .file .now) (a .codes .now) readers (a .shared) (a .depth) x (a .at) (a .used) (a .parent) _ v)
 
@@ -94,21 +104,35 @@ same-length-2 : tie.Need-same-length-2
 same-length-2 c = search needs
 
 returns-3 : tie.Need-returns-3
-unfolding seen
 returns-3 c = λ rd readers x h l s.
+    let a = c .before .before .before .before .before .before .before .before .before .before .before .before .before .args in
+    let p = c .before .before .before .before .before .before .before .before .before .before .before .before .before .pre .0 in
+    let small = small-by-index (a .file .now) (λ i h. omega (arith, c .before .before .before .before .before .before .before .before .before .before .before .before .shared-slice-known .given i)) in
+    let b = rw (c .before .before .before .before .before .before .before .plain .given .1) at (starting (c .before .before .before .before .before .before .before .before .before) rd readers x h l s (p .place)) in
+    let e = c .before .before .before .read-plain .ensures in
+    let w = plain-walked (a .file .now) (a .grid) (a .shared) (c .before .before .before .before .before .before .before .plain .given .0 .0) (a .at) (a .used) (a .words .now) small p (b .1) readers (a .depth) (a .parent) in
+    let v = rw (sym (like-walk (a .file .now) readers (a .shared) (a .grid .room) (a .depth) (b .0) (a .at) (a .used) (a .parent))) at w in
+    rw (c .walked-step2 .ensures, e .0, e .1) (value-told (a .grid) (a .file .now) (a .codes .now) readers (a .shared) (a .depth) x (a .at) (a .used) (a .parent) _ v)
+
+same-length-3 : tie.Need-same-length-3
+same-length-3 c = search needs
+
+returns-4 : tie.Need-returns-4
+unfolding seen
+returns-4 c = λ rd readers x h l s.
     let a = c .before .before .before .before .before .before .before .before .before .before .before .before .args in
     let p = c .before .before .before .before .before .before .before .before .before .before .before .before .pre .0 in
     let small = small-by-index (a .file .now) (λ i h. omega (arith, c .before .before .before .before .before .before .before .before .before .before .before .shared-slice-known .given i)) in
     let b = rw (c .before .before .before .before .before .before .next .given .1) at (starting (c .before .before .before .before .before .before .before .before) rd readers x h l s (p .place)) in
     let e = c .before .before .before .leaf .ensures in
     let free : Free (a .grid) (a .words .now) (a .used) = record { long = p .long; there = b .free; few = omega (arith, b .free, p .few) } in
-    rw (c .walked-step2 .ensures, e .0, e .1, b .is (a .shared) (a .parent)) (leaf-walked {A = ℕ} (a .grid) (a .file .now) (a .words .now) (headOf (a .used) (a .at) (a .parent) 0 (c .before .before .before .before .before .before .next .given .0 .1 .0)) 0 nothing (read 0 _) free (b .ahead, omega (arith, b .inside, p .short)) (null-pads (a .file .now) small (a .used) (a .at) (a .parent) (b .pads)))
+    rw (c .walked-step3 .ensures, e .0, e .1, b .is (a .shared) (a .parent)) (leaf-walked {A = ℕ} (a .grid) (a .file .now) (a .words .now) (headOf (a .used) (a .at) (a .parent) 0 (c .before .before .before .before .before .before .next .given .0 .1 .0)) 0 nothing (read 0 _) free (b .ahead, omega (arith, b .inside, p .short)) (null-pads (a .file .now) small (a .used) (a .at) (a .parent) (b .pads)))
 
-same-length-3 : tie.Need-same-length-3
-same-length-3 c = search needs
+same-length-4 : tie.Need-same-length-4
+same-length-4 c = search needs
 
-returns-4 : tie.Need-returns-4
-returns-4 c = λ rd readers x h l s.
+returns-5 : tie.Need-returns-5
+returns-5 c = λ rd readers x h l s.
     let a = c .before .before .before .before .before .before .before .before .before .before .before .args in
     let b = rw (c .before .before .before .before .before .place .given .1) at (starting (c .before .before .before .before .before .before .before) rd readers x h l s (c .before .before .before .before .before .before .before .before .before .before .before .pre .0 .place)) in
     raw-steps (a .grid) (a .file .now) (a .codes .now) readers (a .shared) (a .depth) (a .depth - 1) x (a .at) (a .used) (a .parent) _ _ _ _ (a .words .now) (c .before .before .raw-step .last .1 .1 .0) (c .before .before .raw-step .result) (omega (arith, b .deep)) b (c .before .before .raw-step .ensures readers (b .type) (b .stands))
@@ -120,11 +144,14 @@ value-spec =
     start-requires
     enum-known-number
     enum-known-plain
-    read-plain-requires
+    enum-known-plain-2
+    read-fixed-requires
     walked-step-requires
+    read-plain-requires
+    walked-step-requires-2
     enum-known-next
     leaf-requires
-    walked-step-requires-2
+    walked-step-requires-3
     enum-known-place
     sub-raw-step
     raw-step-requires
@@ -134,4 +161,6 @@ value-spec =
     same-length-2
     returns-3
     same-length-3
-    returns-4)
+    returns-4
+    same-length-4
+    returns-5)
