@@ -1,14 +1,14 @@
 -- Bytes that are written as they are, one after the other. Assumes nothing.
 use mathlib.Core.Path.{_≡_, refl}
-use mathlib.Core.Bool.{Bool, false, _||_}
+use mathlib.Core.Bool.{false, _||_}
 use mathlib.Core.List.{List}
 use Prim.Native.Nat.{ℕ, _+_, _-_, _≤_, _<_}
 use native.Mathlib.Omega.{arith}
-use native.Mathlib.Decide.{decLt}
 use lib.Dec.{eqb, ltb}
 use lib.ListN.{length, getD}
 use borrow.Author.Tests.{ne-eqb, eqb-false, ltb-false, le-ltb}
 use Rattle.laws.specs.Small.{neither}
+use Rattle.xml_escape.specs.Runs.{all-on}
 use Rattle.xml_escape.specs.Quiet.{Quiet, AllQuiet, Ran, RunEnd}
 
 -- ---- One byte
@@ -43,36 +43,17 @@ by-quiet most b q =
       le-ltb most b (q .low),
     )
 
--- one more byte of a block, of which `b` says whether one is not quiet
-pub block-step : {most : ℕ} (s : List ℕ) (i j : ℕ) (b r : Bool) → (b ≡ false → AllQuiet most s i j) → (r ≡ false → Quiet most (getD s (i + j) 0)) → (b || r) ≡ false → AllQuiet most s i (j + 1)
-block-step {most} s i j b r f g e k h = go (decLt k j) where
-  w : (b ≡ false) × (r ≡ false)
-  w = neither b r e
-
-  go : Dec (k < j) → Quiet most (getD s (i + k) 0)
-  go (yes l) = f (w .0) k l
-  go (no l) = let z : j ≡ k = omega arith in rw (← z) (g (w .1))
-
 -- ---- Runs
 
 pub ran-none : {most : ℕ} {s : List ℕ} {i : ℕ} → i ≤ length s → Ran most s i i
 ran-none h = record { forward = omega arith; inside = h; quiet = λ k l. absurd (omega arith) }
 
-run-at : {most : ℕ} {s : List ℕ} {from i : ℕ} → Ran most s from i → (n : ℕ) → AllQuiet most s i n → (k : ℕ) → k < i + n - from → Dec (k < i - from) → Quiet most (getD s (from + k) 0)
-run-at r n q k l (yes m) = r .quiet k m
-run-at {s = s} {from = from} {i = i} r n q k l (no m) =
-    let z : i + (from + k - i) ≡ from + k = omega (arith, r .forward) in
-    rw z at (q (from + k - i) (omega (arith, r .forward)))
-
 pub ran-more : {most : ℕ} {s : List ℕ} {from i : ℕ} → Ran most s from i → (n : ℕ) → i + n ≤ length s → AllQuiet most s i n → Ran most s from (i + n)
-ran-more {s = s} {from = from} {i = i} r n h q = record {
+ran-more {most} {s} {from} {i} r n h q = record {
   forward = omega (arith, r .forward);
   inside = h;
-  quiet = λ k l. run-at r n q k l (decLt k (i - from));
+  quiet = all-on (Quiet most) s from i (r .forward) (r .quiet) n q;
 }
-
-pub one-quiet : {most : ℕ} (s : List ℕ) (i : ℕ) → Quiet most (getD s i 0) → AllQuiet most s i 1
-one-quiet s i q k h = let z : i + k ≡ i = omega arith in rw z q
 
 -- where a run ends
 pub ends-at : {most : ℕ} {s : List ℕ} {from i : ℕ} → Ran most s from i → (i < length s → Quiet most (getD s i 0) → ⊥) → RunEnd most s from i

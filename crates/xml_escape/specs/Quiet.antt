@@ -1,8 +1,9 @@
 -- Bytes that are written as they are, whatever stands around them. Assumes nothing.
 use mathlib.Core.Path.{_≡_}
 use mathlib.Core.List.{List}
-use Prim.Native.Nat.{ℕ, _+_, _-_, _≤_, _<_}
+use Prim.Native.Nat.{ℕ, _-_, _≤_, _<_}
 use lib.ListN.{length, getD}
+use Rattle.xml_escape.specs.Runs.{AllOf}
 
 -- no control character, none of the four, not the first byte of U+FFFE and U+FFFF, and none above `most`
 pub record Quiet (most b : ℕ) : Type 0 where
@@ -16,7 +17,7 @@ pub record Quiet (most b : ℕ) : Type 0 where
 
 -- n bytes from a place on
 abbrev pub AllQuiet : (most : ℕ) (s : List ℕ) (i n : ℕ) → Type 0
-AllQuiet most s i n = (k : ℕ) → k < n → Quiet most (getD s (i + k) 0)
+AllQuiet most = AllOf (Quiet most)
 
 -- those from one place to a later one
 pub record Ran (most : ℕ) (s : List ℕ) (from i : ℕ) : Type 0 where

@@ -1,7 +1,7 @@
 // Runs of bytes that stand in the XML as they are (Req 13).
 ghost use mathlib.Core.Path.{_≡_};
-ghost use mathlib.Core.Bool.{true, false};
-ghost use Prim.Native.Nat.{_+_, _≤_};
+ghost use mathlib.Core.Bool.{true, false, cond};
+ghost use Prim.Native.Nat.{_+_, _≤_, min};
 ghost use lib.ListN.{length};
 ghost use Rattle.xml_escape.specs.Quiet.{Quiet, AllQuiet, Ran, RunEnd};
 
@@ -29,11 +29,13 @@ fn quiet_block(s: &[u8], i: usize, n: usize, most: u8) -> bool
     true
 }
 
-// Past the blocks of 32 such bytes from `from` on.
-fn quiet_blocks(s: &[u8], from: usize, most: u8) -> usize
-    requires { ⌜ from ≤ length (now s) ⌝ }
-    ensures { λ r. ⌜ Ran most (now (s .entry)) from r ⌝ }
+// Past the blocks of 32 such bytes from `from` on; `from` itself where it is past the end.
+pub fn quiet_blocks(s: &[u8], from: usize, most: u8) -> usize
+    ensures { λ r. ⌜ (from ≤ length (now (s .entry)) → Ran most (now (s .entry)) from r) ⌝ }
 {
+    if s.len() <= from {
+        return from;
+    }
     let mut i = from;
     while 32 <= s.len() - i {
         if quiet_block(s, i, 32, most) {
@@ -63,4 +65,24 @@ pub fn quiet_run(s: &[u8], from: usize, most: u8) -> usize
         i += 1;
     }
     i
+}
+
+// The smaller of two numbers.
+pub fn smaller(a: u8, b: u8) -> u8
+    ensures { λ r. ⌜ r ≡ min a b ⌝ }
+{
+    if a < b {
+        return a;
+    }
+    b
+}
+
+// A place that counts, else one behind all.
+pub fn place_if(counts: bool, place: u8, behind: u8) -> u8
+    ensures { λ r. ⌜ r ≡ cond counts place behind ⌝ }
+{
+    if counts {
+        return place;
+    }
+    behind
 }

@@ -1,12 +1,16 @@
 // The text of an item in the XML: whether every character of it is written, how many bytes it has there, and its bytes.
 ghost use mathlib.Core.Path.{_≡_};
-ghost use Prim.Native.Nat.{_+_, _≤_};
+ghost use mathlib.Core.Bool.{true, false, cond};
+ghost use mathlib.Core.List.{[], _∷_};
+ghost use Prim.Native.Nat.{_+_, _-_, _≤_, _<_};
 ghost use lib.ListN.{length, drop};
 ghost use Rattle.xml_layout.specs.Xml.{escaped, escape};
 ghost use Rattle.xml_reading.specs.Written.{noncharacter};
+ghost use Rattle.xml_escape.specs.Runs.{AllOf};
 ghost use Rattle.xml_escape.specs.Sizes.{item};
-ghost use Rattle.xml_escape.specs.Wrote.{PutTo};
+ghost use Rattle.xml_escape.specs.Wrote.{PutTo, sets};
 ghost use Rattle.xml_export.specs.Gathering.{sizeOf};
+ghost use Rattle.xml_export.specs.Escaping.{Alone, byteSize, Grows, Runs, FewPut, RunPut, EntityPut};
 
 // Whether U+FFFE or U+FFFF stands from `at` on.
 fn noncharacter_at(text: &[u8], at: usize) -> bool
@@ -44,62 +48,281 @@ fn escaped_size(b: u8) -> usize
     1
 }
 
+// How many bytes a byte of a text has in the XML; none where it starts a character that is not written. Letters are told by two tests.
+fn size_at(text: &[u8], at: usize) -> usize
+    requires { ⌜ at < length (now text) ⌝ }
+    ensures { λ r. ⌜ r ≡ byteSize (drop at (now (text .entry))) ⌝ }
+{
+    let b = text[at];
+    if 0x3E < b {
+        if b != 0xEF {
+            return 1;
+        }
+    }
+    if b < 0x20 {
+        return 0;
+    }
+    if noncharacter_at(text, at) {
+        return 0;
+    }
+    escaped_size(b)
+}
+
+// A number that counts, else none.
+fn worth(counts: bool, n: u8) -> u8
+    ensures { λ r. ⌜ (r ≡ cond counts n 0) × (r ≤ n) ⌝ }
+{
+    if counts {
+        return n;
+    }
+    0
+}
+
+// How many bytes more than one a byte of a text has in the XML, in one expression: blocks of it are fast.
+fn extra(b: u8) -> u8
+    ensures { λ r. ⌜ (1 + r ≡ length (escaped b)) × (r ≤ 5) ⌝ }
+{
+    worth(b == 0x26, 4) + worth(b == 0x3C, 3) + worth(b == 0x3E, 3) + worth(b == 0x22, 5)
+}
+
+// Whether a byte may start a character that is not written.
+fn unsure(b: u8) -> bool
+    ensures { λ r. ⌜ (r ≡ false → (0x20 ≤ b) × (b ≡ 0xEF → ⊥)) ⌝ }
+{
+    (b < 0x20) | (b == 0xEF)
+}
+
+// How many bytes the 32 bytes from i on have in the XML; none where that is not seen at once.
+fn block_size(text: &[u8], i: usize) -> usize
+    requires { ⌜ i ≤ length (now text) ⌝ }
+    ensures { λ r. ⌜ ((r ≡ 0 → ⊥) → Grows (now (text .entry)) i 32 r) ⌝ }
+{
+    if text.len() - i < 32 {
+        return 0;
+    }
+    let mut j = 0;
+    let mut more = 0u8;
+    let mut other = false;
+    while j < 32 {
+        let b = text[i + j];
+        more = more + extra(b);
+        other = other | unsure(b);
+        j += 1;
+    }
+    if other {
+        return 0;
+    }
+    32 + more as usize
+}
+
 // That a character of a text is not written, or how many bytes the text has in the XML.
 pub enum Sizing {
     Unwritten,
     Size(usize),
 }
 
-// Whether every character of a text is written, and its size.
-pub(crate) fn text_size(text: &[u8]) -> Sizing
+// Whether every character of a text is written, and its size: a run of quiet bytes, then blocks, and 32 bytes one by one where a block is not seen at once.
+fn filled_size(text: &[u8]) -> Sizing
     requires { ⌜ length (now text) ≤ 16777216 ⌝ }
     ensures { λ r. ⌜ r ≡ sizeOf (now (text .entry)) ⌝ }
 {
-    let mut i = 0;
-    let mut size = 0;
+    let mut i = xml_escape::quiet_run(text, 0, 0xFF);
+    let mut size = i;
+    let mut left = 0usize;
     while i < text.len() {
-        let next = xml_escape::quiet_run(text, i, 0xFF);
-        if i < next {
-            size += next - i;
-            i = next;
+        if left == 0 {
+            let n = block_size(text, i);
+            if n == 0 {
+                left = 32;
+            } else {
+                if n == 32 {
+                    let next = xml_escape::quiet_blocks(text, i + 32, 0xFF);
+                    size += next - i;
+                    i = next;
+                } else {
+                    size += n;
+                    i += 32;
+                }
+            }
         } else {
-            if text[i] < 0x20 {
+            left -= 1;
+            let n = size_at(text, i);
+            if n == 0 {
                 return Sizing::Unwritten;
             }
-            if noncharacter_at(text, i) {
-                return Sizing::Unwritten;
-            }
-            size += escaped_size(text[i]);
+            size += n;
             i += 1;
         }
     }
     Sizing::Size(size)
 }
 
-// A byte of a text into the output; answers where it ends.
-fn put_escaped(out: &mut [u8], to: usize, b: u8) -> usize
-    requires { ⌜ to + length (escaped b) ≤ length (now out) ⌝ }
-    ensures { λ r. ⌜ PutTo (escaped b) to (now (out .entry)) (now (out .exit)) r ⌝ }
+// The same: an empty text is told by one test.
+pub(crate) fn text_size(text: &[u8]) -> Sizing
+    requires { ⌜ length (now text) ≤ 16777216 ⌝ }
+    ensures { λ r. ⌜ r ≡ sizeOf (now (text .entry)) ⌝ }
 {
+    if text.len() == 0 {
+        return Sizing::Size(0);
+    }
+    filled_size(text)
+}
+
+// Whether a byte of a text is written as an entity, in one expression: blocks of it are fast.
+fn signed(b: u8) -> bool
+    ensures { λ r. ⌜ (r ≡ false → Alone b) ⌝ }
+{
+    (b == 0x22) | (b == 0x26) | (b == 0x3C) | (b == 0x3E)
+}
+
+// The same: letters are told by one test.
+fn sign(b: u8) -> bool
+    ensures { λ r. ⌜ (r ≡ false → Alone b) ⌝ }
+{
+    if 0x3E < b {
+        return false;
+    }
+    signed(b)
+}
+
+// Whether none of the 32 bytes from i on is.
+fn plain_block(text: &[u8], i: usize) -> bool
+    requires { ⌜ i + 32 ≤ length (now text) ⌝ }
+    ensures { λ r. ⌜ (r ≡ true → AllOf Alone (now (text .entry)) i 32) ⌝ }
+{
+    let mut j = 0;
+    let mut other = false;
+    while j < 32 {
+        other = other | signed(text[i + j]);
+        j += 1;
+    }
+    if other {
+        return false;
+    }
+    true
+}
+
+// Past the blocks of 32 such bytes from `from` on.
+fn plain_blocks(text: &[u8], from: usize) -> usize
+    requires { ⌜ from ≤ length (now text) ⌝ }
+    ensures { λ r. ⌜ Runs (now (text .entry)) from r ⌝ }
+{
+    let mut i = from;
+    while 32 <= text.len() - i {
+        if plain_block(text, i) {
+            i += 32;
+        } else {
+            return i;
+        }
+    }
+    i
+}
+
+// How many of the 32 bytes from i on stand before the first that is.
+fn first_sign(text: &[u8], i: usize) -> usize
+    requires { ⌜ i + 32 ≤ length (now text) ⌝ }
+    ensures { λ r. ⌜ (r ≤ 32) × AllOf Alone (now (text .entry)) i r ⌝ }
+{
+    let mut j = 0u8;
+    let mut first = 32u8;
+    while j < 32 {
+        let here = xml_escape::place_if(signed(text[i + j as usize]), j, 32);
+        first = xml_escape::smaller(first, here);
+        j += 1;
+    }
+    first as usize
+}
+
+// Puts such bytes from `at` on, n at most, one by one; answers how many.
+fn put_few(text: &[u8], out: &mut [u8], at: usize, to: usize, n: usize) -> usize
+    requires { ⌜ (at + n ≤ length (now text)) × (to + n ≤ length (now out)) ⌝ }
+    ensures { λ r. ⌜ FewPut (now (text .entry)) at to n (now (out .entry)) (now (out .exit)) r ⌝ }
+{
+    let mut k = 0;
+    while k < n {
+        let b = text[at + k];
+        if sign(b) {
+            return k;
+        }
+        out[to + k] = b;
+        k += 1;
+    }
+    k
+}
+
+// Puts such bytes from `from` on: up to the first of 32 that is not, or blocks; none where fewer than 32 are left. Answers where they end.
+fn put_far(text: &[u8], out: &mut [u8], from: usize, to: usize) -> usize
+    requires { ⌜ from ≤ length (now text) ⌝ }
+    ensures { λ r. ⌜ RunPut (now (text .entry)) from to (now (out .entry)) (now (out .exit)) r ⌝ }
+{
+    if text.len() - from < 32 {
+        return from;
+    }
+    let n = first_sign(text, from);
+    if n < 32 {
+        fill::copy(out, to, text, from, n);
+        return from + n;
+    }
+    let end = plain_blocks(text, from + 32);
+    fill::copy(out, to, text, from, end - from);
+    end
+}
+
+// The same: up to eight one by one, then the rest at once.
+fn put_run(text: &[u8], out: &mut [u8], from: usize, to: usize) -> usize
+    requires { ⌜ (from ≤ length (now text)) × (to + (length (now text) - from) ≤ length (now out)) ⌝ }
+    ensures { λ r. ⌜ RunPut (now (text .entry)) from to (now (out .entry)) (now (out .exit)) r ⌝ }
+{
+    let rest = text.len() - from;
+    if rest < 8 {
+        return from + put_few(text, out, from, to, rest);
+    }
+    let n = put_few(text, out, from, to, 8);
+    if n < 8 {
+        return from + n;
+    }
+    put_far(text, out, from + 8, to + 8)
+}
+
+// Four bytes into the output: the compiler stores them at once.
+fn put_four(out: &mut [u8], to: usize, a: u8, b: u8, c: u8, d: u8)
+    requires { ⌜ to + 4 ≤ length (now out) ⌝ }
+    ensures { λ _. ⌜ now (out .exit) ≡ sets (now (out .entry)) to 0 (a ∷ b ∷ c ∷ d ∷ []) ⌝ }
+{
+    out[to] = a;
+    out[to + 1] = b;
+    out[to + 2] = c;
+    out[to + 3] = d;
+}
+
+// The entity of a byte into the output; answers how many bytes it has, none for a byte that has none, where nothing is put.
+fn put_entity(out: &mut [u8], to: usize, b: u8) -> usize
+    requires { ⌜ to + length (escaped b) ≤ length (now out) ⌝ }
+    ensures { λ r. ⌜ EntityPut b to (now (out .entry)) (now (out .exit)) r ⌝ }
+{
+    if 0x3E < b {
+        return 0;
+    }
     if b == 0x26 {
-        fill::copy(out, to, b"&amp;", 0, 5);
-        return to + 5;
+        put_four(out, to, 0x26, 0x61, 0x6D, 0x70);
+        out[to + 4] = 0x3B;
+        return 5;
     }
     if b == 0x3C {
-        fill::copy(out, to, b"&lt;", 0, 4);
-        return to + 4;
+        put_four(out, to, 0x26, 0x6C, 0x74, 0x3B);
+        return 4;
     }
     if b == 0x3E {
-        fill::copy(out, to, b"&gt;", 0, 4);
-        return to + 4;
+        put_four(out, to, 0x26, 0x67, 0x74, 0x3B);
+        return 4;
     }
     if b == 0x22 {
-        fill::copy(out, to, b"&quot;", 0, 6);
-        return to + 6;
+        put_four(out, to, 0x26, 0x71, 0x75, 0x6F);
+        out[to + 4] = 0x74;
+        out[to + 5] = 0x3B;
+        return 6;
     }
-    let one = [b];
-    fill::copy(out, to, &one, 0, 1);
-    to + 1
+    0
 }
 
 // A text into the output; answers where it ends.
@@ -110,27 +333,33 @@ fn put_text(text: &[u8], out: &mut [u8], to: usize) -> usize
     let mut i = 0;
     let mut j = to;
     while i < text.len() {
-        let next = xml_escape::quiet_run(text, i, 0xFF);
-        if i < next {
-            let n = next - i;
-            fill::copy(out, j, text, i, n);
-            j += n;
+        let b = text[i];
+        let n = put_entity(out, j, b);
+        if n == 0 {
+            out[j] = b;
+            let next = put_run(text, out, i + 1, j + 1);
+            j += next - i;
             i = next;
         } else {
-            j = put_escaped(out, j, text[i]);
+            j += n;
             i += 1;
         }
     }
     j
 }
 
-// The item of a text into the output; answers where it ends.
+// The item of a text into the output, `<Item>` and `</Item>` byte by byte; answers where it ends.
 pub(crate) fn put_item(text: &[u8], out: &mut [u8], to: usize) -> usize
     requires { ⌜ to + length (item (now text)) ≤ length (now out) ⌝ }
     ensures { λ r. ⌜ PutTo (item (now (text .entry))) to (now (out .entry)) (now (out .exit)) r ⌝ }
 {
-    fill::copy(out, to, b"<Item>", 0, 6);
+    put_four(out, to, 0x3C, 0x49, 0x74, 0x65);
+    out[to + 4] = 0x6D;
+    out[to + 5] = 0x3E;
     let end = put_text(text, out, to + 6);
-    fill::copy(out, end, b"</Item>", 0, 7);
+    put_four(out, end, 0x3C, 0x2F, 0x49, 0x74);
+    out[end + 4] = 0x65;
+    out[end + 5] = 0x6D;
+    out[end + 6] = 0x3E;
     end + 7
 }

@@ -10,7 +10,6 @@ pub mod Imports
 pub mod Marks
 pub mod Runs
 pub mod Taken
-pub mod Nearest
 pub mod Usual
 pub mod Wholes
 pub mod Words

@@ -24,7 +24,8 @@ use Rattle.xml_reading.specs.Plain.{plain-matches}
 use Rattle.xml_reading.specs.Steps.{resumed, until-step, first-taken}
 use Rattle.xml_import.specs.Places.{TakesAt, part, Chars, Stands, Known, Runs, Unmarked, AllUnmarked, Passed, character}
 use Rattle.xml_import.specs.Puts.{textIn}
-use Rattle.xml_import.proofs.Literals.{cons-at, literal-fails}
+use Rattle.xml_escape.specs.Runs.{cons-at}
+use Rattle.xml_import.proofs.Literals.{literal-fails}
 use Rattle.xml_import.proofs.Texts.{Reading, more}
 use Rattle.xml_import.proofs.Writing.{Putting, size-is}
 

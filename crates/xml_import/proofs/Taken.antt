@@ -1,13 +1,13 @@
 -- Texts that were taken before: what stands next in them. Assumes nothing.
 use mathlib.Core.Path.{_≡_, refl, sym, ap, subst, _∙_}
 use mathlib.Core.Bool.{Bool, true, false}
-use mathlib.Core.List.{List, [], _∷_, _++_, append-nil, append-assoc}
+use mathlib.Core.List.{List, [], _∷_, _++_, append-nil}
 use mathlib.Core.Logic.{_⊎_, inl, inr}
-use Prim.Native.Nat.{ℕ, zero, suc, _+_, _-_, _≤_, _<_}
+use Prim.Native.Nat.{ℕ, _+_, _-_, _≤_, _<_}
 use native.Mathlib.Omega.{arith}
 use native.Mathlib.Decide.{decLt}
 use lib.Dec.{eqb}
-use lib.ListN.{length, take, drop, getD, set, length-append, length-drop}
+use lib.ListN.{length, drop, getD, length-append, length-drop}
 use lib.Seq.{getD-drop}
 use borrow.Author.Tests.{eqb-true, eqb-false}
 use Rattle.layout.specs.Text.{ascii}
@@ -23,7 +23,7 @@ use Rattle.xml_import.specs.declared.character.Piece.{Piece}
 use Rattle.xml_import.specs.declared.character.Piece.the-variants as piece
 use Rattle.xml_import.specs.declared.Texted.the-variants as texted
 use Rattle.xml_import.specs.Places.{FailsAt, TakesAt, PieceAt, TextAt, Known, Runs, Unmarked, Marked, Stops, entityByte, entitySize, character}
-use Rattle.xml_import.proofs.Literals.{cons-at, literal-fails}
+use Rattle.xml_import.proofs.Literals.{literal-fails}
 use Rattle.xml_import.proofs.Marks.{not-both}
 use Rattle.xml_import.proofs.Texts.{Reading, ends, end-inside, wrong, entity-on, plain-on, more}
 use Rattle.xml_import.proofs.Writing.{Putting, Turned, turned, next-character, before-end}
@@ -151,18 +151,6 @@ module _ {xml : List ℕ} {at i size : ℕ} (r : Reading xml at i size) (k : Kno
   known-run n m s = (run-on r (run-of s .stands (known-on r k)), goes-on s h (record { no-and = n; no-less = m }))
 
 -- ---- A text is put
-
-set-at : (done : List ℕ) (x b : ℕ) (l : List ℕ) → set (done ++ x ∷ l) (length done) b ≡ done ++ b ∷ l
-set-at [] x b l = refl
-set-at (y ∷ done) x b l = ap (λ (k : List ℕ). y ∷ k) (set-at done x b l)
-
-pub wrote-one : {base done out out′ : List ℕ} {to : ℕ} (b : ℕ) → Wrote base done out to → to + 1 ≤ length base → out′ ≡ set out to b → Wrote base (done ++ b ∷ []) out′ (to + 1)
-wrote-one {base} {done} {out} {out′} {to} b w h e = record {
-  long = length-append done (b ∷ []) ∙ omega (arith, w .long);
-  stands =
-      e ∙ ap (λ (l : List ℕ). set l to b) (w .stands ∙ ap (λ (l : List ℕ). done ++ l) (cons-at base to (omega arith)))
-      ∙ ap (λ (k : ℕ). set (done ++ getD base to 0 ∷ drop (to + 1) base) k b) (sym (w .long)) ∙ set-at done (getD base to 0) b (drop (to + 1) base) ∙ sym (append-assoc done (b ∷ []) (drop (to + 1) base));
-}
 
 module _ {xml out₀ : List ℕ} {at to size : ℕ} {out : List ℕ} {i j : ℕ} (p : Putting xml out₀ at to size out i j) (h : j < to + size) where
   left-known : Known xml i

@@ -4,11 +4,11 @@ use mathlib.Core.Bool.{Bool, true, false, _||_, _&&_, not, false≢true}
 use mathlib.Core.List.{List}
 use Prim.Native.Nat.{ℕ, _+_, _-_, _≤_, _<_}
 use native.Mathlib.Omega.{arith}
-use native.Mathlib.Decide.{decLt}
 use lib.Dec.{eqb, leb, ltb}
 use lib.ListN.{length, getD}
 use borrow.Author.Tests.{eqb-false, ltb-false, leb-true}
 use Rattle.laws.specs.Small.{neither, both}
+use Rattle.xml_escape.specs.Runs.{all-on}
 use Rattle.xml_escape.specs.Quiet.{Quiet, AllQuiet, Ran}
 use Rattle.xml_import.specs.Places.{standsAlone}
 
@@ -57,23 +57,14 @@ usual-alone b e =
       low = l;
     }
 
-pub quiet-more : {most : ℕ} (s : List ℕ) (i j : ℕ) → AllQuiet most s i j → Quiet most (getD s (i + j) 0) → AllQuiet most s i (j + 1)
-quiet-more {most} s i j q u k h = go (decLt k j) where
-  go : Dec (k < j) → Quiet most (getD s (i + k) 0)
-  go (yes l) = q k l
-  go (no l) = let z : j ≡ k = omega arith in rw (← z) u
-
 pub ran-by : {most : ℕ} {s : List ℕ} {i n : ℕ} → AllQuiet most s i n → i + n ≤ length s → Ran most s i (i + n)
 ran-by {most} {s} {i} {n} q h = let z : i + n - i ≡ n = omega arith in record { forward = omega arith; inside = h; quiet = rw z q }
 
 -- a run, and one behind it
 pub ran-on : {most : ℕ} {s : List ℕ} {from i to : ℕ} → Ran most s from i → Ran most s i to → Ran most s from to
-ran-on {most} {s} {from} {i} {to} a b = record { forward = omega (arith, a .forward, b .forward); inside = b .inside; quiet = λ k h. go k h (decLt k (i - from)) } where
-  go : (k : ℕ) → k < to - from → Dec (k < i - from) → Quiet most (getD s (from + k) 0)
-  go k h (yes l) = a .quiet k l
-  go k h (no l) =
-      let z : i + (from + k - i) ≡ from + k = omega (arith, a .forward) in
-      rw z at (b .quiet (from + k - i) (omega (arith, a .forward)))
+ran-on {most} {s} {from} {i} {to} a b =
+    let z : i + (to - i) ≡ to = omega (arith, b .forward) in
+    record { forward = omega (arith, a .forward, b .forward); inside = b .inside; quiet = rw z at (all-on (Quiet most) s from i (a .forward) (a .quiet) (to - i) (b .quiet)) }
 
 -- n quiet bytes, and a run behind them
 pub ran-past : {most : ℕ} {s : List ℕ} {i n r to : ℕ} → (r ≤ n) × AllQuiet most s i r → n ≤ r → i + n ≤ length s → Ran most s (i + n) to → Ran most s i to

@@ -11,7 +11,8 @@ use Rattle.layout.specs.Text.{ascii}
 use Rattle.names.specs.Parse.{common}
 use Rattle.xml_layout.specs.Xml.{itemStart, itemEnd, documentEnd}
 use Rattle.xml_import.specs.Places.{Word}
-use Rattle.xml_import.proofs.Literals.{cons-at, common-yes}
+use Rattle.xml_escape.specs.Runs.{cons-at}
+use Rattle.xml_import.proofs.Literals.{common-yes}
 
 -- the lowest byte of a number, and the others
 lowest : (a b x y : ℕ) → a < 256 → b < 256 → a + 256 * x ≡ b + 256 * y → (a ≡ b) × (x ≡ y)

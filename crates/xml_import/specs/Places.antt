@@ -9,6 +9,7 @@ use lib.ListN.{length, take, drop, getD}
 use Rattle.layout.specs.Number.{between}
 use Rattle.layout.specs.Shortest.{shortFile}
 use Rattle.reading.specs.Output.{Rewritten, refusal, written}
+use Rattle.xml_escape.specs.Runs.{AllOf}
 use Rattle.xml_layout.specs.Tree.{treeOf}
 use Rattle.xml_layout.specs.Xml.{itemEnd}
 use Rattle.xml_reading.specs.Match.{Match, fails, takes, orElse, until, Document, other, document}
@@ -109,7 +110,7 @@ Marked b = (b ≡ 0x26) ⊎ (b ≡ 0x3C)
 
 -- n bytes from a place on
 abbrev pub AllUnmarked : (xml : List ℕ) (i n : ℕ) → Type 0
-AllUnmarked xml i n = (k : ℕ) → k < n → Unmarked (getD xml (i + k) 0)
+AllUnmarked = AllOf Unmarked
 
 -- how many of n bytes stand before the first that is marked
 pub record Before (xml : List ℕ) (i n r : ℕ) : Type 0 where

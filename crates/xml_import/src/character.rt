@@ -1,7 +1,7 @@
 // A character as it stands in the XML, and literals.
 ghost use mathlib.Core.Path.{_≡_};
-ghost use mathlib.Core.Bool.{true, cond};
-ghost use Prim.Native.Nat.{_+_, _≤_, _<_, max, min};
+ghost use mathlib.Core.Bool.{true};
+ghost use Prim.Native.Nat.{_+_, _≤_, _<_, max};
 ghost use lib.ListN.{length, drop, getD};
 ghost use mathlib.Core.List.{[], _∷_};
 ghost use Rattle.names.specs.Parse.{common};
@@ -16,26 +16,6 @@ pub fn larger(a: usize, b: usize) -> usize
         return b;
     }
     a
-}
-
-// The smaller of two.
-pub(crate) fn smaller(a: u8, b: u8) -> u8
-    ensures { λ r. ⌜ r ≡ min a b ⌝ }
-{
-    if a < b {
-        return a;
-    }
-    b
-}
-
-// A place that counts, else one behind all.
-pub(crate) fn place_if(counts: bool, place: u8, behind: u8) -> u8
-    ensures { λ r. ⌜ r ≡ cond counts place behind ⌝ }
-{
-    if counts {
-        return place;
-    }
-    behind
 }
 
 // How many bytes of a literal stand in the XML from `at` on, up to the first that does not.

@@ -1,5 +1,4 @@
 // Texts that were taken before: runs of their characters, and their entities, none of which is judged again.
-use crate::character;
 ghost use mathlib.Core.Path.{_≡_};
 ghost use mathlib.Core.Bool.{true, false};
 ghost use Prim.Native.Nat.{_+_, _≤_};
@@ -111,8 +110,8 @@ fn first_marked(xml: &[u8], i: usize) -> usize
     let mut j = 0u8;
     let mut first = 64u8;
     while j < 64 {
-        let here = character::place_if(marked(xml[i + j as usize]), j, 64);
-        first = character::smaller(first, here);
+        let here = xml_escape::place_if(marked(xml[i + j as usize]), j, 64);
+        first = xml_escape::smaller(first, here);
         j += 1;
     }
     first as usize

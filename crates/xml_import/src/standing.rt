@@ -57,8 +57,8 @@ fn first_odd(xml: &[u8], i: usize) -> usize
     let mut j = 0u8;
     let mut first = 32u8;
     while j < 32 {
-        let here = character::place_if(odd(xml[i + j as usize]), j, 32);
-        first = character::smaller(first, here);
+        let here = xml_escape::place_if(odd(xml[i + j as usize]), j, 32);
+        first = xml_escape::smaller(first, here);
         j += 1;
     }
     first as usize

@@ -7,7 +7,7 @@ use std::hint::black_box;
 use xnb::Loader;
 
 /// Lists of so many texts that repeat some characters so often.
-const LISTS: [(&str, usize, &str, usize); 6] = [
+const LISTS: [(&str, usize, &str, usize); 17] = [
     ("1 text of 1 MB, ASCII", 1, "The quick brown fox. ", 50_000),
     ("1 text of 1 MB, two bytes a character", 1, "äöüß", 131_072),
     (
@@ -16,7 +16,43 @@ const LISTS: [(&str, usize, &str, usize); 6] = [
         "€日本語",
         87_381,
     ),
+    (
+        "1,000 texts, full-width marks",
+        1_000,
+        "次は、中央駅です。（",
+        10,
+    ),
     ("1 text of 100,000 entities", 1, "&<>\"", 25_000),
+    ("1 text of 100,000 times &", 1, "&", 100_000),
+    ("1 text, an entity each 2 characters", 1, "a&", 50_000),
+    ("1 text, an entity each 5 characters", 1, "abcd&", 20_000),
+    (
+        "1 text, an entity each 8 characters",
+        1,
+        "abcdefg\"",
+        12_500,
+    ),
+    (
+        "1 text, an entity each 40 characters",
+        1,
+        "The next stop is Harbour Street, Line 2<",
+        2_500,
+    ),
+    ("10,000 empty texts", 10_000, "", 0),
+    ("10,000 texts of 12 characters", 10_000, "Platform 12.", 1),
+    (
+        "10,000 texts of 20 characters",
+        10_000,
+        "The next stop is it.",
+        1,
+    ),
+    (
+        "10,000 texts of 38 characters",
+        10_000,
+        "Türen öffnen sich in Fahrtrichtung Süd",
+        1,
+    ),
+    ("2 texts of 1 byte", 2, "a", 1),
     ("1,000 texts of 40 bytes", 1_000, "Türen öffnen sich. ", 2),
     (
         "65,535 texts of 20 bytes",

@@ -3,8 +3,8 @@ use mathlib.Core.Path.{_≡_}
 use mathlib.Core.Bool.{false, false≢true}
 use Prim.Native.Nat.{_-_, _≤_}
 use native.Mathlib.Omega.{arith}
-use Rattle.xml_escape.specs.Quiet.{AllQuiet}
-use Rattle.xml_escape.proofs.Quiets.{block-step}
+use Rattle.xml_escape.specs.Quiet.{Quiet, AllQuiet}
+use Rattle.xml_escape.specs.Runs.{all-step}
 use Rattle.xml_escape.proofs.quiet_block.Statement.{statement}
 use Rattle.xml_escape.proofs.quiet_block.Tie as tie
 
@@ -36,7 +36,7 @@ loop-again : tie.Need-loop-again Inv-loop μ-loop
 loop-again c =
     let a = c .before .before .before .before .before .args in
     let m = c .before .before .before .loop in
-    (search needs, block-step (a .s .now) (a .i) (m .j) (m .other) _ (m .inv .1) (c .loud .ensures .0))
+    (search needs, all-step (Quiet (a .most)) (a .s .now) (a .i) (m .j) (m .other) _ (m .inv .1) (c .loud .ensures .0))
 
 returns : tie.Need-returns Inv-loop μ-loop
 returns c = λ e. absurd (false≢true e)

@@ -13,8 +13,11 @@ Inv-loop s from most i₀ i = Ran most s from i
 abbrev μ-loop : tie.MeasureT-loop
 μ-loop s from most i₀ i = length s - i
 
+returns : tie.Need-returns Inv-loop μ-loop
+returns c = ran-none
+
 loop-holds : tie.Need-loop-holds Inv-loop μ-loop
-loop-holds c = ran-none (c .before .pre)
+loop-holds c = ran-none (search needs)
 
 sub-loop : tie.Need-sub-loop Inv-loop μ-loop
 sub-loop c = search needs
@@ -29,13 +32,13 @@ loop-less : tie.Need-loop-less Inv-loop μ-loop
 loop-less c = search needs
 
 loop-again : tie.Need-loop-again Inv-loop μ-loop
-loop-again c = ran-more (c .before .before .before .loop .inv) 32 (omega arith) (c .before .quiet-block .ensures (c .if1 .taken))
-
-returns : tie.Need-returns Inv-loop μ-loop
-returns c = c .before .before .before .loop .inv
+loop-again c = ran-more (c .before .before .before .loop .inv) 32 (omega arith) (c .before .quiet-block .ensures (c .if2 .taken))
 
 returns-2 : tie.Need-returns-2 Inv-loop μ-loop
-returns-2 c = c .before .loop .inv
+returns-2 c = λ h. c .before .before .before .loop .inv
+
+returns-3 : tie.Need-returns-3 Inv-loop μ-loop
+returns-3 c = λ h. c .before .loop .inv
 
 pub quiet-blocks-spec : {M : Type 1} → statement M
 quiet-blocks-spec =
@@ -43,11 +46,12 @@ quiet-blocks-spec =
     (tie.spec
     Inv-loop
     μ-loop
+    returns
     loop-holds
     sub-loop
     quiet-block-requires
     add-i
     loop-less
     loop-again
-    returns
-    returns-2)
+    returns-2
+    returns-3)

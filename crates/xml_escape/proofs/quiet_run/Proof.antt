@@ -4,8 +4,9 @@ use mathlib.Core.Bool.{false≢true}
 use Prim.Native.Nat.{_-_}
 use native.Mathlib.Omega.{arith}
 use lib.ListN.{length}
-use Rattle.xml_escape.specs.Quiet.{Ran}
-use Rattle.xml_escape.proofs.Quiets.{ran-none, ran-more, one-quiet, ends-at, past-end}
+use Rattle.xml_escape.specs.Runs.{all-one}
+use Rattle.xml_escape.specs.Quiet.{Quiet, Ran}
+use Rattle.xml_escape.proofs.Quiets.{ran-none, ran-more, ends-at, past-end}
 use Rattle.xml_escape.proofs.quiet_run.Statement.{statement}
 use Rattle.xml_escape.proofs.quiet_run.Tie as tie
 
@@ -31,7 +32,7 @@ quiet-blocks-requires : tie.Need-quiet-blocks-requires Inv-loop μ-loop
 quiet-blocks-requires c κs = search needs
 
 loop-holds : tie.Need-loop-holds Inv-loop μ-loop
-loop-holds c = c .quiet-blocks .ensures
+loop-holds c = c .quiet-blocks .ensures (search needs)
 
 shared-slice-read-loud-2 : tie.Need-shared-slice-read-loud-2 Inv-loop μ-loop
 shared-slice-read-loud-2 c = search needs
@@ -49,7 +50,11 @@ loop-less : tie.Need-loop-less Inv-loop μ-loop
 loop-less c = search needs
 
 loop-again : tie.Need-loop-again Inv-loop μ-loop
-loop-again c = ran-more (c .before .before .before .before .loop .inv) 1 (omega arith) (one-quiet (c .before .before .before .before .before .before .before .before .before .before .before .args .s .now) (c .before .before .before .before .loop .i) (c .before .loud2 .ensures .0 (c .if3 .left)))
+loop-again c =
+    let m′ = c .before .before .before .before .loop in
+    let a′ = c .before .before .before .before .before .before .before .before .before .before .before .args in
+    let loud2′ = c .before .loud2 in
+    ran-more (m′ .inv) 1 (omega arith) (all-one (Quiet _) (a′ .s .now) (m′ .i) (loud2′ .ensures .0 (c .if3 .left)))
 
 returns-4 : tie.Need-returns-4 Inv-loop μ-loop
 returns-4 c = ends-at (c .before .loop .inv) (λ h. absurd (omega (arith, c .loop-test .left)))

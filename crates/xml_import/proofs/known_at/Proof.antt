@@ -36,16 +36,36 @@ entity-size-requires : tie.Need-entity-size-requires Inv-loop μ-loop
 entity-size-requires c κs = search needs
 
 add-i : tie.Need-add-i Inv-loop μ-loop
-add-i c = let v = known-amp ((c .before .before .before .before .before .before .loop) .inv) ((c .before .before .before .before .before .before .before .before .pre) .1) ((c .before .before .before .before .before .loop-test) .taken) ((c .before .before .if2) .taken) in omega (arith, v .3, (c .entity-size) .ensures)
+add-i c =
+    let m′ = c .before .before .before .before .before .before .loop in
+    let p′ = c .before .before .before .before .before .before .before .before .pre in
+    let t′ = c .before .before .before .before .before .loop-test in
+    let if2′ = c .before .before .if2 in
+    let v = known-amp (m′ .inv) (p′ .1) (t′ .taken) (if2′ .taken) in omega (arith, v .3, (c .entity-size) .ensures)
 
 add-size : tie.Need-add-size Inv-loop μ-loop
-add-size c = let v = known-amp ((c .before .before .before .before .before .before .loop) .inv) ((c .before .before .before .before .before .before .before .before .pre) .1) ((c .before .before .before .before .before .loop-test) .taken) ((c .before .before .if2) .taken) in omega (arith, v .3, v .1 .bound)
+add-size c =
+    let m′ = c .before .before .before .before .before .before .loop in
+    let p′ = c .before .before .before .before .before .before .before .before .pre in
+    let t′ = c .before .before .before .before .before .loop-test in
+    let if2′ = c .before .before .if2 in
+    let v = known-amp (m′ .inv) (p′ .1) (t′ .taken) (if2′ .taken) in omega (arith, v .3, v .1 .bound)
 
 loop-less : tie.Need-loop-less Inv-loop μ-loop
-loop-less c = let v = known-amp ((c .before .before .before .before .before .before .loop) .inv) ((c .before .before .before .before .before .before .before .before .pre) .1) ((c .before .before .before .before .before .loop-test) .taken) ((c .before .before .if2) .taken) in omega (arith, v .2, v .3, (c .entity-size) .ensures)
+loop-less c =
+    let m′ = c .before .before .before .before .before .before .loop in
+    let p′ = c .before .before .before .before .before .before .before .before .pre in
+    let t′ = c .before .before .before .before .before .loop-test in
+    let if2′ = c .before .before .if2 in
+    let v = known-amp (m′ .inv) (p′ .1) (t′ .taken) (if2′ .taken) in omega (arith, v .2, v .3, (c .entity-size) .ensures)
 
 loop-again : tie.Need-loop-again Inv-loop μ-loop
-loop-again c = rw ((c .entity-size) .ensures) (known-amp ((c .before .before .before .before .before .before .loop) .inv) ((c .before .before .before .before .before .before .before .before .pre) .1) ((c .before .before .before .before .before .loop-test) .taken) ((c .before .before .if2) .taken) .1)
+loop-again c =
+    let m′ = c .before .before .before .before .before .before .loop in
+    let p′ = c .before .before .before .before .before .before .before .before .pre in
+    let t′ = c .before .before .before .before .before .loop-test in
+    let if2′ = c .before .before .if2 in
+    rw ((c .entity-size) .ensures) (known-amp (m′ .inv) (p′ .1) (t′ .taken) (if2′ .taken) .1)
 
 unmarked-run-requires : tie.Need-unmarked-run-requires Inv-loop μ-loop
 unmarked-run-requires c κs = search needs
@@ -54,10 +74,22 @@ sub-size : tie.Need-sub-size Inv-loop μ-loop
 sub-size c = (c .unmarked-run) .ensures .passed .forward
 
 add-size-2 : tie.Need-add-size-2 Inv-loop μ-loop
-add-size-2 c = let v = known-run ((c .before .before .before .before .before .loop) .inv) ((c .before .before .before .before .before .before .before .pre) .1) ((c .before .before .before .before .loop-test) .taken) ((c .before .if2) .left) ((c .before .before .if1) .left) ((c .unmarked-run) .ensures) in omega (arith, v .0 .bound, (c .unmarked-run) .ensures .passed .inside)
+add-size-2 c =
+    let m′ = c .before .before .before .before .before .loop in
+    let p′ = c .before .before .before .before .before .before .before .pre in
+    let t′ = c .before .before .before .before .loop-test in
+    let if2′ = c .before .if2 in
+    let if1′ = c .before .before .if1 in
+    let v = known-run (m′ .inv) (p′ .1) (t′ .taken) (if2′ .left) (if1′ .left) ((c .unmarked-run) .ensures) in omega (arith, v .0 .bound, (c .unmarked-run) .ensures .passed .inside)
 
 loop-less-2 : tie.Need-loop-less-2 Inv-loop μ-loop
-loop-less-2 c = let v = known-run ((c .before .before .before .before .before .loop) .inv) ((c .before .before .before .before .before .before .before .pre) .1) ((c .before .before .before .before .loop-test) .taken) ((c .before .if2) .left) ((c .before .before .if1) .left) ((c .unmarked-run) .ensures) in omega (arith, v .1, (c .unmarked-run) .ensures .passed .inside)
+loop-less-2 c =
+    let m′ = c .before .before .before .before .before .loop in
+    let p′ = c .before .before .before .before .before .before .before .pre in
+    let t′ = c .before .before .before .before .loop-test in
+    let if2′ = c .before .if2 in
+    let if1′ = c .before .before .if1 in
+    let v = known-run (m′ .inv) (p′ .1) (t′ .taken) (if2′ .left) (if1′ .left) ((c .unmarked-run) .ensures) in omega (arith, v .1, (c .unmarked-run) .ensures .passed .inside)
 
 loop-again-2 : tie.Need-loop-again-2 Inv-loop μ-loop
 loop-again-2 c = known-run ((c .before .before .before .before .before .loop) .inv) ((c .before .before .before .before .before .before .before .pre) .1) ((c .before .before .before .before .loop-test) .taken) ((c .before .if2) .left) ((c .before .before .if1) .left) ((c .unmarked-run) .ensures) .0

@@ -41,7 +41,12 @@ add-plain : tie.Need-add-plain Inv-loop μ-loop
 add-plain c = let v = turn ((c .before .before .before .before .before .loop) .inv) ((c .before .before .before .before .loop-test) .taken) ((c .before .before .before .known-at) .ensures) ((c .before .size) .given .1) in omega (arith, v .fits-word, v .inside-next)
 
 put-string-requires : tie.Need-put-string-requires Inv-loop μ-loop
-put-string-requires c κs = let v = turn (c .before .before .before .before .before .before .loop .inv) (c .before .before .before .before .before .loop-test .taken) (c .before .before .before .before .known-at .ensures) (c .before .before .size .given .1) in (v .ready, v .small, v .room, λ e. v .whole-if (eqb-true _ _ e))
+put-string-requires c κs =
+    let m′ = c .before .before .before .before .before .before .loop in
+    let t′ = c .before .before .before .before .before .loop-test in
+    let known-at′ = c .before .before .before .before .known-at in
+    let size′ = c .before .before .size in
+    let v = turn (m′ .inv) (t′ .taken) (known-at′ .ensures) (size′ .given .1) in (v .ready, v .small, v .room, λ e. v .whole-if (eqb-true _ _ e))
 
 add-k : tie.Need-add-k Inv-loop μ-loop
 add-k c = search needs
@@ -50,7 +55,13 @@ loop-less : tie.Need-loop-less Inv-loop μ-loop
 loop-less c = search needs
 
 loop-again : tie.Need-loop-again Inv-loop μ-loop
-loop-again c = let v = turn (c .before .before .before .before .before .before .before .before .before .loop .inv) (c .before .before .before .before .before .before .before .before .loop-test .taken) (c .before .before .before .before .before .before .before .known-at .ensures) (c .before .before .before .before .before .size .given .1) in v .turns (search needs) (c .before .before .put-string .ensures)
+loop-again c =
+    let m′ = c .before .before .before .before .before .before .before .before .before .loop in
+    let t′ = c .before .before .before .before .before .before .before .before .loop-test in
+    let known-at′ = c .before .before .before .before .before .before .before .known-at in
+    let size′ = c .before .before .before .before .before .size in
+    let put-string′ = c .before .before .put-string in
+    let v = turn (m′ .inv) (t′ .taken) (known-at′ .ensures) (size′ .given .1) in v .turns (search needs) (put-string′ .ensures)
 
 same-length-2 : tie.Need-same-length-2 Inv-loop μ-loop
 same-length-2 c = c .before .loop .inv .same-size

@@ -10,7 +10,12 @@ same-length : tie.Need-same-length
 same-length c = search needs
 
 returns : tie.Need-returns
-returns c = whole-put ((c .before .before .before .before .before .before .before .args) .xml .now) ((c .before .before .before .before .before .before .before .args) .out .now) ((c .before .before .before .before .before .before .before .args) .at) ((c .before .before .before .before .before .before .before .args) .to) ((c .before .before .before .before .before .before .before .args) .size) ((c .before .before .before .before .before .before .before .pre) .2 ((c .before .before .before .before .if1) .taken)) ((c .before .before .copy) .ensures .1)
+returns c =
+    let a′ = c .before .before .before .before .before .before .before .args in
+    let p′ = c .before .before .before .before .before .before .before .pre in
+    let if1′ = c .before .before .before .before .if1 in
+    let copy′ = c .before .before .copy in
+    whole-put (a′ .xml .now) (a′ .out .now) (a′ .at) (a′ .to) (a′ .size) (p′ .2 (if1′ .taken)) (copy′ .ensures .1)
 
 put-text-requires : tie.Need-put-text-requires
 put-text-requires c κs = search needs

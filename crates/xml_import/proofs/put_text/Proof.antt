@@ -6,7 +6,8 @@ use lib.ListN.{length, set, length-set}
 use native.Mathlib.Omega.{arith}
 use Rattle.xml_import.proofs.Writing.{Putting, start, before-end, ended}
 use Rattle.xml_import.proofs.Runs.{run-turn}
-use Rattle.xml_import.proofs.Taken.{put-amp, put-run, wrote-one}
+use Rattle.xml_escape.specs.Wrote.{wrote-one}
+use Rattle.xml_import.proofs.Taken.{put-amp, put-run}
 use Rattle.xml_import.proofs.put_text.Statement.{statement}
 use Rattle.xml_import.proofs.put_text.Tie as tie
 
@@ -50,7 +51,12 @@ loop-less : tie.Need-loop-less Inv-loop μ-loop
 loop-less c = omega (arith, ((c .before .before .before .before .before .loop-test) .taken))
 
 loop-again : tie.Need-loop-again Inv-loop μ-loop
-loop-again c = let v = put-amp ((c .before .before .before .before .before .before .loop) .inv) ((c .before .before .before .before .before .loop-test) .taken) ((c .before .before .before .if1) .taken) in rw ((c .entity-size) .ensures) (v .1 .turns (length-set ((c .before .before .before .before .before .before .loop) .out) ((c .before .before .before .before .before .before .loop) .j) ((c .before .entity-byte) .result)) (λ base done w h. wrote-one _ w h (ap (λ (b : ℕ). set ((c .before .before .before .before .before .before .loop) .out) ((c .before .before .before .before .before .before .loop) .j) b) ((c .before .entity-byte) .ensures))))
+loop-again c =
+    let m′ = c .before .before .before .before .before .before .loop in
+    let t′ = c .before .before .before .before .before .loop-test in
+    let if1′ = c .before .before .before .if1 in
+    let entity-byte′ = c .before .entity-byte in
+    let v = put-amp (m′ .inv) (t′ .taken) (if1′ .taken) in rw ((c .entity-size) .ensures) (v .1 .turns (length-set (m′ .out) (m′ .j) (entity-byte′ .result)) (λ base done w h. wrote-one _ w h (ap (λ (b : ℕ). set (m′ .out) (m′ .j) b) (entity-byte′ .ensures))))
 
 put-run-requires : tie.Need-put-run-requires Inv-loop μ-loop
 put-run-requires c κs = (((c .before .before .before .before .loop) .inv) .inside-xml, omega (arith, ((c .before .before .before .before .loop) .inv) .same-size, (c .before .before .before .before .before .before .before .pre) .1, ((c .before .before .before .loop-test) .taken)))
@@ -59,13 +65,29 @@ sub-j : tie.Need-sub-j Inv-loop μ-loop
 sub-j c = (c .before .before .put-run) .ensures .stops .passed .forward
 
 add-j-2 : tie.Need-add-j-2 Inv-loop μ-loop
-add-j-2 c = let u = put-run ((c .before .before .before .before .before .before .before .loop) .inv) ((c .before .before .before .before .before .before .loop-test) .taken) ((c .before .before .before .before .if1) .left) ((c .before .before .put-run) .ensures .stops) in let v = run-turn ((c .before .before .before .before .before .before .before .loop) .inv) (u .0) ((c .before .before .put-run) .ensures .put) ((c .before .before .put-run) .kept .1 .0) in omega (arith, v .1, (c .before .before .before .before .before .before .before .before .before .before .pre) .1)
+add-j-2 c =
+    let m′ = c .before .before .before .before .before .before .before .loop in
+    let t′ = c .before .before .before .before .before .before .loop-test in
+    let if1′ = c .before .before .before .before .if1 in
+    let put-run′ = c .before .before .put-run in
+    let p′ = c .before .before .before .before .before .before .before .before .before .before .pre in
+    let u = put-run (m′ .inv) (t′ .taken) (if1′ .left) (put-run′ .ensures .stops) in let v = run-turn (m′ .inv) (u .0) (put-run′ .ensures .put) (put-run′ .kept .1 .0) in omega (arith, v .1, p′ .1)
 
 loop-less-2 : tie.Need-loop-less-2 Inv-loop μ-loop
-loop-less-2 c = let u = put-run ((c .before .before .before .before .before .before .before .loop) .inv) ((c .before .before .before .before .before .before .loop-test) .taken) ((c .before .before .before .before .if1) .left) ((c .before .before .put-run) .ensures .stops) in let v = run-turn ((c .before .before .before .before .before .before .before .loop) .inv) (u .0) ((c .before .before .put-run) .ensures .put) ((c .before .before .put-run) .kept .1 .0) in omega (arith, v .1, u .1)
+loop-less-2 c =
+    let m′ = c .before .before .before .before .before .before .before .loop in
+    let t′ = c .before .before .before .before .before .before .loop-test in
+    let if1′ = c .before .before .before .before .if1 in
+    let put-run′ = c .before .before .put-run in
+    let u = put-run (m′ .inv) (t′ .taken) (if1′ .left) (put-run′ .ensures .stops) in let v = run-turn (m′ .inv) (u .0) (put-run′ .ensures .put) (put-run′ .kept .1 .0) in omega (arith, v .1, u .1)
 
 loop-again-2 : tie.Need-loop-again-2 Inv-loop μ-loop
-loop-again-2 c = let u = put-run ((c .before .before .before .before .before .before .before .loop) .inv) ((c .before .before .before .before .before .before .loop-test) .taken) ((c .before .before .before .before .if1) .left) ((c .before .before .put-run) .ensures .stops) in let v = run-turn ((c .before .before .before .before .before .before .before .loop) .inv) (u .0) ((c .before .before .put-run) .ensures .put) ((c .before .before .put-run) .kept .1 .0) in v .0
+loop-again-2 c =
+    let m′ = c .before .before .before .before .before .before .before .loop in
+    let t′ = c .before .before .before .before .before .before .loop-test in
+    let if1′ = c .before .before .before .before .if1 in
+    let put-run′ = c .before .before .put-run in
+    let u = put-run (m′ .inv) (t′ .taken) (if1′ .left) (put-run′ .ensures .stops) in let v = run-turn (m′ .inv) (u .0) (put-run′ .ensures .put) (put-run′ .kept .1 .0) in v .0
 
 same-length : tie.Need-same-length Inv-loop μ-loop
 same-length c = ((c .before .loop) .inv) .same-size

@@ -34,28 +34,70 @@ enum-known-next : tie.Need-enum-known-next Inv-loop μ-loop
 enum-known-next c = search needs
 
 add-size : tie.Need-add-size Inv-loop μ-loop
-add-size c = let v = amp-entity ((c .before .before .before .before .before .before .before .loop) .inv) ((c .before .before .before .before .before .before .loop-test) .taken) ((c .before .before .before .before .if1) .taken) ((c .before .before .before .entity-at) .ensures) ((c .before .next) .given .1) in omega (arith, v .0 .bound, v .2)
+add-size c =
+    let m′ = c .before .before .before .before .before .before .before .loop in
+    let t′ = c .before .before .before .before .before .before .loop-test in
+    let if1′ = c .before .before .before .before .if1 in
+    let entity-at′ = c .before .before .before .entity-at in
+    let next′ = c .before .next in
+    let v = amp-entity (m′ .inv) (t′ .taken) (if1′ .taken) (entity-at′ .ensures) (next′ .given .1) in omega (arith, v .0 .bound, v .2)
 
 loop-less : tie.Need-loop-less Inv-loop μ-loop
-loop-less c = let v = amp-entity ((c .before .before .before .before .before .before .before .loop) .inv) ((c .before .before .before .before .before .before .loop-test) .taken) ((c .before .before .before .before .if1) .taken) ((c .before .before .before .entity-at) .ensures) ((c .before .next) .given .1) in omega (arith, v .1, v .2)
+loop-less c =
+    let m′ = c .before .before .before .before .before .before .before .loop in
+    let t′ = c .before .before .before .before .before .before .loop-test in
+    let if1′ = c .before .before .before .before .if1 in
+    let entity-at′ = c .before .before .before .entity-at in
+    let next′ = c .before .next in
+    let v = amp-entity (m′ .inv) (t′ .taken) (if1′ .taken) (entity-at′ .ensures) (next′ .given .1) in omega (arith, v .1, v .2)
 
 loop-again : tie.Need-loop-again Inv-loop μ-loop
-loop-again c = amp-entity ((c .before .before .before .before .before .before .before .loop) .inv) ((c .before .before .before .before .before .before .loop-test) .taken) ((c .before .before .before .before .if1) .taken) ((c .before .before .before .entity-at) .ensures) ((c .before .next) .given .1) .0
+loop-again c =
+    let m′ = c .before .before .before .before .before .before .before .loop in
+    let t′ = c .before .before .before .before .before .before .loop-test in
+    let if1′ = c .before .before .before .before .if1 in
+    let entity-at′ = c .before .before .before .entity-at in
+    let next′ = c .before .next in
+    amp-entity (m′ .inv) (t′ .taken) (if1′ .taken) (entity-at′ .ensures) (next′ .given .1) .0
 
 enum-known-next-2 : tie.Need-enum-known-next-2 Inv-loop μ-loop
 enum-known-next-2 c = search needs
 
 sub-size : tie.Need-sub-size Inv-loop μ-loop
-sub-size c = let v = amp-plain ((c .before .before .before .before .before .before .before .loop) .inv) ((c .before .before .before .before .before .before .loop-test) .taken) ((c .before .before .before .before .if1) .taken) ((c .before .before .before .entity-at) .ensures) ((c .before .next2) .given .1) in omega (arith, v .1)
+sub-size c =
+    let m′ = c .before .before .before .before .before .before .before .loop in
+    let t′ = c .before .before .before .before .before .before .loop-test in
+    let if1′ = c .before .before .before .before .if1 in
+    let entity-at′ = c .before .before .before .entity-at in
+    let next2′ = c .before .next2 in
+    let v = amp-plain (m′ .inv) (t′ .taken) (if1′ .taken) (entity-at′ .ensures) (next2′ .given .1) in omega (arith, v .1)
 
 add-size-2 : tie.Need-add-size-2 Inv-loop μ-loop
-add-size-2 c = let v = amp-plain ((c .before .before .before .before .before .before .before .loop) .inv) ((c .before .before .before .before .before .before .loop-test) .taken) ((c .before .before .before .before .if1) .taken) ((c .before .before .before .entity-at) .ensures) ((c .before .next2) .given .1) in omega (arith, v .0 .bound, v .2)
+add-size-2 c =
+    let m′ = c .before .before .before .before .before .before .before .loop in
+    let t′ = c .before .before .before .before .before .before .loop-test in
+    let if1′ = c .before .before .before .before .if1 in
+    let entity-at′ = c .before .before .before .entity-at in
+    let next2′ = c .before .next2 in
+    let v = amp-plain (m′ .inv) (t′ .taken) (if1′ .taken) (entity-at′ .ensures) (next2′ .given .1) in omega (arith, v .0 .bound, v .2)
 
 loop-less-2 : tie.Need-loop-less-2 Inv-loop μ-loop
-loop-less-2 c = let v = amp-plain ((c .before .before .before .before .before .before .before .loop) .inv) ((c .before .before .before .before .before .before .loop-test) .taken) ((c .before .before .before .before .if1) .taken) ((c .before .before .before .entity-at) .ensures) ((c .before .next2) .given .1) in omega (arith, v .1, v .2)
+loop-less-2 c =
+    let m′ = c .before .before .before .before .before .before .before .loop in
+    let t′ = c .before .before .before .before .before .before .loop-test in
+    let if1′ = c .before .before .before .before .if1 in
+    let entity-at′ = c .before .before .before .entity-at in
+    let next2′ = c .before .next2 in
+    let v = amp-plain (m′ .inv) (t′ .taken) (if1′ .taken) (entity-at′ .ensures) (next2′ .given .1) in omega (arith, v .1, v .2)
 
 loop-again-2 : tie.Need-loop-again-2 Inv-loop μ-loop
-loop-again-2 c = amp-plain ((c .before .before .before .before .before .before .before .loop) .inv) ((c .before .before .before .before .before .before .loop-test) .taken) ((c .before .before .before .before .if1) .taken) ((c .before .before .before .entity-at) .ensures) ((c .before .next2) .given .1) .0
+loop-again-2 c =
+    let m′ = c .before .before .before .before .before .before .before .loop in
+    let t′ = c .before .before .before .before .before .before .loop-test in
+    let if1′ = c .before .before .before .before .if1 in
+    let entity-at′ = c .before .before .before .entity-at in
+    let next2′ = c .before .next2 in
+    amp-plain (m′ .inv) (t′ .taken) (if1′ .taken) (entity-at′ .ensures) (next2′ .given .1) .0
 
 standing-requires : tie.Need-standing-requires Inv-loop μ-loop
 standing-requires c κs = (c .before .before .loop-test) .taken
@@ -94,34 +136,82 @@ larger-requires : tie.Need-larger-requires Inv-loop μ-loop
 larger-requires c κs = search needs
 
 returns-3 : tie.Need-returns-3 Inv-loop μ-loop
-returns-3 c = wrong ((c .before .before .before .before .before .before .before .before .before .before .before .before .loop) .inv) ((c .before .before .before .before .before .before .end-at) .ensures) ((c .before .before .before .before .before .if3) .left) ((c .before .before .before .before .character-at) .ensures) ((c .before .before .place2) .given .1) ((c .larger) .ensures)
+returns-3 c =
+    let m′ = c .before .before .before .before .before .before .before .before .before .before .before .before .loop in
+    let end-at′ = c .before .before .before .before .before .before .end-at in
+    let if3′ = c .before .before .before .before .before .if3 in
+    let character-at′ = c .before .before .before .before .character-at in
+    let place2′ = c .before .before .place2 in
+    wrong (m′ .inv) (end-at′ .ensures) (if3′ .left) (character-at′ .ensures) (place2′ .given .1) ((c .larger) .ensures)
 
 enum-known-next-3 : tie.Need-enum-known-next-3 Inv-loop μ-loop
 enum-known-next-3 c = search needs
 
 add-size-4 : tie.Need-add-size-4 Inv-loop μ-loop
-add-size-4 c = let v = entity-on ((c .before .before .before .before .before .before .before .before .before .before .before .loop) .inv) ((c .before .before .before .before .before .end-at) .ensures) ((c .before .before .before .before .if3) .left) ((c .before .before .before .character-at) .ensures) ((c .before .next3) .given .1) in omega (arith, v .0 .bound, v .2)
+add-size-4 c =
+    let m′ = c .before .before .before .before .before .before .before .before .before .before .before .loop in
+    let end-at′ = c .before .before .before .before .before .end-at in
+    let if3′ = c .before .before .before .before .if3 in
+    let character-at′ = c .before .before .before .character-at in
+    let next3′ = c .before .next3 in
+    let v = entity-on (m′ .inv) (end-at′ .ensures) (if3′ .left) (character-at′ .ensures) (next3′ .given .1) in omega (arith, v .0 .bound, v .2)
 
 loop-less-4 : tie.Need-loop-less-4 Inv-loop μ-loop
-loop-less-4 c = let v = entity-on ((c .before .before .before .before .before .before .before .before .before .before .before .loop) .inv) ((c .before .before .before .before .before .end-at) .ensures) ((c .before .before .before .before .if3) .left) ((c .before .before .before .character-at) .ensures) ((c .before .next3) .given .1) in omega (arith, v .1, v .2)
+loop-less-4 c =
+    let m′ = c .before .before .before .before .before .before .before .before .before .before .before .loop in
+    let end-at′ = c .before .before .before .before .before .end-at in
+    let if3′ = c .before .before .before .before .if3 in
+    let character-at′ = c .before .before .before .character-at in
+    let next3′ = c .before .next3 in
+    let v = entity-on (m′ .inv) (end-at′ .ensures) (if3′ .left) (character-at′ .ensures) (next3′ .given .1) in omega (arith, v .1, v .2)
 
 loop-again-4 : tie.Need-loop-again-4 Inv-loop μ-loop
-loop-again-4 c = entity-on ((c .before .before .before .before .before .before .before .before .before .before .before .loop) .inv) ((c .before .before .before .before .before .end-at) .ensures) ((c .before .before .before .before .if3) .left) ((c .before .before .before .character-at) .ensures) ((c .before .next3) .given .1) .0
+loop-again-4 c =
+    let m′ = c .before .before .before .before .before .before .before .before .before .before .before .loop in
+    let end-at′ = c .before .before .before .before .before .end-at in
+    let if3′ = c .before .before .before .before .if3 in
+    let character-at′ = c .before .before .before .character-at in
+    let next3′ = c .before .next3 in
+    entity-on (m′ .inv) (end-at′ .ensures) (if3′ .left) (character-at′ .ensures) (next3′ .given .1) .0
 
 enum-known-next-4 : tie.Need-enum-known-next-4 Inv-loop μ-loop
 enum-known-next-4 c = search needs
 
 sub-size-3 : tie.Need-sub-size-3 Inv-loop μ-loop
-sub-size-3 c = let v = plain-on ((c .before .before .before .before .before .before .before .before .before .before .before .loop) .inv) ((c .before .before .before .before .before .end-at) .ensures) ((c .before .before .before .before .if3) .left) ((c .before .before .before .character-at) .ensures) ((c .before .next4) .given .1) in omega (arith, v .1)
+sub-size-3 c =
+    let m′ = c .before .before .before .before .before .before .before .before .before .before .before .loop in
+    let end-at′ = c .before .before .before .before .before .end-at in
+    let if3′ = c .before .before .before .before .if3 in
+    let character-at′ = c .before .before .before .character-at in
+    let next4′ = c .before .next4 in
+    let v = plain-on (m′ .inv) (end-at′ .ensures) (if3′ .left) (character-at′ .ensures) (next4′ .given .1) in omega (arith, v .1)
 
 add-size-5 : tie.Need-add-size-5 Inv-loop μ-loop
-add-size-5 c = let v = plain-on ((c .before .before .before .before .before .before .before .before .before .before .before .loop) .inv) ((c .before .before .before .before .before .end-at) .ensures) ((c .before .before .before .before .if3) .left) ((c .before .before .before .character-at) .ensures) ((c .before .next4) .given .1) in omega (arith, v .0 .bound, v .2)
+add-size-5 c =
+    let m′ = c .before .before .before .before .before .before .before .before .before .before .before .loop in
+    let end-at′ = c .before .before .before .before .before .end-at in
+    let if3′ = c .before .before .before .before .if3 in
+    let character-at′ = c .before .before .before .character-at in
+    let next4′ = c .before .next4 in
+    let v = plain-on (m′ .inv) (end-at′ .ensures) (if3′ .left) (character-at′ .ensures) (next4′ .given .1) in omega (arith, v .0 .bound, v .2)
 
 loop-less-5 : tie.Need-loop-less-5 Inv-loop μ-loop
-loop-less-5 c = let v = plain-on ((c .before .before .before .before .before .before .before .before .before .before .before .loop) .inv) ((c .before .before .before .before .before .end-at) .ensures) ((c .before .before .before .before .if3) .left) ((c .before .before .before .character-at) .ensures) ((c .before .next4) .given .1) in omega (arith, v .1, v .2)
+loop-less-5 c =
+    let m′ = c .before .before .before .before .before .before .before .before .before .before .before .loop in
+    let end-at′ = c .before .before .before .before .before .end-at in
+    let if3′ = c .before .before .before .before .if3 in
+    let character-at′ = c .before .before .before .character-at in
+    let next4′ = c .before .next4 in
+    let v = plain-on (m′ .inv) (end-at′ .ensures) (if3′ .left) (character-at′ .ensures) (next4′ .given .1) in omega (arith, v .1, v .2)
 
 loop-again-5 : tie.Need-loop-again-5 Inv-loop μ-loop
-loop-again-5 c = plain-on ((c .before .before .before .before .before .before .before .before .before .before .before .loop) .inv) ((c .before .before .before .before .before .end-at) .ensures) ((c .before .before .before .before .if3) .left) ((c .before .before .before .character-at) .ensures) ((c .before .next4) .given .1) .0
+loop-again-5 c =
+    let m′ = c .before .before .before .before .before .before .before .before .before .before .before .loop in
+    let end-at′ = c .before .before .before .before .before .end-at in
+    let if3′ = c .before .before .before .before .if3 in
+    let character-at′ = c .before .before .before .character-at in
+    let next4′ = c .before .next4 in
+    plain-on (m′ .inv) (end-at′ .ensures) (if3′ .left) (character-at′ .ensures) (next4′ .given .1) .0
 
 returns-4 : tie.Need-returns-4 Inv-loop μ-loop
 returns-4 c = stops ((c .before .loop) .inv) ((c .loop-test) .left)

@@ -1,51 +1,152 @@
 use borrow.Author.Needs.{needs}
-use mathlib.Core.Path.{refl}
 use native.Mathlib.Omega.{arith}
+use mathlib.Core.Path.{refl, ap, _∙_}
+use mathlib.Core.List.{List, [], _∷_}
+use Prim.Native.Nat.{ℕ, _+_}
+use lib.ListN.{set, length-set}
 use Rattle.layout.specs.Text.{ascii}
 use Rattle.xml_layout.specs.Xml.{itemStart, itemEnd}
 use Rattle.xml_escape.specs.Sizes.{item-long}
-use Rattle.xml_export.proofs.Escapes.{item-put}
+use Rattle.xml_escape.specs.Wrote.{sets}
+use Rattle.xml_export.proofs.Escapes.{stored-put, two-stored, item-put}
 use Rattle.xml_export.proofs.escape.put_item.Statement.{statement}
 use Rattle.xml_export.proofs.escape.put_item.Tie as tie
 
-slice-aggregate-copy : tie.Need-slice-aggregate-copy
-slice-aggregate-copy c = search needs
+put-four-requires : tie.Need-put-four-requires
+put-four-requires c κs = omega (arith, item-long (c .before .before .before .args .text .now), c .before .before .before .pre)
 
-copy-requires : tie.Need-copy-requires
-copy-requires c κs = search needs
+add-out : tie.Need-add-out
+add-out c = search needs
+
+slice-write-out : tie.Need-slice-write-out
+slice-write-out c =
+    let a = c .before .before .before .before .before .before .args in
+    let p = c .before .before .before .before .before .before .pre in
+    let put-four = c .before .before .put-four in
+    omega (arith, item-long (a .text .now), p, put-four .kept .0)
+
+add-out-2 : tie.Need-add-out-2
+add-out-2 c = search needs
+
+slice-write-out-2 : tie.Need-slice-write-out-2
+slice-write-out-2 c =
+    let a = c .before .before .before .before .before .before .args in
+    let p = c .before .before .before .before .before .before .pre in
+    let put-four = c .before .before .put-four in
+    simp length-set (omega (arith, item-long (a .text .now), p, put-four .kept .0))
 
 add-put-text : tie.Need-add-put-text
 add-put-text c = search needs
 
 put-text-requires : tie.Need-put-text-requires
-put-text-requires c κs = omega (arith, item-long (c .before .before .before .before .before .before .before .before .args .text .now), c .before .before .before .before .before .before .before .before .pre, c .before .before .before .copy .kept .0)
+put-text-requires c κs =
+    let a = c .before .before .before .before .before .before .before .args in
+    let p = c .before .before .before .before .before .before .before .pre in
+    let put-four = c .before .before .before .put-four in
+    simp length-set (omega (arith, item-long (a .text .now), p, put-four .kept .0))
 
-slice-aggregate-copy-2 : tie.Need-slice-aggregate-copy-2
-slice-aggregate-copy-2 c = search needs
+put-four-requires-2 : tie.Need-put-four-requires-2
+put-four-requires-2 c κs =
+    let a = c .before .before .before .before .before .before .before .before .before .before .before .args in
+    let p = c .before .before .before .before .before .before .before .before .before .before .before .pre in
+    let put-text = c .before .before .before .put-text in
+    let put-four = c .before .before .before .before .before .before .before .put-four in
+    omega (arith, item-long (a .text .now), p, put-text .ensures .ends, two-stored (put-four .last .0) (a .to + 4) 0x6D (a .to + 5) 0x3E (put-four .kept .0) (put-text .kept .1 .0))
 
-copy-requires-2 : tie.Need-copy-requires-2
-copy-requires-2 c κs = search needs
+add-out-3 : tie.Need-add-out-3
+add-out-3 c =
+    let a = c .before .before .before .before .before .before .before .before .before .before .before .before .before .before .args in
+    let p = c .before .before .before .before .before .before .before .before .before .before .before .before .before .before .pre in
+    let put-text = c .before .before .before .before .before .before .put-text in
+    omega (arith, item-long (a .text .now), p, put-text .ensures .ends)
+
+slice-write-out-3 : tie.Need-slice-write-out-3
+slice-write-out-3 c =
+    let a = c .before .before .before .before .before .before .before .before .before .before .before .before .before .before .args in
+    let p = c .before .before .before .before .before .before .before .before .before .before .before .before .before .before .pre in
+    let put-text = c .before .before .before .before .before .before .put-text in
+    let put-four = c .before .before .before .before .before .before .before .before .before .before .put-four in
+    let put-four2 = c .before .before .put-four2 in
+    omega (arith, item-long (a .text .now), p, put-text .ensures .ends, two-stored (put-four .last .0) (a .to + 4) 0x6D (a .to + 5) 0x3E (put-four .kept .0) (put-text .kept .1 .0), put-four2 .kept .0)
+
+add-out-4 : tie.Need-add-out-4
+add-out-4 c =
+    let a = c .before .before .before .before .before .before .before .before .before .before .before .before .before .before .args in
+    let p = c .before .before .before .before .before .before .before .before .before .before .before .before .before .before .pre in
+    let put-text = c .before .before .before .before .before .before .put-text in
+    omega (arith, item-long (a .text .now), p, put-text .ensures .ends)
+
+slice-write-out-4 : tie.Need-slice-write-out-4
+slice-write-out-4 c =
+    let a = c .before .before .before .before .before .before .before .before .before .before .before .before .before .before .args in
+    let p = c .before .before .before .before .before .before .before .before .before .before .before .before .before .before .pre in
+    let put-text = c .before .before .before .before .before .before .put-text in
+    let put-four = c .before .before .before .before .before .before .before .before .before .before .put-four in
+    let put-four2 = c .before .before .put-four2 in
+    simp length-set (omega (arith, item-long (a .text .now), p, put-text .ensures .ends, two-stored (put-four .last .0) (a .to + 4) 0x6D (a .to + 5) 0x3E (put-four .kept .0) (put-text .kept .1 .0), put-four2 .kept .0))
+
+add-out-5 : tie.Need-add-out-5
+add-out-5 c =
+    let a = c .before .before .before .before .before .before .before .before .before .before .before .before .before .before .args in
+    let p = c .before .before .before .before .before .before .before .before .before .before .before .before .before .before .pre in
+    let put-text = c .before .before .before .before .before .before .put-text in
+    omega (arith, item-long (a .text .now), p, put-text .ensures .ends)
+
+slice-write-out-5 : tie.Need-slice-write-out-5
+slice-write-out-5 c =
+    let a = c .before .before .before .before .before .before .before .before .before .before .before .before .before .before .args in
+    let p = c .before .before .before .before .before .before .before .before .before .before .before .before .before .before .pre in
+    let put-text = c .before .before .before .before .before .before .put-text in
+    let put-four = c .before .before .before .before .before .before .before .before .before .before .put-four in
+    let put-four2 = c .before .before .put-four2 in
+    simp length-set (omega (arith, item-long (a .text .now), p, put-text .ensures .ends, two-stored (put-four .last .0) (a .to + 4) 0x6D (a .to + 5) 0x3E (put-four .kept .0) (put-text .kept .1 .0), put-four2 .kept .0))
 
 add-result : tie.Need-add-result
-add-result c = omega (arith, item-long (c .before .before .before .before .before .before .before .before .before .before .before .before .before .before .before .before .args .text .now), c .before .before .before .before .before .before .before .before .before .before .before .before .before .before .before .before .pre, c .before .before .before .before .before .before .before .put-text .ensures .ends)
+add-result c =
+    let a = c .before .before .before .before .before .before .before .before .before .before .before .before .before .before .args in
+    let p = c .before .before .before .before .before .before .before .before .before .before .before .before .before .before .pre in
+    let put-text = c .before .before .before .before .before .before .put-text in
+    omega (arith, item-long (a .text .now), p, put-text .ensures .ends)
 
 same-length : tie.Need-same-length
-same-length c = search needs
+same-length c =
+    let put-four2 = c .before .before .put-four2 in
+    let put-four = c .before .before .before .before .before .before .before .before .before .before .put-four in
+    let a = c .before .before .before .before .before .before .before .before .before .before .before .before .before .before .args in
+    let put-text = c .before .before .before .before .before .before .put-text in
+    simp length-set (put-four2 .kept .0 ∙ two-stored (put-four .last .0) (a .to + 4) 0x6D (a .to + 5) 0x3E (put-four .kept .0) (put-text .kept .1 .0))
 
 returns : tie.Need-returns
-unfolding itemStart itemEnd ascii
-returns c = item-put (c .before .before .before .before .before .before .before .before .before .before .before .before .before .before .before .before .args .text .now) _ _ refl refl (c .before .before .before .before .before .before .before .before .before .before .before .copy .ensures .1) (c .before .before .before .before .before .before .before .put-text .ensures) (c .before .before .copy2 .ensures .1) refl
+unfolding sets itemStart itemEnd ascii
+returns c =
+    let a = c .before .before .before .before .before .before .before .before .before .before .before .before .before .before .args in
+    let put-text = c .before .before .before .before .before .before .put-text in
+    let put-four = c .before .before .before .before .before .before .before .before .before .before .put-four in
+    let put-four2 = c .before .before .put-four2 in
+    let at = a .to in
+    let end = put-text .result in
+    let start = stored-put (0x3C ∷ 0x49 ∷ 0x74 ∷ 0x65 ∷ 0x6D ∷ 0x3E ∷ []) (ap (λ (l : List ℕ). set (set l (at + 4) 0x6D) (at + 5) 0x3E) (put-four .ensures)) in
+    let close = stored-put (0x3C ∷ 0x2F ∷ 0x49 ∷ 0x74 ∷ 0x65 ∷ 0x6D ∷ 0x3E ∷ []) (ap (λ (l : List ℕ). set (set (set l (end + 4) 0x65) (end + 5) 0x6D) (end + 6) 0x3E) (put-four2 .ensures)) in
+    item-put (a .text .now) start (put-text .ensures) close refl
 
 pub put-item-spec : {M : Type 1} → statement M
 put-item-spec =
     tie.close
     (tie.spec
-    slice-aggregate-copy
-    copy-requires
+    put-four-requires
+    add-out
+    slice-write-out
+    add-out-2
+    slice-write-out-2
     add-put-text
     put-text-requires
-    slice-aggregate-copy-2
-    copy-requires-2
+    put-four-requires-2
+    add-out-3
+    slice-write-out-3
+    add-out-4
+    slice-write-out-4
+    add-out-5
+    slice-write-out-5
     add-result
     same-length
     returns)

@@ -1,10 +1,8 @@
 use borrow.Author.Needs.{needs}
-use Prim.Native.Nat.{_-_}
-use mathlib.Core.Path.{ap, _∙_}
 use native.Mathlib.Omega.{arith}
+use Prim.Native.Nat.{_-_}
 use lib.ListN.{length}
-use Rattle.xml_escape.specs.Wrote.{length-copied}
-use Rattle.xml_export.proofs.Escapes.{Putting, putting-start, putting-run, byte-fits, putting-byte, putting-end}
+use Rattle.xml_export.proofs.Escapes.{Putting, putting-start, putting-plain, putting-on, putting-entity, putting-end, rest-fits, byte-fits, no-further}
 use Rattle.xml_export.proofs.escape.put_text.Statement.{statement}
 use Rattle.xml_export.proofs.escape.put_text.Tie as tie
 
@@ -17,29 +15,79 @@ abbrev μ-loop : tie.MeasureT-loop
 loop-holds : tie.Need-loop-holds Inv-loop μ-loop
 loop-holds c = putting-start
 
-quiet-run-requires : tie.Need-quiet-run-requires Inv-loop μ-loop
-quiet-run-requires c κs = search needs
+shared-slice-read-b : tie.Need-shared-slice-read-b Inv-loop μ-loop
+shared-slice-read-b c = search needs
 
-sub-n : tie.Need-sub-n Inv-loop μ-loop
-sub-n c = search needs
+put-entity-requires : tie.Need-put-entity-requires Inv-loop μ-loop
+put-entity-requires c κs =
+    let m = c .before .before .before .loop in
+    let t = c .before .before .loop-test in
+    let p = c .before .before .before .before .before .before .pre in
+    omega (arith, byte-fits (m .inv) (t .taken), m .inv .same-size, p)
 
-copy-requires : tie.Need-copy-requires Inv-loop μ-loop
-copy-requires c κs = search needs
+slice-write-out : tie.Need-slice-write-out Inv-loop μ-loop
+slice-write-out c =
+    let m = c .before .before .before .before .before .before .before .loop in
+    let t = c .before .before .before .before .before .before .loop-test in
+    let put-entity = c .before .before .before .put-entity in
+    let p = c .before .before .before .before .before .before .before .before .before .before .pre in
+    omega (arith, rest-fits (m .inv), t .taken, m .inv .same-size, put-entity .kept .0, p)
+
+add-put-run : tie.Need-add-put-run Inv-loop μ-loop
+add-put-run c = search needs
+
+add-put-run-2 : tie.Need-add-put-run-2 Inv-loop μ-loop
+add-put-run-2 c =
+    let m = c .before .before .before .before .before .before .before .before .loop in
+    let t = c .before .before .before .before .before .before .before .loop-test in
+    let p = c .before .before .before .before .before .before .before .before .before .before .before .pre in
+    omega (arith, rest-fits (m .inv), t .taken, p)
+
+put-run-requires : tie.Need-put-run-requires Inv-loop μ-loop
+put-run-requires c κs =
+    let m = c .before .before .before .before .before .before .before .before .loop in
+    let t = c .before .before .before .before .before .before .before .loop-test in
+    let put-entity = c .before .before .before .before .put-entity in
+    let if1 = c .before .if1 in
+    let p = c .before .before .before .before .before .before .before .before .before .before .before .pre in
+    let v = putting-plain (m .inv) (t .taken) (put-entity .ensures) (if1 .taken) (put-entity .kept .0) in (omega (arith, t .taken), omega (arith, rest-fits v, v .same-size, p))
+
+sub-j : tie.Need-sub-j Inv-loop μ-loop
+sub-j c = omega (arith, c .before .before .put-run .ensures .runs .forward)
 
 add-j : tie.Need-add-j Inv-loop μ-loop
-add-j c = omega (arith, putting-run (c .before .before .before .before .before .before .before .loop .inv) (c .before .before .before .before .before .quiet-run .ensures .run (search needs)) (c .before .before .copy .ensures .1) (ap length (c .before .before .copy .ensures .1) ∙ length-copied _ _ _ _ _) .1, c .before .before .before .before .before .before .before .before .before .before .pre)
+add-j c =
+    let m = c .before .before .before .before .before .before .before .before .before .before .before .loop in
+    let t = c .before .before .before .before .before .before .before .before .before .before .loop-test in
+    let put-entity = c .before .before .before .before .before .before .before .put-entity in
+    let if1 = c .before .before .before .before .if1 in
+    let put-run = c .before .before .put-run in
+    let p = c .before .before .before .before .before .before .before .before .before .before .before .before .before .before .pre in
+    omega (arith, no-further (putting-on (m .i) (m .j) (putting-plain (m .inv) (t .taken) (put-entity .ensures) (if1 .taken) (put-entity .kept .0)) (put-run .ensures) (put-run .kept .1 .0)), p)
 
 loop-less : tie.Need-loop-less Inv-loop μ-loop
-loop-less c = search needs
+loop-less c =
+    let put-run = c .before .before .put-run in
+    let t = c .before .before .before .before .before .before .before .before .before .before .loop-test in
+    omega (arith, put-run .ensures .runs .forward, put-run .ensures .runs .inside, t .taken)
 
 loop-again : tie.Need-loop-again Inv-loop μ-loop
-loop-again c = putting-run (c .before .before .before .before .before .before .before .loop .inv) (c .before .before .before .before .before .quiet-run .ensures .run (search needs)) (c .before .before .copy .ensures .1) (ap length (c .before .before .copy .ensures .1) ∙ length-copied _ _ _ _ _) .0
+loop-again c =
+    let m = c .before .before .before .before .before .before .before .before .before .before .before .loop in
+    let t = c .before .before .before .before .before .before .before .before .before .before .loop-test in
+    let put-entity = c .before .before .before .before .before .before .before .put-entity in
+    let if1 = c .before .before .before .before .if1 in
+    let put-run = c .before .before .put-run in
+    putting-on (m .i) (m .j) (putting-plain (m .inv) (t .taken) (put-entity .ensures) (if1 .taken) (put-entity .kept .0)) (put-run .ensures) (put-run .kept .1 .0)
 
-shared-slice-read-put-escaped : tie.Need-shared-slice-read-put-escaped Inv-loop μ-loop
-shared-slice-read-put-escaped c = search needs
-
-put-escaped-requires : tie.Need-put-escaped-requires Inv-loop μ-loop
-put-escaped-requires c κs = omega (arith, byte-fits (c .before .before .before .before .before .loop .inv) (c .before .before .before .before .loop-test .taken), c .before .before .before .before .before .loop .inv .same-size, c .before .before .before .before .before .before .before .before .pre)
+add-j-2 : tie.Need-add-j-2 Inv-loop μ-loop
+add-j-2 c =
+    let m = c .before .before .before .before .before .before .before .loop in
+    let t = c .before .before .before .before .before .before .loop-test in
+    let put-entity = c .before .before .before .put-entity in
+    let if1 = c .if1 in
+    let p = c .before .before .before .before .before .before .before .before .before .before .pre in
+    omega (arith, no-further (putting-entity (m .inv) (t .taken) (put-entity .ensures) (if1 .left) (put-entity .kept .0)), p)
 
 add-i : tie.Need-add-i Inv-loop μ-loop
 add-i c = search needs
@@ -48,7 +96,12 @@ loop-less-2 : tie.Need-loop-less-2 Inv-loop μ-loop
 loop-less-2 c = search needs
 
 loop-again-2 : tie.Need-loop-again-2 Inv-loop μ-loop
-loop-again-2 c = putting-byte (c .before .before .before .before .before .before .before .before .loop .inv) (c .before .before .before .before .before .before .before .loop-test .taken) (c .before .before .put-escaped .ensures) (c .before .before .put-escaped .kept .0)
+loop-again-2 c =
+    let m = c .before .before .before .before .before .before .before .loop in
+    let t = c .before .before .before .before .before .before .loop-test in
+    let put-entity = c .before .before .before .put-entity in
+    let if1 = c .if1 in
+    putting-entity (m .inv) (t .taken) (put-entity .ensures) (if1 .left) (put-entity .kept .0)
 
 same-length : tie.Need-same-length Inv-loop μ-loop
 same-length c = c .before .loop .inv .same-size
@@ -63,14 +116,17 @@ put-text-spec =
     Inv-loop
     μ-loop
     loop-holds
-    quiet-run-requires
-    sub-n
-    copy-requires
+    shared-slice-read-b
+    put-entity-requires
+    slice-write-out
+    add-put-run
+    add-put-run-2
+    put-run-requires
+    sub-j
     add-j
     loop-less
     loop-again
-    shared-slice-read-put-escaped
-    put-escaped-requires
+    add-j-2
     add-i
     loop-less-2
     loop-again-2

@@ -38,25 +38,54 @@ wide-requires-4 : tie.Need-wide-requires-4
 wide-requires-4 c κs = search needs
 
 mul-result : tie.Need-mul-result
-mul-result c = omega (arith, (c .before .before .before .before .before .before .wide) .ensures .0, (c .before .before .before .before .before .before .wide) .ensures .1, (c .before .before .before .before .wide2) .ensures .0, (c .before .before .before .before .wide2) .ensures .1, (c .before .before .wide3) .ensures .0, (c .before .before .wide3) .ensures .1, (c .wide4) .ensures .0, (c .wide4) .ensures .1)
+mul-result c =
+    let wide′ = c .before .before .before .before .before .before .wide in
+    let wide2′ = c .before .before .before .before .wide2 in
+    let wide3′ = c .before .before .wide3 in
+    omega (arith, wide′ .ensures .0, wide′ .ensures .1, wide2′ .ensures .0, wide2′ .ensures .1, wide3′ .ensures .0, wide3′ .ensures .1, (c .wide4) .ensures .0, (c .wide4) .ensures .1)
 
 add-result : tie.Need-add-result
-add-result c = omega (arith, (c .before .before .before .before .before .before .wide) .ensures .0, (c .before .before .before .before .before .before .wide) .ensures .1, (c .before .before .before .before .wide2) .ensures .0, (c .before .before .before .before .wide2) .ensures .1, (c .before .before .wide3) .ensures .0, (c .before .before .wide3) .ensures .1, (c .wide4) .ensures .0, (c .wide4) .ensures .1)
+add-result c =
+    let wide′ = c .before .before .before .before .before .before .wide in
+    let wide2′ = c .before .before .before .before .wide2 in
+    let wide3′ = c .before .before .wide3 in
+    omega (arith, wide′ .ensures .0, wide′ .ensures .1, wide2′ .ensures .0, wide2′ .ensures .1, wide3′ .ensures .0, wide3′ .ensures .1, (c .wide4) .ensures .0, (c .wide4) .ensures .1)
 
 mul-result-2 : tie.Need-mul-result-2
-mul-result-2 c = omega (arith, (c .before .before .before .before .before .before .wide) .ensures .0, (c .before .before .before .before .before .before .wide) .ensures .1, (c .before .before .before .before .wide2) .ensures .0, (c .before .before .before .before .wide2) .ensures .1, (c .before .before .wide3) .ensures .0, (c .before .before .wide3) .ensures .1, (c .wide4) .ensures .0, (c .wide4) .ensures .1)
+mul-result-2 c =
+    let wide′ = c .before .before .before .before .before .before .wide in
+    let wide2′ = c .before .before .before .before .wide2 in
+    let wide3′ = c .before .before .wide3 in
+    omega (arith, wide′ .ensures .0, wide′ .ensures .1, wide2′ .ensures .0, wide2′ .ensures .1, wide3′ .ensures .0, wide3′ .ensures .1, (c .wide4) .ensures .0, (c .wide4) .ensures .1)
 
 add-result-2 : tie.Need-add-result-2
-add-result-2 c = omega (arith, (c .before .before .before .before .before .before .wide) .ensures .0, (c .before .before .before .before .before .before .wide) .ensures .1, (c .before .before .before .before .wide2) .ensures .0, (c .before .before .before .before .wide2) .ensures .1, (c .before .before .wide3) .ensures .0, (c .before .before .wide3) .ensures .1, (c .wide4) .ensures .0, (c .wide4) .ensures .1)
+add-result-2 c =
+    let wide′ = c .before .before .before .before .before .before .wide in
+    let wide2′ = c .before .before .before .before .wide2 in
+    let wide3′ = c .before .before .wide3 in
+    omega (arith, wide′ .ensures .0, wide′ .ensures .1, wide2′ .ensures .0, wide2′ .ensures .1, wide3′ .ensures .0, wide3′ .ensures .1, (c .wide4) .ensures .0, (c .wide4) .ensures .1)
 
 mul-result-3 : tie.Need-mul-result-3
-mul-result-3 c = omega (arith, (c .before .before .before .before .before .before .wide) .ensures .0, (c .before .before .before .before .before .before .wide) .ensures .1, (c .before .before .before .before .wide2) .ensures .0, (c .before .before .before .before .wide2) .ensures .1, (c .before .before .wide3) .ensures .0, (c .before .before .wide3) .ensures .1, (c .wide4) .ensures .0, (c .wide4) .ensures .1)
+mul-result-3 c =
+    let wide′ = c .before .before .before .before .before .before .wide in
+    let wide2′ = c .before .before .before .before .wide2 in
+    let wide3′ = c .before .before .wide3 in
+    omega (arith, wide′ .ensures .0, wide′ .ensures .1, wide2′ .ensures .0, wide2′ .ensures .1, wide3′ .ensures .0, wide3′ .ensures .1, (c .wide4) .ensures .0, (c .wide4) .ensures .1)
 
 add-result-3 : tie.Need-add-result-3
-add-result-3 c = omega (arith, (c .before .before .before .before .before .before .wide) .ensures .0, (c .before .before .before .before .before .before .wide) .ensures .1, (c .before .before .before .before .wide2) .ensures .0, (c .before .before .before .before .wide2) .ensures .1, (c .before .before .wide3) .ensures .0, (c .before .before .wide3) .ensures .1, (c .wide4) .ensures .0, (c .wide4) .ensures .1)
+add-result-3 c =
+    let wide′ = c .before .before .before .before .before .before .wide in
+    let wide2′ = c .before .before .before .before .wide2 in
+    let wide3′ = c .before .before .wide3 in
+    omega (arith, wide′ .ensures .0, wide′ .ensures .1, wide2′ .ensures .0, wide2′ .ensures .1, wide3′ .ensures .0, wide3′ .ensures .1, (c .wide4) .ensures .0, (c .wide4) .ensures .1)
 
 returns : tie.Need-returns
-returns c = record { small = small-by ((c .before .before .before .before .before .before .before .before .before .args) .xml .now) ((c .before .before .before .before .before .before .before .before .before .args) .at) ((c .before .before .before .before .before .before .wide) .ensures .1) ((c .before .before .before .before .wide2) .ensures .1) ((c .before .before .wide3) .ensures .1) ((c .wide4) .ensures .1); is = omega (arith, (c .before .before .before .before .before .before .wide) .ensures .0, (c .before .before .before .before .wide2) .ensures .0, (c .before .before .wide3) .ensures .0, (c .wide4) .ensures .0) }
+returns c =
+    let a′ = c .before .before .before .before .before .before .before .before .before .args in
+    let wide′ = c .before .before .before .before .before .before .wide in
+    let wide2′ = c .before .before .before .before .wide2 in
+    let wide3′ = c .before .before .wide3 in
+    record { small = small-by (a′ .xml .now) (a′ .at) (wide′ .ensures .1) (wide2′ .ensures .1) (wide3′ .ensures .1) ((c .wide4) .ensures .1); is = omega (arith, wide′ .ensures .0, wide2′ .ensures .0, wide3′ .ensures .0, (c .wide4) .ensures .0) }
 
 pub word-spec : {M : Type 1} → statement M
 word-spec =

@@ -4,7 +4,7 @@ use mathlib.Core.Bool.{Bool}
 use Prim.Native.Nat.{ℕ, _-_}
 use native.Mathlib.Omega.{arith}
 use Rattle.xml_import.specs.Places.{Unmarked, Marked}
-use Rattle.xml_import.proofs.Nearest.{Nearest, nearest-none, nearest-more}
+use Rattle.xml_escape.specs.Runs.{Nearest, nearest-none, nearest-more}
 use Rattle.xml_import.proofs.known.first_marked.Statement.{statement}
 use Rattle.xml_import.proofs.known.first_marked.Tie as tie
 
@@ -42,7 +42,12 @@ loop-less : tie.Need-loop-less Inv-loop μ-loop
 loop-less c = search needs
 
 loop-again : tie.Need-loop-again Inv-loop μ-loop
-loop-again c = nearest-more ((c .before .before .before .before .before .loop) .inv) ((c .before .before .before .before .loop-test) .taken) ((c .before .before .marked) .result) ((c .before .before .marked) .ensures .0) ((c .before .before .marked) .ensures .1) ((c .before .place-if) .ensures) ((c .smaller) .ensures)
+loop-again c =
+    let m′ = c .before .before .before .before .before .loop in
+    let t′ = c .before .before .before .before .loop-test in
+    let marked′ = c .before .before .marked in
+    let place-if′ = c .before .place-if in
+    nearest-more (m′ .inv) (t′ .taken) (marked′ .result) (marked′ .ensures .0) (marked′ .ensures .1) (place-if′ .ensures) ((c .smaller) .ensures)
 
 cast-result : tie.Need-cast-result Inv-loop μ-loop
 cast-result c = search needs

@@ -3,10 +3,9 @@ use native.Mathlib.Omega.{arith}
 use mathlib.Core.Path.{_≡_, refl, _∙_}
 use Prim.Native.Nat.{_+_, _-_, _≤_}
 use lib.ListN.{length, take, drop, getD, length-set}
-use Rattle.xml_escape.specs.Wrote.{Put, put-none}
-use Rattle.xml_import.specs.Places.{AllUnmarked}
-use Rattle.xml_import.proofs.Marks.{unmarked-more}
-use Rattle.xml_import.proofs.Puts.{put-next}
+use Rattle.xml_escape.specs.Runs.{all-more}
+use Rattle.xml_escape.specs.Wrote.{Put, put-none, put-next}
+use Rattle.xml_import.specs.Places.{Unmarked, AllUnmarked}
 use Rattle.xml_import.proofs.known.put_start.Statement.{statement}
 use Rattle.xml_import.proofs.known.put_start.Tie as tie
 
@@ -47,7 +46,13 @@ loop-less : tie.Need-loop-less Inv-loop μ-loop
 loop-less c = omega (arith, (c .before .before .before .loop-test) .taken)
 
 loop-again : tie.Need-loop-again Inv-loop μ-loop
-loop-again c = (omega (arith, (c .before .before .before .loop-test) .taken), unmarked-more ((c .before .before .before .before .before .before .before .args) .xml .now) ((c .before .before .before .before .before .before .before .args) .at) ((c .before .before .before .before .loop) .k) ((c .before .before .before .before .loop) .inv .1) ((c .before .sign) .ensures .0 ((c .if1) .left)), length-set ((c .before .before .before .before .loop) .out) ((c .before .before .before .before .before .before .before .args) .to + (c .before .before .before .before .loop) .k) (getD ((c .before .before .before .before .before .before .before .args) .xml .now) ((c .before .before .before .before .before .before .before .args) .at + (c .before .before .before .before .loop) .k) 0) ∙ (c .before .before .before .before .loop) .inv .2, put-next ((c .before .before .before .before .before .before .before .args) .xml .now) ((c .before .before .before .before .before .before .before .args) .at) ((c .before .before .before .before .loop) .k) (omega (arith, (c .before .before .before .before .before .before .before .pre) .0, (c .before .before .before .loop-test) .taken)) ((c .before .before .before .before .loop) .inv .3))
+loop-again c =
+    let t′ = c .before .before .before .loop-test in
+    let a′ = c .before .before .before .before .before .before .before .args in
+    let m′ = c .before .before .before .before .loop in
+    let sign′ = c .before .sign in
+    let p′ = c .before .before .before .before .before .before .before .pre in
+    (omega (arith, t′ .taken), all-more Unmarked (a′ .xml .now) (a′ .at) (m′ .k) (m′ .inv .1) (sign′ .ensures .0 ((c .if1) .left)), length-set (m′ .out) (a′ .to + m′ .k) (getD (a′ .xml .now) (a′ .at + m′ .k) 0) ∙ m′ .inv .2, put-next (a′ .xml .now) (a′ .at) (m′ .k) (omega (arith, p′ .0, t′ .taken)) (m′ .inv .3))
 
 same-length-2 : tie.Need-same-length-2 Inv-loop μ-loop
 same-length-2 c = (c .before .loop) .inv .2

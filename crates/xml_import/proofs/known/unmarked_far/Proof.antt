@@ -2,8 +2,9 @@ use borrow.Author.Needs.{needs}
 use Prim.Native.Nat.{_-_}
 use native.Mathlib.Omega.{arith}
 use lib.ListN.{length}
-use Rattle.xml_import.specs.Places.{Passed}
-use Rattle.xml_import.proofs.Marks.{passed-more, one-unmarked, stops-at}
+use Rattle.xml_import.specs.Places.{Unmarked, Passed}
+use Rattle.xml_escape.specs.Runs.{all-one}
+use Rattle.xml_import.proofs.Marks.{passed-more, stops-at}
 use Rattle.xml_import.proofs.known.unmarked_far.Statement.{statement}
 use Rattle.xml_import.proofs.known.unmarked_far.Tie as tie
 
@@ -35,7 +36,7 @@ loop-less : tie.Need-loop-less Inv-loop μ-loop
 loop-less c = search needs
 
 loop-again : tie.Need-loop-again Inv-loop μ-loop
-loop-again c = passed-more (c .before .before .before .before .loop .inv) 1 (omega arith) (one-unmarked (c .before .before .before .before .before .before .before .args .xml .now) (c .before .before .before .before .loop .i) (c .before .marked .ensures .0 (c .if1 .left)))
+loop-again c = passed-more (c .before .before .before .before .loop .inv) 1 (omega arith) (all-one Unmarked (c .before .before .before .before .before .before .before .args .xml .now) (c .before .before .before .before .loop .i) (c .before .marked .ensures .0 (c .if1 .left)))
 
 returns-2 : tie.Need-returns-2 Inv-loop μ-loop
 returns-2 c = stops-at (c .before .loop .inv) (λ h. absurd (omega (arith, c .loop-test .left)))

@@ -2,8 +2,8 @@
 use borrow.Author.Needs.{needs}
 use Prim.Native.Nat.{_-_, _≤_}
 use native.Mathlib.Omega.{arith}
-use Rattle.xml_import.specs.Places.{AllUnmarked}
-use Rattle.xml_import.proofs.Marks.{unmarked-more}
+use Rattle.xml_import.specs.Places.{Unmarked, AllUnmarked}
+use Rattle.xml_escape.specs.Runs.{all-more}
 use Rattle.xml_import.proofs.known.unmarked_start.Statement.{statement}
 use Rattle.xml_import.proofs.known.unmarked_start.Tie as tie
 
@@ -35,7 +35,11 @@ loop-less : tie.Need-loop-less Inv-loop μ-loop
 loop-less c = search needs
 
 loop-again : tie.Need-loop-again Inv-loop μ-loop
-loop-again c = (search needs, unmarked-more ((c .before .before .before .before .before .before .args) .xml .now) ((c .before .before .before .before .before .before .args) .i) ((c .before .before .before .before .loop) .k) ((c .before .before .before .before .loop) .inv .1) ((c .before .sign) .ensures .0 ((c .if1) .left)))
+loop-again c =
+    let a′ = c .before .before .before .before .before .before .args in
+    let m′ = c .before .before .before .before .loop in
+    let sign′ = c .before .sign in
+    (search needs, all-more Unmarked (a′ .xml .now) (a′ .i) (m′ .k) (m′ .inv .1) (sign′ .ensures .0 ((c .if1) .left)))
 
 returns-2 : tie.Need-returns-2 Inv-loop μ-loop
 returns-2 c = record { within = (c .before .loop) .inv .0; unmarked = (c .before .loop) .inv .1; marked = λ h. absurd (omega (arith, (c .loop-test) .left)) }

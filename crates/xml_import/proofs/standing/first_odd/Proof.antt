@@ -4,7 +4,7 @@ use mathlib.Core.Bool.{Bool}
 use Prim.Native.Nat.{ℕ, _-_}
 use native.Mathlib.Omega.{arith}
 use Rattle.xml_escape.specs.Quiet.{Quiet}
-use Rattle.xml_import.proofs.Nearest.{Nearest, nearest-none, nearest-more}
+use Rattle.xml_escape.specs.Runs.{Nearest, nearest-none, nearest-more}
 use Rattle.xml_import.proofs.standing.first_odd.Statement.{statement}
 use Rattle.xml_import.proofs.standing.first_odd.Tie as tie
 

@@ -29,7 +29,12 @@ quiet-run-requires-2 : tie.Need-quiet-run-requires-2
 quiet-run-requires-2 c κs = search needs
 
 returns-3 : tie.Need-returns-3
-returns-3 c = ran-past (c .before .before .first-odd .ensures) (c .before .if2 .left) (omega (arith, c .before .before .before .if1 .left, c .before .before .before .before .before .pre)) (c .quiet-run2 .ensures .run (omega (arith, c .before .before .before .if1 .left, c .before .before .before .before .before .pre)))
+returns-3 c =
+    let first-odd′ = c .before .before .first-odd in
+    let if2′ = c .before .if2 in
+    let if1′ = c .before .before .before .if1 in
+    let p′ = c .before .before .before .before .before .pre in
+    ran-past (first-odd′ .ensures) (if2′ .left) (omega (arith, if1′ .left, p′)) (c .quiet-run2 .ensures .run (omega (arith, if1′ .left, p′)))
 
 pub usual-rest-spec : {M : Type 1} → statement M
 usual-rest-spec =

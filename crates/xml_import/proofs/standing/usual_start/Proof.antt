@@ -3,8 +3,9 @@ use borrow.Author.Needs.{needs}
 use mathlib.Core.Path.{sym, _∙_}
 use Prim.Native.Nat.{_-_, _≤_}
 use native.Mathlib.Omega.{arith}
-use Rattle.xml_escape.specs.Quiet.{AllQuiet}
-use Rattle.xml_import.proofs.Usual.{usual-alone, quiet-more, not-false}
+use Rattle.xml_escape.specs.Runs.{all-more}
+use Rattle.xml_escape.specs.Quiet.{Quiet, AllQuiet}
+use Rattle.xml_import.proofs.Usual.{usual-alone, not-false}
 use Rattle.xml_import.proofs.standing.usual_start.Statement.{statement}
 use Rattle.xml_import.proofs.standing.usual_start.Tie as tie
 
@@ -36,7 +37,11 @@ loop-less : tie.Need-loop-less Inv-loop μ-loop
 loop-less c = search needs
 
 loop-again : tie.Need-loop-again Inv-loop μ-loop
-loop-again c = (search needs, quiet-more ((c .before .before .before .before .before .before .args) .xml .now) ((c .before .before .before .before .before .before .args) .i) ((c .before .before .before .before .loop) .k) ((c .before .before .before .before .loop) .inv .1) (usual-alone _ (sym ((c .before .ordinary) .ensures) ∙ not-false _ ((c .if1) .left))))
+loop-again c =
+    let a′ = c .before .before .before .before .before .before .args in
+    let m′ = c .before .before .before .before .loop in
+    let ordinary′ = c .before .ordinary in
+    (search needs, all-more (Quiet 0x7F) (a′ .xml .now) (a′ .i) (m′ .k) (m′ .inv .1) (usual-alone _ (sym (ordinary′ .ensures) ∙ not-false _ ((c .if1) .left))))
 
 returns-2 : tie.Need-returns-2 Inv-loop μ-loop
 returns-2 c = (c .before .loop) .inv
