@@ -2,7 +2,8 @@ use mathlib.Core.Path.{sym, _∙_}
 use native.Mathlib.Omega.{arith}
 use Rattle.lookups.specs.declared.Whole.the-variants.{Refused}
 use Rattle.lookups.specs.Signs.{signedIn, signedOf}
-use Rattle.lookups.proofs.Laws.{inside, lookup-refused, lookup-found}
+use Rattle.lookups.specs.Spans.{inside}
+use Rattle.lookups.proofs.Laws.{lookup-refused, lookup-found}
 use borrow.Author.Needs.{needs}
 use Rattle.lookups.proofs.signed_of.Statement.{statement}
 use Rattle.lookups.proofs.signed_of.Tie as tie

@@ -2,7 +2,8 @@ use mathlib.Core.Path.{sym, ap, _∙_}
 use native.Mathlib.Omega.{arith}
 use Rattle.answers.specs.Told.{told}
 use Rattle.reading.specs.Reads.{small-by-index}
-use Rattle.lookups.proofs.Laws.{other-kind, no-count, other-count, whole-text, count-next}
+use Rattle.lookups.specs.Spans.{count-next}
+use Rattle.lookups.proofs.Laws.{other-kind, no-count, other-count, whole-text}
 use borrow.Author.Needs.{needs}
 use Rattle.lookups.proofs.text_in.Statement.{statement}
 use Rattle.lookups.proofs.text_in.Tie as tie

@@ -2,7 +2,8 @@ use mathlib.Core.Path.{sym, _∙_}
 use native.Mathlib.Omega.{arith}
 use Rattle.lookups.specs.declared.Span.the-variants.{Refused}
 use Rattle.lookups.specs.Texts.{textIn, textOf}
-use Rattle.lookups.proofs.Laws.{inside, lookup-refused, lookup-found, part-length}
+use Rattle.lookups.specs.Spans.{inside}
+use Rattle.lookups.proofs.Laws.{lookup-refused, lookup-found, part-length}
 use borrow.Author.Needs.{needs}
 use Rattle.lookups.proofs.text_of.Statement.{statement}
 use Rattle.lookups.proofs.text_of.Tie as tie
