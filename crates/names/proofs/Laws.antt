@@ -13,7 +13,7 @@ use Rattle.layout.specs.Text.{ascii}
 use Prim.Native.Char.{code}
 use Rattle.layout.specs.Name.{none, some, tailByte, all}
 use Rattle.names.specs.Parse.{span, starts, common, tailSize, tailOf, wrongBy, behind}
-use Rattle.names.specs.Common.{starts-common, common-fits, starts-longer}
+use Rattle.names.specs.Common.{starts-common, common-yes, common-none, common-fits, starts-longer}
 use Rattle.names.specs.Sound.{starts-is, span-le}
 use Rattle.names.specs.Complete.{span-past}
 
@@ -85,15 +85,6 @@ common-no : (a b : ℕ) (t s : List ℕ) → (a ≡ b → ⊥) → common (a ∷
 unfolding common
 common-no a b t s e = rw (ne-eqb a b e)
 
-common-yes : (a b : ℕ) (t s : List ℕ) → a ≡ b → common (a ∷ t) (b ∷ s) ≡ suc (common t s)
-unfolding common
-common-yes a b t s e = rw (eq-eqb a b e)
-
-common-none : (t : List ℕ) → common t [] ≡ 0
-unfolding common
-common-none [] = refl
-common-none (a ∷ t) = refl
-
 -- a text from its i-th byte on, in s from `at` on
 module _ (t s : List ℕ) (at i : ℕ) (e : common t (drop at s) ≡ i + common (drop i t) (drop (at + i) s)) where
   pub common-end : length t ≤ i → i ≡ common t (drop at s)
@@ -116,6 +107,10 @@ module _ (t s : List ℕ) (at i : ℕ) (e : common t (drop at s) ≡ i + common 
       let z : common (drop i t) (drop (at + i) s) ≡ suc (common (drop (i + 1) t) (drop (at + (i + 1)) s))
       = rw (cons-at t i h, cons-at s (at + i) k) (common-yes _ _ _ _ b) ∙ ap (λ (k : ℕ). suc (common (drop (i + 1) t) (drop k s))) q in
       omega arith
+
+-- none of a text stands behind the end
+pub common-past : (t s : List ℕ) (at : ℕ) → length s ≤ at → 0 ≡ common t (drop at s)
+common-past t s at h = sym (ap (common t) (drop-of-length-le s h) ∙ common-none t)
 
 -- `&s[a..]` as the borrow checker has it
 pub rest : (s : List ℕ) (a : ℕ) → take (length s - a) (drop a s) ≡ drop a s

@@ -10,6 +10,16 @@ use borrow.Author.Tests.{eq-eqb, ne-eqb, eqb-true, eqb-false}
 use Rattle.laws.specs.Small.{differ}
 use Rattle.names.specs.Parse.{starts, common}
 
+-- one byte more, and none
+pub common-yes : (a b : ℕ) (t s : List ℕ) → a ≡ b → common (a ∷ t) (b ∷ s) ≡ suc (common t s)
+unfolding common
+common-yes a b t s e = rw (eq-eqb a b e)
+
+pub common-none : (t : List ℕ) → common t [] ≡ 0
+unfolding common
+common-none [] = refl
+common-none (a ∷ t) = refl
+
 le-by : (x : Bool) (m n : ℕ) → m ≤ n → cond x (suc m) 0 ≤ suc n
 le-by true m n h = omega arith
 le-by false m n h = omega arith

@@ -24,6 +24,16 @@ pub(crate) fn matched(s: &[u8], at: usize, text: &[u8]) -> usize
     i
 }
 
+// The same of any place: none stand behind the end of s.
+pub fn matched_at(s: &[u8], at: usize, text: &[u8]) -> usize
+    ensures { λ r. ⌜ r ≡ common (now (text .entry)) (drop at (now (s .entry))) ⌝ }
+{
+    if s.len() < at {
+        return 0;
+    }
+    matched(s, at, text)
+}
+
 // The text stands in s from `at` on.
 pub(crate) fn stands(s: &[u8], at: usize, text: &[u8]) -> bool
     requires { ⌜ at ≤ length (now s) ⌝ }

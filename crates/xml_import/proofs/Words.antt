@@ -1,7 +1,7 @@
 -- Four bytes compared at once. Assumes nothing.
 use mathlib.Core.Path.{_≡_, refl, sym, ap, _∙_}
 use mathlib.Core.Bool.{Bool, true, false, cond}
-use mathlib.Core.List.{List, [], _∷_, _++_}
+use mathlib.Core.List.{List, [], _∷_}
 use Prim.Native.Nat.{ℕ, zero, suc, _+_, _*_, _≤_, _<_}
 use native.Mathlib.Omega.{arith}
 use lib.Dec.{eqb}
@@ -9,10 +9,10 @@ use lib.ListN.{length, drop, getD}
 use borrow.Author.Tests.{eqb-true}
 use Rattle.layout.specs.Text.{ascii}
 use Rattle.names.specs.Parse.{common}
+use Rattle.names.specs.Common.{common-yes}
 use Rattle.xml_layout.specs.Xml.{itemStart, itemEnd, documentEnd}
 use Rattle.xml_import.specs.Places.{Word}
 use Rattle.xml_escape.specs.Runs.{cons-at}
-use Rattle.xml_import.proofs.Literals.{common-yes}
 
 -- the lowest byte of a number, and the others
 lowest : (a b x y : ℕ) → a < 256 → b < 256 → a + 256 * x ≡ b + 256 * y → (a ≡ b) × (x ≡ y)

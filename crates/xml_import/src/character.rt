@@ -18,24 +18,6 @@ pub fn larger(a: usize, b: usize) -> usize
     a
 }
 
-// How many bytes of a literal stand in the XML from `at` on, up to the first that does not.
-pub(crate) fn agree(xml: &[u8], at: usize, literal: &[u8]) -> usize
-    requires { ⌜ at ≤ length (now xml) ⌝ }
-    ensures { λ r. ⌜ r ≡ common (now (literal .entry)) (drop at (now (xml .entry))) ⌝ }
-{
-    let mut i = 0;
-    while i < literal.len() {
-        if xml.len() - at <= i {
-            return i;
-        }
-        if literal[i] != xml[at + i] {
-            return i;
-        }
-        i += 1;
-    }
-    i
-}
-
 // A byte, wider.
 fn wide(b: u8) -> u64
     ensures { λ r. ⌜ (r ≡ b) × (b < 256) ⌝ }
@@ -67,7 +49,7 @@ pub(crate) fn start_at(xml: &[u8], at: usize) -> usize
             }
         }
     }
-    agree(xml, at, b"<Item>")
+    names::texts::matched_at(xml, at, b"<Item>")
 }
 
 // How many bytes of an item's end stand in the XML from `at` on: `</It` and `tem>`, or byte by byte.
@@ -82,7 +64,7 @@ pub(crate) fn end_at(xml: &[u8], at: usize) -> usize
             }
         }
     }
-    agree(xml, at, b"</Item>")
+    names::texts::matched_at(xml, at, b"</Item>")
 }
 
 // Where bytes fail, or where they end.
@@ -234,19 +216,19 @@ fn other_entity(xml: &[u8], at: usize) -> Piece
     requires { ⌜ (at < length (now xml)) × (getD (now xml) at 0 ≡ 0x26) ⌝ }
     ensures { λ r. ⌜ PieceAt (now (xml .entry)) at r ⌝ }
 {
-    let a = agree(xml, at, b"&amp;");
+    let a = names::texts::matched_at(xml, at, b"&amp;");
     if a == 5 {
         return Piece::Entity(0x26, at + 5);
     }
-    let l = agree(xml, at, b"&lt;");
+    let l = names::texts::matched_at(xml, at, b"&lt;");
     if l == 4 {
         return Piece::Entity(0x3C, at + 4);
     }
-    let g = agree(xml, at, b"&gt;");
+    let g = names::texts::matched_at(xml, at, b"&gt;");
     if g == 4 {
         return Piece::Entity(0x3E, at + 4);
     }
-    let q = agree(xml, at, b"&quot;");
+    let q = names::texts::matched_at(xml, at, b"&quot;");
     if q == 6 {
         return Piece::Entity(0x22, at + 6);
     }

@@ -7,9 +7,7 @@ use character::Piece;
 ghost use mathlib.Core.Path.{_≡_};
 ghost use Prim.Native.Nat.{_+_, _^_, _≤_, _<_};
 ghost use lib.ListN.{length};
-ghost use Rattle.layout.specs.Number.{little};
 ghost use Rattle.layout.specs.Shortest.{shortest};
-ghost use Rattle.fill.specs.Fill.{copied};
 ghost use Rattle.reading.specs.Output.{outputOf};
 ghost use Rattle.xml_reading.specs.Answers.{importOf};
 ghost use Rattle.xml_import.specs.Places.{Known, TextAt, Measures};
@@ -127,7 +125,7 @@ fn measure(xml: &[u8]) -> Measured
     ensures { λ r. ⌜ Measures (now (xml .entry)) r ⌝ }
 {
     let start = b"<?xml version=\"1.0\" encoding=\"utf-8\"?><XnaContent><Asset Type=\"string[]\">";
-    let n = character::agree(xml, 0, start);
+    let n = names::texts::matched_at(xml, 0, start);
     if n != 73 {
         return Measured::Other(n);
     }
@@ -137,7 +135,7 @@ fn measure(xml: &[u8]) -> Measured
     while i < xml.len() {
         let s = character::start_at(xml, i);
         if s != 6 {
-            let e = character::agree(xml, i, b"</Asset></XnaContent>");
+            let e = names::texts::matched_at(xml, i, b"</Asset></XnaContent>");
             if e == 21 {
                 let end = i + 21;
                 if end != xml.len() {
@@ -149,7 +147,7 @@ fn measure(xml: &[u8]) -> Measured
         }
         match text_at(xml, i + 6) {
             Texted::Fails(place) => {
-                let e = character::agree(xml, i, b"</Asset></XnaContent>");
+                let e = names::texts::matched_at(xml, i, b"</Asset></XnaContent>");
                 return Measured::Other(character::larger(i + e, place));
             }
             Texted::Ends(bytes, next) => {
@@ -160,22 +158,6 @@ fn measure(xml: &[u8]) -> Measured
         }
     }
     Measured::Other(i)
-}
-
-// A number in four bytes, into the output.
-fn put_four(out: &mut [u8], to: usize, n: usize)
-    ensures { λ _. ⌜ now (out .exit) ≡ copied (now (out .entry)) to (little 4 n) 0 4 ⌝ }
-{
-    let a = n / 256;
-    let b = a / 256;
-    let c = b / 256;
-    let bytes = [
-        (n % 256) as u8,
-        (a % 256) as u8,
-        (b % 256) as u8,
-        (c % 256) as u8,
-    ];
-    fill::copy(out, to, &bytes, 0, 4);
 }
 
 // Two readers and no shared objects, and the type id of an Array that the first reads.
@@ -193,9 +175,9 @@ fn put_front(out: &mut [u8], size: usize, count: usize)
     let header = *b"XNBw\x05\x00";
     let lists = LISTS;
     fill::copy(out, 0, &header, 0, 6);
-    put_four(out, 6, size);
+    numbers::little::put4(out, 6, size);
     fill::copy(out, 10, &lists, 0, 119);
-    put_four(out, 129, count);
+    numbers::little::put4(out, 129, count);
 }
 
 // The text of an item from `at` on, of so many bytes, into the output from `to` on.

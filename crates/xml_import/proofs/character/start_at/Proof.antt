@@ -28,15 +28,15 @@ returns c =
     let word2′ = c .before .word2 in
     start-stands (a′ .xml .now) (a′ .at) (omega (arith, p′, if1′ .taken)) (four-by 0x3C 0x49 0x74 0x65 (omega arith) (omega arith) (omega arith) (omega arith) (word′ .ensures) (if2′ .taken)) (four-by 0x74 0x65 0x6D 0x3E (omega arith) (omega arith) (omega arith) (omega arith) (word2′ .ensures) ((c .if3) .taken))
 
-slice-aggregate-agree : tie.Need-slice-aggregate-agree
-slice-aggregate-agree c = search needs
+slice-aggregate-matched-at : tie.Need-slice-aggregate-matched-at
+slice-aggregate-matched-at c = search needs
 
-agree-requires : tie.Need-agree-requires
-agree-requires c κs = search needs
+matched-at-requires : tie.Need-matched-at-requires
+matched-at-requires c κs = search needs
 
 returns-2 : tie.Need-returns-2
 unfolding itemStart ascii
-returns-2 c = (c .agree) .ensures
+returns-2 c = (c .matched-at) .ensures
 
 pub start-at-spec : {M : Type 1} → statement M
 start-at-spec =
@@ -47,6 +47,6 @@ start-at-spec =
     add-word
     word-requires-2
     returns
-    slice-aggregate-agree
-    agree-requires
+    slice-aggregate-matched-at
+    matched-at-requires
     returns-2)
