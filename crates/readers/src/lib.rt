@@ -16,9 +16,9 @@ ghost use Rattle.readers.specs.Left.{namedLeft, readerLeft, readersLeft,
 
 // The types and names of the first `count` readers.
 pub struct Readers {
+    pub count: u32,
     pub targets: [u32; 64],
     pub starts: [u32; 64],
-    pub count: u32,
 }
 
 // One reader: a refusal's number and place, or the first byte of its name, how many codes are used, and the next place.
