@@ -38,7 +38,8 @@ pub struct Judged {
 // A file that is loaded and exported, under one list of enum types.
 fn load_and_export(file: &[u8], enums: &[u8], words: &mut [u32], out: &mut [u8]) -> Judged
     ensures { λ r. ⌜ Behind r ⌝ }
-    ensures { λ r. ⌜ r .loaded ≡ loading.answerOf (now (file .entry)) (loadUnder (now (enums .entry)) (now (file .entry)) (length (now (words .entry)))) ⌝ }
+    ensures { λ r. ⌜ r .loaded
+        ≡ loading.answerOf (now (file .entry)) (loadUnder (now (enums .entry)) (now (file .entry)) (length (now (words .entry)))) ⌝ }
     ensures { λ r. ⌜ r .exported
         ≡ answerOf (exportUnder (now (enums .entry)) (now (file .entry)) (length (now (words .entry))) (length (now (out .entry)))) ⌝ }
 {
