@@ -134,7 +134,7 @@ fn listed(
     requires { ⌜ Behind (now file) (now words) grid at × (preludeSize ≤ length (now codes)) × (enough (now file) at (length (now codes)) ≡ true) ⌝ }
     ensures { λ r. ⌜ ListsLoad grid (enumsOf (now (enums .entry))) (now (file .entry)) at (now (words .entry)) (now (words .exit)) r ⌝ }
 {
-    let mut targets = [0u32; 64];
+    let mut targets = [0u16; 64];
     let mut starts = [0u32; 64];
     put_prelude(codes);
     match readers::read_lists(file, enums, codes, &mut targets, &mut starts, at) {

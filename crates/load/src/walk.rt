@@ -178,7 +178,7 @@ fn value(
     codes: &[u32],
     words: &mut [u32],
     count: u32,
-    target: u32,
+    target: u16,
     grid: Grid,
     shared: u32,
     slot: Slot,

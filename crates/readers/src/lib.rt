@@ -17,7 +17,7 @@ ghost use Rattle.readers.specs.Left.{namedLeft, readerLeft, readersLeft,
 // The types and names of the first `count` readers.
 pub struct Readers {
     pub count: u32,
-    pub targets: [u32; 64],
+    pub targets: [u16; 64],
     pub starts: [u32; 64],
 }
 
@@ -131,7 +131,7 @@ fn readers_at(
     file: &[u8],
     enums: &[u8],
     codes: &mut [u32],
-    targets: &mut [u32],
+    targets: &mut [u16],
     starts: &mut [u32],
     n: usize,
     at: usize,
@@ -152,7 +152,7 @@ fn readers_at(
                 return Many::Refused(number, place);
             }
             One::Read(first, end, after) => {
-                targets[i] = used as u32;
+                targets[i] = used as u16;
                 starts[i] = first as u32;
                 used = end;
                 padding += padding_at(file, next);
@@ -177,7 +177,7 @@ fn counted(
     file: &[u8],
     enums: &[u8],
     codes: &mut [u32],
-    targets: &mut [u32],
+    targets: &mut [u16],
     starts: &mut [u32],
     n: usize,
     at: usize,
@@ -225,7 +225,7 @@ pub fn read_lists(
     file: &[u8],
     enums: &[u8],
     codes: &mut [u32],
-    targets: &mut [u32; 64],
+    targets: &mut [u16; 64],
     starts: &mut [u32; 64],
     at: usize,
 ) -> Lists

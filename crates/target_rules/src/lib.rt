@@ -11,7 +11,7 @@ ghost use Rattle.names.specs.Entries.{enumsOf};
 ghost use Rattle.target_rules.specs.Doubled.{AmongEarlier, FirstDouble, DoubledReader, DoubledIn};
 
 // The place of a reader's target in the codes.
-fn target_at(targets: &[u32], i: u32) -> usize
+fn target_at(targets: &[u16], i: u32) -> usize
     ensures { λ r. ⌜ r ≡ getD (now (targets .entry)) i 0 ⌝ }
 {
     let k = i as usize;
@@ -22,7 +22,7 @@ fn target_at(targets: &[u32], i: u32) -> usize
 }
 
 // A reader's target is that of an earlier one, the nearest first.
-fn among_earlier(file: &[u8], codes: &[u32], targets: &[u32], j: u32) -> bool
+fn among_earlier(file: &[u8], codes: &[u32], targets: &[u16], j: u32) -> bool
     ensures { λ r. ⌜ AmongEarlier (now (file .entry)) (now (codes .entry)) (now (targets .entry)) j r ⌝ }
 {
     let own = target_at(targets, j);
@@ -38,7 +38,7 @@ fn among_earlier(file: &[u8], codes: &[u32], targets: &[u32], j: u32) -> bool
 }
 
 // The name of the first reader whose target is that of an earlier one.
-fn first_double(file: &[u8], codes: &[u32], targets: &[u32], count: u32) -> Place
+fn first_double(file: &[u8], codes: &[u32], targets: &[u16], count: u32) -> Place
     ensures { λ r. ⌜ FirstDouble (now (file .entry)) (now (codes .entry)) (now (targets .entry)) count r ⌝ }
 {
     let mut at = behind(file, 10);
@@ -58,7 +58,7 @@ fn first_double(file: &[u8], codes: &[u32], targets: &[u32], count: u32) -> Plac
 fn doubled_in(file: &[u8], enums: &[u8], codes: &mut [u32]) -> Place
     ensures { λ r. ⌜ DoubledIn (enumsOf (now (enums .entry))) (now (file .entry)) (length (now (codes .entry))) r ⌝ }
 {
-    let mut targets = [0u32; 64];
+    let mut targets = [0u16; 64];
     let mut starts = [0u32; 64];
     match readers::read_lists(file, enums, codes, &mut targets, &mut starts, 10) {
         Lists::NoRoom => Place::Fine,

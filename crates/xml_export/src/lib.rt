@@ -115,7 +115,7 @@ fn write(file: &[u8], words: &[u32], out: &mut [u8], rows: u32)
 }
 
 // Whether the codes at a place are those of an Array of String.
-fn of_texts(codes: &[u32], place: u32) -> bool
+fn of_texts(codes: &[u32], place: u16) -> bool
     ensures { λ r. ⌜ OfTexts (now (codes .entry)) place r ⌝ }
 {
     let at = place as usize;
@@ -134,7 +134,7 @@ fn listed_reader(file: &[u8], enums: &[u8], codes: &mut [u32], id: u32) -> bool
         return false;
     }
     let i = (id - 1) as usize;
-    let mut targets = [0u32; 64];
+    let mut targets = [0u16; 64];
     let mut starts = [0u32; 64];
     match readers::read_lists(file, enums, codes, &mut targets, &mut starts, 10) {
         Lists::NoRoom => false,
