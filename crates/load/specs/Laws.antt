@@ -280,10 +280,10 @@ unfolding cleared
 none-kept mid n e = let z : length mid - 0 ≡ n = omega (arith, e) in rw z
 
 -- the padding of the lists and of the rows is the file's
-pub lists-padded : (file : List ℕ) (count at padding : ℕ) (readers : List Target) → at ≡ 10 → count ≡ length readers → padding ≡ listsTotal file at count
+pub lists-padded : (file : List ℕ) (count padding : ℕ) (readers : List Target) → count ≡ length readers → padding ≡ listsTotal file 10 count
     → (rows : List Row) → inWord (padding + rowsPadding file rows) ≡ fileTotal file (length readers) rows
 unfolding listsTotal
-lists-padded file count at padding readers t c p rows = ap inWord (rw (p, t, c) (sym (file-padding file (length readers) rows)))
+lists-padded file count padding readers c p rows = ap inWord (rw (p, c) (sym (file-padding file (length readers) rows)))
 
 -- a file that is accepted has few numbers, so its padding fits a word
 listed-fits : (es : List EnumEntry) (file : List ℕ) (words : ℕ) → Small file → (rows : List Row) (readers shared : ℕ) → loadOf (judgedName es) file words ≡ accepted rows readers shared → inWord (filePadding file readers rows) ≡ filePadding file readers rows

@@ -135,9 +135,9 @@ fn listed(
     ensures { λ r. ⌜ ListsLoad grid (enumsOf (now (enums .entry))) (now (file .entry)) at (now (words .entry)) (now (words .exit)) r ⌝ }
 {
     let mut targets = [0u16; 64];
-    let mut starts = [0u32; 64];
+    let mut starts = [0u16; 64];
     put_prelude(codes);
-    match readers::read_lists(file, enums, codes, &mut targets, &mut starts, at) {
+    match readers::read_lists(file, enums, codes, &mut targets, &mut starts) {
         Lists::NoRoom => Loading::Refused(1, at),
         Lists::Refused(number, place) => Loading::Refused(number, place),
         Lists::Read(count, shared, padding, next) => {

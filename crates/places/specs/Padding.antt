@@ -145,15 +145,25 @@ five-groups (last h) = omega arith
 five-groups (more h g) = let l = five-groups g in omega arith
 
 module _ (file : List ℕ) (small : Small file) where
-  -- a number of five bytes at most, whose shortest form has one at least
+  -- a number ends at most five bytes on
+  pub past-few : (at : ℕ) → past (sevenAt file at) at ≤ at + 5
+  unfolding past
+  past-few at = go (sevenAt file at) refl where
+    go : (x : Answer ℕ) → sevenAt file at ≡ x → past x at ≤ at + 5
+    go (refused n p) e = omega arith
+    go (read n next) e =
+        let w = next-of (seven-reads file) small at e in
+        omega (arith, w .behind, five-groups (w .laid .1))
+
+  -- and its shortest form has one byte at least
   pub pad-few : (at : ℕ) → padOf (sevenAt file at) at ≤ 4
-  unfolding padOf
+  unfolding padOf past
   pad-few at = go (sevenAt file at) refl where
     go : (x : Answer ℕ) → sevenAt file at ≡ x → padOf x at ≤ 4
     go (refused n p) e = omega arith
     go (read n next) e =
         let w = next-of (seven-reads file) small at e in
-        omega (arith, w .behind, five-groups (w .laid .1), some-bytes (shortest-is n (w .form) (w .laid) .form .1))
+        omega (arith, rw e at (past-few at), some-bytes (shortest-is n (w .form) (w .laid) .form .1))
 
   padding-few : (places : List ℕ) → padding file places ≤ 4 * length places
   unfolding padding

@@ -61,7 +61,7 @@ module _ {es : List EnumEntry} {file codes codes′ targets starts : List ℕ} {
   pub stop : n ≤ i → Ended-at es file codes codes′ targets starts n at next
   stop h = record { i = i; used = used; all = omega (arith, r .few); reached = r }
 
-  module _ {codes″ : List ℕ} {first end behind : ℕ} (w : Taken (readerAt (judgedName es) file next) file codes′ codes″ used first end behind) where
+  module _ {codes″ : List ℕ} {first end behind : ℕ} (w : Taken (readerAt (judgedName es) file next) file codes′ codes″ used next first end behind) where
     answers : i < n → readersAt (judgedName es) file n at ≡ after (r .names ++ w .name ∷ []) (r .readers ++ w .t ∷ []) (readersAt (judgedName es) file (n - (i + 1)) behind)
     unfolding readersAt several bind
     answers h =

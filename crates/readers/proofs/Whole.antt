@@ -102,7 +102,7 @@ module _ (es : List EnumEntry) (file : List ℕ) (at : ℕ) where
     unfolding bind behind countedAt
     lists-counted {n} {e} q = lists-are ∙ rw q (by-readers (readersAt (judgedName es) file n e))
 
-    up-to-past : {n e : ℕ} → upTo 64 file at ≡ read n e → e ≡ past (sevenAt file at) at
+    pub up-to-past : {n e : ℕ} → upTo 64 file at ≡ read n e → e ≡ past (sevenAt file at) at
     unfolding upTo bind past check
     up-to-past {n} {e} q = go (sevenAt file at) q where
       tested : (b : Bool) (m f : ℕ) → check b 9 at (read m f) ≡ read n e → e ≡ f

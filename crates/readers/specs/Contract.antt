@@ -82,6 +82,7 @@ abbrev pub ReadsListsAt : (es : List EnumEntry) (file : List ℕ) (at : ℕ) (co
 ReadsListsAt es file at codes codes′ targets starts r =
     ReadsLists (listsOf es file at) (listsTotal file at) (enough file at (length codes)) file codes codes′ targets starts r
 
--- at most 64 readers are read, from a file of 01's size; there is room for the codes, and the arrays have their sizes
-abbrev pub Sized : (file : List ℕ) (n : ℕ) (codes targets starts : List ℕ) → Type 0
-Sized file n codes targets starts = (length file ≤ 16777216) × (n ≤ 64) × (codesFor n ≤ length codes) × (length targets ≡ 64) × (length starts ≡ 64)
+-- at most 64 readers are read, from a file of 01's size, the first at byte 15 at the latest; there is room for the codes, and the arrays have their sizes
+abbrev pub Sized : (file : List ℕ) (n at : ℕ) (codes targets starts : List ℕ) → Type 0
+Sized file n at codes targets starts =
+    (length file ≤ 16777216) × (n ≤ 64) × (codesFor n ≤ length codes) × (length targets ≡ 64) × (length starts ≡ 64) × (at ≤ 15)

@@ -23,6 +23,8 @@ use Rattle.reading.specs.Reads.{Small, some}
 use Rattle.reading.specs.Seven.{sevenAt, seven-next}
 use Rattle.reading.specs.Little.{littleAt}
 use Rattle.reading.specs.File.{unknown, known, judge, readerAt}
+use Rattle.numbers.specs.Padded.{past}
+use Rattle.places.specs.Padding.{past-few}
 use Rattle.readers.specs.declared.One.{One}
 use Rattle.readers.specs.declared.One.the-variants.{Refused}
 use Rattle.readers.specs.Judged.{judgedName, known-name, refused-name}
@@ -96,32 +98,32 @@ module _ (es : List EnumEntry) (file : List ℕ) (n at first : ℕ) where
       named-refused : (number place : ℕ) {r : Resolved} → Resolves es s first c c′ used r → told r ≡ N.refused number place → namedAt es file n at first ≡ refused number place
       named-refused number place p e = name-refused (ap (judgedName es first) (sym q) ∙ refused-name es first s c c′ used number place p e)
 
-      module _ (end : ℕ) (g : HasTarget es s first c c′ used end) where
-        taken : (next : ℕ) → Taken (read (s, g .t) next) file c c′ used first end next
+      module _ (near : first ≤ at + 5) (end : ℕ) (g : HasTarget es s first c c′ used end) where
+        taken : (next : ℕ) → Taken (read (s, g .t) next) file c c′ used at first end next
         taken next = record {
           name = s;
           t = g .t;
           words = g .words;
           answer = refl;
           there = ap (λ (k : ℕ). take k (drop first file)) size ∙ sym q;
-          inside = inside;
+          near = near;
           writes = g .content;
           ends = g .ends;
           few = omega (arith, codes-are-few es (g .n) (g .t) (g .formed) (g .target), ap length (g .writes), size);
           stands = g .stands file (drop n (drop first file)) standing;
         }
 
-        by-test : (b : Bool) (v next : ℕ) → Takes (check b 12 (first + n) (read (s, g .t) next)) file c c′ used (endOf first end (check b 12 (first + n) (read v next)))
+        by-test : (b : Bool) (v next : ℕ) → Takes (check b 12 (first + n) (read (s, g .t) next)) file c c′ used at (endOf first end (check b 12 (first + n) (read v next)))
         unfolding check
         by-test true v next = taken next
         by-test false v next = refl
 
-        by-version : (x : Answer ℕ) → Takes (bind x (λ v next. check (eqb v 0) 12 (first + n) (read (s, g .t) next))) file c c′ used (endOf first end (bind x (λ v next. check (eqb v 0) 12 (first + n) (read v next))))
+        by-version : (x : Answer ℕ) → Takes (bind x (λ v next. check (eqb v 0) 12 (first + n) (read (s, g .t) next))) file c c′ used at (endOf first end (bind x (λ v next. check (eqb v 0) 12 (first + n) (read v next))))
         unfolding bind
         by-version (refused k p) = refl
         by-version (read v next) = by-test (eqb v 0) v next
 
-        named-target : Takes (namedAt es file n at first) file c c′ used (endOf first end (versionAt file (first + n)))
+        named-target : Takes (namedAt es file n at first) file c c′ used at (endOf first end (versionAt file (first + n)))
         unfolding versionAt versioned
         named-target =
             let e : namedAt es file n at first ≡ versioned file s (g .t) (first + n)
@@ -129,12 +131,12 @@ module _ (es : List EnumEntry) (file : List ℕ) (n at first : ℕ) where
             rw e (by-version (littleAt file 4 (first + n) (first + n)))
 
 -- a step of the code says what reading answers
-abbrev pub TakesStep : Answer (List ℕ × Target) → (file c : List ℕ) (used : ℕ) → Step → Type 0
-TakesStep x file c used o = Takes x file c (o .1) used (o .0)
+abbrev pub TakesStep : Answer (List ℕ × Target) → (file c : List ℕ) (used at : ℕ) → Step → Type 0
+TakesStep x file c used at o = Takes x file c (o .1) used at (o .0)
 
 module _ (es : List EnumEntry) (sized : (h : List ℕ) → (sizeIn es h ≡ 0 → ⊥) → EnumSize (sizeIn es h)) (file c : List ℕ) (used at : ℕ) (ready : Ready file used c) where
-  module _ (first n : ℕ) (few : n ≤ 1024) (inside : first ≤ length file) where
-    named-means : TakesStep (namedAt es file n at first) file c used (namedLeft es file c used at first n)
+  module _ (first n : ℕ) (few : n ≤ 1024) (inside : first ≤ length file) (near : first ≤ at + 5) where
+    named-means : TakesStep (namedAt es file n at first) file c used at (namedLeft es file c used at first n)
     unfolding namedLeft
     named-means = by-length (leb n (length (drop first file))) refl where
       s : List ℕ
@@ -147,38 +149,38 @@ module _ (es : List EnumEntry) (sized : (h : List ℕ) → (sizeIn es h ≡ 0 �
       resolves x e = record { answers = told-untold x ∙ sym e; writes = refl }
 
       by-name : leb n (length (drop first file)) ≡ true → (x : N.Answer) → resolution es (placed s first used) (length c) first used (nameOf first s) ≡ x
-          → Takes (namedAt es file n at first) file c codes used (afterName file at first n x)
+          → Takes (namedAt es file n at first) file c codes used at (afterName file at first n x)
       by-name t no-room e = absurd (named-room es file n at first t s c codes used refl few (ready .2) (ready .1) inside (ready .0) (resolves no-room e) refl)
       by-name t (N.refused number place) e = named-refused es file n at first t s c codes used refl few (ready .2) (ready .1) inside (ready .0) number place (resolves (N.refused number place) e) refl
       by-name t (coded end) e =
           let g = target-is es sized s first c codes used end (resolves (coded end) e) refl in
-          named-target es file n at first t s c codes used refl few (ready .2) (ready .1) inside (ready .0) end g
+          named-target es file n at first t s c codes used refl few (ready .2) (ready .1) inside (ready .0) near end g
 
       by-length : (b : Bool) → leb n (length (drop first file)) ≡ b
-          → TakesStep (namedAt es file n at first) file c used
+          → TakesStep (namedAt es file n at first) file c used at
           (cond b (afterName file at first n (resolution es (placed s first used) (length c) first used (nameOf first s)), codes) (Refused 1 at, c))
       by-length true t = by-name t (resolution es (placed s first used) (length c) first used (nameOf first s)) refl
       by-length false t = named-missing es file n at first t
 
-  reader-means : Small file → TakesStep (readerAt (judgedName es) file at) file c used (readerLeft es file c used at)
-  unfolding readerLeft
+  reader-means : Small file → TakesStep (readerAt (judgedName es) file at) file c used at (readerLeft es file c used at)
+  unfolding readerLeft past
   reader-means small = by-count (sevenAt file at) refl where
     by-most : (n first : ℕ) (b : Bool) → sevenAt file at ≡ read n first → leb n 1024 ≡ b → (n ≡ 0 → ⊥)
-        → TakesStep (readerAt (judgedName es) file at) file c used (cond b (namedLeft es file c used at first n) (Refused 9 at, c))
+        → TakesStep (readerAt (judgedName es) file at) file c used at (cond b (namedLeft es file c used at first n) (Refused 9 at, c))
     by-most n first true e l z =
         let few = leb-true n 1024 l in
-        rw (reader-named es file at e z few) (named-means first n few (seven-next file small at e .1))
+        rw (reader-named es file at e z few) (named-means first n few (seven-next file small at e .1) (rw e at (past-few file small at)))
     by-most n first false e l z = reader-long es file at e (leb-false n 1024 l)
 
     by-least : (n first : ℕ) (b : Bool) → sevenAt file at ≡ read n first → eqb n 0 ≡ b
-        → TakesStep (readerAt (judgedName es) file at) file c used (cond b (Refused 9 at, c) (cond (leb n 1024) (namedLeft es file c used at first n) (Refused 9 at, c)))
+        → TakesStep (readerAt (judgedName es) file at) file c used at (cond b (Refused 9 at, c) (cond (leb n 1024) (namedLeft es file c used at first n) (Refused 9 at, c)))
     by-least n first true e z = reader-empty es file at e (eqb-true n 0 z)
     by-least n first false e z = by-most n first (leb n 1024) e refl (eqb-false n 0 z)
 
-    by-count : (x : Answer ℕ) → sevenAt file at ≡ x → TakesStep (readerAt (judgedName es) file at) file c used (countedLeft es file c used at x)
+    by-count : (x : Answer ℕ) → sevenAt file at ≡ x → TakesStep (readerAt (judgedName es) file at) file c used at (countedLeft es file c used at x)
     by-count (refused number place) e = reader-refused es file at e
     by-count (read n first) e = by-least n first (eqb n 0) e refl
 
   -- a step that is the definition's
-  pub reader-takes : Small file → {r : One} {c′ : List ℕ} → readerLeft es file c used at ≡ (r, c′) → Takes (readerAt (judgedName es) file at) file c c′ used r
-  reader-takes small e = subst (TakesStep (readerAt (judgedName es) file at) file c used) e (reader-means small)
+  pub reader-takes : Small file → {r : One} {c′ : List ℕ} → readerLeft es file c used at ≡ (r, c′) → Takes (readerAt (judgedName es) file at) file c c′ used at r
+  reader-takes small e = subst (TakesStep (readerAt (judgedName es) file at) file c used at) e (reader-means small)

@@ -42,20 +42,20 @@ namedAt es file n at first = bind (some file n at first) (λ name end. bind (jud
 abbrev pub Ready : (file : List ℕ) (used : ℕ) (c : List ℕ) → Type 0
 Ready file used c = (length file ≤ 16777216) × (used ≤ 16777216) × (used + 187 ≤ length c)
 
--- a reader was read: its name stands at `first`, and the codes of its target from `used` to `end`
-pub record Taken (x : Answer (List ℕ × Target)) (file c c′ : List ℕ) (used first end next : ℕ) : Type 0 where
+-- a reader at `at` was read: its name stands at `first`, and the codes of its target from `used` to `end`
+pub record Taken (x : Answer (List ℕ × Target)) (file c c′ : List ℕ) (used at first end next : ℕ) : Type 0 where
   pub name : List ℕ
   pub t : Target
   pub words : List ℕ
   pub answer : x ≡ read (name, t) next
   pub there : take (length name) (drop first file) ≡ name
-  pub inside : first ≤ length file
+  pub near : first ≤ at + 5
   pub writes : c′ ≡ sets c used words
   pub ends : end ≡ used + codeSize t
   pub few : 11 * codeSize t ≤ 1024
   pub stands : Stands file c′ used t
 
 -- what the code answers of a reader that reading answers so
-abbrev pub Takes : (x : Answer (List ℕ × Target)) (file c c′ : List ℕ) (used : ℕ) → One → Type 0
-Takes x file c c′ used (Refused n p) = x ≡ refused n p
-Takes x file c c′ used (Read first end next) = Taken x file c c′ used first end next
+abbrev pub Takes : (x : Answer (List ℕ × Target)) (file c c′ : List ℕ) (used at : ℕ) → One → Type 0
+Takes x file c c′ used at (Refused n p) = x ≡ refused n p
+Takes x file c c′ used at (Read first end next) = Taken x file c c′ used at first end next

@@ -7,21 +7,23 @@ use lib.Dec.{eqb, leb}
 use lib.ListN.{length, drop}
 use Rattle.layout.specs.Target.{Target}
 use Rattle.layout.specs.EnumList.{EnumEntry}
-use Rattle.reading.specs.Answer.{Answer, refused, read, bind, check, within, Ok, not-read, is-read, ok-bind, ok-check}
+use Rattle.reading.specs.Answer.{Answer, refused, read, bind, check, within, within-true, Ok, not-read, is-read, ok-bind, ok-check}
 use Rattle.reading.specs.Reads.{Small, some}
 use Rattle.reading.specs.Seven.{sevenAt}
 use Rattle.reading.specs.Little.{littleAt}
 use Rattle.reading.specs.File.{Named, unknown, known, judge, readerAt}
 use Rattle.numbers.specs.Padded.{numberOf, past, padOf}
 use Rattle.places.specs.Places.{behindEntry, entriesPlaces, entriesEnd, listsPlaces}
-use Rattle.places.specs.Padding.{padding, pad-few, lists-padding}
+use Rattle.places.specs.Padding.{padding, past-few, pad-few, lists-padding}
 use Rattle.readers.specs.Judged.{judgedName}
 
--- i of n readers, the first of which stands at `at`, were passed: the others stand from `next` on, and the lengths of the names passed have the padding `sum`
+-- i of n readers, the first of which stands at `at`, were passed: the others stand from `next` on, and the lengths of the names passed have the padding `sum`;
+-- a reader has at most 5 bytes of a length, 1,024 of a name and 4 of a version
 pub record Passed (file : List ℕ) (n at i next sum : ℕ) : Type 0 where
   pub ends : entriesEnd file (n - i) next ≡ entriesEnd file n at
   pub adds : sum + padding file (entriesPlaces file (n - i) next) ≡ padding file (entriesPlaces file n at)
   pub few : sum ≤ 4 * i
+  pub near : next ≤ at + 1033 * i
 
 module _ (file : List ℕ) where
   -- where a reader that was read ends
@@ -38,31 +40,32 @@ module _ (file : List ℕ) where
   unfolding littleAt
   little-ends at = ok-bind (some-ends 4 at at) (λ bs e q. is-read q)
 
-  reader-ends : (es : List EnumEntry) (at : ℕ) → Ok (λ a e. e ≡ behindEntry (sevenAt file at) at) (readerAt (judgedName es) file at)
+  reader-ends : (es : List EnumEntry) (at : ℕ) → Ok (λ a e. (e ≡ behindEntry (sevenAt file at) at) × (numberOf (sevenAt file at) ≤ 1024)) (readerAt (judgedName es) file at)
   unfolding readerAt behindEntry past numberOf bind
   reader-ends es at = go (sevenAt file at) where
-    go : (x : Answer ℕ) → Ok {A = List ℕ × Target} (λ a e. e ≡ past x at + numberOf x + 4) (bind x (λ n first. check (within 1024 n) 9 at
+    go : (x : Answer ℕ) → Ok {A = List ℕ × Target} (λ a e. (e ≡ past x at + numberOf x + 4) × (numberOf x ≤ 1024)) (bind x (λ n first. check (within 1024 n) 9 at
         (bind (some file n at first) (λ name end. bind (judge (judgedName es first name) end) (λ t version.
         bind (littleAt file 4 version version) (λ v next. check (eqb v 0) 12 version (read (name, t) next)))))))
     go (refused n p) = not-read
     go (read n first) =
         ok-check (within 1024 n) 9 at _ (λ z. ok-bind (some-ends n at first) (λ name end e. ok-bind (judge-ends (judgedName es first name) end) (λ t version f.
-        ok-bind (little-ends version) (λ v next g. ok-check (eqb v 0) 12 version _ (λ y. is-read (omega arith))))))
+        ok-bind (little-ends version) (λ v next g. ok-check (eqb v 0) 12 version _ (λ y. is-read (omega arith, within-true 1024 n z .1))))))
 
   pub none-passed : (n at : ℕ) → Passed file n at 0 at 0
   none-passed n at =
       let z : n - 0 ≡ n = omega arith in
-      record { ends = ap (λ (k : ℕ). entriesEnd file k at) z; adds = omega (arith, ap (λ (k : ℕ). padding file (entriesPlaces file k at)) z); few = omega arith }
+      record { ends = ap (λ (k : ℕ). entriesEnd file k at) z; adds = omega (arith, ap (λ (k : ℕ). padding file (entriesPlaces file k at)) z); few = omega arith; near = omega arith }
 
   pub one-passed : (es : List EnumEntry) (n at i next sum : ℕ) {behind : ℕ} {x : List ℕ × Target} → Small file → i < n → readerAt (judgedName es) file next ≡ read x behind → Passed file n at i next sum
       → Passed file n at (i + 1) behind (sum + padOf (sevenAt file next) next)
-  unfolding entriesPlaces entriesEnd padding
+  unfolding entriesPlaces entriesEnd padding behindEntry
   one-passed es n at i next sum {behind} small h q p =
       let z : n - i ≡ suc (n - (i + 1)) = omega arith in
-      let e : behind ≡ behindEntry (sevenAt file next) next = reader-ends es next .got q in
+      let r = reader-ends es next .got q in
+      let e : behind ≡ behindEntry (sevenAt file next) next = r .0 in
       let a = rw z at (p .ends) in
       let b = rw z at (p .adds) in
-      rw e (record { ends = a; adds = omega (arith, b); few = omega (arith, p .few, pad-few file small next) })
+      rw e (record { ends = a; adds = omega (arith, b); few = omega (arith, p .few, pad-few file small next); near = omega (arith, p .near, r .1, past-few file small next) })
 
   pub all-passed : (n at next sum : ℕ) → Passed file n at n next sum → (next ≡ entriesEnd file n at) × (sum ≡ padding file (entriesPlaces file n at))
   unfolding entriesPlaces entriesEnd padding

@@ -18,8 +18,11 @@ ghost use Rattle.readers.specs.Left.{namedLeft, readerLeft, readersLeft,
 pub struct Readers {
     pub count: u32,
     pub targets: [u16; 64],
-    pub starts: [u32; 64],
+    pub starts: [u16; 64],
 }
+
+// Where the reader list of a file starts: behind the header.
+pub const START: usize = 10;
 
 // One reader: a refusal's number and place, or the first byte of its name, how many codes are used, and the next place.
 pub enum One {
@@ -132,11 +135,11 @@ fn readers_at(
     enums: &[u8],
     codes: &mut [u32],
     targets: &mut [u16],
-    starts: &mut [u32],
+    starts: &mut [u16],
     n: usize,
     at: usize,
 ) -> Many
-    requires { ⌜ Sized (now file) n (now codes) (now targets) (now starts) ⌝ }
+    requires { ⌜ Sized (now file) n at (now codes) (now targets) (now starts) ⌝ }
     ensures { λ r. ⌜ Ends (enumsOf (now (enums .entry))) (now (file .entry))
         (now (codes .entry)) (now (codes .exit)) (now (targets .exit)) (now (starts .exit)) n at r ⌝ }
     ensures { λ r. ⌜ readersLeft (enumsOf (now (enums .entry))) (now (file .entry)) n at (now (codes .entry)) (now (targets .entry)) (now (starts .entry))
@@ -153,7 +156,7 @@ fn readers_at(
             }
             One::Read(first, end, after) => {
                 targets[i] = used as u16;
-                starts[i] = first as u32;
+                starts[i] = first as u16;
                 used = end;
                 padding += padding_at(file, next);
                 next = after;
@@ -178,12 +181,12 @@ fn counted(
     enums: &[u8],
     codes: &mut [u32],
     targets: &mut [u16],
-    starts: &mut [u32],
+    starts: &mut [u16],
     n: usize,
     at: usize,
     padding: u32,
 ) -> Lists
-    requires { ⌜ Sized (now file) n (now codes) (now targets) (now starts) × (padding ≤ 4) ⌝ }
+    requires { ⌜ Sized (now file) n at (now codes) (now targets) (now starts) × (padding ≤ 4) ⌝ }
     ensures { λ r. ⌜ ReadsCounted (enumsOf (now (enums .entry))) (now (file .entry)) n at padding
         (now (codes .entry)) (now (codes .exit)) (now (targets .exit)) (now (starts .exit)) r ⌝ }
     ensures { λ _. ⌜ arraysLeft (enumsOf (now (enums .entry))) (now (file .entry)) n at (now (codes .entry)) (now (targets .entry)) (now (starts .entry))
@@ -219,25 +222,24 @@ fn codes_for(n: usize) -> usize
     targets::PRELUDE + 93 * (n - 1) + 187
 }
 
-// The reader list and the shared count at a place. The targets' codes are left in `codes` behind the prelude,
+// The reader list and the shared count of a file. The targets' codes are left in `codes` behind the prelude,
 // and where they and the names start in `targets` and `starts`.
 pub fn read_lists(
     file: &[u8],
     enums: &[u8],
     codes: &mut [u32],
     targets: &mut [u16; 64],
-    starts: &mut [u32; 64],
-    at: usize,
+    starts: &mut [u16; 64],
 ) -> Lists
-    ensures { λ r. ⌜ ReadsListsAt (enumsOf (now (enums .entry))) (now (file .entry)) at
+    ensures { λ r. ⌜ ReadsListsAt (enumsOf (now (enums .entry))) (now (file .entry)) 10
         (now (codes .entry)) (now (codes .exit)) (now (targets .exit)) (now (starts .exit)) r ⌝ }
-    ensures { λ _. ⌜ listsLeft (enumsOf (now (enums .entry))) (now (file .entry)) at (now (codes .entry)) (now (targets .entry)) (now (starts .entry))
+    ensures { λ _. ⌜ listsLeft (enumsOf (now (enums .entry))) (now (file .entry)) 10 (now (codes .entry)) (now (targets .entry)) (now (starts .entry))
         ≡ arrays (now (codes .exit)) (now (targets .exit)) (now (starts .exit)) ⌝ }
 {
     if 16777216 < file.len() {
         return Lists::Refused(9, 0);
     }
-    match reader_count(file, at) {
+    match reader_count(file, START) {
         Number::Refused(number, place) => Lists::Refused(number, place),
         Number::Read(count, next) => {
             let n = count as usize;
@@ -252,7 +254,7 @@ pub fn read_lists(
                 starts,
                 n,
                 next,
-                padding_at(file, at),
+                padding_at(file, START),
             )
         }
     }

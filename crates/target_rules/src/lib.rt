@@ -59,8 +59,8 @@ fn doubled_in(file: &[u8], enums: &[u8], codes: &mut [u32]) -> Place
     ensures { λ r. ⌜ DoubledIn (enumsOf (now (enums .entry))) (now (file .entry)) (length (now (codes .entry))) r ⌝ }
 {
     let mut targets = [0u16; 64];
-    let mut starts = [0u32; 64];
-    match readers::read_lists(file, enums, codes, &mut targets, &mut starts, 10) {
+    let mut starts = [0u16; 64];
+    match readers::read_lists(file, enums, codes, &mut targets, &mut starts) {
         Lists::NoRoom => Place::Fine,
         Lists::Refused(_, _) => Place::Fine,
         Lists::Read(count, _, _, _) => first_double(file, codes, &targets, count),
@@ -86,7 +86,7 @@ fn many_doubled(file: &[u8], enums: &[u8]) -> Place
 pub fn doubled_reader(file: &[u8], enums: &[u8]) -> Place
     ensures { λ r. ⌜ DoubledReader (enumsOf (now (enums .entry))) (now (file .entry)) r ⌝ }
 {
-    match readers::reader_count(file, 10) {
+    match readers::reader_count(file, readers::START) {
         Number::Refused(_, _) => few_doubled(file, enums),
         Number::Read(n, _) => {
             if n <= 8 {

@@ -135,8 +135,8 @@ fn listed_reader(file: &[u8], enums: &[u8], codes: &mut [u32], id: u32) -> bool
     }
     let i = (id - 1) as usize;
     let mut targets = [0u16; 64];
-    let mut starts = [0u32; 64];
-    match readers::read_lists(file, enums, codes, &mut targets, &mut starts, 10) {
+    let mut starts = [0u16; 64];
+    match readers::read_lists(file, enums, codes, &mut targets, &mut starts) {
         Lists::NoRoom => false,
         Lists::Refused(_, _) => false,
         Lists::Read(_, _, _, _) => {
@@ -170,7 +170,7 @@ fn texts_reader(file: &[u8], enums: &[u8], id: u32) -> bool
     requires { ⌜ length (now file) ≤ 16777216 ⌝ }
     ensures { λ r. ⌜ TextsReader (now (enums .entry)) (now (file .entry)) id r ⌝ }
 {
-    match readers::reader_count(file, 10) {
+    match readers::reader_count(file, readers::START) {
         Number::Refused(_, _) => of_few(file, enums, id),
         Number::Read(n, _) => {
             if n <= 8 {

@@ -33,8 +33,8 @@ objects-requires c κs =
     let es = enumsOf (a .enums .now) in
     let small = small-by-index file (λ i h. omega (arith, c .before .before .before .before .before .before .before .before .before .before .before .before .before .before .before .before .before .before .shared-slice-known .given i)) in
     let l = (rw (c .before .before .before .count .given .1) at (c .before .before .before .before .before .before .before .read-lists .ensures .0)) .1 in
-    let q = sym (short-file es file (a .at) (p .0 .short)) ∙ l .answer in
-    (record { long = p .0 .long; few = omega (arith, c .before .before .before .before .before .before .before .before .before .before .before .before .before .before .before .before .before .before .before .good); rows = omega arith; place = lists-inside es file small (a .at) (p .0 .inside) q; short = omega (arith, p .0 .short) }, record { readers = l .readers; listed = l .listed; prelude = kept-prelude _ (l .kept ∙ c .before .before .before .before .before .before .before .before .before .before .before .before .before .put-prelude .ensures) }, l .shared-few)
+    let q = sym (short-file es file 10 (p .0 .short)) ∙ l .answer in
+    (record { long = p .0 .long; few = omega (arith, c .before .before .before .before .before .before .before .before .before .before .before .before .before .before .before .before .before .before .before .good); rows = omega arith; place = lists-inside es file small 10 (omega (arith, p .0 .inside, p .0 .ten)) q; short = omega (arith, p .0 .short) }, record { readers = l .readers; listed = l .listed; prelude = kept-prelude _ (l .kept ∙ c .before .before .before .before .before .before .before .before .before .before .before .before .before .put-prelude .ensures) }, l .shared-few)
 
 same-length : tie.Need-same-length
 same-length c = search needs
@@ -46,7 +46,7 @@ returns c =
     let a = c .before .before .before .before .before .before .before .before .before .before .before .before .before .before .before .before .args in
     let l = rw (c .enum-told .given .1) at (c .before .before .before .before .read-lists .ensures .0) in
     let m : length (c .before .before .before .before .before .before .before .before .before .before .put-prelude .last .0) ≡ length (a .codes .now) = search needs in
-    absurd (not-lacking (a .file .now) (a .at) _ _ m (p .2) l)
+    absurd (not-lacking (a .file .now) 10 _ _ m (rw (p .0 .ten) at (p .2)) l)
 
 same-length-2 : tie.Need-same-length-2
 same-length-2 c = search needs
@@ -59,7 +59,7 @@ returns-2 c =
     let file = a .file .now in
     let es = enumsOf (a .enums .now) in
     let l = rw (c .before .number .given .1) at (c .before .before .before .before .before .read-lists .ensures .0) in
-    loads-refused _ _ _ (a .words .now) _ (lists-refused es file (a .grid .room) platform flags (a .at) (sym (short-file es file (a .at) (p .0 .short)) ∙ l .1))
+    rw (p .0 .ten) (loads-refused _ _ _ (a .words .now) _ (lists-refused es file (a .grid .room) platform flags 10 (sym (short-file es file 10 (p .0 .short)) ∙ l .1)))
 
 same-length-3 : tie.Need-same-length-3
 same-length-3 c = search needs
@@ -76,8 +76,8 @@ returns-3 c =
     let es = enumsOf (a .enums .now) in
     let v = (rw (c .before .before .before .before .before .before .count .given .1) at (c .before .before .before .before .before .before .before .before .before .before .read-lists .ensures .0)) in
     let l = v .1 in
-    rw (behind-lists es file (a .grid .room) platform flags (a .at) (sym (short-file es file (a .at) (p .0 .short)) ∙ l .answer))
-    (c .before .before .objects .ensures (fileTotal file) platform flags (l .names) (l .readers) (l .listed) (lists-padded file _ (a .at) _ (l .readers) (p .0 .ten) (l .listed .counts) (v .2)))
+    rw (p .0 .ten, behind-lists es file (a .grid .room) platform flags 10 (sym (short-file es file 10 (p .0 .short)) ∙ l .answer))
+    (c .before .before .objects .ensures (fileTotal file) platform flags (l .names) (l .readers) (l .listed) (lists-padded file _ _ (l .readers) (l .listed .counts) (v .2)))
 
 pub listed-spec : {M : Type 1} → statement M
 listed-spec =

@@ -7,12 +7,10 @@ use lib.ListN.{length}
 use borrow.Author.Tests.{le-leb, lt-leb}
 use Rattle.answers.specs.Told.{told}
 use Rattle.reading.specs.Reads.{small-by-index}
-use Rattle.places.specs.Padding.{pad-few}
+use Rattle.places.specs.Padding.{past-few, pad-few}
 use Rattle.readers.proofs.Parts.{up-to-bound}
-use Rattle.readers.proofs.Whole.{lists-long, lists-refused, lists-counted, total-is}
+use Rattle.readers.proofs.Whole.{lists-long, lists-refused, lists-counted, up-to-past, total-is}
 use Rattle.readers.specs.Left.{enough, left-long, left-full, left-counted, long-enough, enough-for}
-use mathlib.Core.Path.{sym, ap, _∙_}
-use Rattle.readers.specs.Left.{left-long, left-full, left-counted, long-enough, enough-for}
 use borrow.Author.Needs.{needs}
 use Rattle.readers.proofs.read_lists.Statement.{statement}
 use Rattle.readers.proofs.read_lists.Tie as tie
@@ -38,7 +36,7 @@ returns-2 c =
     let h = (c .before .before .before .before .before .before .if1) .left in
     let n = sym ((c .before .before .before .before .before .reader-count) .ensures) ∙ ap told ((c .before .before .before .count) .given .1) in
     let b = lt-leb _ _ (rw ((c .before .codes-for) .ensures) at ((c .if2) .taken)) in
-    (enough-for (a .file .now) (a .at) _ h false (rw n b), (left-full _ _ _ _ _ _ h (rw n b)))
+    (enough-for (a .file .now) 10 _ h false (rw n b), (left-full _ _ _ _ _ _ h (rw n b)))
 
 padding-at-requires : tie.Need-padding-at-requires
 padding-at-requires c κs = search needs
@@ -53,9 +51,11 @@ counted-requires c κs =
     let codes-for = c .before .before .before .before .before .codes-for in
     let if2 = c .before .before .before .before .if2 in
     let file = args .file .now in
-    let small = small-by-index file (λ i h. omega (arith, shared-slice-known .given i)) in (
-      (if1 .left, up-to-bound _ _ _ (sym (reader-count .ensures) ∙ ap told (count .given .1)), rw (codes-for .ensures) at (if2 .left), search needs, search needs),
-      omega (arith, (c .padding-at) .ensures, pad-few file small (args .at)),
+    let small = small-by-index file (λ i h. omega (arith, shared-slice-known .given i)) in
+    let n = sym (reader-count .ensures) ∙ ap told (count .given .1) in
+    let past = up-to-past (enumsOf (args .enums .now)) file 10 (if1 .left) n in (
+      (if1 .left, up-to-bound _ _ _ n, rw (codes-for .ensures) at (if2 .left), search needs, search needs, omega (arith, past, past-few file small 10)),
+      omega (arith, (c .padding-at) .ensures, pad-few file small 10),
     )
 
 returns-3 : tie.Need-returns-3
@@ -63,7 +63,7 @@ returns-3 c =
     let a = (c .before .before .before .before .before .before .before .before .args) in
     let h = (c .before .before .before .before .if1) .left in
     let n = sym ((c .before .before .before .reader-count) .ensures) ∙ ap told ((c .before .number) .given .1) in
-    ((enough-for (a .file .now) (a .at) _ h true (rw n), lists-refused _ _ _ h n), (left-counted _ _ _ _ _ _ h (rw n) ∙ rw n))
+    ((enough-for (a .file .now) 10 _ h true (rw n), lists-refused _ _ _ h n), (left-counted _ _ _ _ _ _ h (rw n) ∙ rw n))
 
 same-length : tie.Need-same-length
 same-length c = search needs
@@ -74,9 +74,9 @@ returns-4 c =
     let h = (c .before .before .before .before .before .before .before .before .before .before .before .before .before .if1) .left in
     let n = sym ((c .before .before .before .before .before .before .before .before .before .before .before .before .reader-count) .ensures) ∙ ap told ((c .before .before .before .before .before .before .before .before .before .before .count) .given .1) in
     let b = le-leb _ _ (rw ((c .before .before .before .before .before .before .before .before .codes-for) .ensures) at ((c .before .before .before .before .before .before .before .if2) .left)) in
-    let r : enough (a .file .now) (a .at) (length (a .codes .now)) ≡ true = enough-for (a .file .now) (a .at) (length (a .codes .now)) h true (rw n b) in (
-      rw (lists-counted (enumsOf (a .enums .now)) (a .file .now) (a .at) h n, total-is (enumsOf (a .enums .now)) (a .file .now) (a .at) h n ((c .before .before .before .padding-at) .ensures), r) ((c .before .before .counted) .ensures .0),
-      rw (left-counted (enumsOf (a .enums .now)) (a .file .now) (a .at) (a .codes .now) (a .targets .now) (a .starts .now) h (rw n b), n) ((c .before .before .counted) .ensures .1),
+    let r : enough (a .file .now) 10 (length (a .codes .now)) ≡ true = enough-for (a .file .now) 10 (length (a .codes .now)) h true (rw n b) in (
+      rw (lists-counted (enumsOf (a .enums .now)) (a .file .now) 10 h n, total-is (enumsOf (a .enums .now)) (a .file .now) 10 h n ((c .before .before .before .padding-at) .ensures), r) ((c .before .before .counted) .ensures .0),
+      rw (left-counted (enumsOf (a .enums .now)) (a .file .now) 10 (a .codes .now) (a .targets .now) (a .starts .now) h (rw n b), n) ((c .before .before .counted) .ensures .1),
     )
 
 pub read-lists-spec : {M : Type 1} → statement M

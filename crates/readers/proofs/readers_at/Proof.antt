@@ -87,7 +87,7 @@ cast-starts c =
     let file = c .before .before .before .before .before .before .before .before .before .before .before .before .before .before .args .file .now in
     let small = small-by-index file (λ i h. omega (arith, c .before .before .before .before .before .before .before .before .before .before .before .before .before .shared-slice-known .given i)) in
     let takes = rw (c .before .first .given .1) at (reader-takes _ (enums-sized _) file _ _ _ (ready-before (p .0) (p .1) (p .2) (v .0) (v .3) h) small (c .before .before .before .before .before .reader-at .ensures)) in
-    omega (arith, takes .inside, p .0)
+    omega (arith, takes .near, v .5 .near, p .1, p .5)
 
 mul-starts : tie.Need-mul-starts Inv-loop μ-loop
 mul-starts c = search needs
