@@ -5,9 +5,8 @@ use mathlib.Core.List.{List, [], _∷_, _++_, map}
 use Prim.Native.Nat.{ℕ, zero, suc, _+_, _*_, _-_, _≤_}
 use native.Mathlib.Omega.{arith}
 use native.Mathlib.Numerals.{add-one}
-use lib.Dec.{leb}
 use lib.ListN.{length, take, drop, replicate, set, length-append, length-drop, take-append-drop}
-use borrow.Author.Tests.{eq-eqb, ne-eqb, le-leb, leb-true}
+use borrow.Author.Tests.{eq-eqb, ne-eqb, le-leb}
 use Rattle.laws.specs.Small.{differ}
 use Rattle.layout.specs.Target.{Target, object as anything}
 use Rattle.layout.specs.Slot as L
@@ -20,11 +19,10 @@ use Rattle.layout.specs.EnumList.{EnumEntry}
 use Rattle.layout.specs.Table.{shapeOf, cell, roomOf, wordsWith}
 use Rattle.reading.specs.Answer.{Answer, refused, read, bind, check}
 use Rattle.reading.specs.Reads.{Small, reads-bounds}
-use Rattle.reading.specs.Seven.{sevenAt}
 use Rattle.reading.specs.References.{length-flat}
 use Rattle.reading.specs.Walk.{Taken, sequence, walk}
 use Rattle.reading.specs.Drafts.{bare, length-bare}
-use Rattle.reading.specs.File.{Loaded as FileLoaded, accepted, rootKinds, headerAt, listsAt, objectsAt, finished, fileAt, toLoad, loadOf, tableOf, tableIn}
+use Rattle.reading.specs.File.{Loaded as FileLoaded, accepted, rootKinds, headerAt, listsAt, objectsAt, finished, fileAt, toLoad, loadOf, tableIn}
 use Rattle.reading.specs.Front.{header-sound, lists-reads}
 use Rattle.table.specs.declared.Grid.{Grid}
 use Rattle.table.specs.Stores.{writtenRows}
@@ -56,7 +54,8 @@ use Rattle.load.specs.Turns.{Counts, whole as whole-nest, counts-walked,
 use Rattle.load.specs.Loads.{Total, fileTotal, Loads, behindHeader, answerOf}
 use Rattle.readers.specs.Judged.{judgedName, judges}
 use Rattle.readers.specs.Parts.{upTo}
-use Rattle.readers.specs.Left.{codesFor, enough, enough-for}
+use Rattle.readers.specs.Left.{codesFor, enough}
+use Rattle.readers.specs.Steps.{enough-for}
 use Rattle.enums.specs.Judge.{Judgement, lawful, enumsAt}
 use Rattle.enums.specs.Judge.{refused as list-refused}
 use Rattle.load.specs.Under.{underList, fileUnder, loadUnder}
@@ -241,17 +240,6 @@ codes-more (suc n) (suc m) h = omega arith
 -- the codes that so many readers need suffice, also where the reader count is refused
 pub suffice : (file : List ℕ) (at most : ℕ) {n next : ℕ} → length file ≤ 16777216 → upTo 64 file at ≡ read n next → n ≤ most → enough file at (codesFor most) ≡ true
 suffice file at most {n} s e h = enough-for file at (codesFor most) s true (rw e (le-leb (codesFor n) (codesFor most) (codes-more n most h)))
-
--- a count that was read is within its bound
-pub at-most : (file : List ℕ) (most at : ℕ) {n next : ℕ} → upTo most file at ≡ read n next → n ≤ most
-unfolding upTo bind check
-at-most file most at {n} {next} e = go (sevenAt file at) e where
-  go : (x : Answer ℕ) → bind x (λ m e. check (leb m most) 9 at (read m e)) ≡ read n next → n ≤ most
-  go (refused a b) q = differ cc
-  go (read m f) q = test (leb m most) refl q where
-    test : (b : Bool) → leb m most ≡ b → check b 9 at (read m f) ≡ read n next → n ≤ most
-    test true t r = let z : m ≡ n = cc in omega (arith, leb-true m most t, z)
-    test false t r = differ cc
 
 pub suffice-refused : (file : List ℕ) (at room : ℕ) {n p : ℕ} → length file ≤ 16777216 → upTo 64 file at ≡ refused n p → enough file at room ≡ true
 suffice-refused file at room s e = enough-for file at room s true (rw e refl)

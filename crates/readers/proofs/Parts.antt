@@ -1,14 +1,11 @@
 -- What each part of the code shows of the reading. Assumes nothing.
-use mathlib.Core.Path.{_≡_, refl, ap}
-use mathlib.Core.Bool.{Bool, true, false}
+use mathlib.Core.Path.{_≡_, ap}
 use mathlib.Core.List.{List}
 use Prim.Native.Nat.{ℕ, _+_, _-_, _<_, _≤_}
 use native.Mathlib.Omega.{arith}
-use lib.Dec.{leb}
 use lib.ListN.{take, drop}
-use borrow.Author.Tests.{leb-true, le-leb, lt-leb, eq-eqb, ne-eqb}
-use Rattle.laws.specs.Small.{differ}
-use Rattle.reading.specs.Answer.{Answer, refused, read, bind, check}
+use borrow.Author.Tests.{le-leb, lt-leb, eq-eqb, ne-eqb}
+use Rattle.reading.specs.Answer.{refused, read, bind, check}
 use Rattle.reading.specs.Seven.{sevenAt}
 use Rattle.reading.specs.Little.{littleAt}
 use Rattle.readers.specs.Parts.{upTo, versionAt}
@@ -25,18 +22,6 @@ module _ (most : ℕ) (file : List ℕ) (at : ℕ) where
   pub up-to-more : {n e : ℕ} → sevenAt file at ≡ read n e → most < n → refused 9 at ≡ upTo most file at
   unfolding upTo bind check
   up-to-more {n} q h = rw (q, lt-leb n most h)
-
-  tested : (n v e f : ℕ) (b : Bool) → leb v most ≡ b → check b 9 at (read v f) ≡ read n e → n ≤ most
-  unfolding check
-  tested n v e f true t q = let z : v ≡ n = cc in omega (arith, leb-true v most t)
-  tested n v e f false t q = differ cc
-
-  pub up-to-bound : {n e : ℕ} → upTo most file at ≡ read n e → n ≤ most
-  unfolding upTo bind
-  up-to-bound {n} {e} q = go (sevenAt file at) q where
-    go : (x : Answer ℕ) → bind x (λ n e. check (leb n most) 9 at (read n e)) ≡ read n e → n ≤ most
-    go (refused k p) q = differ cc
-    go (read v f) q = tested n v e f (leb v most) refl q
 
 module _ (file : List ℕ) (at : ℕ) where
   pub version-refused : {n p : ℕ} → littleAt file 4 at at ≡ refused n p → refused n p ≡ versionAt file at

@@ -5,7 +5,6 @@ use mathlib.Core.List.{List, []}
 use Prim.Native.Nat.{ℕ, _+_, _<_, _≤_}
 use lib.Dec.{leb}
 use lib.ListN.{length, take, drop, getD}
-use borrow.Author.Tests.{le-leb}
 use Rattle.layout.specs.Target.{Target}
 use Rattle.layout.specs.EnumList.{EnumEntry}
 use Rattle.targets.specs.Code.{preludeSize}
@@ -21,7 +20,7 @@ use Rattle.readers.specs.declared.Lists.the-variants.{Refused, Read, NoR
 use Rattle.readers.specs.Listed.{Listed}
 use Rattle.readers.specs.Judged.{judgedName}
 use Rattle.readers.specs.Parts.{upTo}
-use Rattle.readers.specs.Left.{codesFor, enough}
+use Rattle.readers.specs.Left.{enough}
 
 -- what the names, the targets and the shared count are read as
 abbrev pub Reading : Type 0
@@ -34,11 +33,6 @@ countedAt es file n at = bind (readersAt (judgedName es) file n at) (λ l e. bin
 -- the lists of a file; 01: "longer than 16,777,216 bytes is 9 at 0"
 unfoldable pub listsOf : List EnumEntry → (file : List ℕ) (at : ℕ) → Reading
 listsOf es file at = check (leb (length file) 16777216) 9 0 (listsAt (judgedName es) file at)
-
--- a file that the header's rules let through is not longer
-pub short-file : (es : List EnumEntry) (file : List ℕ) (at : ℕ) → length file ≤ 16777216 → listsOf es file at ≡ listsAt (judgedName es) file at
-unfolding listsOf check
-short-file es file at h = rw (le-leb (length file) 16777216 h)
 
 -- the reader list that two arrays and a count make
 abbrev pub listing : (targets starts : List ℕ) (count : ℕ) → Readers
@@ -81,8 +75,3 @@ ReadsCounted es file n at own codes codes′ targets starts r =
 abbrev pub ReadsListsAt : (es : List EnumEntry) (file : List ℕ) (at : ℕ) (codes codes′ targets starts : List ℕ) → Lists → Type 0
 ReadsListsAt es file at codes codes′ targets starts r =
     ReadsLists (listsOf es file at) (listsTotal file at) (enough file at (length codes)) file codes codes′ targets starts r
-
--- at most 64 readers are read, from a file of 01's size, the first at byte 15 at the latest; there is room for the codes, and the arrays have their sizes
-abbrev pub Sized : (file : List ℕ) (n at : ℕ) (codes targets starts : List ℕ) → Type 0
-Sized file n at codes targets starts =
-    (length file ≤ 16777216) × (n ≤ 64) × (codesFor n ≤ length codes) × (length targets ≡ 64) × (length starts ≡ 64) × (at ≤ 15)

@@ -2,9 +2,12 @@
 pub mod Listed
 pub mod Judged
 pub mod Parts
-pub mod Passed
-pub mod Turns
 pub mod Left
+pub mod Turns
 pub mod Contract
 -- A reader of the definitions can stop here: laws about them follow.
+pub mod Steps
+pub mod Passing
+pub mod Turning
+pub mod Whole
 pub mod Meaning

@@ -10,9 +10,7 @@ ghost use Rattle.reading.specs.Seven.{sevenAt};
 ghost use Rattle.names.specs.Entries.{enumsOf};
 ghost use Rattle.numbers.specs.Padded.{padOf};
 ghost use Rattle.readers.specs.Parts.{upTo, versionAt, endOf};
-ghost use Rattle.readers.specs.Contract.{Sized, ReadsCounted, ReadsListsAt};
-ghost use Rattle.readers.specs.Turns.{Ends};
-ghost use Rattle.readers.specs.Left.{namedLeft, readerLeft, readersLeft, arraysLeft, codesFor, listsLeft, arrays};
+ghost use Rattle.readers.specs.Left.{namedLeft, readerLeft, readersLeft, sharedLeft, codesFor, listsLeft, arrays, Sized};
 
 // The types and names of the first `count` readers.
 pub struct Readers {
@@ -139,9 +137,7 @@ fn readers_at(
     n: usize,
     at: usize,
 ) -> Many
-    requires { ⌜ Sized (now file) n at (now codes) (now targets) (now starts) ⌝ }
-    ensures { λ r. ⌜ Ends (enumsOf (now (enums .entry))) (now (file .entry))
-        (now (codes .entry)) (now (codes .exit)) (now (targets .exit)) (now (starts .exit)) n at r ⌝ }
+    requires { ⌜ Sized (now file) n (now codes) (now targets) (now starts) × (at ≤ 15) ⌝ }
     ensures { λ r. ⌜ readersLeft (enumsOf (now (enums .entry))) (now (file .entry)) n at (now (codes .entry)) (now (targets .entry)) (now (starts .entry))
         ≡ (r, arrays (now (codes .exit)) (now (targets .exit)) (now (starts .exit))) ⌝ }
 {
@@ -186,11 +182,9 @@ fn counted(
     at: usize,
     padding: u32,
 ) -> Lists
-    requires { ⌜ Sized (now file) n at (now codes) (now targets) (now starts) × (padding ≤ 4) ⌝ }
-    ensures { λ r. ⌜ ReadsCounted (enumsOf (now (enums .entry))) (now (file .entry)) n at padding
-        (now (codes .entry)) (now (codes .exit)) (now (targets .exit)) (now (starts .exit)) r ⌝ }
-    ensures { λ _. ⌜ arraysLeft (enumsOf (now (enums .entry))) (now (file .entry)) n at (now (codes .entry)) (now (targets .entry)) (now (starts .entry))
-        ≡ arrays (now (codes .exit)) (now (targets .exit)) (now (starts .exit)) ⌝ }
+    requires { ⌜ Sized (now file) n (now codes) (now targets) (now starts) × (at ≤ 15) × (padding ≤ 4) ⌝ }
+    ensures { λ r. ⌜ sharedLeft (enumsOf (now (enums .entry))) (now (file .entry)) n at padding
+        (now (codes .entry)) (now (targets .entry)) (now (starts .entry)) ≡ (r, arrays (now (codes .exit)) (now (targets .exit)) (now (starts .exit))) ⌝ }
 {
     match readers_at(file, enums, codes, targets, starts, n, at) {
         Many::Refused(number, place) => Lists::Refused(number, place),
@@ -231,10 +225,8 @@ pub fn read_lists(
     targets: &mut [u16; 64],
     starts: &mut [u16; 64],
 ) -> Lists
-    ensures { λ r. ⌜ ReadsListsAt (enumsOf (now (enums .entry))) (now (file .entry)) 10
-        (now (codes .entry)) (now (codes .exit)) (now (targets .exit)) (now (starts .exit)) r ⌝ }
-    ensures { λ _. ⌜ listsLeft (enumsOf (now (enums .entry))) (now (file .entry)) 10 (now (codes .entry)) (now (targets .entry)) (now (starts .entry))
-        ≡ arrays (now (codes .exit)) (now (targets .exit)) (now (starts .exit)) ⌝ }
+    ensures { λ r. ⌜ listsLeft (enumsOf (now (enums .entry))) (now (file .entry)) 10 (now (codes .entry)) (now (targets .entry)) (now (starts .entry))
+        ≡ (r, arrays (now (codes .exit)) (now (targets .exit)) (now (starts .exit))) ⌝ }
 {
     if 16777216 < file.len() {
         return Lists::Refused(9, 0);

@@ -20,8 +20,10 @@ use Rattle.targets.specs.Place.{equalAt}
 use Rattle.targets.specs.Laws.{equal-then, then-equal}
 use Rattle.readers.specs.Judged.{judgedName}
 use Rattle.readers.specs.Parts.{upTo}
-use Rattle.readers.specs.Left.{codesFor, roomFor, enough, enough-for}
-use Rattle.readers.specs.Contract.{listsOf, short-file, ListsRead}
+use Rattle.readers.specs.Left.{codesFor, roomFor, enough}
+use Rattle.readers.specs.Steps.{enough-for}
+use Rattle.readers.specs.Whole.{short-file}
+use Rattle.readers.specs.Contract.{listsOf, ListsRead}
 use Rattle.profile.specs.Offences.{wrongAt, nameStart, among, doubled}
 use Rattle.fault_places.specs.declared.Place.{Place}
 use Rattle.fault_places.specs.declared.Place.the-variants.{Fine, At}

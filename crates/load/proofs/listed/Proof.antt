@@ -1,9 +1,10 @@
-use mathlib.Core.Path.{_≡_, sym, _∙_}
+use mathlib.Core.Path.{_≡_, refl, sym, _∙_}
 use native.Mathlib.Omega.{arith}
 use lib.ListN.{length}
 use Rattle.reading.specs.Reads.{small-by-index}
 use Rattle.names.specs.Entries.{enumsOf}
-use Rattle.readers.specs.Contract.{short-file}
+use Rattle.readers.specs.Whole.{short-file}
+use Rattle.readers.specs.Meaning.{lists-take}
 use Rattle.load.specs.Loads.{fileTotal}
 use Rattle.load.specs.Laws.{not-lacking, kept-prelude, lists-inside, lists-refused, behind-lists, lists-padded, loads-refused}
 use borrow.Author.Needs.{needs}
@@ -32,7 +33,7 @@ objects-requires c κs =
     let file = a .file .now in
     let es = enumsOf (a .enums .now) in
     let small = small-by-index file (λ i h. omega (arith, c .before .before .before .before .before .before .before .before .before .before .before .before .before .before .before .before .before .before .shared-slice-known .given i)) in
-    let l = (rw (c .before .before .before .count .given .1) at (c .before .before .before .before .before .before .before .read-lists .ensures .0)) .1 in
+    let l = (rw (c .before .before .before .count .given .1) at (lists-take (a .enums .now) (a .file .now) small 10 _ _ _ refl refl (c .before .before .before .before .before .before .before .read-lists .ensures))) .1 in
     let q = sym (short-file es file 10 (p .0 .short)) ∙ l .answer in
     (record { long = p .0 .long; few = omega (arith, c .before .before .before .before .before .before .before .before .before .before .before .before .before .before .before .before .before .before .before .good); rows = omega arith; place = lists-inside es file small 10 (omega (arith, p .0 .inside, p .0 .ten)) q; short = omega (arith, p .0 .short) }, record { readers = l .readers; listed = l .listed; prelude = kept-prelude _ (l .kept ∙ c .before .before .before .before .before .before .before .before .before .before .before .before .before .put-prelude .ensures) }, l .shared-few)
 
@@ -44,7 +45,8 @@ returns c =
     λ platform flags.
     let p = c .before .before .before .before .before .before .before .before .before .before .before .before .before .before .before .before .pre in
     let a = c .before .before .before .before .before .before .before .before .before .before .before .before .before .before .before .before .args in
-    let l = rw (c .enum-told .given .1) at (c .before .before .before .before .read-lists .ensures .0) in
+    let small = small-by-index (a .file .now) (λ i h. omega (arith, c .before .before .before .before .before .before .before .before .before .before .before .before .before .before .before .shared-slice-known .given i)) in
+    let l = rw (c .enum-told .given .1) at (lists-take (a .enums .now) (a .file .now) small 10 _ _ _ refl refl (c .before .before .before .before .read-lists .ensures)) in
     let m : length (c .before .before .before .before .before .before .before .before .before .before .put-prelude .last .0) ≡ length (a .codes .now) = search needs in
     absurd (not-lacking (a .file .now) 10 _ _ m (rw (p .0 .ten) at (p .2)) l)
 
@@ -58,7 +60,8 @@ returns-2 c =
     let p = c .before .before .before .before .before .before .before .before .before .before .before .before .before .before .before .before .before .pre in
     let file = a .file .now in
     let es = enumsOf (a .enums .now) in
-    let l = rw (c .before .number .given .1) at (c .before .before .before .before .before .read-lists .ensures .0) in
+    let small = small-by-index (a .file .now) (λ i h. omega (arith, c .before .before .before .before .before .before .before .before .before .before .before .before .before .before .before .before .shared-slice-known .given i)) in
+    let l = rw (c .before .number .given .1) at (lists-take (a .enums .now) (a .file .now) small 10 _ _ _ refl refl (c .before .before .before .before .before .read-lists .ensures)) in
     rw (p .0 .ten) (loads-refused _ _ _ (a .words .now) _ (lists-refused es file (a .grid .room) platform flags 10 (sym (short-file es file 10 (p .0 .short)) ∙ l .1)))
 
 same-length-3 : tie.Need-same-length-3
@@ -74,7 +77,8 @@ returns-3 c =
     let p = c .before .before .before .before .before .before .before .before .before .before .before .before .before .before .before .before .before .before .before .before .before .before .pre in
     let file = a .file .now in
     let es = enumsOf (a .enums .now) in
-    let v = (rw (c .before .before .before .before .before .before .count .given .1) at (c .before .before .before .before .before .before .before .before .before .before .read-lists .ensures .0)) in
+    let small = small-by-index (a .file .now) (λ i h. omega (arith, c .before .before .before .before .before .before .before .before .before .before .before .before .before .before .before .before .before .before .before .before .before .shared-slice-known .given i)) in
+    let v = rw (c .before .before .before .before .before .before .count .given .1) at (lists-take (a .enums .now) (a .file .now) small 10 _ _ _ refl refl (c .before .before .before .before .before .before .before .before .before .before .read-lists .ensures)) in
     let l = v .1 in
     rw (p .0 .ten, behind-lists es file (a .grid .room) platform flags 10 (sym (short-file es file 10 (p .0 .short)) ∙ l .answer))
     (c .before .before .objects .ensures (fileTotal file) platform flags (l .names) (l .readers) (l .listed) (lists-padded file _ _ (l .readers) (l .listed .counts) (v .2)))

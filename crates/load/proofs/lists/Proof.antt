@@ -1,7 +1,8 @@
 use mathlib.Core.Path.{sym, ap, _∙_}
 use native.Mathlib.Omega.{arith}
 use Rattle.answers.specs.Told.{told}
-use Rattle.load.specs.Laws.{suffice, suffice-refused, at-most}
+use Rattle.readers.specs.Whole.{up-to-bound}
+use Rattle.load.specs.Laws.{suffice, suffice-refused}
 use borrow.Author.Needs.{needs}
 use Rattle.load.proofs.lists.Statement.{statement}
 use Rattle.load.proofs.lists.Tie as tie
@@ -57,7 +58,7 @@ many-listed-requires : tie.Need-many-listed-requires
 many-listed-requires c κs =
     let p = c .before .before .before .before .before .before .before .before .before .before .before .pre in
     let e = sym (c .before .before .before .before .before .before .before .reader-count .ensures) ∙ ap told (c .before .before .before .before .before .n .given .1) in
-    (p, suffice _ _ 64 (p .short) e (at-most _ 64 _ e))
+    (p, suffice _ _ 64 (p .short) e (up-to-bound 64 _ _ e))
 
 same-length-4 : tie.Need-same-length-4
 same-length-4 c = search needs

@@ -4,7 +4,7 @@ use native.Mathlib.Omega.{arith}
 use lib.ListN.{length, drop, length-drop}
 use borrow.Author.Tests.{leb-true, not-true, not-false}
 use Rattle.readers.proofs.Parts.{name-part}
-use Rattle.readers.specs.Left.{name-missing, name-resolved}
+use Rattle.readers.specs.Steps.{name-missing, name-resolved}
 use borrow.Author.Needs.{needs}
 use Rattle.readers.proofs.named_at.Statement.{statement}
 use Rattle.readers.proofs.named_at.Tie as tie

@@ -1,22 +1,18 @@
 -- `readers::read_lists` meets its contract. Assumes nothing.
-use mathlib.Core.Path.{_≡_, sym, ap, _∙_}
-use mathlib.Core.Bool.{true, false}
+use mathlib.Core.Path.{sym, ap, _∙_}
 use native.Mathlib.Omega.{arith}
 use Rattle.names.specs.Entries.{enumsOf}
-use lib.ListN.{length}
-use borrow.Author.Tests.{le-leb, lt-leb}
 use Rattle.answers.specs.Told.{told}
 use Rattle.reading.specs.Reads.{small-by-index}
 use Rattle.places.specs.Padding.{past-few, pad-few}
-use Rattle.readers.proofs.Parts.{up-to-bound}
-use Rattle.readers.proofs.Whole.{lists-long, lists-refused, lists-counted, up-to-past, total-is}
-use Rattle.readers.specs.Left.{enough, left-long, left-full, left-counted, long-enough, enough-for}
+use Rattle.readers.specs.Steps.{left-long, left-refused, left-full, left-counted}
+use Rattle.readers.specs.Whole.{up-to-bound, up-to-past}
 use borrow.Author.Needs.{needs}
 use Rattle.readers.proofs.read_lists.Statement.{statement}
 use Rattle.readers.proofs.read_lists.Tie as tie
 
 returns : tie.Need-returns
-returns c = ((long-enough _ _ _ ((c .if1) .taken), lists-long _ _ _ ((c .if1) .taken)), (left-long _ _ _ _ _ _ ((c .if1) .taken)))
+returns c = left-long _ _ _ _ _ _ (c .if1 .taken)
 
 reader-count-requires : tie.Need-reader-count-requires
 reader-count-requires c κs = search needs
@@ -32,11 +28,9 @@ codes-for-requires c κs = up-to-bound _ _ _ (sym ((c .before .before .before .r
 
 returns-2 : tie.Need-returns-2
 returns-2 c =
-    let a = (c .before .before .before .before .before .before .before .before .before .before .args) in
-    let h = (c .before .before .before .before .before .before .if1) .left in
-    let n = sym ((c .before .before .before .before .before .reader-count) .ensures) ∙ ap told ((c .before .before .before .count) .given .1) in
-    let b = lt-leb _ _ (rw ((c .before .codes-for) .ensures) at ((c .if2) .taken)) in
-    (enough-for (a .file .now) 10 _ h false (rw n b), (left-full _ _ _ _ _ _ h (rw n b)))
+    let h = c .before .before .before .before .before .before .if1 .left in
+    let n = sym (c .before .before .before .before .before .reader-count .ensures) ∙ ap told (c .before .before .before .count .given .1) in
+    left-full _ _ _ _ _ _ h n (rw (c .before .codes-for .ensures) at (c .if2 .taken))
 
 padding-at-requires : tie.Need-padding-at-requires
 padding-at-requires c κs = search needs
@@ -54,30 +48,26 @@ counted-requires c κs =
     let small = small-by-index file (λ i h. omega (arith, shared-slice-known .given i)) in
     let n = sym (reader-count .ensures) ∙ ap told (count .given .1) in
     let past = up-to-past (enumsOf (args .enums .now)) file 10 (if1 .left) n in (
-      (if1 .left, up-to-bound _ _ _ n, rw (codes-for .ensures) at (if2 .left), search needs, search needs, omega (arith, past, past-few file small 10)),
+      (if1 .left, up-to-bound _ _ _ n, rw (codes-for .ensures) at (if2 .left), search needs, search needs),
+      omega (arith, past, past-few file small 10),
       omega (arith, (c .padding-at) .ensures, pad-few file small 10),
     )
 
 returns-3 : tie.Need-returns-3
-returns-3 c =
-    let a = (c .before .before .before .before .before .before .before .before .args) in
-    let h = (c .before .before .before .before .if1) .left in
-    let n = sym ((c .before .before .before .reader-count) .ensures) ∙ ap told ((c .before .number) .given .1) in
-    ((enough-for (a .file .now) 10 _ h true (rw n), lists-refused _ _ _ h n), (left-counted _ _ _ _ _ _ h (rw n) ∙ rw n))
+returns-3 c = left-refused _ _ _ _ _ _ (c .before .before .before .before .if1 .left) (sym (c .before .before .before .reader-count .ensures) ∙ ap told (c .before .number .given .1))
 
 same-length : tie.Need-same-length
 same-length c = search needs
 
 returns-4 : tie.Need-returns-4
 returns-4 c =
-    let a = (c .before .before .before .before .before .before .before .before .before .before .before .before .before .before .before .before .before .args) in
-    let h = (c .before .before .before .before .before .before .before .before .before .before .before .before .before .if1) .left in
-    let n = sym ((c .before .before .before .before .before .before .before .before .before .before .before .before .reader-count) .ensures) ∙ ap told ((c .before .before .before .before .before .before .before .before .before .before .count) .given .1) in
-    let b = le-leb _ _ (rw ((c .before .before .before .before .before .before .before .before .codes-for) .ensures) at ((c .before .before .before .before .before .before .before .if2) .left)) in
-    let r : enough (a .file .now) 10 (length (a .codes .now)) ≡ true = enough-for (a .file .now) 10 (length (a .codes .now)) h true (rw n b) in (
-      rw (lists-counted (enumsOf (a .enums .now)) (a .file .now) 10 h n, total-is (enumsOf (a .enums .now)) (a .file .now) 10 h n ((c .before .before .before .padding-at) .ensures), r) ((c .before .before .counted) .ensures .0),
-      rw (left-counted (enumsOf (a .enums .now)) (a .file .now) 10 (a .codes .now) (a .targets .now) (a .starts .now) h (rw n b), n) ((c .before .before .counted) .ensures .1),
-    )
+    let if1 = c .before .before .before .before .before .before .before .before .before .before .before .before .before .if1 in
+    let reader-count = c .before .before .before .before .before .before .before .before .before .before .before .before .reader-count in
+    let count = c .before .before .before .before .before .before .before .before .before .before .count in
+    let codes-for = c .before .before .before .before .before .before .before .before .codes-for in
+    let if2 = c .before .before .before .before .before .before .before .if2 in
+    let n = sym (reader-count .ensures) ∙ ap told (count .given .1) in
+    left-counted _ _ _ _ _ _ (if1 .left) n (rw (codes-for .ensures) at (if2 .left)) ∙ rw (← c .before .before .before .padding-at .ensures) (c .before .before .counted .ensures)
 
 pub read-lists-spec : {M : Type 1} → statement M
 read-lists-spec =

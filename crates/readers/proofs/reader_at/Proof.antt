@@ -4,7 +4,7 @@ use native.Mathlib.Omega.{arith}
 use Rattle.answers.specs.Told.{told}
 use Rattle.reading.specs.Reads.{small-by-index}
 use Rattle.reading.specs.Seven.{seven-next}
-use Rattle.readers.specs.Left.{count-refused, count-empty, count-long, count-fits}
+use Rattle.readers.specs.Steps.{count-refused, count-empty, count-long, count-fits}
 use borrow.Author.Needs.{needs}
 use Rattle.readers.proofs.reader_at.Statement.{statement}
 use Rattle.readers.proofs.reader_at.Tie as tie

@@ -1,41 +1,31 @@
 -- `readers::readers_at` meets its contract: before each turn the first `i` readers are in the arrays. Assumes nothing.
-use mathlib.Core.Path.{_≡_, refl, sym, ap, subst, _∙_}
-use mathlib.Core.List.{List}
-use Prim.Native.Nat.{ℕ, _-_, _<_, _≤_}
+use mathlib.Core.Path.{_≡_, sym, ap, _∙_}
+use Prim.Native.Nat.{_-_}
 use native.Mathlib.Omega.{arith}
-use lib.ListN.{length}
-use Rattle.layout.specs.EnumList.{EnumEntry}
 use Rattle.names.specs.Entries.{enumsOf, enums-sized}
-use Rattle.readers.specs.Parts.{Ready}
-use Rattle.readers.specs.Meaning.{reader-takes}
-use Rattle.readers.specs.Turns.{Reached}
-use Rattle.readers.specs.Passed.{Passed, none-passed, one-passed}
-use Rattle.readers.proofs.Turns.{start, refuse, stop, turn}
 use Rattle.reading.specs.Reads.{small-by-index}
 use Rattle.places.specs.Padding.{pad-few}
-use Rattle.readers.specs.Left.{codesFor, codes-enough, readersFrom, readersLeft, readers-start, reader-turn, readers-end}
+use Rattle.readers.specs.Left.{readersFrom, readersLeft}
+use Rattle.readers.specs.Turns.{Underway}
+use Rattle.readers.specs.Steps.{readers-start, reader-turn, readers-end}
+use Rattle.readers.specs.Turning.{none-read, ready, one-read}
+use Rattle.readers.specs.Meaning.{reader-takes}
 use borrow.Author.Needs.{needs}
 use Rattle.readers.proofs.readers_at.Statement.{statement}
 use Rattle.readers.proofs.readers_at.Tie as tie
 
 abbrev Inv-loop : tie.InvT-loop
 Inv-loop file enums codes₀ targets₀ starts₀ n at i₀ used₀ next₀ padding₀ codes targets starts i used next padding =
-    (length codes ≡ length codes₀) × (length targets ≡ length targets₀) × (length starts ≡ length starts₀) × Reached (enumsOf enums) file codes₀ codes targets starts n at i used next
+    Underway (enumsOf enums) file codes₀ codes targets starts n at i used next padding
     × (readersFrom (enumsOf enums) file (n - i) i used next padding codes targets starts ≡ readersLeft (enumsOf enums) file n at codes₀ targets₀ starts₀)
-    × Passed file n at i next padding
 
 abbrev μ-loop : tie.MeasureT-loop
 μ-loop file enums codes₀ targets₀ starts₀ n at i₀ used₀ next₀ padding₀ codes targets starts i used next padding = n - i
 
--- the codes have room for those of one more name
-ready-before : {es : List EnumEntry} {file codes codes₀ targets starts : List ℕ} {n at i used next : ℕ} → length file ≤ 16777216 → n ≤ 64 → codesFor n ≤ length codes₀ → length codes ≡ length codes₀
-    → Reached es file codes₀ codes targets starts n at i used next → i < n → Ready file used codes
-ready-before {n = n} {i = i} size few room same r h =
-    let e = codes-enough n i h in
-    (size, omega (arith, r .room, r .few), omega (arith, r .room))
-
 loop-holds : tie.Need-loop-holds Inv-loop μ-loop
-loop-holds c = (refl, refl, refl, start _ _ _ _ _ _ _, readers-start _ _ _ _ _ _ _, none-passed _ _ _)
+loop-holds c =
+    let p = c .before .before .before .before .before .pre in
+    (none-read _ _ _ _ _ _ _ (p .0 .3) (p .0 .4), readers-start _ _ _ _ _ _ _)
 
 reader-at-requires : tie.Need-reader-at-requires Inv-loop μ-loop
 reader-at-requires c κs = search needs
@@ -56,13 +46,9 @@ returns : tie.Need-returns Inv-loop μ-loop
 returns c =
     let v = c .before .before .before .before .before .before .before .before .loop .inv in
     let h = c .before .before .before .before .before .before .before .loop-test .taken in
-    let p = c .before .before .before .before .before .before .before .before .before .before .before .before .before .before .pre in
-    let file = c .before .before .before .before .before .before .before .before .before .before .before .before .before .before .args .file .now in
-    let small = small-by-index file (λ i h. omega (arith, c .before .before .before .before .before .before .before .before .before .before .before .before .before .shared-slice-known .given i)) in
     let e = c .before .before .before .before .before .reader-at .ensures in
     let is = c .before .number .given .1 in
-    let takes = rw is at (reader-takes _ (enums-sized _) file _ _ _ (ready-before (p .0) (p .1) (p .2) (v .0) (v .3) h) small e) in
-    (refuse (v .3) h takes, sym (v .4) ∙ reader-turn _ _ _ _ _ _ _ _ _ _ _ _ h (sym is ∙ ap (λ o. o .0) (sym e)) (ap (λ o. o .1) (sym e)))
+    sym (v .1) ∙ reader-turn _ _ _ _ _ _ _ _ _ _ _ _ h (sym is ∙ ap (λ o. o .0) (sym e)) (ap (λ o. o .1) (sym e))
 
 enum-known-first : tie.Need-enum-known-first Inv-loop μ-loop
 enum-known-first c = search needs
@@ -71,7 +57,7 @@ cast-targets : tie.Need-cast-targets Inv-loop μ-loop
 cast-targets c =
     let loop = c .before .before .before .before .before .before .before .before .loop in
     let pre = c .before .before .before .before .before .before .before .before .before .before .before .before .before .before .pre in
-    omega (arith, loop .inv .3 .room, loop .inv .3 .few, pre .1)
+    omega (arith, loop .inv .0 .reached .room, loop .inv .0 .reached .few, pre .0 .1)
 
 mul-targets : tie.Need-mul-targets Inv-loop μ-loop
 mul-targets c = search needs
@@ -86,8 +72,8 @@ cast-starts c =
     let p = c .before .before .before .before .before .before .before .before .before .before .before .before .before .before .pre in
     let file = c .before .before .before .before .before .before .before .before .before .before .before .before .before .before .args .file .now in
     let small = small-by-index file (λ i h. omega (arith, c .before .before .before .before .before .before .before .before .before .before .before .before .before .shared-slice-known .given i)) in
-    let takes = rw (c .before .first .given .1) at (reader-takes _ (enums-sized _) file _ _ _ (ready-before (p .0) (p .1) (p .2) (v .0) (v .3) h) small (c .before .before .before .before .before .reader-at .ensures)) in
-    omega (arith, takes .near, v .5 .near, p .1, p .5)
+    let takes = rw (c .before .first .given .1) at (reader-takes _ (enums-sized _) file _ _ _ (ready (v .0) h (p .0 .0) (p .0 .1) (p .0 .2)) small (c .before .before .before .before .before .reader-at .ensures)) in
+    omega (arith, takes .near, v .0 .passed .near, p .0 .1, p .1)
 
 mul-starts : tie.Need-mul-starts Inv-loop μ-loop
 mul-starts c = search needs
@@ -107,7 +93,7 @@ add-padding c =
     let pre = c .before .before .before .before .before .before .before .before .before .before .before .before .before .before .before .pre in
     let file = args .file .now in
     let small = small-by-index file (λ i h. omega (arith, shared-slice-known .given i)) in
-    omega (arith, (c .padding-at) .ensures, pad-few file small (loop .next), loop .inv .5 .few, test .taken, pre .1)
+    omega (arith, (c .padding-at) .ensures, pad-few file small (loop .next), loop .inv .0 .passed .few, test .taken, pre .0 .1)
 
 add-i : tie.Need-add-i Inv-loop μ-loop
 add-i c = search needs
@@ -123,16 +109,9 @@ loop-again c =
     let v = (c .before .before .before .before .before .before .before .before .before .loop) .inv in
     let p = (c .before .before .before .before .before .before .before .before .before .before .before .before .before .before .before .pre) in
     let e = (c .before .before .before .before .before .before .reader-at) .ensures in
-    let t = rw ((c .before .before .first) .given .1) at (reader-takes _ (enums-sized _) file _ _ _ (ready-before (p .0) (p .1) (p .2) (v .0) (v .3) h) small e) in
+    let t = rw ((c .before .before .first) .given .1) at (reader-takes _ (enums-sized _) file _ _ _ (ready (v .0) h (p .0 .0) (p .0 .1) (p .0 .2)) small e) in
     let one = sym ((c .before .before .first) .given .1) ∙ ap (λ o. o .0) (sym e) in
-    rw ((c .padding-at) .ensures) (
-      search needs,
-      search needs,
-      search needs,
-      turn (v .3) t h (omega (arith, v .1, p .1, p .3)) (omega (arith, v .2, p .1, p .4)),
-      sym (reader-turn _ _ _ _ _ _ _ _ _ _ _ _ h one (ap (λ o. o .1) (sym e))) ∙ v .4,
-      one-passed file _ _ _ _ _ _ small h (t .answer) (v .5),
-    )
+    rw ((c .padding-at) .ensures) (one-read (v .0) h small (p .0 .1) t, sym (reader-turn _ _ _ _ _ _ _ _ _ _ _ _ h one (ap (λ o. o .1) (sym e))) ∙ v .1)
 
 same-length-4 : tie.Need-same-length-4 Inv-loop μ-loop
 same-length-4 c = search needs
@@ -144,12 +123,7 @@ same-length-6 : tie.Need-same-length-6 Inv-loop μ-loop
 same-length-6 c = search needs
 
 returns-2 : tie.Need-returns-2 Inv-loop μ-loop
-returns-2 c =
-    let loop = c .before .loop in
-    let args = c .before .before .before .before .before .before .before .args in
-    let v = loop .inv in
-    let all : loop .i ≡ args .n = omega (arith, v .3 .few, (c .loop-test) .left) in
-    ((stop (v .3) ((c .loop-test) .left), subst (λ k. Passed (args .file .now) (args .n) (args .at) k (loop .next) (loop .padding)) all (v .5)), (sym (v .4) ∙ readers-end _ _ _ _ _ _ _ _ _ _ ((c .loop-test) .left)))
+returns-2 c = sym (c .before .loop .inv .1) ∙ readers-end _ _ _ _ _ _ _ _ _ _ (c .loop-test .left)
 
 pub readers-at-spec : {M : Type 1} → statement M
 readers-at-spec =

@@ -1,7 +1,7 @@
--- The readers that were passed so far, and the padding of their names' lengths. Assumes nothing.
+-- Where the readers that were passed end, and the padding of their names' lengths: laws. Assumes nothing.
 use mathlib.Core.Path.{_≡_, refl, ap}
 use mathlib.Core.List.{List}
-use Prim.Native.Nat.{ℕ, suc, _+_, _*_, _-_, _<_, _≤_}
+use Prim.Native.Nat.{ℕ, suc, _+_, _-_, _<_, _≤_}
 use native.Mathlib.Omega.{arith}
 use lib.Dec.{eqb, leb}
 use lib.ListN.{length, drop}
@@ -16,14 +16,7 @@ use Rattle.numbers.specs.Padded.{numberOf, past, padOf}
 use Rattle.places.specs.Places.{behindEntry, entriesPlaces, entriesEnd, listsPlaces}
 use Rattle.places.specs.Padding.{padding, past-few, pad-few, lists-padding}
 use Rattle.readers.specs.Judged.{judgedName}
-
--- i of n readers, the first of which stands at `at`, were passed: the others stand from `next` on, and the lengths of the names passed have the padding `sum`;
--- a reader has at most 5 bytes of a length, 1,024 of a name and 4 of a version
-pub record Passed (file : List ℕ) (n at i next sum : ℕ) : Type 0 where
-  pub ends : entriesEnd file (n - i) next ≡ entriesEnd file n at
-  pub adds : sum + padding file (entriesPlaces file (n - i) next) ≡ padding file (entriesPlaces file n at)
-  pub few : sum ≤ 4 * i
-  pub near : next ≤ at + 1033 * i
+use Rattle.readers.specs.Turns.{Passed}
 
 module _ (file : List ℕ) where
   -- where a reader that was read ends

@@ -1,4 +1,4 @@
--- The whole reader list and the shared count. Assumes nothing.
+-- What reading the whole reader list and the shared count answers, by its parts: laws. Assumes nothing.
 use mathlib.Core.Path.{_≡_, refl, sym, _∙_}
 use mathlib.Core.Bool.{Bool, true, false}
 use mathlib.Core.List.{List, append-nil}
@@ -6,7 +6,7 @@ use Prim.Native.Nat.{ℕ, _-_, _<_, _≤_}
 use native.Mathlib.Omega.{arith}
 use lib.Dec.{leb}
 use lib.ListN.{length}
-use borrow.Author.Tests.{lt-leb}
+use borrow.Author.Tests.{leb-true, le-leb, lt-leb}
 use Rattle.layout.specs.Target.{Target}
 use Rattle.layout.specs.EnumList.{EnumEntry}
 use Rattle.reading.specs.Answer.{Answer, refused, read, bind, check, several}
@@ -14,12 +14,30 @@ use Rattle.reading.specs.Seven.{sevenAt}
 use Rattle.reading.specs.File.{readersAt, listsAt}
 use Rattle.readers.specs.Judged.{judgedName}
 use Rattle.readers.specs.Parts.{upTo}
-use Rattle.readers.proofs.Parts.{up-to-bound}
-use Rattle.readers.specs.Turns.{Ended-at}
-use Rattle.readers.specs.Contract.{Reading, countedAt, listsOf, short-file, ListsRead, listsTotal, countedTotal}
-use Rattle.readers.specs.Passed.{lists-total}
+use Rattle.readers.specs.Turns.{Underway}
+use Rattle.readers.specs.Contract.{Reading, countedAt, listsOf, ListsRead, listsTotal, countedTotal}
+use Rattle.readers.specs.Passing.{lists-total}
 use Rattle.numbers.specs.Padded.{past, padOf}
 use Rattle.laws.specs.Small.{differ}
+
+-- a count that was read is within its bound
+module _ (most : ℕ) (file : List ℕ) (at : ℕ) where
+  tested : (n v e f : ℕ) (b : Bool) → leb v most ≡ b → check b 9 at (read v f) ≡ read n e → n ≤ most
+  unfolding check
+  tested n v e f true t q = let z : v ≡ n = cc in omega (arith, leb-true v most t)
+  tested n v e f false t q = differ cc
+
+  pub up-to-bound : {n e : ℕ} → upTo most file at ≡ read n e → n ≤ most
+  unfolding upTo bind
+  up-to-bound {n} {e} q = go (sevenAt file at) q where
+    go : (x : Answer ℕ) → bind x (λ n e. check (leb n most) 9 at (read n e)) ≡ read n e → n ≤ most
+    go (refused k p) q = differ cc
+    go (read v f) q = tested n v e f (leb v most) refl q
+
+-- a file that the header's rules let through is not longer
+pub short-file : (es : List EnumEntry) (file : List ℕ) (at : ℕ) → length file ≤ 16777216 → listsOf es file at ≡ listsAt (judgedName es) file at
+unfolding listsOf check
+short-file es file at h = rw (le-leb (length file) 16777216 h)
 
 -- behind the reader count
 module _ (es : List EnumEntry) (file : List ℕ) (n at : ℕ) where
@@ -27,22 +45,21 @@ module _ (es : List EnumEntry) (file : List ℕ) (n at : ℕ) where
   unfolding countedAt bind
   readers-refused q = rw q
 
-  module _ {codes codes′ targets starts : List ℕ} {next : ℕ} (e : Ended-at es file codes codes′ targets starts n at next) where
-    all-read : readersAt (judgedName es) file n at ≡ read (e .reached .names, e .reached .readers) next
+  module _ {codes codes′ targets starts : List ℕ} {used next sum : ℕ} (u : Underway es file codes codes′ targets starts n at n used next sum) where
+    all-read : readersAt (judgedName es) file n at ≡ read (u .reached .names, u .reached .readers) next
     unfolding readersAt several bind
     all-read =
-        let z : n - e .i ≡ 0 = omega (arith, e .all) in
-        e .reached .answer ∙ rw (z, append-nil (e .reached .names), append-nil (e .reached .readers))
+        let z : n - n ≡ 0 = omega arith in
+        u .reached .answer ∙ rw (z, append-nil (u .reached .names), append-nil (u .reached .readers))
 
     pub shared-refused : {k p : ℕ} → upTo 256 file next ≡ refused k p → countedAt es file n at ≡ refused k p
     unfolding countedAt bind
     shared-refused q = rw (all-read, q)
 
-    pub shared-read : n ≤ 64 → length codes′ ≡ length codes → length targets ≡ 64 → length starts ≡ 64 → {s behind : ℕ} → upTo 256 file next ≡ read s behind → ListsRead (countedAt es file n at) file codes codes′ targets starts n s behind
+    pub shared-read : n ≤ 64 → {s behind : ℕ} → upTo 256 file next ≡ read s behind → ListsRead (countedAt es file n at) file codes codes′ targets starts n s behind
     unfolding countedAt bind
-    shared-read few x y z q =
-        let r = e .reached in
-        let l : length (r .readers) ≡ n = r .readers-are ∙ e .all in
+    shared-read few q =
+        let r = u .reached in
         record {
           names = r .names;
           readers = r .readers;
@@ -50,13 +67,13 @@ module _ (es : List EnumEntry) (file : List ℕ) (n at : ℕ) where
           shared-few = up-to-bound 256 file next q;
           paired = r .names-are ∙ sym (r .readers-are);
           listed = record {
-            counts = sym l;
-            few = omega arith;
+            counts = sym (r .readers-are);
+            few = omega (arith, r .readers-are);
             stands = λ i h. r .each i (omega (arith, r .readers-are)) .stands;
           };
-          codes-size = x;
-          targets-size = y;
-          starts-size = z;
+          codes-size = u .codes-size;
+          targets-size = u .targets-size;
+          starts-size = u .starts-size;
           kept = r .kept;
           named = λ i h. r .each i (omega (arith, r .names-are)) .there;
         }

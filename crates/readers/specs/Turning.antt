@@ -1,4 +1,4 @@
--- A turn of the loop over the readers. Assumes nothing.
+-- A reader more that was read: laws. Assumes nothing.
 use mathlib.Core.Path.{_≡_, refl, ap, _∙_}
 use mathlib.Core.Bool.{Bool, true, false}
 use mathlib.Core.List.{List, [], _∷_, _++_, append-assoc}
@@ -6,18 +6,24 @@ use Prim.Native.Nat.{ℕ, suc, _+_, _-_, _<_, _≤_}
 use mathlib.Core.Logic.{_≢_}
 use native.Mathlib.Omega.{arith}
 use lib.Dec.{ltb}
-use lib.ListN.{length, take, getD, set, length-append, List·getD-append}
-use lib.Seq.{sets, take-set-le, getD-set-same, getD-set-other, getD-at}
+use lib.ListN.{length, take, getD, set, length-set, length-append, List·getD-append}
+use lib.Seq.{sets, length-sets, take-set-le, getD-set-same, getD-set-other, getD-at}
 use borrow.Author.Tests.{ltb-true, ltb-false}
 use Rattle.layout.specs.Target.{Target, object}
 use Rattle.layout.specs.EnumList.{EnumEntry}
 use Rattle.targets.specs.Code.{preludeSize}
 use Rattle.targets.specs.Laws.{kept-stands}
 use Rattle.reading.specs.Answer.{Answer, refused, read, bind, several}
+use Rattle.reading.specs.Reads.{Small}
+use Rattle.reading.specs.Seven.{sevenAt}
 use Rattle.reading.specs.File.{readerAt, readersAt}
+use Rattle.numbers.specs.Padded.{padOf}
 use Rattle.readers.specs.Judged.{judgedName}
-use Rattle.readers.specs.Parts.{Taken}
-use Rattle.readers.specs.Turns.{Entered, after, Reached, Ended-at}
+use Rattle.readers.specs.Parts.{Ready, Taken}
+use Rattle.readers.specs.Left.{codesFor}
+use Rattle.readers.specs.Turns.{Entered, after, Reached, Underway}
+use Rattle.readers.specs.Steps.{codes-enough}
+use Rattle.readers.specs.Passing.{none-passed, one-passed}
 
 -- codes that are written further on leave those before
 take-sets : (n : ℕ) (l : List ℕ) (i : ℕ) (vs : List ℕ) → n ≤ i → take n (sets l i vs) ≡ take n l
@@ -36,7 +42,7 @@ after-one names readers name t (refused k p) = refl
 after-one names readers name t (read l e) = rw (append-assoc names (name ∷ []) (l .0), append-assoc readers (t ∷ []) (l .1))
 
 module _ (es : List EnumEntry) (file codes targets starts : List ℕ) (n at : ℕ) where
-  pub start : Reached es file codes codes targets starts n at 0 preludeSize at
+  start : Reached es file codes codes targets starts n at 0 preludeSize at
   start =
       let z : n - 0 ≡ n = omega arith in
       record {
@@ -57,9 +63,6 @@ module _ {es : List EnumEntry} {file codes codes′ targets starts : List ℕ} {
   refuse h q =
       let z : n - i ≡ suc (n - (i + 1)) = omega arith in
       r .answer ∙ rw (z, q)
-
-  pub stop : n ≤ i → Ended-at es file codes codes′ targets starts n at next
-  stop h = record { i = i; used = used; all = omega (arith, r .few); reached = r }
 
   module _ {codes″ : List ℕ} {first end behind : ℕ} (w : Taken (readerAt (judgedName es) file next) file codes′ codes″ used next first end behind) where
     answers : i < n → readersAt (judgedName es) file n at ≡ after (r .names ++ w .name ∷ []) (r .readers ++ w .t ∷ []) (readersAt (judgedName es) file (n - (i + 1)) behind)
@@ -86,7 +89,7 @@ module _ {es : List EnumEntry} {file codes codes′ targets starts : List ℕ} {
           let z : j ≡ i = omega (arith, ltb-false j i q) in
           rw (z, getD-set-same targets i used 0 in-targets, getD-set-same starts i first 0 in-starts, getD-at (r .names) (w .name) [] [] i (r .names-are), getD-at (r .readers) (w .t) [] object i (r .readers-are)) new
 
-    pub turn : i < n → i < length targets → i < length starts → Reached es file codes codes″ (set targets i used) (set starts i first) n at (i + 1) end behind
+    turn : i < n → i < length targets → i < length starts → Reached es file codes codes″ (set targets i used) (set starts i first) n at (i + 1) end behind
     turn h in-targets in-starts = record {
       names = r .names ++ w .name ∷ [];
       readers = r .readers ++ w .t ∷ [];
@@ -98,3 +101,24 @@ module _ {es : List EnumEntry} {file codes codes′ targets starts : List ℕ} {
       kept = rw (w .writes) (take-sets preludeSize codes′ used (w .words) (r .room .0)) ∙ r .kept;
       each = λ j g. entered j in-targets in-starts (ltb j i) refl g;
     }
+
+-- none of n readers was read yet
+pub none-read : (es : List EnumEntry) (file codes targets starts : List ℕ) (n at : ℕ) → length targets ≡ 64 → length starts ≡ 64 → Underway es file codes codes targets starts n at 0 preludeSize at 0
+none-read es file codes targets starts n at t s = record { reached = start es file codes targets starts n at; passed = none-passed file n at; codes-size = refl; targets-size = t; starts-size = s }
+
+module _ {es : List EnumEntry} {file codes codes′ targets starts : List ℕ} {n at i used next sum : ℕ} (u : Underway es file codes codes′ targets starts n at i used next sum) (h : i < n) where
+  -- the codes have room for those of one more name
+  pub ready : length file ≤ 16777216 → n ≤ 64 → codesFor n ≤ length codes → Ready file used codes′
+  ready short few room =
+      let e = codes-enough n i h in
+      (short, omega (arith, u .reached .room), omega (arith, u .reached .room, u .codes-size))
+
+  pub one-read : Small file → n ≤ 64 → {codes″ : List ℕ} {first end behind : ℕ} → Taken (readerAt (judgedName es) file next) file codes′ codes″ used next first end behind
+      → Underway es file codes codes″ (set targets i used) (set starts i first) n at (i + 1) end behind (sum + padOf (sevenAt file next) next)
+  one-read small few {first = first} w = record {
+    reached = turn (u .reached) w h (omega (arith, u .targets-size)) (omega (arith, u .starts-size));
+    passed = one-passed file es n at i next sum small h (w .answer) (u .passed);
+    codes-size = ap length (w .writes) ∙ length-sets codes′ used (w .words) ∙ u .codes-size;
+    targets-size = length-set targets i used ∙ u .targets-size;
+    starts-size = length-set starts i first ∙ u .starts-size;
+  }
