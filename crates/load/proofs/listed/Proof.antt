@@ -28,14 +28,22 @@ enum-known-count c = search needs
 
 objects-requires : tie.Need-objects-requires
 objects-requires c κs =
+    let good = c .before .before .before .before .before .before .before .before .before .before .before .before .before .before .before .before .before .before .before .good in
+    let shared-slice-known = c .before .before .before .before .before .before .before .before .before .before .before .before .before .before .before .before .before .before .shared-slice-known in
+    let put-prelude = c .before .before .before .before .before .before .before .before .before .before .before .before .before .put-prelude in
+    let read-lists = c .before .before .before .before .before .before .before .read-lists in
+    let count = c .before .before .before .count in
     let a = c .before .before .before .before .before .before .before .before .before .before .before .before .before .before .before .before .before .before .before .args in
     let p = c .before .before .before .before .before .before .before .before .before .before .before .before .before .before .before .before .before .before .before .pre in
     let file = a .file .now in
     let es = enumsOf (a .enums .now) in
-    let small = small-by-index file (λ i h. omega (arith, c .before .before .before .before .before .before .before .before .before .before .before .before .before .before .before .before .before .before .shared-slice-known .given i)) in
-    let l = (rw (c .before .before .before .count .given .1) at (lists-take (a .enums .now) (a .file .now) small 10 _ _ _ refl refl (c .before .before .before .before .before .before .before .read-lists .ensures))) .1 in
-    let q = sym (short-file es file 10 (p .0 .short)) ∙ l .answer in
-    (record { long = p .0 .long; few = omega (arith, c .before .before .before .before .before .before .before .before .before .before .before .before .before .before .before .before .before .before .before .good); rows = omega arith; place = lists-inside es file small 10 (omega (arith, p .0 .inside, p .0 .ten)) q; short = omega (arith, p .0 .short) }, record { readers = l .readers; listed = l .listed; prelude = kept-prelude _ (l .kept ∙ c .before .before .before .before .before .before .before .before .before .before .before .before .before .put-prelude .ensures) }, l .shared-few)
+    let small = small-by-index file (λ i h. omega (arith, shared-slice-known .given i)) in
+    let l = (rw (count .given .1) at (lists-take (a .enums .now) file small 10 _ _ _ refl refl (read-lists .ensures))) .1 in
+    let q = sym (short-file es file 10 (p .0 .short)) ∙ l .answer in (
+      record { long = p .0 .long; few = omega (arith, good); rows = omega arith; place = lists-inside es file small 10 (omega (arith, p .0 .inside, p .0 .ten)) q; short = omega (arith, p .0 .short) },
+      record { readers = l .readers; listed = l .listed; prelude = kept-prelude _ (l .kept ∙ put-prelude .ensures) },
+      l .shared-few,
+    )
 
 same-length : tie.Need-same-length
 same-length c = search needs
@@ -60,8 +68,8 @@ returns-2 c =
     let p = c .before .before .before .before .before .before .before .before .before .before .before .before .before .before .before .before .before .pre in
     let file = a .file .now in
     let es = enumsOf (a .enums .now) in
-    let small = small-by-index (a .file .now) (λ i h. omega (arith, c .before .before .before .before .before .before .before .before .before .before .before .before .before .before .before .before .shared-slice-known .given i)) in
-    let l = rw (c .before .number .given .1) at (lists-take (a .enums .now) (a .file .now) small 10 _ _ _ refl refl (c .before .before .before .before .before .read-lists .ensures)) in
+    let small = small-by-index file (λ i h. omega (arith, c .before .before .before .before .before .before .before .before .before .before .before .before .before .before .before .before .shared-slice-known .given i)) in
+    let l = rw (c .before .number .given .1) at (lists-take (a .enums .now) file small 10 _ _ _ refl refl (c .before .before .before .before .before .read-lists .ensures)) in
     rw (p .0 .ten) (loads-refused _ _ _ (a .words .now) _ (lists-refused es file (a .grid .room) platform flags 10 (sym (short-file es file 10 (p .0 .short)) ∙ l .1)))
 
 same-length-3 : tie.Need-same-length-3
@@ -77,8 +85,8 @@ returns-3 c =
     let p = c .before .before .before .before .before .before .before .before .before .before .before .before .before .before .before .before .before .before .before .before .before .before .pre in
     let file = a .file .now in
     let es = enumsOf (a .enums .now) in
-    let small = small-by-index (a .file .now) (λ i h. omega (arith, c .before .before .before .before .before .before .before .before .before .before .before .before .before .before .before .before .before .before .before .before .before .shared-slice-known .given i)) in
-    let v = rw (c .before .before .before .before .before .before .count .given .1) at (lists-take (a .enums .now) (a .file .now) small 10 _ _ _ refl refl (c .before .before .before .before .before .before .before .before .before .before .read-lists .ensures)) in
+    let small = small-by-index file (λ i h. omega (arith, c .before .before .before .before .before .before .before .before .before .before .before .before .before .before .before .before .before .before .before .before .before .shared-slice-known .given i)) in
+    let v = rw (c .before .before .before .before .before .before .count .given .1) at (lists-take (a .enums .now) file small 10 _ _ _ refl refl (c .before .before .before .before .before .before .before .before .before .before .read-lists .ensures)) in
     let l = v .1 in
     rw (p .0 .ten, behind-lists es file (a .grid .room) platform flags 10 (sym (short-file es file 10 (p .0 .short)) ∙ l .answer))
     (c .before .before .objects .ensures (fileTotal file) platform flags (l .names) (l .readers) (l .listed) (lists-padded file _ _ (l .readers) (l .listed .counts) (v .2)))
