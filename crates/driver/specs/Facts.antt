@@ -22,7 +22,8 @@ use Rattle.layout.specs.Fits.{FittingTree, rowsIn}
 use Rattle.reading.specs.Theorems.{accepted-is}
 use Rattle.table.specs.Grids.{rowsGrid}
 use Rattle.places.specs.Padding.{filePadding}
-use Rattle.names.specs.Entries.{enumsOf, enums-written}
+use Rattle.names.specs.Entries.{enumsOf}
+use Rattle.names.specs.EntryLaws.{enums-written}
 use Rattle.enums.specs.Judge.{Judgement, lawful, enumsAt}
 use Rattle.enums.specs.Judge.{refused as list-refused}
 use Rattle.enums.specs.Lists.{Bytes, enums-sound}

@@ -13,7 +13,8 @@ use Rattle.names.specs.Codes.{alike-then}
 use Rattle.seen_names.specs.Seen.{isNoted, noted}
 use Rattle.seen_names.specs.Laws.{noted-now, noted-still}
 use Rattle.layout.specs.EnumList.{EnumEntry, entry, writeEnums, sizeIn}
-use Rattle.names.specs.Entries.{entriesOf, entries-written}
+use Rattle.names.specs.Entries.{entriesOf}
+use Rattle.names.specs.EntryLaws.{entries-written}
 use Rattle.enums.specs.declared.Judged.the-variants.{Lawful, Refused}
 use Rattle.enums.specs.Judge.{Judgement, refused, lawful, isEnumType, check, enumsFrom, enumsAt}
 use Rattle.enums.specs.Laws.{write-append}

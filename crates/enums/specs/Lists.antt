@@ -2,7 +2,6 @@
 use mathlib.Core.Path.{_≡_, refl, sym, ap, _∙_}
 use mathlib.Core.Bool.{Bool, true, false, cond}
 use mathlib.Core.List.{List, [], _∷_, _++_, append-assoc, append-nil}
-use mathlib.Core.Logic.{inl, inr}
 use Prim.Native.Nat.{ℕ, zero, suc, _+_, _≤_, _<_}
 use native.Mathlib.Omega.{arith}
 use lib.Dec.{eqb, ltb}
@@ -11,10 +10,11 @@ use lib.Seq.{getD-drop, length-take-le, split-at}
 use borrow.Author.Tests.{lt-ltb, ltb-true, eqb-true}
 use Rattle.laws.specs.Small.{differ, both}
 use Rattle.layout.specs.Kind.{alike, lookup, targets}
-use Rattle.layout.specs.EnumList.{EnumEntry, entry, writeEnums, EnumSize, EnumType, Unlisted, Enums, sizeIn, FirstBad}
+use Rattle.layout.specs.EnumList.{EnumEntry, entry, writeEnums, EnumType, Unlisted, Enums, sizeIn, FirstBad}
 use Rattle.layout.specs.Name.{NameHead}
 use Rattle.names.specs.Codes.{alike-then, alike-self}
-use Rattle.names.specs.Entries.{isSize, size-true, true-size, size-some}
+use Rattle.names.specs.Entries.{isSize}
+use Rattle.names.specs.EntryLaws.{size-true, true-size, size-some}
 use Rattle.enums.specs.Judge.{Judgement, refused, lawful, isHead, isEnumType, check, enumsFrom, enumsAt}
 use Rattle.enums.specs.Laws.{written-parts, write-append}
 

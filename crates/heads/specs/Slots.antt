@@ -15,7 +15,7 @@ use Rattle.layout.specs.EnumList.{EnumSize}
 use Rattle.layout.specs.Slot.{raw, object, slotOf, rawOrObject}
 use Rattle.layout.specs.Slot as L
 use Rattle.names.specs.Kind.{enumKind}
-use Rattle.names.specs.Entries.{size-some}
+use Rattle.names.specs.EntryLaws.{size-some}
 use Rattle.targets.specs.Word.{fixed-has-size, fixed-small, enum-kind}
 use Rattle.targets.specs.Code.{Stands, codeKind}
 use Rattle.targets.specs.Place.{kindAt}

@@ -2,11 +2,11 @@
 use mathlib.Core.Path.{_≡_, refl, sym, ap, subst, _∙_}
 use mathlib.Core.Bool.{Bool, true, false}
 use mathlib.Core.List.{List, [], _∷_, _++_, map}
-use Prim.Native.Nat.{ℕ, zero, suc, _+_, _*_, _-_, _≤_}
+use Prim.Native.Nat.{ℕ, _+_, _*_, _-_, _≤_}
 use native.Mathlib.Omega.{arith}
 use native.Mathlib.Numerals.{add-one}
 use lib.ListN.{length, take, drop, replicate, set, length-append, length-drop, take-append-drop}
-use borrow.Author.Tests.{eq-eqb, ne-eqb, le-leb}
+use borrow.Author.Tests.{eq-eqb, ne-eqb}
 use Rattle.laws.specs.Small.{differ}
 use Rattle.layout.specs.Target.{Target, object as anything}
 use Rattle.layout.specs.Slot as L
@@ -53,9 +53,7 @@ use Rattle.load.specs.declared.walk.Children.the-variants.{Done as Child
 use Rattle.load.specs.Turns.{Counts, whole as whole-nest, counts-walked, counts-refused}
 use Rattle.load.specs.Loads.{Total, fileTotal, Loads, behindHeader, answerOf}
 use Rattle.readers.specs.Judged.{judgedName, judges}
-use Rattle.readers.specs.Parts.{upTo}
-use Rattle.readers.specs.Left.{codesFor, enough}
-use Rattle.readers.specs.Steps.{enough-for}
+use Rattle.readers.specs.Left.{enough}
 use Rattle.enums.specs.Judge.{Judgement, lawful, enumsAt}
 use Rattle.enums.specs.Judge.{refused as list-refused}
 use Rattle.load.specs.Under.{underList, fileUnder, loadUnder}
@@ -229,20 +227,6 @@ behind-lists es file room platform flags at e = rw e
 -- codes that suffice are not too few
 pub not-lacking : (file : List ℕ) (at m n : ℕ) → m ≡ n → enough file at n ≡ true → enough file at m ≡ false → ⊥
 not-lacking file at m n e t f = let q : enough file at m ≡ true = rw e t in differ cc
-
-codes-more : (n m : ℕ) → n ≤ m → codesFor n ≤ codesFor m
-unfolding codesFor
-codes-more zero zero h = omega arith
-codes-more zero (suc m) h = omega arith
-codes-more (suc n) zero h = absurd (omega arith)
-codes-more (suc n) (suc m) h = omega arith
-
--- the codes that so many readers need suffice, also where the reader count is refused
-pub suffice : (file : List ℕ) (at most : ℕ) {n next : ℕ} → length file ≤ 16777216 → upTo 64 file at ≡ read n next → n ≤ most → enough file at (codesFor most) ≡ true
-suffice file at most {n} s e h = enough-for file at (codesFor most) s true (rw e (le-leb (codesFor n) (codesFor most) (codes-more n most h)))
-
-pub suffice-refused : (file : List ℕ) (at room : ℕ) {n p : ℕ} → length file ≤ 16777216 → upTo 64 file at ≡ refused n p → enough file at room ≡ true
-suffice-refused file at room s e = enough-for file at room s true (rw e refl)
 
 -- the stores that make the start of the codes
 pub prelude-stored : (l : List ℕ) → preludeSize ≤ length l

@@ -8,7 +8,8 @@ use Rattle.reading.specs.Answer.{Answer, refused}
 use Rattle.layout.specs.Rows.{Row}
 use Rattle.layout.specs.Table.{roomOf}
 use Rattle.reading.specs.File.{Loaded, fileAt, Load, refusal, accepted, toLoad, loadOf}
-use Rattle.names.specs.Entries.{enumsOf, enums-written}
+use Rattle.names.specs.Entries.{enumsOf}
+use Rattle.names.specs.EntryLaws.{enums-written}
 use Rattle.enums.specs.Judge.{Judgement, lawful, enumsAt}
 use Rattle.enums.specs.Judge.{refused as list-refused}
 use Rattle.enums.specs.declared.Judged.the-variants.{Lawful, Refused}

@@ -12,7 +12,8 @@ use Rattle.layout.specs.Number.{between}
 use Rattle.layout.specs.Kind.{KindEntry, kindEntry, alike, lookup}
 use Rattle.layout.specs.EnumList.{EnumEntry, entry, writeEnums, sizeIn}
 use Rattle.names.specs.Parse.{starts}
-use Rattle.names.specs.Entries.{entriesIn, entriesOf, entries-written, listing, listing-is}
+use Rattle.names.specs.Entries.{entriesIn, entriesOf, listing}
+use Rattle.names.specs.EntryLaws.{entries-written, listing-is}
 use Rattle.names.proofs.Laws.{cons-at, take-next}
 
 pub alike-length : (h n : List ℕ) → (length h ≡ length n → ⊥) → false ≡ alike h n

@@ -5,6 +5,7 @@ pub mod Kind
 pub mod Entries
 pub mod Contract
 -- A reader of the definitions can stop here: laws about them follow.
+pub mod EntryLaws
 pub mod Common
 pub mod Local
 pub mod Complete

@@ -7,6 +7,7 @@ pub mod Turns
 pub mod Contract
 -- A reader of the definitions can stop here: laws about them follow.
 pub mod Steps
+pub mod Room
 pub mod Passing
 pub mod Turning
 pub mod Whole

@@ -10,7 +10,8 @@ use lib.Seq.{length-take-le}
 use borrow.Author.Tests.{leb-true, leb-false, eqb-true, eqb-false, lt-leb}
 use Rattle.layout.specs.Target.{Target}
 use Rattle.layout.specs.EnumList.{EnumEntry, EnumSize, sizeIn}
-use Rattle.names.specs.Entries.{enumsOf, enums-sized}
+use Rattle.names.specs.Entries.{enumsOf}
+use Rattle.names.specs.EntryLaws.{enums-sized}
 use Rattle.names.specs.Parse.{nameOf}
 use Rattle.names.specs.Contract as N
 use Rattle.names.specs.Contract.{coded, no-room, placed}
@@ -38,10 +39,10 @@ use Rattle.readers.specs.Parts.{upTo, versionAt, endOf, versioned, named
 use Rattle.readers.specs.Left.{Step, afterName, namedLeft, countedLeft, readerLeft, Arrays, arrays, Steps, onward, readersFrom, readersLeft, AllSteps, behindShared, behindReaders, sharedLeft, codesFor, enough, behindCount, listsLeft, Sized}
 use Rattle.readers.specs.Turns.{Underway, EndsAs, Ends}
 use Rattle.readers.specs.Contract.{countedTotal, ReadsCounted, ReadsListsAt}
-use Rattle.readers.specs.Steps.{long-enough, enough-for}
+use Rattle.readers.specs.Room.{up-to-bound, long-enough, enough-for}
 use Rattle.readers.specs.Passing.{all-passed}
 use Rattle.readers.specs.Turning.{refuse, none-read, ready, one-read}
-use Rattle.readers.specs.Whole.{up-to-bound, readers-refused, shared-refused, shared-read, lists-long, lists-refused, lists-counted, total-is}
+use Rattle.readers.specs.Whole.{readers-refused, shared-refused, shared-read, lists-long, lists-refused, lists-counted, total-is}
 
 -- an answer of the code that tells this
 abbrev untold : N.Answer → Resolved

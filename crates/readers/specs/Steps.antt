@@ -1,8 +1,8 @@
 -- What is left, a step of the code at a time. Assumes nothing.
-use mathlib.Core.Path.{_≡_, refl}
-use mathlib.Core.Bool.{Bool, true, false}
+use mathlib.Core.Path.{_≡_}
+use mathlib.Core.Bool.{true, false}
 use mathlib.Core.List.{List}
-use Prim.Native.Nat.{ℕ, zero, suc, _+_, _*_, _-_, _≤_, _<_}
+use Prim.Native.Nat.{ℕ, suc, _+_, _-_, _≤_, _<_}
 use native.Mathlib.Omega.{arith}
 use lib.Dec.{leb}
 use lib.ListN.{length, take, drop}
@@ -20,19 +20,7 @@ use Rattle.readers.specs.declared.Many.{Many}
 use Rattle.readers.specs.declared.Many.the-variants.{Ended}
 use Rattle.readers.specs.declared.Lists.the-variants.{Refused as Lists-refused, NoRoom}
 use Rattle.readers.specs.Parts.{upTo}
-use Rattle.readers.specs.Left.{afterName, namedLeft, readerLeft, Arrays, arrays, onward, readersFrom, readersLeft, behindReaders, sharedLeft, codesFor, roomFor, enough, listsLeft}
-
--- how many codes so many readers may need
-pub codes-for : (n : ℕ) → (n ≡ 0 → ⊥) → preludeSize + 93 * (n - 1) + 187 ≡ codesFor n
-unfolding codesFor
-codes-for zero e = absurd (e refl)
-codes-for (suc n) e = omega arith
-
--- they are enough for each reader's name
-pub codes-enough : (n i : ℕ) → i < n → preludeSize + 93 * i + 187 ≤ codesFor n
-unfolding codesFor
-codes-enough zero i h = absurd (omega arith)
-codes-enough (suc n) i h = omega arith
+use Rattle.readers.specs.Left.{afterName, namedLeft, readerLeft, Arrays, arrays, onward, readersFrom, readersLeft, behindReaders, sharedLeft, codesFor, listsLeft}
 
 -- a name was resolved
 pub name-missing : (es : List EnumEntry) (file codes : List ℕ) (used at first n : ℕ) → leb n (length (drop first file)) ≡ false → namedLeft es file codes used at first n ≡ (Refused 1 at, codes)
@@ -108,13 +96,3 @@ module _ (es : List EnumEntry) (file : List ℕ) (at : ℕ) (c t s : List ℕ) w
       pub left-counted : codesFor n ≤ length c → listsLeft es file at c t s ≡ sharedLeft es file n next (padOf (sevenAt file at) at) c t s
       unfolding listsLeft
       left-counted r = rw (le-leb (length file) 16777216 h, e, le-leb (codesFor n) (length c) r)
-
--- by the room for the codes
-module _ (file : List ℕ) (at room : ℕ) where
-  pub long-enough : 16777216 < length file → enough file at room ≡ true
-  unfolding enough
-  long-enough h = rw (lt-leb (length file) 16777216 h)
-
-  pub enough-for : length file ≤ 16777216 → (b : Bool) → roomFor (upTo 64 file at) room ≡ b → enough file at room ≡ b
-  unfolding enough
-  enough-for h b r = rw (le-leb (length file) 16777216 h) r

@@ -22,7 +22,7 @@ use Rattle.readers.specs.Judged.{judgedName}
 use Rattle.readers.specs.Parts.{Ready, Taken}
 use Rattle.readers.specs.Left.{codesFor}
 use Rattle.readers.specs.Turns.{Entered, after, Reached, Underway}
-use Rattle.readers.specs.Steps.{codes-enough}
+use Rattle.readers.specs.Room.{codes-enough}
 use Rattle.readers.specs.Passing.{none-passed, one-passed}
 
 -- codes that are written further on leave those before

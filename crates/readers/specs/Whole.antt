@@ -6,7 +6,7 @@ use Prim.Native.Nat.{ℕ, _-_, _<_, _≤_}
 use native.Mathlib.Omega.{arith}
 use lib.Dec.{leb}
 use lib.ListN.{length}
-use borrow.Author.Tests.{leb-true, le-leb, lt-leb}
+use borrow.Author.Tests.{le-leb, lt-leb}
 use Rattle.layout.specs.Target.{Target}
 use Rattle.layout.specs.EnumList.{EnumEntry}
 use Rattle.reading.specs.Answer.{Answer, refused, read, bind, check, several}
@@ -16,23 +16,10 @@ use Rattle.readers.specs.Judged.{judgedName}
 use Rattle.readers.specs.Parts.{upTo}
 use Rattle.readers.specs.Turns.{Underway}
 use Rattle.readers.specs.Contract.{Reading, countedAt, listsOf, ListsRead, listsTotal, countedTotal}
+use Rattle.readers.specs.Room.{up-to-bound}
 use Rattle.readers.specs.Passing.{lists-total}
 use Rattle.numbers.specs.Padded.{past, padOf}
 use Rattle.laws.specs.Small.{differ}
-
--- a count that was read is within its bound
-module _ (most : ℕ) (file : List ℕ) (at : ℕ) where
-  tested : (n v e f : ℕ) (b : Bool) → leb v most ≡ b → check b 9 at (read v f) ≡ read n e → n ≤ most
-  unfolding check
-  tested n v e f true t q = let z : v ≡ n = cc in omega (arith, leb-true v most t)
-  tested n v e f false t q = differ cc
-
-  pub up-to-bound : {n e : ℕ} → upTo most file at ≡ read n e → n ≤ most
-  unfolding upTo bind
-  up-to-bound {n} {e} q = go (sevenAt file at) q where
-    go : (x : Answer ℕ) → bind x (λ n e. check (leb n most) 9 at (read n e)) ≡ read n e → n ≤ most
-    go (refused k p) q = differ cc
-    go (read v f) q = tested n v e f (leb v most) refl q
 
 -- a file that the header's rules let through is not longer
 pub short-file : (es : List EnumEntry) (file : List ℕ) (at : ℕ) → length file ≤ 16777216 → listsOf es file at ≡ listsAt (judgedName es) file at

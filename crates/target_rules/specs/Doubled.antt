@@ -1,18 +1,15 @@
 -- What 44 says of the readers of a loaded file, and the steps of the test. Assumes nothing.
 use mathlib.Core.Path.{_≡_, refl, sym, ap, subst, _∙_}
-use mathlib.Core.Bool.{Bool, true, false, _||_, cond}
+use mathlib.Core.Bool.{Bool, true, false, _||_}
 use mathlib.Core.List.{List, [], _∷_, _++_}
 use Prim.Native.Nat.{ℕ, zero, suc, _+_, _-_, _<_, _≤_}
 use native.Mathlib.Omega.{arith}
-use lib.Dec.{leb}
 use lib.ListN.{length, drop, getD}
 use lib.Seq.{drop-cons}
-use borrow.Author.Tests.{leb-true, le-leb}
 use Rattle.laws.specs.Small.{differ}
 use Rattle.layout.specs.Target.{Target, object}
 use Rattle.layout.specs.EnumList.{EnumEntry}
-use Rattle.reading.specs.Answer.{Answer, refused, read, bind, check}
-use Rattle.reading.specs.Seven.{sevenAt}
+use Rattle.reading.specs.Answer.{Answer, refused, read}
 use Rattle.reading.specs.Rules.{same, same-true, same-refl}
 use Rattle.reading.specs.File.{listsAt}
 use Rattle.targets.specs.Code.{Stands}
@@ -20,8 +17,8 @@ use Rattle.targets.specs.Place.{equalAt}
 use Rattle.targets.specs.Laws.{equal-then, then-equal}
 use Rattle.readers.specs.Judged.{judgedName}
 use Rattle.readers.specs.Parts.{upTo}
-use Rattle.readers.specs.Left.{codesFor, roomFor, enough}
-use Rattle.readers.specs.Steps.{enough-for}
+use Rattle.readers.specs.Left.{codesFor, enough}
+use Rattle.readers.specs.Room.{suffice, suffice-refused, all-suffice}
 use Rattle.readers.specs.Whole.{short-file}
 use Rattle.readers.specs.Contract.{listsOf, ListsRead}
 use Rattle.profile.specs.Offences.{wrongAt, nameStart, among, doubled}
@@ -135,55 +132,22 @@ module _ (file codes targets : List ℕ) (count : ℕ) where
 
 -- ---- What reading the lists answered
 
-codes-none : codesFor 0 ≤ 850
-unfolding codesFor
-codes-none = omega arith
-
-codes-some : (n : ℕ) → n ≤ 7 → codesFor (suc n) ≤ 850
-unfolding codesFor
-codes-some n h = omega arith
-
 -- where so many codes suffice
 abbrev pub DoubledIn : List EnumEntry → (file : List ℕ) (room : ℕ) → Place → Type 0
 DoubledIn es file room r = enough file 10 room ≡ true → DoubledReader es file r
 
 module _ (es : List EnumEntry) (file : List ℕ) where
-  -- the codes of 64 readers suffice for every file
-  pub all-enough : enough file 10 6058 ≡ true
-  unfolding enough upTo bind check codesFor
-  all-enough = outer (leb (length file) 16777216) (inner (sevenAt file 10)) where
-    few : (n : ℕ) → n ≤ 64 → codesFor n ≤ 6058
-    few zero h = omega arith
-    few (suc n) h = omega arith
-
-    checked : (n e : ℕ) (b : Bool) → leb n 64 ≡ b → roomFor (check b 9 10 (read n e)) 6058 ≡ true
-    checked n e true t = le-leb (codesFor n) 6058 (few n (leb-true n 64 t))
-    checked n e false t = refl
-
-    inner : (x : Answer ℕ) → roomFor (bind x (λ n e. check (leb n 64) 9 10 (read n e))) 6058 ≡ true
-    inner (refused k p) = refl
-    inner (read n e) = checked n e (leb n 64) refl
-
-    outer : (b : Bool) → roomFor (upTo 64 file 10) 6058 ≡ true → cond b (roomFor (upTo 64 file 10) 6058) true ≡ true
-    outer true e = e
-    outer false e = refl
-
-  -- those of 8 suffice for so many, and where the count is refused
-  few-enough : length file ≤ 16777216 → {n next : ℕ} → upTo 64 file 10 ≡ read n next → n ≤ 8 → enough file 10 850 ≡ true
-  few-enough s {n} e h = enough-for file 10 850 s true (rw e (le-leb (codesFor n) 850 (few n h))) where
-    few : (n : ℕ) → n ≤ 8 → codesFor n ≤ 850
-    few zero h = codes-none
-    few (suc n) h = codes-some n (omega arith)
-
-  none-enough : length file ≤ 16777216 → {n p : ℕ} → upTo 64 file 10 ≡ refused n p → enough file 10 850 ≡ true
-  none-enough s e = enough-for file 10 850 s true (rw e refl)
-
   -- few readers, a count that is refused, and many
   pub few-readers : {r : Place} {n next : ℕ} → upTo 64 file 10 ≡ read n next → n ≤ 8 → DoubledIn es file 850 r → DoubledReader es file r
-  few-readers e h f s = f (few-enough s e h) s
+  unfolding codesFor
+  few-readers e h f s = f (suffice file 10 8 s e h) s
 
   pub no-readers : {r : Place} {n p : ℕ} → upTo 64 file 10 ≡ refused n p → DoubledIn es file 850 r → DoubledReader es file r
-  no-readers e f s = f (none-enough s e) s
+  no-readers e f s = f (suffice-refused file 10 850 s e) s
+
+  pub many-readers : {r : Place} → DoubledIn es file 6058 r → DoubledReader es file r
+  unfolding codesFor
+  many-readers f = f (all-suffice file 10)
 
   pub no-room : {P : Type 0} (room : ℕ) → enough file 10 room ≡ true → enough file 10 room ≡ false → P
   no-room room h e = let n : true ≡ false = sym h ∙ e in differ cc

@@ -41,7 +41,7 @@ fn among_earlier(file: &[u8], codes: &[u32], targets: &[u16], j: u32) -> bool
 fn first_double(file: &[u8], codes: &[u32], targets: &[u16], count: u32) -> Place
     ensures { λ r. ⌜ FirstDouble (now (file .entry)) (now (codes .entry)) (now (targets .entry)) count r ⌝ }
 {
-    let mut at = behind(file, 10);
+    let mut at = behind(file, readers::START);
     let mut j: u32 = 0;
     while j < count {
         let e = entry_at(file, at);

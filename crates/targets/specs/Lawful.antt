@@ -5,7 +5,7 @@ use Prim.Native.Nat.{ℕ}
 use Rattle.layout.specs.Target.{Target}
 use Rattle.layout.specs.EnumList.{EnumEntry, EnumSize, Enums, writeEnums, sizeIn}
 use Rattle.layout.specs.Named.{Lawful, named}
-use Rattle.names.specs.Entries.{enums-written, enums-sized}
+use Rattle.names.specs.EntryLaws.{enums-written, enums-sized}
 use Rattle.targets.specs.Coded.{reader-coded}
 
 -- a name that a lawful list holds has one of 02's sizes

@@ -10,7 +10,8 @@ use Rattle.layout.specs.Layout.{Lays}
 use Rattle.layout.specs.Resource.{Within}
 use Rattle.layout.specs.File.{FileTree, FileLays, fileRows}
 use Rattle.layout.specs.EnumList.{EnumEntry, writeEnums}
-use Rattle.names.specs.Entries.{entriesOf, entries-written}
+use Rattle.names.specs.Entries.{entriesOf}
+use Rattle.names.specs.EntryLaws.{entries-written}
 use Rattle.reading.specs.Theorems as T
 use Rattle.readers.specs.Judged.{judgedName, judges}
 use Rattle.pack_layout.specs.Pack.{Stored, PackLays, markOf}

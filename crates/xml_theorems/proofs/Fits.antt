@@ -22,7 +22,8 @@ use Rattle.reading.specs.References.{length-flat}
 use Rattle.reading.specs.Accepts.{loadedOf, fileDrafts, file-complete, file-bare}
 use Rattle.reading.specs.Theorems as T
 use Rattle.reading.specs.Output.{Rewritten, refusal, written, fitted, outputOf}
-use Rattle.names.specs.Entries.{enumsOf, enums-written}
+use Rattle.names.specs.Entries.{enumsOf}
+use Rattle.names.specs.EntryLaws.{enums-written}
 use Rattle.enums.specs.Judge.{Judgement, lawful, enumsAt}
 use Rattle.enums.specs.Judge.{refused as list-refused}
 use Rattle.enums.specs.Lists.{Bytes, enums-complete, enums-sound}

@@ -1,8 +1,7 @@
 use mathlib.Core.Path.{sym, ap, _∙_}
 use native.Mathlib.Omega.{arith}
 use Rattle.answers.specs.Told.{told}
-use Rattle.readers.specs.Whole.{up-to-bound}
-use Rattle.load.specs.Laws.{suffice, suffice-refused}
+use Rattle.readers.specs.Room.{up-to-bound, suffice, suffice-refused}
 use borrow.Author.Needs.{needs}
 use Rattle.load.proofs.lists.Statement.{statement}
 use Rattle.load.proofs.lists.Tie as tie

@@ -1,5 +1,5 @@
 use Rattle.readers.specs.Left.{codesFor}
-use Rattle.readers.specs.Steps.{codes-for}
+use Rattle.readers.specs.Room.{codes-for}
 use borrow.Author.Needs.{needs}
 use Rattle.readers.proofs.codes_for.Statement.{statement}
 use Rattle.readers.proofs.codes_for.Tie as tie

@@ -1,12 +1,12 @@
 -- `readers::counted` meets its contract. Assumes nothing.
 use mathlib.Core.Path.{sym, ap, _∙_}
 use native.Mathlib.Omega.{arith}
-use Rattle.names.specs.Entries.{enums-sized}
+use Rattle.names.specs.EntryLaws.{enums-sized}
 use Rattle.answers.specs.Told.{told}
 use Rattle.reading.specs.Reads.{small-by-index}
 use Rattle.places.specs.Padding.{pad-few}
 use Rattle.readers.specs.Steps.{shared-left}
-use Rattle.readers.specs.Whole.{up-to-bound}
+use Rattle.readers.specs.Room.{up-to-bound}
 use Rattle.readers.specs.Meaning.{readers-take}
 use borrow.Author.Needs.{needs}
 use Rattle.readers.proofs.counted.Statement.{statement}

@@ -6,7 +6,8 @@ use Rattle.answers.specs.Told.{told}
 use Rattle.reading.specs.Reads.{small-by-index}
 use Rattle.places.specs.Padding.{past-few, pad-few}
 use Rattle.readers.specs.Steps.{left-long, left-refused, left-full, left-counted}
-use Rattle.readers.specs.Whole.{up-to-bound, up-to-past}
+use Rattle.readers.specs.Room.{up-to-bound}
+use Rattle.readers.specs.Whole.{up-to-past}
 use borrow.Author.Needs.{needs}
 use Rattle.readers.proofs.read_lists.Statement.{statement}
 use Rattle.readers.proofs.read_lists.Tie as tie

@@ -2,7 +2,8 @@
 use mathlib.Core.Path.{_≡_, sym, ap, _∙_}
 use Prim.Native.Nat.{_-_}
 use native.Mathlib.Omega.{arith}
-use Rattle.names.specs.Entries.{enumsOf, enums-sized}
+use Rattle.names.specs.Entries.{enumsOf}
+use Rattle.names.specs.EntryLaws.{enums-sized}
 use Rattle.reading.specs.Reads.{small-by-index}
 use Rattle.places.specs.Padding.{pad-few}
 use Rattle.readers.specs.Left.{readersFrom, readersLeft}

@@ -1,7 +1,7 @@
 use mathlib.Core.Path.{sym, ap, _∙_}
 use Rattle.answers.specs.Told.{told}
 use Rattle.names.specs.Entries.{enumsOf}
-use Rattle.target_rules.specs.Doubled.{all-enough, few-readers, no-readers}
+use Rattle.target_rules.specs.Doubled.{few-readers, no-readers, many-readers}
 use borrow.Author.Needs.{needs}
 use Rattle.target_rules.proofs.doubled_reader.Statement.{statement}
 use Rattle.target_rules.proofs.doubled_reader.Tie as tie
@@ -35,7 +35,9 @@ returns-2 c =
     no-readers (enumsOf (a .enums .now)) (a .file .now) (sym (c .before .before .before .reader-count .ensures) ∙ ap told (c .before .enum-told .given .1)) (c .few-doubled .ensures)
 
 returns-3 : tie.Need-returns-3
-returns-3 c = let a = c .before .before .before .before .before .before .before .before .args in c .many-doubled .ensures (all-enough (enumsOf (a .enums .now)) (a .file .now))
+returns-3 c =
+    let a = c .before .before .before .before .before .before .before .before .args in
+    many-readers (enumsOf (a .enums .now)) (a .file .now) (c .many-doubled .ensures)
 
 pub doubled-reader-spec : {M : Type 1} → statement M
 doubled-reader-spec =

@@ -1,6 +1,6 @@
 use mathlib.Core.Path.{sym, _∙_}
 use native.Mathlib.Omega.{arith}
-use Rattle.names.specs.Entries.{enums-sized}
+use Rattle.names.specs.EntryLaws.{enums-sized}
 use Rattle.targets.proofs.Resolving.{no-room-is, broken-is, got-is, unknown-is, known-is, some-codes, used-small}
 use borrow.Author.Needs.{needs}
 use Rattle.targets.proofs.resolve.Statement.{statement}

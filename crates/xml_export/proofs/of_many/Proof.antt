@@ -1,5 +1,6 @@
 use borrow.Author.Needs.{needs}
-use Rattle.xml_export.proofs.Codes.{codes-suffice}
+use Rattle.readers.specs.Left.{codesFor}
+use Rattle.readers.specs.Room.{all-suffice}
 use Rattle.xml_export.proofs.of_many.Statement.{statement}
 use Rattle.xml_export.proofs.of_many.Tie as tie
 
@@ -7,7 +8,8 @@ slice-aggregate-listed-reader : tie.Need-slice-aggregate-listed-reader
 slice-aggregate-listed-reader c = search needs
 
 listed-reader-requires : tie.Need-listed-reader-requires
-listed-reader-requires c κs = (c .before .before .before .pre, codes-suffice (c .before .before .before .args .file .now))
+unfolding codesFor
+listed-reader-requires c κs = (c .before .before .before .pre, all-suffice (c .before .before .before .args .file .now) 10)
 
 returns : tie.Need-returns
 returns c = search needs

@@ -1,6 +1,6 @@
 use mathlib.Core.Path.{sym, ap, _∙_}
 use Rattle.answers.specs.Told.{told}
-use Rattle.load.specs.Laws.{suffice, suffice-refused}
+use Rattle.readers.specs.Room.{suffice, suffice-refused}
 use borrow.Author.Needs.{needs}
 use Rattle.xml_export.proofs.texts_reader.Statement.{statement}
 use Rattle.xml_export.proofs.texts_reader.Tie as tie

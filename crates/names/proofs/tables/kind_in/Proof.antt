@@ -1,7 +1,7 @@
 use mathlib.Core.Path.{sym, ap, _∙_}
 use borrow.Author.Tests.{eq-eqb, ne-eqb}
 use Rattle.names.specs.Kind.{listed, enumKind, kindIn}
-use Rattle.names.specs.Entries.{kind-listed}
+use Rattle.names.specs.EntryLaws.{kind-listed}
 use borrow.Author.Needs.{needs}
 use Rattle.names.proofs.tables.kind_in.Statement.{statement}
 use Rattle.names.proofs.tables.kind_in.Tie as tie
