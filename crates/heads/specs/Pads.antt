@@ -151,9 +151,12 @@ module _ (file codes : List ℕ) where
   -- a head that was opened tells the padding of its kind's count
   pub open-pads : (t at : ℕ) {e : ℕ} {below : Below} → openAs file codes t at ≡ Head e below → belowPad below ≡ padding file (countPlaces file (rowKind (kindAt codes t)) at)
   unfolding openAs
-  open-pads t at {e} {below} q = rw (row-count (kindAt codes t) at) (told (openAs file codes t at) (tells-if (padding file (countPlaces file (kindAt codes t) at)) (leb (length codes) t) (Refused 13 at) (kindAs file codes (kindAt codes t) (t + 1) at) tt (kind-tells (kindAt codes t) (t + 1) at)) q) where
-    told : (o : Opened) → Tells (padding file (countPlaces file (kindAt codes t) at)) o → o ≡ Head e below → belowPad below ≡ padding file (countPlaces file (kindAt codes t) at)
-    told (Refused n p) w z = differ cc
-    told (Head f b) w z =
-        let i : b ≡ below = cc in
-        rw i at w
+  open-pads t at {e} {below} q =
+      let k = kindAt codes t in
+      rw (row-count k at)
+      (told (openAs file codes t at) (tells-if (padding file (countPlaces file k at)) (leb (length codes) t) (Refused 13 at) (kindAs file codes k (t + 1) at) tt (kind-tells k (t + 1) at)) q) where
+        told : (o : Opened) → Tells (padding file (countPlaces file (kindAt codes t) at)) o → o ≡ Head e below → belowPad below ≡ padding file (countPlaces file (kindAt codes t) at)
+        told (Refused n p) w z = differ cc
+        told (Head f b) w z =
+            let i : b ≡ below = cc in
+            rw i at w

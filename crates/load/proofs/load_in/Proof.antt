@@ -30,17 +30,26 @@ same-length c = search needs
 
 returns : tie.Need-returns
 returns c =
-    let l = (rw (c .before .before .before .before .before .before .before .before .before .before .before .shaped .ensures, c .before .before .before .before .before .number .given .1) at (c .before .before .before .before .before .before .before .before .before .load-under .ensures)) in
-    load-refused (c .before .before .before .before .before .before .before .before .before .before .before .before .before .before .before .args .enums .now) (c .before .before .before .before .before .before .before .before .before .before .before .before .before .before .before .args .file .now) (c .before .before .before .before .before .before .before .before .before .before .before .before .before .before .before .args .words .now) (c .before .before .before .before .before .before .before .before .before .before .before .before .before .before .before .args .columns) _ l (search needs) (c .before .before .clear .ensures)
+    let a = c .before .before .before .before .before .before .before .before .before .before .before .before .before .before .before .args in
+    let shaped = c .before .before .before .before .before .before .before .before .before .before .before .shaped in
+    let load-under = c .before .before .before .before .before .before .before .before .before .load-under in
+    let number = c .before .before .before .before .before .number in
+    let clear = c .before .before .clear in
+    let l = (rw (shaped .ensures, number .given .1) at (load-under .ensures)) in
+    load-refused (a .enums .now) (a .file .now) (a .words .now) (a .columns) _ l (search needs) (clear .ensures)
 
 same-length-2 : tie.Need-same-length-2
 same-length-2 c = search needs
 
 returns-2 : tie.Need-returns-2
 returns-2 c =
-    let l = (rw (c .before .before .before .before .before .before .before .shaped .ensures, c .before .rows .given .1) at (c .before .before .before .before .before .load-under .ensures)) in
-    let small = small-by-index (c .before .before .before .before .before .before .before .before .before .before .before .args .file .now) (λ i h. omega (arith, c .before .before .before .before .before .before .before .before .before .before .shared-slice-known .given i)) in
-    load-loaded (c .before .before .before .before .before .before .before .before .before .before .before .args .enums .now) (c .before .before .before .before .before .before .before .before .before .before .before .args .file .now) (c .before .before .before .before .before .before .before .before .before .before .before .args .words .now) (c .before .before .before .before .before .before .before .before .before .before .before .args .columns) small l
+    let a = c .before .before .before .before .before .before .before .before .before .before .before .args in
+    let shared-slice-known = c .before .before .before .before .before .before .before .before .before .before .shared-slice-known in
+    let shaped = c .before .before .before .before .before .before .before .shaped in
+    let load-under = c .before .before .before .before .before .load-under in
+    let l = (rw (shaped .ensures, c .before .rows .given .1) at (load-under .ensures)) in
+    let small = small-by-index (a .file .now) (λ i h. omega (arith, shared-slice-known .given i)) in
+    load-loaded (a .enums .now) (a .file .now) (a .words .now) (a .columns) small l
 
 pub load-in-spec : {M : Type 1} → statement M
 load-in-spec =

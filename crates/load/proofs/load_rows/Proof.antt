@@ -24,18 +24,25 @@ lists-requires c κs =
 
 returns : tie.Need-returns
 returns c =
-    let file = c .before .before .before .before .before .before .before .args .file .now in
-    loads-refused _ _ _ (c .before .before .before .before .before .before .before .args .words .now) _ (header-refused (enumsOf (c .before .before .before .before .before .before .before .args .enums .now)) file (c .before .before .before .before .before .before .before .args .grid .room) (rw (c .before .number .given .1) at (c .before .before .before .header .ensures)))
+    let a = c .before .before .before .before .before .before .before .args in
+    let header = c .before .before .before .header in
+    let file = a .file .now in
+    loads-refused _ _ _ (a .words .now) _ (header-refused (enumsOf (a .enums .now)) file (a .grid .room) (rw (c .before .number .given .1) at (header .ensures)))
 
 same-length : tie.Need-same-length
 same-length c = search needs
 
 returns-2 : tie.Need-returns-2
 returns-2 c =
-    let file = c .before .before .before .before .before .before .before .before .before .before .before .args .file .now in
-    let small = small-by-index file (λ i h. omega (arith, c .before .before .before .before .before .before .before .before .before .before .shared-slice-known .given i)) in
-    let h = header-read file small (rw (c .before .before .before .before .before .at .given .1) at (c .before .before .before .before .before .before .before .header .ensures)) in
-    rw (file-behind (enumsOf (c .before .before .before .before .before .before .before .before .before .before .before .args .enums .now)) file (c .before .before .before .before .before .before .before .before .before .before .before .args .grid .room) h) (c .before .before .lists .ensures (h .h .0) (h .h .1))
+    let a = c .before .before .before .before .before .before .before .before .before .before .before .args in
+    let shared-slice-known = c .before .before .before .before .before .before .before .before .before .before .shared-slice-known in
+    let header = c .before .before .before .before .before .before .before .header in
+    let at′ = c .before .before .before .before .before .at in
+    let lists = c .before .before .lists in
+    let file = a .file .now in
+    let small = small-by-index file (λ i h. omega (arith, shared-slice-known .given i)) in
+    let h = header-read file small (rw (at′ .given .1) at (header .ensures)) in
+    rw (file-behind (enumsOf (a .enums .now)) file (a .grid .room) h) (lists .ensures (h .h .0) (h .h .1))
 
 pub load-rows-spec : {M : Type 1} → statement M
 load-rows-spec =

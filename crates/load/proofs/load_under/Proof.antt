@@ -28,8 +28,13 @@ same-length c = search needs
 
 returns-2 : tie.Need-returns-2
 returns-2 c =
+    let shared-slice-known2 = c .before .before .before .before .before .before .before .before .shared-slice-known2 in
+    let judge = c .before .before .before .before .before .before .judge in
+    let enum-told′ = c .before .before .before .before .enum-told in
+    let load-rows = c .before .before .load-rows in
     let a = c .before .before .before .before .before .before .before .before .before .before .args in
-    rw (lawful-list (a .enums .now) (a .file .now) (a .grid .room) (λ i h. omega (arith, c .before .before .before .before .before .before .before .before .shared-slice-known2 .given i)) (sym (c .before .before .before .before .enum-told .given .1) ∙ c .before .before .before .before .before .before .judge .ensures)) (c .before .before .load-rows .ensures)
+    rw (lawful-list (a .enums .now) (a .file .now) (a .grid .room) (λ i h. omega (arith, shared-slice-known2 .given i)) (sym (enum-told′ .given .1) ∙ judge .ensures))
+    (load-rows .ensures)
 
 pub load-under-spec : {M : Type 1} → statement M
 load-under-spec =

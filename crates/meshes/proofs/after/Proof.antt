@@ -143,7 +143,25 @@ returns-15 c = rw (c .before .match .keys15) (c .to-parts2 .ensures)
 
 returns-16 : tie.Need-returns-16
 unfolding behindOf
-returns-16 c = simp (ne-eqb _ _ (c .before .match .rest .0 .0 .0 .0 .0 .0 .0 .0 .0 .0 .0 .0 .0 .0 .1), ne-eqb _ _ (c .before .match .rest .0 .0 .0 .0 .0 .0 .0 .0 .0 .0 .0 .0 .0 .1), ne-eqb _ _ (c .before .match .rest .0 .0 .0 .0 .0 .0 .0 .0 .0 .0 .0 .0 .1), ne-eqb _ _ (c .before .match .rest .0 .0 .0 .0 .0 .0 .0 .0 .0 .0 .0 .1), ne-eqb _ _ (c .before .match .rest .0 .0 .0 .0 .0 .0 .0 .0 .0 .0 .1), ne-eqb _ _ (c .before .match .rest .0 .0 .0 .0 .0 .0 .0 .0 .0 .1), ne-eqb _ _ (c .before .match .rest .0 .0 .0 .0 .0 .0 .0 .0 .1), ne-eqb _ _ (c .before .match .rest .0 .0 .0 .0 .0 .0 .0 .1), ne-eqb _ _ (c .before .match .rest .0 .0 .0 .0 .0 .0 .1), ne-eqb _ _ (c .before .match .rest .0 .0 .0 .0 .0 .1), ne-eqb _ _ (c .before .match .rest .0 .0 .0 .0 .1), ne-eqb _ _ (c .before .match .rest .0 .0 .0 .1), ne-eqb _ _ (c .before .match .rest .0 .0 .1), ne-eqb _ _ (c .before .match .rest .0 .1), ne-eqb _ _ (c .before .match .rest .1)) (c .onward .ensures)
+returns-16 c =
+    let others = c .before .match .rest in
+    simp (
+      ne-eqb _ _ (others .0 .0 .0 .0 .0 .0 .0 .0 .0 .0 .0 .0 .0 .0 .1),
+      ne-eqb _ _ (others .0 .0 .0 .0 .0 .0 .0 .0 .0 .0 .0 .0 .0 .1),
+      ne-eqb _ _ (others .0 .0 .0 .0 .0 .0 .0 .0 .0 .0 .0 .0 .1),
+      ne-eqb _ _ (others .0 .0 .0 .0 .0 .0 .0 .0 .0 .0 .0 .1),
+      ne-eqb _ _ (others .0 .0 .0 .0 .0 .0 .0 .0 .0 .0 .1),
+      ne-eqb _ _ (others .0 .0 .0 .0 .0 .0 .0 .0 .0 .1),
+      ne-eqb _ _ (others .0 .0 .0 .0 .0 .0 .0 .0 .1),
+      ne-eqb _ _ (others .0 .0 .0 .0 .0 .0 .0 .1),
+      ne-eqb _ _ (others .0 .0 .0 .0 .0 .0 .1),
+      ne-eqb _ _ (others .0 .0 .0 .0 .0 .1),
+      ne-eqb _ _ (others .0 .0 .0 .0 .1),
+      ne-eqb _ _ (others .0 .0 .0 .1),
+      ne-eqb _ _ (others .0 .0 .1),
+      ne-eqb _ _ (others .0 .1),
+      ne-eqb _ _ (others .1),
+    ) (c .onward .ensures)
 
 pub after-spec : {M : Type 1} → statement M
 after-spec =

@@ -33,7 +33,12 @@ same-length : tie.Need-same-length
 same-length c = search needs
 
 returns-4 : tie.Need-returns-4
-returns-4 c = (has-rows _ _ _ _ (omega (arith, c .before .before .before .before .before .before .before .if2 .left, c .before .before .before .before .before .before .before .before .before .if1 .left)) (omega (arith, c .before .before .before .before .before .if3 .left)), c .before .before .store-run .ensures)
+returns-4 c =
+    let if1 = c .before .before .before .before .before .before .before .before .before .if1 in
+    let if2 = c .before .before .before .before .before .before .before .if2 in
+    let if3 = c .before .before .before .before .before .if3 in
+    let store-run = c .before .before .store-run in
+    (has-rows _ _ _ _ (omega (arith, if2 .left, if1 .left)) (omega (arith, if3 .left)), store-run .ensures)
 
 store-run-requires-2 : tie.Need-store-run-requires-2
 store-run-requires-2 c κs = search needs
@@ -43,7 +48,12 @@ same-length-2 c = search needs
 
 returns-5 : tie.Need-returns-5
 returns-5 c =
-    rw (c .before .before .before .before .if4 .left) (has-rows _ _ _ _ (omega (arith, c .before .before .before .before .before .before .before .if2 .left, c .before .before .before .before .before .before .before .before .before .if1 .left)) (omega (arith, c .before .before .before .before .before .if3 .left)), c .before .before .store-run2 .ensures)
+    let if1 = c .before .before .before .before .before .before .before .before .before .if1 in
+    let if2 = c .before .before .before .before .before .before .before .if2 in
+    let if3 = c .before .before .before .before .before .if3 in
+    let if4 = c .before .before .before .before .if4 in
+    let store-run2 = c .before .before .store-run2 in
+    rw (if4 .left) (has-rows _ _ _ _ (omega (arith, if2 .left, if1 .left)) (omega (arith, if3 .left)), store-run2 .ensures)
 
 pub put-run-spec : {M : Type 1} → statement M
 put-run-spec =

@@ -40,40 +40,86 @@ cell-requires-7 : tie.Need-cell-requires-7
 cell-requires-7 c κs = search needs
 
 mul-words : tie.Need-mul-words
-mul-words c = record { fits = omega (arith, before-last (c .before .before .before .before .before .before .before .before .args .grid) (c .before .before .before .before .before .before .before .before .args .row .0) 0 (omega arith), c .before .before .before .before .before .before .cell .ensures, c .before .before .before .before .before .before .before .before .pre) }
+mul-words c =
+    let a = c .before .before .before .before .before .before .before .before .args in
+    let p = c .before .before .before .before .before .before .before .before .pre in
+    let cell = c .before .before .before .before .before .before .cell in
+    record { fits = omega (arith, before-last (a .grid) (a .row .0) 0 (omega arith), cell .ensures, p) }
 
 slice-write-words : tie.Need-slice-write-words
-slice-write-words c = omega (arith, before-last (c .before .before .before .before .before .before .before .before .args .grid) (c .before .before .before .before .before .before .before .before .args .row .0) 0 (omega arith), c .before .before .before .before .before .before .cell .ensures, c .before .before .before .before .before .before .before .before .pre)
+slice-write-words c =
+    let a = c .before .before .before .before .before .before .before .before .args in
+    let p = c .before .before .before .before .before .before .before .before .pre in
+    let cell = c .before .before .before .before .before .before .cell in
+    omega (arith, before-last (a .grid) (a .row .0) 0 (omega arith), cell .ensures, p)
 
 mul-words-2 : tie.Need-mul-words-2
-mul-words-2 c = record { fits = omega (arith, before-last (c .before .before .before .before .before .before .before .before .args .grid) (c .before .before .before .before .before .before .before .before .args .row .0) 1 (omega arith), c .before .before .before .before .before .cell2 .ensures, c .before .before .before .before .before .before .before .before .pre) }
+mul-words-2 c =
+    let a = c .before .before .before .before .before .before .before .before .args in
+    let p = c .before .before .before .before .before .before .before .before .pre in
+    let cell2 = c .before .before .before .before .before .cell2 in
+    record { fits = omega (arith, before-last (a .grid) (a .row .0) 1 (omega arith), cell2 .ensures, p) }
 
 slice-write-words-2 : tie.Need-slice-write-words-2
-slice-write-words-2 c = simp length-set (omega (arith, before-last (c .before .before .before .before .before .before .before .before .args .grid) (c .before .before .before .before .before .before .before .before .args .row .0) 1 (omega arith), c .before .before .before .before .before .cell2 .ensures, c .before .before .before .before .before .before .before .before .pre))
+slice-write-words-2 c =
+    let a = c .before .before .before .before .before .before .before .before .args in
+    let p = c .before .before .before .before .before .before .before .before .pre in
+    let cell2 = c .before .before .before .before .before .cell2 in
+    simp length-set (omega (arith, before-last (a .grid) (a .row .0) 1 (omega arith), cell2 .ensures, p))
 
 mul-words-3 : tie.Need-mul-words-3
-mul-words-3 c = record { fits = omega (arith, before-last (c .before .before .before .before .before .before .before .before .args .grid) (c .before .before .before .before .before .before .before .before .args .row .0) 2 (omega arith), c .before .before .before .before .cell3 .ensures, c .before .before .before .before .before .before .before .before .pre) }
+mul-words-3 c =
+    let a = c .before .before .before .before .before .before .before .before .args in
+    let p = c .before .before .before .before .before .before .before .before .pre in
+    let cell3 = c .before .before .before .before .cell3 in
+    record { fits = omega (arith, before-last (a .grid) (a .row .0) 2 (omega arith), cell3 .ensures, p) }
 
 slice-write-words-3 : tie.Need-slice-write-words-3
-slice-write-words-3 c = simp length-set (omega (arith, before-last (c .before .before .before .before .before .before .before .before .args .grid) (c .before .before .before .before .before .before .before .before .args .row .0) 2 (omega arith), c .before .before .before .before .cell3 .ensures, c .before .before .before .before .before .before .before .before .pre))
+slice-write-words-3 c =
+    let a = c .before .before .before .before .before .before .before .before .args in
+    let p = c .before .before .before .before .before .before .before .before .pre in
+    let cell3 = c .before .before .before .before .cell3 in
+    simp length-set (omega (arith, before-last (a .grid) (a .row .0) 2 (omega arith), cell3 .ensures, p))
 
 mul-words-4 : tie.Need-mul-words-4
-mul-words-4 c = record { fits = omega (arith, before-last (c .before .before .before .before .before .before .before .before .args .grid) (c .before .before .before .before .before .before .before .before .args .row .0) 3 (omega arith), c .before .before .before .cell4 .ensures, c .before .before .before .before .before .before .before .before .pre) }
+mul-words-4 c =
+    let a = c .before .before .before .before .before .before .before .before .args in
+    let p = c .before .before .before .before .before .before .before .before .pre in
+    let cell4 = c .before .before .before .cell4 in
+    record { fits = omega (arith, before-last (a .grid) (a .row .0) 3 (omega arith), cell4 .ensures, p) }
 
 slice-write-words-4 : tie.Need-slice-write-words-4
-slice-write-words-4 c = simp length-set (omega (arith, before-last (c .before .before .before .before .before .before .before .before .args .grid) (c .before .before .before .before .before .before .before .before .args .row .0) 3 (omega arith), c .before .before .before .cell4 .ensures, c .before .before .before .before .before .before .before .before .pre))
+slice-write-words-4 c =
+    let a = c .before .before .before .before .before .before .before .before .args in
+    let p = c .before .before .before .before .before .before .before .before .pre in
+    let cell4 = c .before .before .before .cell4 in
+    simp length-set (omega (arith, before-last (a .grid) (a .row .0) 3 (omega arith), cell4 .ensures, p))
 
 mul-words-5 : tie.Need-mul-words-5
-mul-words-5 c = record { fits = omega (arith, before-last (c .before .before .before .before .before .before .before .before .args .grid) (c .before .before .before .before .before .before .before .before .args .row .0) 4 (omega arith), c .before .before .cell5 .ensures, c .before .before .before .before .before .before .before .before .pre) }
+mul-words-5 c =
+    let a = c .before .before .before .before .before .before .before .before .args in
+    let p = c .before .before .before .before .before .before .before .before .pre in
+    let cell5 = c .before .before .cell5 in
+    record { fits = omega (arith, before-last (a .grid) (a .row .0) 4 (omega arith), cell5 .ensures, p) }
 
 slice-write-words-5 : tie.Need-slice-write-words-5
-slice-write-words-5 c = simp length-set (omega (arith, before-last (c .before .before .before .before .before .before .before .before .args .grid) (c .before .before .before .before .before .before .before .before .args .row .0) 4 (omega arith), c .before .before .cell5 .ensures, c .before .before .before .before .before .before .before .before .pre))
+slice-write-words-5 c =
+    let a = c .before .before .before .before .before .before .before .before .args in
+    let p = c .before .before .before .before .before .before .before .before .pre in
+    let cell5 = c .before .before .cell5 in
+    simp length-set (omega (arith, before-last (a .grid) (a .row .0) 4 (omega arith), cell5 .ensures, p))
 
 mul-words-6 : tie.Need-mul-words-6
-mul-words-6 c = record { fits = omega (arith, before-last (c .before .before .before .before .before .before .before .before .args .grid) (c .before .before .before .before .before .before .before .before .args .row .0) 5 (omega arith), c .before .cell6 .ensures, c .before .before .before .before .before .before .before .before .pre) }
+mul-words-6 c =
+    let a = c .before .before .before .before .before .before .before .before .args in
+    let p = c .before .before .before .before .before .before .before .before .pre in
+    record { fits = omega (arith, before-last (a .grid) (a .row .0) 5 (omega arith), c .before .cell6 .ensures, p) }
 
 slice-write-words-6 : tie.Need-slice-write-words-6
-slice-write-words-6 c = simp length-set (omega (arith, before-last (c .before .before .before .before .before .before .before .before .args .grid) (c .before .before .before .before .before .before .before .before .args .row .0) 5 (omega arith), c .before .cell6 .ensures, c .before .before .before .before .before .before .before .before .pre))
+slice-write-words-6 c =
+    let a = c .before .before .before .before .before .before .before .before .args in
+    let p = c .before .before .before .before .before .before .before .before .pre in
+    simp length-set (omega (arith, before-last (a .grid) (a .row .0) 5 (omega arith), c .before .cell6 .ensures, p))
 
 mul-words-7 : tie.Need-mul-words-7
 mul-words-7 c = search needs
@@ -87,9 +133,15 @@ same-length c = simp length-set
 returns : tie.Need-returns
 unfolding putRow
 returns c =
+    let p = c .before .before .before .before .before .before .before .before .pre in
+    let cell = c .before .before .before .before .before .before .cell in
+    let cell2 = c .before .before .before .before .before .cell2 in
+    let cell3 = c .before .before .before .before .cell3 in
+    let cell4 = c .before .before .before .cell4 in
+    let cell5 = c .before .before .cell5 in
     let a = c .before .before .before .before .before .before .before .before .args in
-    let t : ltb (cellOf (a .grid) (a .row .0) 6) (length (a .words .now)) ≡ true = lt-ltb (cellOf (a .grid) (a .row .0) 6) (length (a .words .now)) (c .before .before .before .before .before .before .before .before .pre) in
-    rw (t, c .before .before .before .before .before .before .cell .ensures, c .before .before .before .before .before .cell2 .ensures, c .before .before .before .before .cell3 .ensures, c .before .before .before .cell4 .ensures, c .before .before .cell5 .ensures, c .before .cell6 .ensures, c .cell7 .ensures)
+    let t : ltb (cellOf (a .grid) (a .row .0) 6) (length (a .words .now)) ≡ true = lt-ltb (cellOf (a .grid) (a .row .0) 6) (length (a .words .now)) p in
+    rw (t, cell .ensures, cell2 .ensures, cell3 .ensures, cell4 .ensures, cell5 .ensures, c .before .cell6 .ensures, c .cell7 .ensures)
     (seven (a .grid) (a .words .now) (a .row .0) (a .r .kind) (a .r .first) (a .r .bytes) (a .r .children) (a .r .parent) (a .r .detail) (a .r .branch))
 
 pub store-cells-spec : {M : Type 1} → statement M

@@ -37,9 +37,11 @@ add-row c = search needs
 
 store-cells-requires : tie.Need-store-cells-requires Inv-loop μ-loop
 store-cells-requires c κs =
+    let p = c .before .before .before .before .before .before .pre in
     let a = c .before .before .before .before .before .before .args in
     let m = c .before .before .loop in
-    cell-inside (shapeOf (a .grid .columns)) (a .grid .room) (a .used + m .i) 6 (length (m .words)) (omega (arith, c .before .before .before .before .before .before .pre .0, c .before .loop-test .taken)) (omega arith) (omega (arith, m .inv .1, c .before .before .before .before .before .before .pre .1))
+    cell-inside (shapeOf (a .grid .columns)) (a .grid .room) (a .used + m .i) 6 (length (m .words)) (omega (arith, p .0, c .before .loop-test .taken)) (omega arith)
+    (omega (arith, m .inv .1, p .1))
 
 sum-requires : tie.Need-sum-requires Inv-loop μ-loop
 sum-requires c κs = search needs
@@ -52,9 +54,16 @@ loop-less c = search needs
 
 loop-again : tie.Need-loop-again Inv-loop μ-loop
 loop-again c =
+    let test = c .before .before .before .before .before .loop-test in
+    let store-cells = c .before .before .before .store-cells in
     let a = c .before .before .before .before .before .before .before .before .before .before .args in
-    let m = c .before .before .before .before .before .before .loop in
-    (omega (arith, c .before .before .before .before .before .loop-test .taken), search needs, c .sum .ensures ∙ rw (m .inv .2, m .inv .3) (run-first (a .first) (a .size) (m .i)), m .inv .3, run-more (a .grid) (a .used) (a .kind) (a .first) (a .size) (a .parent) (m .i) (a .words .now) _ _ _ _ (m .inv .2) (m .inv .3) (m .inv .4) (c .before .before .before .store-cells .ensures))
+    let m = c .before .before .before .before .before .before .loop in (
+      omega (arith, test .taken),
+      search needs,
+      c .sum .ensures ∙ rw (m .inv .2, m .inv .3) (run-first (a .first) (a .size) (m .i)),
+      m .inv .3,
+      run-more (a .grid) (a .used) (a .kind) (a .first) (a .size) (a .parent) (m .i) (a .words .now) _ _ _ _ (m .inv .2) (m .inv .3) (m .inv .4) (store-cells .ensures),
+    )
 
 same-length : tie.Need-same-length Inv-loop μ-loop
 same-length c = search needs

@@ -24,7 +24,12 @@ each-of-requires : tie.Need-each-of-requires
 each-of-requires c κs = search needs
 
 returns-2 : tie.Need-returns-2
-returns-2 c = rw (sym (c .before .before .before .before .before .before .before .little1 .ensures) ∙ ap told (c .before .before .before .before .before .flag .given .1), ne-eqb _ 0 (c .before .before .before .if1 .left), eq-eqb _ 1 (c .before .before .if2 .taken), c .each-of .ensures, c .before .raw-of .ensures)
+returns-2 c =
+    let little1 = c .before .before .before .before .before .before .before .little1 in
+    let flag = c .before .before .before .before .before .flag in
+    let if1 = c .before .before .before .if1 in
+    let if2 = c .before .before .if2 in
+    rw (sym (little1 .ensures) ∙ ap told (flag .given .1), ne-eqb _ 0 (if1 .left), eq-eqb _ 1 (if2 .taken), c .each-of .ensures, c .before .raw-of .ensures)
 
 returns-3 : tie.Need-returns-3
 returns-3 c = rw (sym (c .before .before .before .little1 .ensures) ∙ ap told (c .before .number .given .1))

@@ -15,7 +15,10 @@ use Rattle.leaves.proofs.plain.reference.Tie as tie
 number : (c : tie.After-known-told2)
     → (sevenAt (c .before .before .before .before .before .before .args .file .now) (c .before .before .before .before .before .before .args .h .first) ≡ read (c .before .value .given .0 .0) (c .before .value .given .0 .1 .0))
     × (c .before .value .given .0 .1 .1 .0 ≡ padOf (sevenAt (c .before .before .before .before .before .before .args .file .now) (c .before .before .before .before .before .before .args .h .first)) (c .before .before .before .before .before .before .args .h .first))
-number c = number-read (c .before .before .before .before .before .before .args .h .first) (sevenAt (c .before .before .before .before .before .before .args .file .now) (c .before .before .before .before .before .before .args .h .first)) (sym (ap toldPadded (c .before .value .given .1)) ∙ c .before .before .before .seven-padded .ensures)
+number c =
+    let a = c .before .before .before .before .before .before .args in
+    let seven-padded = c .before .before .before .seven-padded in
+    number-read (a .h .first) (sevenAt (a .file .now) (a .h .first)) (sym (ap toldPadded (c .before .value .given .1)) ∙ seven-padded .ensures)
 
 small-id : (c : tie.After-known-told2) → c .before .value .given .0 .0 < 2 ^ 32
 small-id c =

@@ -11,8 +11,12 @@ use Rattle.leaves.proofs.read.text_at.Tie as tie
 
 -- the count was read, with its padding
 count : (c : tie.After-known-told2)
-    → (sevenAt (c .before .before .before .before .before .args .file .now) (c .before .before .before .before .before .args .at) ≡ read (c .before .count .given .0 .0) (c .before .count .given .0 .1 .0)) × (c .before .count .given .0 .1 .1 .0 ≡ padOf (sevenAt (c .before .before .before .before .before .args .file .now) (c .before .before .before .before .before .args .at)) (c .before .before .before .before .before .args .at))
-count c = number-read (c .before .before .before .before .before .args .at) (sevenAt (c .before .before .before .before .before .args .file .now) (c .before .before .before .before .before .args .at)) (sym (ap toldPadded (c .before .count .given .1)) ∙ c .before .before .before .seven-padded .ensures)
+    → (sevenAt (c .before .before .before .before .before .args .file .now) (c .before .before .before .before .before .args .at) ≡ read (c .before .count .given .0 .0) (c .before .count .given .0 .1 .0))
+    × (c .before .count .given .0 .1 .1 .0 ≡ padOf (sevenAt (c .before .before .before .before .before .args .file .now) (c .before .before .before .before .before .args .at)) (c .before .before .before .before .before .args .at))
+count c =
+    let a = c .before .before .before .before .before .args in
+    let seven-padded = c .before .before .before .seven-padded in
+    number-read (a .at) (sevenAt (a .file .now) (a .at)) (sym (ap toldPadded (c .before .count .given .1)) ∙ seven-padded .ensures)
 
 seven-padded-requires : tie.Need-seven-padded-requires
 seven-padded-requires c κs = search needs

@@ -32,22 +32,54 @@ all-at-most-requires-2 c κs =
 
 returns-4 : tie.Need-returns-4
 returns-4 c =
-    λ e. (all-booleans (c .before .before .before .before .before .before .args .file .now) (c .before .before .before .before .before .before .args .kind) (c .before .before .before .before .before .before .args .size) (c .before .before .before .before .before .before .args .at) (c .before .before .before .before .before .before .args .n) (c .before .before .before .before .all-there .ensures (not-false _ (c .before .before .before .if1 .left))) (c .before .before .match .keys1) (c .before .if2 .left) (c .all-at-most .ensures e), c .before .before .before .before .all-there .ensures (not-false _ (c .before .before .before .if1 .left)))
+    let a = c .before .before .before .before .before .before .args in
+    let all-there = c .before .before .before .before .all-there in
+    let if1 = c .before .before .before .if1 in
+    let matched = c .before .before .match in
+    λ e. (
+      all-booleans (a .file .now) (a .kind) (a .size) (a .at) (a .n) (all-there .ensures (not-false _ (if1 .left))) (matched .keys1) (c .before .if2 .left)
+          (c .all-at-most .ensures e),
+      all-there .ensures (not-false _ (if1 .left)),
+    )
 
 returns-5 : tie.Need-returns-5
 returns-5 c =
-    λ e. (all-chars (c .before .before .before .before .before .before .args .file .now) (c .before .before .before .before .before .before .args .kind) (c .before .before .before .before .before .before .args .size) (c .before .before .before .before .before .before .args .at) (c .before .before .before .before .before .before .args .n) (c .before .before .before .before .all-there .ensures (not-false _ (c .before .before .before .if1 .left))) (c .before .before .match .keys2) (c .before .if3 .left) (c .all-at-most2 .ensures e), c .before .before .before .before .all-there .ensures (not-false _ (c .before .before .before .if1 .left)))
+    let a = c .before .before .before .before .before .before .args in
+    let all-there = c .before .before .before .before .all-there in
+    let if1 = c .before .before .before .if1 in
+    let matched = c .before .before .match in
+    λ e. (
+      all-chars (a .file .now) (a .kind) (a .size) (a .at) (a .n) (all-there .ensures (not-false _ (if1 .left))) (matched .keys2) (c .before .if3 .left)
+          (c .all-at-most2 .ensures e),
+      all-there .ensures (not-false _ (if1 .left)),
+    )
 
 returns-6 : tie.Need-returns-6
 returns-6 c = λ e. absurd (false≢true e)
 
 returns-7 : tie.Need-returns-7
 returns-7 c =
-    λ e. (all-free (c .before .before .before .before .before .args .file .now) (c .before .before .before .before .before .args .kind) (c .before .before .before .before .before .args .size) (c .before .before .before .before .before .args .at) (c .before .before .before .before .before .args .n) (c .before .before .before .all-there .ensures (not-false _ (c .before .before .if1 .left))) (c .before .match .rest .0 .1) (c .before .match .rest .1) (λ q. omega arith) (λ q. omega arith), c .before .before .before .all-there .ensures (not-false _ (c .before .before .if1 .left)))
+    let a = c .before .before .before .before .before .args in
+    let all-there = c .before .before .before .all-there in
+    let if1 = c .before .before .if1 in
+    let matched = c .before .match in
+    λ e. (
+      all-free (a .file .now) (a .kind) (a .size) (a .at) (a .n) (all-there .ensures (not-false _ (if1 .left))) (matched .rest .0 .1) (matched .rest .1) (λ q. omega arith)
+          (λ q. omega arith),
+      all-there .ensures (not-false _ (if1 .left)),
+    )
 
 returns-8 : tie.Need-returns-8
 returns-8 c =
-    λ e. (all-free (c .before .before .before .before .before .before .args .file .now) (c .before .before .before .before .before .before .args .kind) (c .before .before .before .before .before .before .args .size) (c .before .before .before .before .before .before .args .at) (c .before .before .before .before .before .before .args .n) (c .before .before .before .before .all-there .ensures (not-false _ (c .before .before .before .if1 .left))) (c .before .before .match .rest .0 .1) (c .before .before .match .rest .1) (λ q. omega arith) (λ q. omega arith), c .before .before .before .before .all-there .ensures (not-false _ (c .before .before .before .if1 .left)))
+    let a = c .before .before .before .before .before .before .args in
+    let all-there = c .before .before .before .before .all-there in
+    let if1 = c .before .before .before .if1 in
+    let matched = c .before .before .match in
+    λ e. (
+      all-free (a .file .now) (a .kind) (a .size) (a .at) (a .n) (all-there .ensures (not-false _ (if1 .left))) (matched .rest .0 .1) (matched .rest .1) (λ q. omega arith)
+          (λ q. omega arith),
+      all-there .ensures (not-false _ (if1 .left)),
+    )
 
 pub all-kept-spec : {M : Type 1} → statement M
 all-kept-spec =

@@ -44,9 +44,14 @@ same-length c = search needs
 
 returns : tie.Need-returns Inv-loop μ-loop
 returns c =
+    let m = c .before .before .before .before .before .before .before .before .before .loop in
+    let test = c .before .before .before .before .before .before .before .before .loop-test in
+    let turn = c .before .before .before .before .before .before .before .turn in
+    let read-plain = c .before .before .before .before .before .read-plain in
     let a = c .before .before .before .before .before .before .before .before .before .before .before .before .before .args in
-    let e = run-turn (a .grid) (a .file .now) (a .shared) (a .run) (a .depth) (a .parent) _ _ _ _ _ _ _ _ _ (c .before .before .before .before .before .before .before .before .loop-test .taken) (c .before .before .before .before .before .before .before .turn .ensures) (sym (c .before .number .given .1) ∙ c .before .before .before .before .before .read-plain .ensures .0) (c .before .before .before .before .before .read-plain .ensures .1) in
-    rw (sym (c .before .before .before .before .before .before .before .before .before .loop .inv .2) ∙ e) (refl, refl)
+    let e = run-turn (a .grid) (a .file .now) (a .shared) (a .run) (a .depth) (a .parent) _ _ _ _ _ _ _ _ _ (test .taken) (turn .ensures)
+    (sym (c .before .number .given .1) ∙ read-plain .ensures .0) (read-plain .ensures .1) in
+    rw (sym (m .inv .2) ∙ e) (refl, refl)
 
 add-i : tie.Need-add-i Inv-loop μ-loop
 add-i c = search needs
@@ -56,9 +61,15 @@ loop-less c = search needs
 
 loop-again : tie.Need-loop-again Inv-loop μ-loop
 loop-again c =
+    let m = c .before .before .before .before .before .before .before .before .before .before .loop in
+    let test = c .before .before .before .before .before .before .before .before .before .loop-test in
+    let turn = c .before .before .before .before .before .before .before .before .turn in
+    let read-plain = c .before .before .before .before .before .before .read-plain in
+    let reached = c .before .before .reached in
     let a = c .before .before .before .before .before .before .before .before .before .before .before .before .before .before .args in
-    let e = run-turn (a .grid) (a .file .now) (a .shared) (a .run) (a .depth) (a .parent) _ _ _ _ _ _ _ _ _ (c .before .before .before .before .before .before .before .before .before .loop-test .taken) (c .before .before .before .before .before .before .before .before .turn .ensures) (sym (c .before .before .reached .given .1) ∙ c .before .before .before .before .before .before .read-plain .ensures .0) (c .before .before .before .before .before .before .read-plain .ensures .1) in
-    (c .before .before .before .before .before .before .before .before .before .before .loop .inv .0, search needs, rw (c .sum .ensures) (sym e ∙ c .before .before .before .before .before .before .before .before .before .before .loop .inv .2))
+    let e = run-turn (a .grid) (a .file .now) (a .shared) (a .run) (a .depth) (a .parent) _ _ _ _ _ _ _ _ _ (test .taken) (turn .ensures)
+    (sym (reached .given .1) ∙ read-plain .ensures .0) (read-plain .ensures .1) in
+    (m .inv .0, search needs, rw (c .sum .ensures) (sym e ∙ m .inv .2))
 
 same-length-2 : tie.Need-same-length-2 Inv-loop μ-loop
 same-length-2 c = search needs

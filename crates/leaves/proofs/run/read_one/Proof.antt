@@ -21,16 +21,24 @@ same-length c = search needs
 
 returns : tie.Need-returns
 returns c =
+    let read-plain = c .before .before .before .before .before .read-plain in
     let a = c .before .before .before .before .before .before .before .before .before .args in
-    rw (one-run (a .grid) (a .file .now) (a .shared) (a .slot) (a .depth) (a .parent) (a .at) (a .used) (a .words .now) _ _ (sym (c .before .number .given .1) ∙ c .before .before .before .before .before .read-plain .ensures .0) (c .before .before .before .before .before .read-plain .ensures .1)) (refl, refl)
+    rw (one-run (a .grid) (a .file .now) (a .shared) (a .slot) (a .depth) (a .parent) (a .at) (a .used) (a .words .now) _ _
+    (sym (c .before .number .given .1) ∙ read-plain .ensures .0) (read-plain .ensures .1)) (refl, refl)
 
 same-length-2 : tie.Need-same-length-2
 same-length-2 c = search needs
 
 returns-2 : tie.Need-returns-2
 returns-2 c =
+    let read-plain = c .before .before .before .before .before .before .read-plain in
+    let reached = c .before .before .reached in
     let a = c .before .before .before .before .before .before .before .before .before .before .args in
-    rw (one-run (a .grid) (a .file .now) (a .shared) (a .slot) (a .depth) (a .parent) (a .at) (a .used) (a .words .now) _ _ (sym (c .before .before .reached .given .1) ∙ c .before .before .before .before .before .before .read-plain .ensures .0) (c .before .before .before .before .before .before .read-plain .ensures .1), c .sum .ensures) (refl, refl)
+    rw (
+      one-run (a .grid) (a .file .now) (a .shared) (a .slot) (a .depth) (a .parent) (a .at) (a .used) (a .words .now) _ _ (sym (reached .given .1) ∙ read-plain .ensures .0)
+          (read-plain .ensures .1),
+      c .sum .ensures,
+    ) (refl, refl)
 
 pub read-one-spec : {M : Type 1} → statement M
 read-one-spec =

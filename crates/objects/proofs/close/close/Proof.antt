@@ -29,8 +29,14 @@ same-length c = search needs
 
 returns : tie.Need-returns
 returns c =
-    let k = sym (c .before .before .before .before .before .before .before .before .keeps-rule .ensures) ∙ c .before .before .before .before .before .before .before .if1 .taken in
-    rw (c .before .before .before .before .before .before .before .before .before .before .before .before .walked2 .given .1, k, ← c .before .before .before .before .before .before .rows-from .ensures, ← c .before .before .before .before .before .row-words .ensures, ← c .sum .ensures) (refl, c .before .before .before .put-row .ensures)
+    let walked2 = c .before .before .before .before .before .before .before .before .before .before .before .before .walked2 in
+    let keeps-rule = c .before .before .before .before .before .before .before .before .keeps-rule in
+    let if1 = c .before .before .before .before .before .before .before .if1 in
+    let rows-from = c .before .before .before .before .before .before .rows-from in
+    let row-words = c .before .before .before .before .before .row-words in
+    let put-row = c .before .before .before .put-row in
+    let k = sym (keeps-rule .ensures) ∙ if1 .taken in
+    rw (walked2 .given .1, k, ← rows-from .ensures, ← row-words .ensures, ← c .sum .ensures) (refl, put-row .ensures)
 
 returns-2 : tie.Need-returns-2
 returns-2 c = rw (c .before .walked .given .1) (refl, refl)

@@ -10,8 +10,12 @@ use Rattle.objects.proofs.start.object_start.Tie as tie
 
 -- the type id was read, with its padding
 number : (c : tie.After-known-told2)
-    → (sevenAt (c .before .before .before .before .before .before .args .file .now) (c .before .before .before .before .before .before .args .at) ≡ read (c .before .value .given .0 .0) (c .before .value .given .0 .1 .0)) × (c .before .value .given .0 .1 .1 .0 ≡ padOf (sevenAt (c .before .before .before .before .before .before .args .file .now) (c .before .before .before .before .before .before .args .at)) (c .before .before .before .before .before .before .args .at))
-number c = number-read (c .before .before .before .before .before .before .args .at) (sevenAt (c .before .before .before .before .before .before .args .file .now) (c .before .before .before .before .before .before .args .at)) (sym (ap toldPadded (c .before .value .given .1)) ∙ c .before .before .before .seven-padded .ensures)
+    → (sevenAt (c .before .before .before .before .before .before .args .file .now) (c .before .before .before .before .before .before .args .at) ≡ read (c .before .value .given .0 .0) (c .before .value .given .0 .1 .0))
+    × (c .before .value .given .0 .1 .1 .0 ≡ padOf (sevenAt (c .before .before .before .before .before .before .args .file .now) (c .before .before .before .before .before .before .args .at)) (c .before .before .before .before .before .before .args .at))
+number c =
+    let a = c .before .before .before .before .before .before .args in
+    let seven-padded = c .before .before .before .seven-padded in
+    number-read (a .at) (sevenAt (a .file .now) (a .at)) (sym (ap toldPadded (c .before .value .given .1)) ∙ seven-padded .ensures)
 
 small : (c : tie.After-known-told2) → Small (c .before .before .before .before .before .before .args .file .now)
 small c = small-by-index (c .before .before .before .before .before .before .args .file .now) (λ i h. omega (arith, c .before .before .before .before .before .shared-slice-known .given i))

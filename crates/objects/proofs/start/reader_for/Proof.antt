@@ -29,11 +29,23 @@ fits-requires c κs = search needs
 
 returns-5 : tie.Need-returns-5
 unfolding readerAs placeAs
-returns-5 c = rw (lt-leb _ _ (c .before .before .before .before .before .before .if1 .left), lt-leb 64 _ (c .before .before .before .before .before .if2 .left), ← c .before .before .before .before .kind-at .ensures, ne-eqb _ 14 (c .before .before .before .if3 .left), ne-eqb _ 31 (c .before .before .if4 .left), sym (c .before .fits2 .ensures) ∙ c .if5 .taken)
+returns-5 c =
+    let if1 = c .before .before .before .before .before .before .if1 in
+    let if2 = c .before .before .before .before .before .if2 in
+    let kind-at = c .before .before .before .before .kind-at in
+    let if3 = c .before .before .before .if3 in
+    let if4 = c .before .before .if4 in
+    rw (lt-leb _ _ (if1 .left), lt-leb 64 _ (if2 .left), ← kind-at .ensures, ne-eqb _ 14 (if3 .left), ne-eqb _ 31 (if4 .left), sym (c .before .fits2 .ensures) ∙ c .if5 .taken)
 
 returns-6 : tie.Need-returns-6
 unfolding readerAs placeAs
-returns-6 c = rw (lt-leb _ _ (c .before .before .before .before .before .before .if1 .left), lt-leb 64 _ (c .before .before .before .before .before .if2 .left), ← c .before .before .before .before .kind-at .ensures, ne-eqb _ 14 (c .before .before .before .if3 .left), ne-eqb _ 31 (c .before .before .if4 .left), sym (c .before .fits2 .ensures) ∙ c .if5 .left)
+returns-6 c =
+    let if1 = c .before .before .before .before .before .before .if1 in
+    let if2 = c .before .before .before .before .before .if2 in
+    let kind-at = c .before .before .before .before .kind-at in
+    let if3 = c .before .before .before .if3 in
+    let if4 = c .before .before .if4 in
+    rw (lt-leb _ _ (if1 .left), lt-leb 64 _ (if2 .left), ← kind-at .ensures, ne-eqb _ 14 (if3 .left), ne-eqb _ 31 (if4 .left), sym (c .before .fits2 .ensures) ∙ c .if5 .left)
 
 pub reader-for-spec : {M : Type 1} → statement M
 reader-for-spec =

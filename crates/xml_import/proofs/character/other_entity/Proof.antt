@@ -29,7 +29,12 @@ add-t17 c = search needs
 
 returns-2 : tie.Need-returns-2
 unfolding ascii
-returns-2 c = let a = c .before .before .before .before .before .before .before .args in let p = c .before .before .before .before .before .before .before .pre in lt-takes (a .xml .now) (a .at) (omega (arith, p .0)) (c .before .before .before .before .matched-at .ensures) (c .before .before .before .if1 .left) (c .before .matched-at2 .ensures) (c .if2 .taken)
+returns-2 c =
+    let matched-at = c .before .before .before .before .matched-at in
+    let if1 = c .before .before .before .if1 in
+    let a = c .before .before .before .before .before .before .before .args in
+    let p = c .before .before .before .before .before .before .before .pre in
+    lt-takes (a .xml .now) (a .at) (omega (arith, p .0)) (matched-at .ensures) (if1 .left) (c .before .matched-at2 .ensures) (c .if2 .taken)
 
 slice-aggregate-matched-at-3 : tie.Need-slice-aggregate-matched-at-3
 slice-aggregate-matched-at-3 c = search needs
@@ -42,7 +47,14 @@ add-t20 c = search needs
 
 returns-3 : tie.Need-returns-3
 unfolding ascii
-returns-3 c = let a = c .before .before .before .before .before .before .before .before .before .before .args in let p = c .before .before .before .before .before .before .before .before .before .before .pre in gt-takes (a .xml .now) (a .at) (omega (arith, p .0)) (c .before .before .before .before .before .before .before .matched-at .ensures) (c .before .before .before .before .before .before .if1 .left) (c .before .before .before .before .matched-at2 .ensures) (c .before .before .before .if2 .left) (c .before .matched-at3 .ensures) (c .if3 .taken)
+returns-3 c =
+    let matched-at = c .before .before .before .before .before .before .before .matched-at in
+    let if1 = c .before .before .before .before .before .before .if1 in
+    let matched-at2 = c .before .before .before .before .matched-at2 in
+    let if2 = c .before .before .before .if2 in
+    let a = c .before .before .before .before .before .before .before .before .before .before .args in
+    let p = c .before .before .before .before .before .before .before .before .before .before .pre in
+    gt-takes (a .xml .now) (a .at) (omega (arith, p .0)) (matched-at .ensures) (if1 .left) (matched-at2 .ensures) (if2 .left) (c .before .matched-at3 .ensures) (c .if3 .taken)
 
 slice-aggregate-matched-at-4 : tie.Need-slice-aggregate-matched-at-4
 slice-aggregate-matched-at-4 c = search needs
@@ -55,7 +67,17 @@ add-t23 c = search needs
 
 returns-4 : tie.Need-returns-4
 unfolding ascii
-returns-4 c = let a = c .before .before .before .before .before .before .before .before .before .before .before .before .before .args in let p = c .before .before .before .before .before .before .before .before .before .before .before .before .before .pre in quot-takes (a .xml .now) (a .at) (omega (arith, p .0)) (c .before .before .before .before .before .before .before .before .before .before .matched-at .ensures) (c .before .before .before .before .before .before .before .before .before .if1 .left) (c .before .before .before .before .before .before .before .matched-at2 .ensures) (c .before .before .before .before .before .before .if2 .left) (c .before .before .before .before .matched-at3 .ensures) (c .before .before .before .if3 .left) (c .before .matched-at4 .ensures) (c .if4 .taken)
+returns-4 c =
+    let matched-at = c .before .before .before .before .before .before .before .before .before .before .matched-at in
+    let if1 = c .before .before .before .before .before .before .before .before .before .if1 in
+    let matched-at2 = c .before .before .before .before .before .before .before .matched-at2 in
+    let if2 = c .before .before .before .before .before .before .if2 in
+    let matched-at3 = c .before .before .before .before .matched-at3 in
+    let if3 = c .before .before .before .if3 in
+    let a = c .before .before .before .before .before .before .before .before .before .before .before .before .before .args in
+    let p = c .before .before .before .before .before .before .before .before .before .before .before .before .before .pre in
+    quot-takes (a .xml .now) (a .at) (omega (arith, p .0)) (matched-at .ensures) (if1 .left) (matched-at2 .ensures) (if2 .left) (matched-at3 .ensures) (if3 .left)
+    (c .before .matched-at4 .ensures) (c .if4 .taken)
 
 larger-requires : tie.Need-larger-requires
 larger-requires c κs = search needs
@@ -68,11 +90,39 @@ larger-requires-3 c κs = search needs
 
 add-t27 : tie.Need-add-t27
 unfolding ascii
-add-t27 c = let a = c .before .before .before .before .before .before .before .before .before .before .before .before .before .before .before .before .args in let p = c .before .before .before .before .before .before .before .before .before .before .before .before .before .before .before .before .pre in omega (arith, entity-inside (a .xml .now) (a .at) (omega (arith, p .0)) (c .before .before .before .before .before .before .before .before .before .before .before .before .before .matched-at .ensures) (c .before .before .before .before .before .before .before .before .before .before .before .before .if1 .left) (c .before .before .before .before .before .before .before .before .before .before .matched-at2 .ensures) (c .before .before .before .before .before .before .before .before .before .if2 .left) (c .before .before .before .before .before .before .before .matched-at3 .ensures) (c .before .before .before .before .before .before .if3 .left) (c .before .before .before .before .matched-at4 .ensures) (c .larger3 .ensures) (c .before .larger2 .ensures) (c .before .before .larger .ensures))
+add-t27 c =
+    let matched-at = c .before .before .before .before .before .before .before .before .before .before .before .before .before .matched-at in
+    let if1 = c .before .before .before .before .before .before .before .before .before .before .before .before .if1 in
+    let matched-at2 = c .before .before .before .before .before .before .before .before .before .before .matched-at2 in
+    let if2 = c .before .before .before .before .before .before .before .before .before .if2 in
+    let matched-at3 = c .before .before .before .before .before .before .before .matched-at3 in
+    let if3 = c .before .before .before .before .before .before .if3 in
+    let matched-at4 = c .before .before .before .before .matched-at4 in
+    let larger = c .before .before .larger in
+    let a = c .before .before .before .before .before .before .before .before .before .before .before .before .before .before .before .before .args in
+    let p = c .before .before .before .before .before .before .before .before .before .before .before .before .before .before .before .before .pre in
+    omega (
+      arith,
+      entity-inside (a .xml .now) (a .at) (omega (arith, p .0)) (matched-at .ensures) (if1 .left) (matched-at2 .ensures) (if2 .left) (matched-at3 .ensures) (if3 .left)
+          (matched-at4 .ensures) (c .larger3 .ensures) (c .before .larger2 .ensures) (larger .ensures),
+    )
 
 returns-5 : tie.Need-returns-5
 unfolding ascii
-returns-5 c = let a = c .before .before .before .before .before .before .before .before .before .before .before .before .before .before .before .before .args in let p = c .before .before .before .before .before .before .before .before .before .before .before .before .before .before .before .before .pre in rw (c .larger3 .ensures, c .before .larger2 .ensures, c .before .before .larger .ensures) (entity-fails (a .xml .now) (a .at) (omega (arith, p .0)) (c .before .before .before .before .before .before .before .before .before .before .before .before .before .matched-at .ensures) (c .before .before .before .before .before .before .before .before .before .before .before .before .if1 .left) (c .before .before .before .before .before .before .before .before .before .before .matched-at2 .ensures) (c .before .before .before .before .before .before .before .before .before .if2 .left) (c .before .before .before .before .before .before .before .matched-at3 .ensures) (c .before .before .before .before .before .before .if3 .left) (c .before .before .before .before .matched-at4 .ensures) (c .before .before .before .if4 .left) (p .0) (p .1))
+returns-5 c =
+    let matched-at = c .before .before .before .before .before .before .before .before .before .before .before .before .before .matched-at in
+    let if1 = c .before .before .before .before .before .before .before .before .before .before .before .before .if1 in
+    let matched-at2 = c .before .before .before .before .before .before .before .before .before .before .matched-at2 in
+    let if2 = c .before .before .before .before .before .before .before .before .before .if2 in
+    let matched-at3 = c .before .before .before .before .before .before .before .matched-at3 in
+    let if3 = c .before .before .before .before .before .before .if3 in
+    let matched-at4 = c .before .before .before .before .matched-at4 in
+    let if4 = c .before .before .before .if4 in
+    let larger = c .before .before .larger in
+    let a = c .before .before .before .before .before .before .before .before .before .before .before .before .before .before .before .before .args in
+    let p = c .before .before .before .before .before .before .before .before .before .before .before .before .before .before .before .before .pre in
+    rw (c .larger3 .ensures, c .before .larger2 .ensures, larger .ensures)
+    (entity-fails (a .xml .now) (a .at) (omega (arith, p .0)) (matched-at .ensures) (if1 .left) (matched-at2 .ensures) (if2 .left) (matched-at3 .ensures) (if3 .left) (matched-at4 .ensures) (if4 .left) (p .0) (p .1))
 
 pub other-entity-spec : {M : Type 1} → statement M
 other-entity-spec =

@@ -26,7 +26,9 @@ returns c =
     let word′ = c .before .before .before .word in
     let if2′ = c .before .before .if2 in
     let word2′ = c .before .word2 in
-    start-stands (a′ .xml .now) (a′ .at) (omega (arith, p′, if1′ .taken)) (four-by 0x3C 0x49 0x74 0x65 (omega arith) (omega arith) (omega arith) (omega arith) (word′ .ensures) (if2′ .taken)) (four-by 0x74 0x65 0x6D 0x3E (omega arith) (omega arith) (omega arith) (omega arith) (word2′ .ensures) ((c .if3) .taken))
+    start-stands (a′ .xml .now) (a′ .at) (omega (arith, p′, if1′ .taken))
+    (four-by 0x3C 0x49 0x74 0x65 (omega arith) (omega arith) (omega arith) (omega arith) (word′ .ensures) (if2′ .taken))
+    (four-by 0x74 0x65 0x6D 0x3E (omega arith) (omega arith) (omega arith) (omega arith) (word2′ .ensures) ((c .if3) .taken))
 
 slice-aggregate-matched-at : tie.Need-slice-aggregate-matched-at
 slice-aggregate-matched-at c = search needs

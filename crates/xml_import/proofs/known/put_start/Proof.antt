@@ -51,8 +51,13 @@ loop-again c =
     let a′ = c .before .before .before .before .before .before .before .args in
     let m′ = c .before .before .before .before .loop in
     let sign′ = c .before .sign in
-    let p′ = c .before .before .before .before .before .before .before .pre in
-    (omega (arith, t′ .taken), all-more Unmarked (a′ .xml .now) (a′ .at) (m′ .k) (m′ .inv .1) (sign′ .ensures .0 ((c .if1) .left)), length-set (m′ .out) (a′ .to + m′ .k) (getD (a′ .xml .now) (a′ .at + m′ .k) 0) ∙ m′ .inv .2, put-next (a′ .xml .now) (a′ .at) (m′ .k) (omega (arith, p′ .0, t′ .taken)) (m′ .inv .3))
+    let p′ = c .before .before .before .before .before .before .before .pre in (
+      omega (arith, t′ .taken),
+      all-more Unmarked (a′ .xml .now) (a′ .at) (m′ .k) (m′ .inv .1) (sign′ .ensures .0 ((c .if1) .left)),
+      length-set (m′ .out) (a′ .to + m′ .k) (getD (a′ .xml .now) (a′ .at + m′ .k) 0) ∙ m′ .inv .2,
+      put-next (a′ .xml .now) (a′ .at) (m′ .k) (omega (arith, p′ .0, t′ .taken))
+          (m′ .inv .3),
+    )
 
 same-length-2 : tie.Need-same-length-2 Inv-loop μ-loop
 same-length-2 c = (c .before .loop) .inv .2
