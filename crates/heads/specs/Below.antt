@@ -23,7 +23,8 @@ use Rattle.heads.specs.declared.nest.Below.{Below}
 use Rattle.heads.specs.declared.nest.Below.the-variants.{Nothing, Nested}
 use Rattle.heads.specs.declared.nest.Nest.the-variants.{Mesh as Nest-mesh}
 use Rattle.heads.specs.declared.open.Opened.the-variants.{Refused, Head}
-use Rattle.heads.specs.Nests.{BelowIs, below-plan, mesh-nest}
+use Rattle.heads.specs.Plans.{BelowIs}
+use Rattle.heads.specs.Nests.{below-plan, mesh-nest}
 use lib.Dec.{ltb}
 use Rattle.layout.specs.Fixed.{sizes}
 use Rattle.layout.specs.Number.{valueOf, between}

@@ -33,7 +33,8 @@ use Rattle.names.specs.Kind.{enumKind}
 use Rattle.targets.specs.Word.{enum-kind}
 use Rattle.targets.specs.Code.{codeKind}
 use Rattle.targets.specs.Word.{sized-small}
-use Rattle.heads.specs.Slots.{bytesOf, bytes-below}
+use Rattle.heads.specs.Placed.{bytesOf}
+use Rattle.heads.specs.Slots.{bytes-below}
 use Rattle.heads.specs.Opens.{Opens, Leafy, of-fixed, of-enum, of-char, of-string, rangedAt, levelsAt, heightAt, widthAt}
 
 -- a number below 2 to the k has at most k binary digits

@@ -28,8 +28,9 @@ use Rattle.heads.specs.declared.slot.Slot.the-variants.{Simple, Raw, Obj
 use Rattle.heads.specs.declared.nest.Below.the-variants.{Nothing, Nested}
 use Rattle.heads.specs.declared.nest.Nest.the-variants.{Mesh}
 use Rattle.heads.specs.declared.open.Opened.the-variants.{Refused, Head}
-use Rattle.heads.specs.Slots.{SlotIs, slot-is, raw-is}
-use Rattle.heads.specs.Nests.{BelowIs}
+use Rattle.heads.specs.Placed.{SlotIs}
+use Rattle.heads.specs.Slots.{slot-is, raw-is}
+use Rattle.heads.specs.Plans.{BelowIs}
 use Rattle.heads.specs.Opens.{Opens, Stopping, Leafy, of-fixed, of-enum, of-char, of-string, rangedAt, levelsAt, heightAt, widthAt}
 use Rattle.heads.specs.Below.{alone-refused, alone-read, opens-refused, opens-head, flag-refused, flag-zero, flag-one, flag-other, list-refused, list-read, pairs-refused, pairs-read, font-head, page-head, opens-mesh, leaf-stops, leafless, never-leaf, between-leaf, stands-inside}
 use Rattle.heads.specs.Images as images

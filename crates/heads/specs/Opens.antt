@@ -16,7 +16,7 @@ use Rattle.reading.specs.Heads.{Opening}
 use Rattle.heads.specs.declared.nest.Below.{Below}
 use Rattle.heads.specs.declared.open.Opened.{Opened}
 use Rattle.heads.specs.declared.open.Opened.the-variants.{Refused, Head}
-use Rattle.heads.specs.Nests.{BelowPlan}
+use Rattle.heads.specs.Plans.{BelowPlan}
 
 -- a head was read: where it ends, and what stands below it
 pub record OpenIs (file codes : List ℕ) (o : Opening) (e : ℕ) (r : Opened) : Type 0 where

@@ -29,7 +29,7 @@ use Rattle.heads.specs.declared.nest.Below.the-variants.{Nothing, Nested
 use Rattle.heads.specs.declared.nest.Below.the-variants.{Simple as SimpleRun}
 use Rattle.heads.specs.declared.open.Opened.{Opened}
 use Rattle.heads.specs.declared.open.Opened.the-variants.{Refused, Head}
-use Rattle.heads.specs.Slots.{bytesOf, rowKind}
+use Rattle.heads.specs.Placed.{bytesOf, rowKind}
 use Rattle.heads.specs.Opens.{rangedAt}
 use Rattle.heads.specs.Total.{rawAs, slotAs, eachAs, pairsAs, aloneAs, leafAs, flagAs, listAs, dictionaryAs, levelsAs, heightAs, widthAs, imageAs, kindAs, openAs}
 

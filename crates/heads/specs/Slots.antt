@@ -1,67 +1,29 @@
--- Slots in code, whose types are places in an array of codes, and the layout's slots that they are. Assumes nothing.
+-- Laws of slots in code: the slot by the kind of a type is the layout's. Assumes nothing.
 use mathlib.Core.Path.{_≡_, refl, sym, _∙_}
 use mathlib.Core.Bool.{Bool, true, false, cond}
 use mathlib.Core.List.{List}
 use mathlib.Core.Logic.{inl, inr}
 use Prim.Native.Nat.{ℕ, _<_}
 use native.Mathlib.Omega.{arith}
-use lib.Dec.{eqb, leb}
+use lib.Dec.{leb}
 use lib.ListN.{getD}
 use borrow.Author.Tests.{eqb-false, ne-eqb, le-leb, lt-leb}
 use Rattle.layout.specs.Named.{Lawful as LawfulTarget}
 use Rattle.layout.specs.Target.{Target, fixed, char, string, object as anything, texture, texture2D, spriteFont, page, indexBuffer, vertexDeclaration, vertexBuffer, model, mesh, meshKind, enum, nullable, array, list, dictionary, kindOf, isValue}
 use Rattle.layout.specs.Fixed.{sizes}
 use Rattle.layout.specs.EnumList.{EnumSize}
-use Rattle.layout.specs.Slot.{raw, object, slotOf, rawOrObject}
-use Rattle.layout.specs.Slot as L
+use Rattle.layout.specs.Slot.{raw, slotOf, rawOrObject}
 use Rattle.names.specs.Kind.{enumKind}
 use Rattle.names.specs.EntryLaws.{size-some}
 use Rattle.targets.specs.Word.{fixed-has-size, fixed-small, enum-kind}
 use Rattle.targets.specs.Code.{Stands, codeKind}
 use Rattle.targets.specs.Place.{kindAt}
 use Rattle.targets.specs.Laws.{kind-is, kind-of-code}
-use Rattle.leaves.specs.declared.plain.Plain.{Plain}
-use Rattle.leaves.specs.declared.plain.Plain.the-variants.{Fixed, Enum, Char}
+use Rattle.leaves.specs.declared.plain.Plain.the-variants.{Fixed, Enum}
 use Rattle.leaves.specs.Plain.{plainSlot, Lawful}
 use Rattle.leaves.specs.Like.{Like, same, enums}
-use Rattle.heads.specs.declared.slot.Slot.{Slot}
-use Rattle.heads.specs.declared.slot.Slot.the-variants.{Simple, Raw, Object}
-
--- a raw value or an object of a type, which stands at a place of the codes
-pub record RawIs (file codes : List ℕ) (place : ℕ) (x : L.Slot) : Type 0 where
-  pub type : Target
-  pub is : x ≡ raw type
-  pub stands : Stands file codes place type
-
-pub record ObjectIs (file codes : List ℕ) (place : ℕ) (x : L.Slot) : Type 0 where
-  pub type : Target
-  pub is : x ≡ object type
-  pub stands : Stands file codes place type
-
--- the slot that a slot of the code is; one of enums stands for those of every name
-abbrev pub SlotIs : (file codes : List ℕ) → Slot → L.Slot → Type 0
-SlotIs file codes (Simple p) x = Like x (plainSlot p) × Lawful p
-SlotIs file codes (Raw a) x = RawIs file codes a x
-SlotIs file codes (Object a) x = ObjectIs file codes a x
-
--- how many bytes a value of a kind has, as a type's code has the kind: 01's size, or an enum's; 0 where none is fixed
-unfoldable pub bytesOf : (kind : ℕ) → ℕ
-bytesOf k = cond (eqb k 60) 1 (cond (eqb k 61) 2 (cond (eqb k 62) 4 (cond (eqb k 63) 8 (getD sizes k 0))))
-
--- a value of such a kind without children
-unfoldable pub plainOf : (kind : ℕ) → Plain
-plainOf k = cond (leb 60 k) (Enum (bytesOf k)) (Fixed k (bytesOf k))
-
--- a raw value, and an element or a field, of a type whose code has a kind and stands at a place
-unfoldable pub rawOf : (kind a : ℕ) → Slot
-rawOf k a = cond (eqb k 12) (Simple Char) (cond (eqb (bytesOf k) 0) (Raw a) (Simple (plainOf k)))
-
-unfoldable pub slotBy : (kind a : ℕ) → Slot
-slotBy k a = cond (eqb k 12) (Simple Char) (cond (eqb k 16) (Raw a) (cond (eqb (bytesOf k) 0) (Object a) (Simple (plainOf k))))
-
--- 01's kind of a type by the kind of its code: every enum's is 15
-unfoldable pub rowKind : (kind : ℕ) → ℕ
-rowKind k = cond (leb 60 k) 15 k
+use Rattle.heads.specs.Placed.{bytesOf, plainOf, rawOf, slotBy, rowKind}
+pub use Rattle.heads.specs.Placed.{SlotIs}
 
 -- the sorts of types, by the kinds of their codes: characters, nullables, other values of a size, and what stands as an object
 data Sort : Target → Type 0 where

@@ -24,7 +24,7 @@ use Rattle.heads.specs.declared.nest.Below.the-variants.{Nothing, Nested
 use Rattle.heads.specs.declared.nest.Below.the-variants.{Simple as SimpleRun}
 use Rattle.heads.specs.declared.open.Opened.{Opened}
 use Rattle.heads.specs.declared.open.Opened.the-variants.{Refused, Head}
-use Rattle.heads.specs.Slots.{bytesOf, rawOf, slotBy}
+use Rattle.heads.specs.Placed.{bytesOf, rawOf, slotBy}
 use Rattle.heads.specs.Opens.{rangedAt}
 
 -- a raw value, and an element or a field, of the type at a place

@@ -5,7 +5,7 @@ use leaves::plain::Plain;
 use leaves::run::Run;
 use meshes::Field;
 ghost use mathlib.Core.Path.{_≡_};
-ghost use Rattle.heads.specs.Nests.{fontChild, pageChild, fieldChild, listed, standing, beginOf, slotAt, onwardOf, afterOf};
+ghost use Rattle.heads.specs.Plans.{fontChild, pageChild, fieldChild, listed, standing, beginOf, slotAt, onwardOf, afterOf};
 
 // n elements that stand alike; n pairs of key and value; the fields of a font; the fields of a page; the fields of a mesh type, by its kind.
 pub enum Nest {

@@ -2,7 +2,7 @@
 use leaves::plain::Plain;
 ghost use mathlib.Core.Path.{_≡_};
 ghost use Rattle.targets.specs.Place.{kindAt};
-ghost use Rattle.heads.specs.Slots.{bytesOf, rowKind, plainOf, rawOf, slotBy};
+ghost use Rattle.heads.specs.Placed.{bytesOf, rowKind, plainOf, rawOf, slotBy};
 
 pub enum Slot {
     Simple(Plain),

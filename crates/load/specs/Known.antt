@@ -12,9 +12,9 @@ use Rattle.walked.specs.declared.Head.{Head}
 use Rattle.heads.specs.declared.slot.Slot.{Slot}
 use Rattle.heads.specs.declared.nest.Nest.{Nest}
 use Rattle.leaves.specs.Plain.{Begin}
-use Rattle.heads.specs.Slots.{SlotIs}
-use Rattle.heads.specs.Nests.{Prelude, NestIs}
-use Rattle.objects.specs.Start.{Has, Ided, positionAt}
+use Rattle.heads.specs.Placed.{SlotIs}
+use Rattle.heads.specs.Plans.{Prelude, NestIs}
+use Rattle.objects.specs.Beginnings.{Has, Ided, positionAt}
 
 -- the codes hold the types of some readers and those that fonts, pages and meshes declare
 pub record Known (file codes : List ℕ) (rd : Readers) : Type 0 where

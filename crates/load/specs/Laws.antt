@@ -40,7 +40,8 @@ use Rattle.header.specs.Header.{toHeader, headerOf}
 use Rattle.heads.specs.declared.nest.Nest.the-variants.{Each}
 use Rattle.heads.specs.declared.slot.Slot.the-variants.{Object}
 use Rattle.targets.specs.Code.{preludeSize}
-use Rattle.heads.specs.Nests.{Prelude, prelude, NestIs, begins, object-at}
+use Rattle.heads.specs.Plans.{Prelude, prelude, NestIs}
+use Rattle.heads.specs.Nests.{begins, object-at}
 use Rattle.resources.specs.declared.Settled.{Settled}
 use Rattle.resources.specs.declared.Settled.the-variants.{Fine, Wrong}
 use Rattle.resources.specs.Settled.{settledOf, settled as rows-settled, answered, judged-is, Drafted}

@@ -43,12 +43,14 @@ use Rattle.heads.specs.declared.nest.Below.{Below}
 use Rattle.heads.specs.declared.nest.Nest.the-variants.{Font}
 use Rattle.heads.specs.declared.nest.Below.the-variants.{Nothing, Simple, Nested as Nested-below}
 use Rattle.heads.specs.declared.open.Opened.the-variants.{Head as Opened-head, Refused as Opened-refused}
-use Rattle.heads.specs.Slots.{rowKind, kind-kept}
+use Rattle.heads.specs.Placed.{rowKind}
+use Rattle.heads.specs.Slots.{kind-kept}
 use Rattle.heads.specs.Total.{openAs, kindAs}
 use Rattle.heads.specs.Pads.{belowPad}
 use Rattle.fonts.specs.Bridge.{other-kind}
-use Rattle.objects.specs.Start.{Begins, under}
-use Rattle.objects.specs.Close.{closeAnswer, closeWords, keeps, row-padding, raw-closed, slots-counted}
+use Rattle.objects.specs.Beginnings.{Begins, under}
+use Rattle.objects.specs.Endings.{closeAnswer, closeWords, keeps}
+use Rattle.objects.specs.Close.{row-padding, raw-closed, slots-counted}
 use Rattle.load.specs.declared.walk.Stepped.{Stepped}
 use Rattle.load.specs.declared.walk.Stepped.the-variants.{Done, Refused, Nested}
 use Rattle.load.specs.Known.{Ready}

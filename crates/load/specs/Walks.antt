@@ -24,11 +24,11 @@ use Rattle.heads.specs.declared.nest.Below.{Below}
 use Rattle.heads.specs.declared.open.Opened.{Opened}
 use Rattle.heads.specs.declared.open.Opened.the-variants.{Head as Opened-head, Refused as Opened-refused}
 use Rattle.heads.specs.Opens.{Opens}
-use Rattle.heads.specs.Nests.{BelowPlan}
+use Rattle.heads.specs.Plans.{BelowPlan}
 use Rattle.heads.specs.Pads.{belowPad}
 use Rattle.places.specs.Places.{countPlaces}
 use Rattle.places.specs.Padding.{padding}
-use Rattle.objects.specs.Close.{Closable}
+use Rattle.objects.specs.Endings.{Closable}
 use Rattle.load.specs.Known.{Ready}
 
 -- a head that was read, with the padding of its count

@@ -1,4 +1,4 @@
--- How a value ends, and the raw value that it is. Assumes nothing.
+-- Laws of how a value ends: the raw value that it is, with its padding. Assumes nothing.
 use mathlib.Core.Path.{_≡_, refl, sym, ap, _∙_}
 use mathlib.Core.Bool.{Bool, true, false, cond}
 use mathlib.Core.List.{List, [], _∷_}
@@ -37,32 +37,15 @@ use Rattle.walked.specs.declared.Head.{Head}
 use Rattle.walked.specs.declared.Walk.{Walk}
 use Rattle.walked.specs.declared.Walk.the-variants.{Done, Refused}
 use Rattle.walked.specs.Written.{written, written-under, length-written}
-use Rattle.walked.specs.Contract.{seen, reaching, atop, padded, Walked, Free, put-leaf}
+use Rattle.walked.specs.Contract.{seen, reaching, padded, Walked, Free, put-leaf}
 use Rattle.walked.specs.Leaf.{valueRow, value-row}
 use Rattle.walked.specs.Loop.{Got, got, lost, refusing, reading}
 use Rattle.heads.specs.Below.{font-head}
 use Rattle.places.specs.Places.{countPlaces}
 use Rattle.places.specs.Padding.{rowsPadding, row-first, id-of, sized-plain}
 use Rattle.places.specs.Padding.{padding as paddingOf}
-use Rattle.objects.specs.Start.{Ided, under}
-
--- only a font has a rule over its children
-unfoldable pub keeps : Grid → (file words : List ℕ) (kind number : ℕ) → Bool
-keeps g file words kind number = cond (eqb kind 33) (fontWords g file words number) true
-
--- a refusal below is the value's; else its rule, then its row
-abbrev pub closeAnswer : Grid → (file w : List ℕ) → Head → (kind at : ℕ) → Walk → Walk
-closeAnswer g file w h kind at (Refused m p) = Refused m p
-closeAnswer g file w h kind at (Done r) = cond (keeps g file w kind (h .row .0)) (Done (atop (h .padding) r)) (Refused 22 at)
-
-abbrev pub closeWords : Grid → (file w : List ℕ) → Head → (kind children : ℕ) → Walk → List ℕ
-closeWords g file w h kind n (Refused m p) = w
-closeWords g file w h kind n (Done r) = cond (keeps g file w kind (h .row .0)) (putRow g w (h .row .0) (valueRow h kind n (r .used - h .row .0) (r .next))) w
-
--- the value's length fits a word
-abbrev pub Closable : Head → Walk → Type 0
-Closable h (Refused m p) = Unit {0}
-Closable h (Done r) = (h .first ≤ r .next) × (r .next < 2 ^ 32)
+use Rattle.objects.specs.Beginnings.{Ided, under}
+use Rattle.objects.specs.Endings.{keeps, closeAnswer, closeWords, Closable}
 
 -- as many children as slots, and a row for each
 laid-count : (readers : List Target) (refers : ℕ → ℕ → Type 0) (slots : List L.Slot) (ts : Trees) (bs : List ℕ) → Lays readers refers (each slots) ts bs → (count ts ≡ length slots) × (count ts ≤ size ts)

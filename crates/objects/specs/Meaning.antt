@@ -22,12 +22,13 @@ use Rattle.readers.specs.Listed.{Listed}
 use Rattle.heads.specs.declared.slot.Slot.{Slot}
 use Rattle.heads.specs.declared.slot.Slot.the-variants.{Simple, Object}
 use Rattle.heads.specs.declared.slot.Slot.the-variants.{Raw as RawSlot}
-use Rattle.heads.specs.Slots.{SlotIs}
+use Rattle.heads.specs.Placed.{SlotIs}
 use Rattle.objects.specs.declared.start.Identified.{Identified}
 use Rattle.objects.specs.declared.start.Identified.the-variants.{Null, Reader, Refused}
 use Rattle.objects.specs.declared.start.Started.the-variants.{Raw}
 use Rattle.objects.specs.declared.start.Started.the-variants.{Refused as RefusedValue}
-use Rattle.objects.specs.Start.{Has, positionIn, positionAt, Identifies, ObjectStarts, Starts, beyond-list, beyond-most, never-called, called-by, has-named, no-number, null-starts, read-starts, unread, too-deep, no-row, raw-starts, object-starts}
+use Rattle.objects.specs.Beginnings.{Has, positionIn, positionAt, Identifies, ObjectStarts, Starts}
+use Rattle.objects.specs.Start.{beyond-list, beyond-most, never-called, called-by, has-named, no-number, null-starts, read-starts, unread, too-deep, no-row, raw-starts, object-starts}
 use Rattle.objects.specs.Total.{readerAs, placeAs, identifyAs, idAs, objectAs, startAs}
 
 module _ (file codes : List ℕ) (count target : ℕ) (rd : Readers) (readers : List Target) (l : Listed file codes rd readers) where

@@ -5,7 +5,7 @@ use walked::Head;
 use walked::Reached;
 use walked::Walk;
 ghost use mathlib.Core.Path.{_≡_};
-ghost use Rattle.objects.specs.Close.{keeps, closeAnswer, closeWords};
+ghost use Rattle.objects.specs.Endings.{keeps, closeAnswer, closeWords};
 
 // A value of a kind keeps its rule, where its children's rows are in the words.
 fn keeps_rule(file: &[u8], words: &[u32], grid: Grid, kind: u32, row: RowNumber) -> bool

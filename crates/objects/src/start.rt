@@ -9,7 +9,7 @@ ghost use lib.ListN.{getD};
 ghost use Rattle.ids.specs.Position.{positionOf};
 ghost use Rattle.reading.specs.Seven.{sevenAt};
 ghost use Rattle.objects.specs.Total.{readerAs, identifyAs, objectAs, startAs};
-ghost use Rattle.objects.specs.Start.{positionAt};
+ghost use Rattle.objects.specs.Beginnings.{positionAt};
 
 // Null; the type of the reader that a type id names; or a refusal's number.
 pub enum Identified {

@@ -1,6 +1,6 @@
 use mathlib.Core.Path.{ap, _∙_}
 use Rattle.meshes.specs.declared.Stage.{Stage}
-use Rattle.heads.specs.Nests.{standing}
+use Rattle.heads.specs.Plans.{standing}
 use borrow.Author.Needs.{needs}
 use Rattle.heads.proofs.nest.begin.Statement.{statement}
 use Rattle.heads.proofs.nest.begin.Tie as tie

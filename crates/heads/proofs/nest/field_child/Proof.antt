@@ -1,4 +1,4 @@
-use Rattle.heads.specs.Nests.{fieldChild}
+use Rattle.heads.specs.Plans.{fieldChild}
 use borrow.Author.Needs.{needs}
 use Rattle.heads.proofs.nest.field_child.Statement.{statement}
 use Rattle.heads.proofs.nest.field_child.Tie as tie

@@ -1,5 +1,5 @@
 use borrow.Author.Tests.{ne-eqb}
-use Rattle.heads.specs.Nests.{fontChild}
+use Rattle.heads.specs.Plans.{fontChild}
 use Rattle.heads.proofs.nest.font_child.Statement.{statement}
 use Rattle.heads.proofs.nest.font_child.Tie as tie
 

@@ -1,5 +1,5 @@
 use borrow.Author.Tests.{ne-eqb}
-use Rattle.heads.specs.Nests.{pageChild}
+use Rattle.heads.specs.Plans.{pageChild}
 use Rattle.heads.proofs.nest.page_child.Statement.{statement}
 use Rattle.heads.proofs.nest.page_child.Tie as tie
 

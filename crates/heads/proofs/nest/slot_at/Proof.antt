@@ -1,6 +1,6 @@
 use borrow.Author.Tests.{eq-eqb, ne-eqb}
 use mathlib.Core.Path.{ap, _∙_}
-use Rattle.heads.specs.Nests.{fieldChild}
+use Rattle.heads.specs.Plans.{fieldChild}
 use borrow.Author.Needs.{needs}
 use Rattle.heads.proofs.nest.slot_at.Statement.{statement}
 use Rattle.heads.proofs.nest.slot_at.Tie as tie

@@ -1,5 +1,5 @@
 use borrow.Author.Tests.{ne-eqb}
-use Rattle.heads.specs.Slots.{bytesOf}
+use Rattle.heads.specs.Placed.{bytesOf}
 use borrow.Author.Needs.{needs}
 use Rattle.heads.proofs.slot.bytes_of.Statement.{statement}
 use Rattle.heads.proofs.slot.bytes_of.Tie as tie

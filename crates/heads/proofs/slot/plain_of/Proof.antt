@@ -1,5 +1,5 @@
 use borrow.Author.Tests.{le-leb, lt-leb}
-use Rattle.heads.specs.Slots.{plainOf}
+use Rattle.heads.specs.Placed.{plainOf}
 use borrow.Author.Needs.{needs}
 use Rattle.heads.proofs.slot.plain_of.Statement.{statement}
 use Rattle.heads.proofs.slot.plain_of.Tie as tie

@@ -1,5 +1,5 @@
 use borrow.Author.Tests.{eq-eqb, ne-eqb}
-use Rattle.heads.specs.Slots.{rawOf}
+use Rattle.heads.specs.Placed.{rawOf}
 use borrow.Author.Needs.{needs}
 use Rattle.heads.proofs.slot.raw_of.Statement.{statement}
 use Rattle.heads.proofs.slot.raw_of.Tie as tie

@@ -1,6 +1,6 @@
 use borrow.Author.Needs.{needs}
 use borrow.Author.Tests.{le-leb, lt-leb}
-use Rattle.heads.specs.Slots.{rowKind}
+use Rattle.heads.specs.Placed.{rowKind}
 use Rattle.heads.proofs.slot.row_kind.Statement.{statement}
 use Rattle.heads.proofs.slot.row_kind.Tie as tie
 

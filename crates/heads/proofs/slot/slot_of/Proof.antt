@@ -1,6 +1,6 @@
 use borrow.Author.Tests.{eq-eqb, ne-eqb}
 use Rattle.layout.specs.Fixed.{sizes}
-use Rattle.heads.specs.Slots.{bytesOf, slotBy}
+use Rattle.heads.specs.Placed.{bytesOf, slotBy}
 use borrow.Author.Needs.{needs}
 use Rattle.heads.proofs.slot.slot_of.Statement.{statement}
 use Rattle.heads.proofs.slot.slot_of.Tie as tie

@@ -1,4 +1,4 @@
-use Rattle.objects.specs.Close.{keeps}
+use Rattle.objects.specs.Endings.{keeps}
 use borrow.Author.Tests.{ne-eqb}
 use borrow.Author.Needs.{needs}
 use Rattle.objects.proofs.close.keeps_rule.Statement.{statement}
