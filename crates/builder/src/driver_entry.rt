@@ -1,5 +1,4 @@
 // The entry of the driver's loader.
-use load::Loading;
 ghost use mathlib.Core.Path.{_≡_};
 ghost use lib.ListN.{length};
 ghost use Rattle.reading.specs.File.{tableOf};
@@ -21,23 +20,6 @@ pub extern "C" fn xnb_load_driver(
     ensures { λ _. ⌜ now (words .exit)
         ≡ tableOf (driverUnder (now (enums .entry)) (now (file .entry)) (length (now (words .entry)))) (length (now (words .entry))) ⌝ }
 {
-    match driver::load_driver(file, enums, words) {
-        Loading::Refused(number, place) => {
-            *readers = 0;
-            *shared = 0;
-            *padding = 0;
-            crate::refused(number, place)
-        }
-        Loading::Loaded {
-            rows,
-            readers: readers_count,
-            shared: shared_count,
-            padding: total,
-        } => {
-            *readers = readers_count;
-            *shared = shared_count;
-            *padding = total;
-            rows as u64
-        }
-    }
+    let loading = driver::load_driver(file, enums, words);
+    crate::tell_load(loading, readers, shared, padding)
 }

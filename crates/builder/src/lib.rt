@@ -14,12 +14,13 @@ use lookups::Span;
 use lookups::Whole;
 use rewrite::Rewriting;
 ghost use mathlib.Core.Path.{_≡_};
-ghost use mathlib.Core.List.{[]};
-ghost use Prim.Native.Nat.{_*_};
+ghost use mathlib.Core.List.{List, []};
+ghost use Prim.Native.Nat.{ℕ, _*_};
 ghost use lib.ListN.{length};
 ghost use Rattle.layout.specs.Rows.{width};
 ghost use Rattle.layout.specs.Table.{shapeOf};
-ghost use Rattle.reading.specs.File.{tableOf, tableIn};
+ghost use Rattle.reading.specs.File.{Load, tableOf, tableIn};
+ghost use Rattle.load.specs.Loads.{answerOf};
 ghost use Rattle.load.specs.Under.{loadUnder};
 ghost use Rattle.branches.specs.Next.{rowsNext};
 ghost use Rattle.lookups.specs.Parts.{rowsPart};
@@ -49,23 +50,17 @@ pub extern "C" fn xnb_load(file: &[u8]) -> u64
     few
 }
 
-// Loads a file into the words, by rows or in columns, under a list of enum types: the answer is packed as above, and the number of readers, the shared count
-// and the padding of the file's seven-bit numbers are 0 on a refusal.
-pub(crate) fn load_told(
-    file: &[u8],
-    enums: &[u8],
-    words: &mut [u32],
-    columns: bool,
+// Tells what a load answered: the packed answer, and the number of readers, the shared count and the padding of the file's seven-bit numbers, 0 on a refusal.
+pub(crate) fn tell_load(
+    loading: Loading,
     readers: &mut u32,
     shared: &mut u32,
     padding: &mut u32,
 ) -> u64
-    ensures { λ r. ⌜ (r, now (readers .exit), now (shared .exit), now (padding .exit))
-        ≡ loadTold (now (file .entry)) (loadUnder (now (enums .entry)) (now (file .entry)) (length (now (words .entry)))) ⌝ }
-    ensures { λ _. ⌜ now (words .exit)
-        ≡ tableIn (shapeOf columns) (loadUnder (now (enums .entry)) (now (file .entry)) (length (now (words .entry)))) (length (now (words .entry))) ⌝ }
+    ensures { λ r. ⌜ ((file : List ℕ) (x : Load) → loading ≡ answerOf file x
+        → (r, now (readers .exit), now (shared .exit), now (padding .exit)) ≡ loadTold file x) ⌝ }
 {
-    match load::load_in(file, enums, words, columns) {
+    match loading {
         Loading::Refused(number, place) => {
             *readers = 0;
             *shared = 0;
@@ -84,6 +79,25 @@ pub(crate) fn load_told(
             rows as u64
         }
     }
+}
+
+// Loads a file into the words, by rows or in columns, under a list of enum types.
+pub(crate) fn load_told(
+    file: &[u8],
+    enums: &[u8],
+    words: &mut [u32],
+    columns: bool,
+    readers: &mut u32,
+    shared: &mut u32,
+    padding: &mut u32,
+) -> u64
+    ensures { λ r. ⌜ (r, now (readers .exit), now (shared .exit), now (padding .exit))
+        ≡ loadTold (now (file .entry)) (loadUnder (now (enums .entry)) (now (file .entry)) (length (now (words .entry)))) ⌝ }
+    ensures { λ _. ⌜ now (words .exit)
+        ≡ tableIn (shapeOf columns) (loadUnder (now (enums .entry)) (now (file .entry)) (length (now (words .entry)))) (length (now (words .entry))) ⌝ }
+{
+    let loading = load::load_in(file, enums, words, columns);
+    tell_load(loading, readers, shared, padding)
 }
 
 // Loads a file into the words, under a list of enum types.

@@ -184,16 +184,7 @@ fn imported(line: &str) -> Option<String> {
 }
 
 /// Crates that still have longer lines.
-const LONG_LINES: [&str; 8] = [
-    "table",
-    "leaves",
-    "meshes",
-    "heads",
-    "objects",
-    "load",
-    "xml_import",
-    "xml_export",
-];
+const LONG_LINES: [&str; 1] = ["load"];
 
 /// The lines of specifications and proofs below a folder that pass 300 characters, but for quoted texts.
 fn long_lines(folder: &Path, found: &mut Vec<String>) {
