@@ -91,20 +91,21 @@ larger-requires-3 c κs = search needs
 add-t27 : tie.Need-add-t27
 unfolding ascii
 add-t27 c =
-    let matched-at = c .before .before .before .before .before .before .before .before .before .before .before .before .before .matched-at in
-    let if1 = c .before .before .before .before .before .before .before .before .before .before .before .before .if1 in
-    let matched-at2 = c .before .before .before .before .before .before .before .before .before .before .matched-at2 in
-    let if2 = c .before .before .before .before .before .before .before .before .before .if2 in
-    let matched-at3 = c .before .before .before .before .before .before .before .matched-at3 in
-    let if3 = c .before .before .before .before .before .before .if3 in
-    let matched-at4 = c .before .before .before .before .matched-at4 in
-    let larger = c .before .before .larger in
     let a = c .before .before .before .before .before .before .before .before .before .before .before .before .before .before .before .before .args in
     let p = c .before .before .before .before .before .before .before .before .before .before .before .before .before .before .before .before .pre in
     omega (
       arith,
-      entity-inside (a .xml .now) (a .at) (omega (arith, p .0)) (matched-at .ensures) (if1 .left) (matched-at2 .ensures) (if2 .left) (matched-at3 .ensures) (if3 .left)
-          (matched-at4 .ensures) (c .larger3 .ensures) (c .before .larger2 .ensures) (larger .ensures),
+      entity-inside (a .xml .now) (a .at) (omega (arith, p .0))
+          (c .before .before .before .before .before .before .before .before .before .before .before .before .before .matched-at .ensures)
+          (c .before .before .before .before .before .before .before .before .before .before .before .before .if1 .left)
+          (c .before .before .before .before .before .before .before .before .before .before .matched-at2 .ensures)
+          (c .before .before .before .before .before .before .before .before .before .if2 .left)
+          (c .before .before .before .before .before .before .before .matched-at3 .ensures)
+          (c .before .before .before .before .before .before .if3 .left)
+          (c .before .before .before .before .matched-at4 .ensures)
+          (c .larger3 .ensures)
+          (c .before .larger2 .ensures)
+          (c .before .before .larger .ensures),
     )
 
 returns-5 : tie.Need-returns-5
