@@ -1,9 +1,10 @@
 use mathlib.Core.Path.{sym, ap, _∙_}
+use Prim.Native.Nat.{_+_}
 use native.Mathlib.Omega.{arith}
 use borrow.Author.Tests.{not-false}
 use Rattle.answers.specs.Told.{told}
 use Rattle.reading.specs.Reads.{small-by-index}
-use Rattle.packs.specs.Short.{short-there}
+use Rattle.packs.specs.Short.{Short, short-there}
 use borrow.Author.Needs.{needs}
 use Rattle.packs.proofs.short_record.Statement.{statement}
 use Rattle.packs.proofs.short_record.Tie as tie
@@ -53,8 +54,9 @@ has-bytes-requires c κs = search needs
 returns-5 : tie.Need-returns-5
 returns-5 c = λ e. absurd (omega arith)
 
-add-result : tie.Need-add-result
-add-result c =
+-- the tests of the record say that it stands there
+there : (c : tie.Else5) → Short (c .before .before .before .before .before .before .before .before .before .before .before .before .before .args .marked) (c .before .before .before .before .before .before .before .before .before .before .before .before .before .args .pack .now) (c .before .before .before .before .before .before .before .before .before .before .before .before .before .args .at) (c .before .before .before .n .given .0 .0 + 1)
+there c =
     let args = c .before .before .before .before .before .before .before .before .before .before .before .before .before .args in
     let shared-slice-known = c .before .before .before .before .before .before .before .before .before .before .before .before .shared-slice-known in
     let if1 = c .before .before .before .before .before .before .before .before .before .before .before .if1 in
@@ -65,27 +67,17 @@ add-result c =
     let little4 = c .before .before .before .before .before .little4 in
     let n = c .before .before .before .n in
     let small = small-by-index (args .pack .now) (λ i h. omega (arith, shared-slice-known .given i)) in
-    let s = short-there _ _ small (if1 .left) (if2 .left) (if3 .left) (is-path .ensures (not-false _ (if4 .left)))
-    (sym (little4 .ensures) ∙ ap told (n .given .1)) (sym (c .before .has-bytes .ensures) ∙ not-false _ (c .if5 .left)) in
-    omega (arith, s .ends)
+    short-there _ _ small (if1 .left) (if2 .left) (if3 .left) (is-path .ensures (not-false _ (if4 .left)))
+    (sym (little4 .ensures) ∙ ap told (n .given .1)) (sym (c .before .has-bytes .ensures) ∙ not-false _ (c .if5 .left))
+
+add-result : tie.Need-add-result
+add-result c = omega (arith, there c .ends)
 
 returns-6 : tie.Need-returns-6
 returns-6 c = λ e. absurd (omega arith)
 
 returns-7 : tie.Need-returns-7
-returns-7 c =
-    let args = c .before .before .before .before .before .before .before .before .before .before .before .before .before .args in
-    let shared-slice-known = c .before .before .before .before .before .before .before .before .before .before .before .before .shared-slice-known in
-    let if1 = c .before .before .before .before .before .before .before .before .before .before .before .if1 in
-    let if2 = c .before .before .before .before .before .before .before .before .before .before .if2 in
-    let if3 = c .before .before .before .before .before .before .before .before .if3 in
-    let is-path = c .before .before .before .before .before .before .before .is-path in
-    let if4 = c .before .before .before .before .before .before .if4 in
-    let little4 = c .before .before .before .before .before .little4 in
-    let n = c .before .before .before .n in
-    let small = small-by-index (args .pack .now) (λ i h. omega (arith, shared-slice-known .given i)) in
-    λ e. short-there _ _ small (if1 .left) (if2 .left) (if3 .left) (is-path .ensures (not-false _ (if4 .left)))
-    (sym (little4 .ensures) ∙ ap told (n .given .1)) (sym (c .before .has-bytes .ensures) ∙ not-false _ (c .if5 .left))
+returns-7 c = λ e. there c
 
 pub short-record-spec : {M : Type 1} → statement M
 short-record-spec =
