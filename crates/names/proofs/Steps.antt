@@ -14,7 +14,7 @@ use Rattle.names.specs.declared.parse.Parsed.{Parsed}
 use Rattle.names.specs.declared.parse.Parsed.the-variants.{Name as Parsed-name, Broken as Parsed-broken}
 use Rattle.names.specs.Parse.{Read, broken, name, span, starts, common, tailOf, ended, wrongBy, wrong, behind, missing, closed, opening, unopenedNumber, unopenedAt, onOnly, onSecond, onFirst, afterHead, headed, nameIn}
 use Rattle.names.specs.Complete.{length-write}
-use Rattle.names.specs.Sound.{Ok, Stands, span-le, sound}
+use Rattle.names.specs.Sound.{Ok, NameStands, span-le, sound}
 use Rattle.names.specs.Contract.{answer, met, Parses, Inside, tailed, passed, tailedAfter, closing}
 use borrow.Author.Tests.{eq-eqb, ne-eqb}
 use Rattle.names.specs.Common.{starts-common}
@@ -79,7 +79,7 @@ pub record Took (s : List ℕ) (a at used l g k u : ℕ) : Type 0 where
   pub within : a + k ≤ length s
   pub most : length (headings at n) ≤ k
 
-took-as : (s : List ℕ) (a at used l g k u : ℕ) → a ≤ length s → (r : Read) → nameIn l at (drop a s) ≡ r → Ok (Stands l (drop a s)) r → Parsed-name g k u ≡ answer at used r → Took s a at used l g k u
+took-as : (s : List ℕ) (a at used l g k u : ℕ) → a ≤ length s → (r : Read) → nameIn l at (drop a s) ≡ r → Ok (NameStands l (drop a s)) r → Parsed-name g k u ≡ answer at used r → Took s a at used l g k u
 took-as s a at used l g k u h (broken m p hs) q o e = differ cc
 took-as s a at used l g k u h (name n j) q o e =
     let p = o .got refl in

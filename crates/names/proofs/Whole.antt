@@ -15,7 +15,7 @@ use Rattle.names.specs.declared.parse.Parsed.the-variants.{Name as Parse
 use Rattle.names.specs.declared.parse.Named.the-variants.{Codes, Broken, NoRoom}
 use Rattle.names.specs.Parse.{Read, broken, name, wrong, nameIn, whole, nameOf}
 use Rattle.names.specs.Complete.{length-write}
-use Rattle.names.specs.Sound.{Ok, Stands, sound}
+use Rattle.names.specs.Sound.{Ok, NameStands, sound}
 use Rattle.names.specs.Contract.{answer, met, Parses, placed, ending, answerOf, contentOf, ReadsName}
 use Rattle.names.specs.Kind.{codes}
 use Rattle.names.specs.Heading.{headings}
@@ -65,7 +65,7 @@ module _ (es : List EnumEntry) (s : List ℕ) (at : ℕ) (c c′ : List ℕ) (us
           (λ f. let q = ne-eqb j (length s) (λ e. f (p ∙ e)) in record { answers = rw (is-placed, i, q, y, p); writes = w ∙ rw (is-placed, i, q) }),
         )
 
-  fits-as : (x k v : ℕ) (r : Read) → Ok (Stands 8 s) r → Parsed-name x k v ≡ answer at used r → k ≤ length s
+  fits-as : (x k v : ℕ) (r : Read) → Ok (NameStands 8 s) r → Parsed-name x k v ≡ answer at used r → k ≤ length s
   fits-as x k v (broken m p hs) o a = differ cc
   fits-as x k v (name n j) o a =
       let g = o .got refl in

@@ -18,7 +18,7 @@ use Rattle.names.specs.Heading.{Heading, headings}
 use Rattle.names.specs.Parse.{Read, broken, name, span, starts, common, ended, wrongBy, wrong, behind, closed, opening, unopenedNumber, unopenedAt, onOnly, onSecond, onFirst, afterHead, headed, nameIn, whole, nameOf}
 use Rattle.names.specs.Common.{common-le, common-fits, common-is, common-part, starts-longer}
 use Rattle.names.specs.Complete.{length-write, write-append, complete, end}
-use Rattle.names.specs.Sound.{Ok, Stands, sound, span-le, span-is, starts-is}
+use Rattle.names.specs.Sound.{Ok, NameStands, sound, span-le, span-is, starts-is}
 use Rattle.names.specs.Local.{Reaches, Shallow, same-read}
 
 -- a name to go on with: a head of one letter
@@ -366,7 +366,7 @@ module _ (b l at : ℕ) (levels : b + suc l ≡ 8) (s : List ℕ) (h : ℕ) (hea
         right-behind b (suc l) s (with (ascii "`")) (h + 1) (with-size (ascii "`")) (with-known (ascii "`") q) one-bare one-formed (ascii "1[[A]]")
         (sym (append-assoc (take h s) (ascii "`") (ascii "1[[A]]"))) (omega (arith, size)) (digit-1 (omega (arith, size))) refl (one-leftmost 35 1 (omega arith))
 
-  module _ (below : ℕ → List ℕ → Read) (faulty-below : (p : ℕ) (r : List ℕ) → Faulty p (Piece (suc b) l r) (below p r)) (sound-below : (p : ℕ) (r : List ℕ) → Ok (Stands l r) (below p r)) where
+  module _ (below : ℕ → List ℕ → Read) (faulty-below : (p : ℕ) (r : List ℕ) → Faulty p (Piece (suc b) l r) (below p r)) (sound-below : (p : ℕ) (r : List ℕ) → Ok (NameStands l r) (below p r)) where
     -- one argument
     module _ (q : starts (ascii "`1[[") (drop h s) ≡ true) where
       only-known : s ≡ with (ascii "`1[[") ++ drop (h + 4) s
@@ -394,7 +394,7 @@ module _ (b l at : ℕ) (levels : b + suc l ≡ 8) (s : List ℕ) (h : ℕ) (hea
       in-read x o (inr y) q = not-in q o y
 
       -- the brackets behind it
-      only-closed : (x : Name) (k : ℕ) → Stands l (drop (h + 4) s) x k → Faulty at (Piece b (suc l) s) (closed at (one (take h s) x) x s (h + 4 + k))
+      only-closed : (x : Name) (k : ℕ) → NameStands l (drop (h + 4) s) x k → Faulty at (Piece b (suc l) s) (closed at (one (take h s) x) x s (h + 4 + k))
       unfolding closed Formed Tailed write writeTail long longTail ascii
       only-closed x k o =
           by-test (starts (ascii "]]") (drop (h + 4 + k) s)) (λ _. no-fault) (λ f.
@@ -441,7 +441,7 @@ module _ (b l at : ℕ) (levels : b + suc l ≡ 8) (s : List ℕ) (h : ℕ) (hea
           (λ r j q v. in-first f (in-two v) q)
 
       -- the first was read
-      module _ (x : Name) (k : ℕ) (o : Stands l (drop (h + 4) s) x k) where
+      module _ (x : Name) (k : ℕ) (o : NameStands l (drop (h + 4) s) x k) where
         -- all up to its end
         abbrev read : List ℕ
         read = with (ascii "`2[[") ++ text x
@@ -515,7 +515,7 @@ module _ (b l at : ℕ) (levels : b + suc l ≡ 8) (s : List ℕ) (h : ℕ) (hea
           in-both y v (inr (inr z)) q = not-in q v z
 
           -- the brackets behind it
-          second-closed : (y : Name) (m : ℕ) → Stands l (drop next s) y m → Faulty at (Piece b (suc l) s) (closed at (two (take h s) x y) y s (next + m))
+          second-closed : (y : Name) (m : ℕ) → NameStands l (drop next s) y m → Faulty at (Piece b (suc l) s) (closed at (two (take h s) x y) y s (next + m))
           unfolding closed Formed Tailed long longTail ascii
           second-closed y m v =
               by-test (starts (ascii "]]") (drop (next + m) s)) (λ _. no-fault) (λ f.
@@ -574,7 +574,7 @@ empty-piece b l s number e = record {
       inr (sym (x .first-byte), e ∙ rw z);
 }
 
-head-faulty : (b l at : ℕ) (s : List ℕ) (below : ℕ → List ℕ → Read) → ((p : ℕ) (r : List ℕ) → Faulty p (Piece (suc b) l r) (below p r)) → ((p : ℕ) (r : List ℕ) → Ok (Stands l r) (below p r))
+head-faulty : (b l at : ℕ) (s : List ℕ) (below : ℕ → List ℕ → Read) → ((p : ℕ) (r : List ℕ) → Faulty p (Piece (suc b) l r) (below p r)) → ((p : ℕ) (r : List ℕ) → Ok (NameStands l r) (below p r))
     → b + suc l ≡ 8 → (h : ℕ) → h ≡ span headByte s → Faulty at (Piece b (suc l) s) (headed below at s h)
 unfolding headed opening
 head-faulty b l at s below f o v zero e = a-fault 33 0 at (omega arith) (empty-piece b (suc l) s 33 (rw (ne-eqb (b + 1) 9 (λ q. omega arith))))
@@ -591,7 +591,7 @@ faulty zero b at s v = a-fault 38 0 at (omega arith) (empty-piece b 0 s 38 (let 
 faulty (suc l) b at s v = head-faulty b l at s (nameIn l) (λ p r. faulty l (suc b) p r (omega arith)) (sound l) v (span headByte s) refl
 
 -- nothing else stands behind a whole name
-more-piece : (s : List ℕ) (n : Name) (k : ℕ) → Stands 8 s n k → (k ≡ length s → ⊥) → Piece 0 8 s (wrong n) k
+more-piece : (s : List ℕ) (n : Name) (k : ℕ) → NameStands 8 s n k → (k ≡ length s → ⊥) → Piece 0 8 s (wrong n) k
 more-piece s n k o f =
     let w : s ≡ text n ++ drop k s = o .1 ∙ sym (write-append n [] (drop k s)) in
     let z : length (text n) ≡ k = omega (arith, length-write n [], o .2) in

@@ -12,7 +12,7 @@ use Rattle.laws.specs.Small.{differ}
 use Rattle.layout.specs.Name.{Name, write, text, Formed, long}
 use Rattle.names.specs.Parse.{Read, broken, name, wrong, nameIn, whole, nameOf}
 use Rattle.names.specs.Complete.{length-write, complete, end}
-use Rattle.names.specs.Sound.{Ok, not-read, is-read, Stands, sound}
+use Rattle.names.specs.Sound.{Ok, not-read, is-read, NameStands, sound}
 use Rattle.names.specs.Heading.{Heading, headings}
 
 -- the text of a lawful name is read as that name
@@ -25,13 +25,13 @@ text-is-read at n f =
 abbrev Whole : List ℕ → Name → ℕ → Type 0
 Whole s n k = Formed 8 n × (s ≡ text n) × (k ≡ length s)
 
-whole-sound : (at : ℕ) (s : List ℕ) (n : Name) (k : ℕ) → Stands 8 s n k → (b : Bool) → eqb k (length s) ≡ b → Ok (Whole s) (cond b (name n k) (broken (wrong n) (at + k) (headings at n)))
+whole-sound : (at : ℕ) (s : List ℕ) (n : Name) (k : ℕ) → NameStands 8 s n k → (b : Bool) → eqb k (length s) ≡ b → Ok (Whole s) (cond b (name n k) (broken (wrong n) (at + k) (headings at n)))
 whole-sound at s n k p true b =
     let z : k ≡ length s = eqb-true k (length s) b in
     is-read (p .0, p .1 ∙ ap (write n) (rw z (drop-length s)), z)
 whole-sound at s n k p false b = not-read
 
-read-sound : (at : ℕ) (s : List ℕ) (r : Read) → Ok (Stands 8 s) r → Ok (Whole s) (whole at s r)
+read-sound : (at : ℕ) (s : List ℕ) (r : Read) → Ok (NameStands 8 s) r → Ok (Whole s) (whole at s r)
 unfolding whole
 read-sound at s (broken m p hs) o = not-read
 read-sound at s (name n k) o = whole-sound at s n k (o .got refl) (eqb k (length s)) refl

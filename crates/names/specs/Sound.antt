@@ -83,15 +83,15 @@ module _ {P : Name → ℕ → Type 0} (at : ℕ) (x : Name) (n : Tail → Name)
       not-read
 
 -- what was read, and where it stands
-abbrev pub Stands : ℕ → List ℕ → Name → ℕ → Type 0
-Stands l s n k = Formed l n × (s ≡ write n (drop k s)) × (k ≡ long n)
+abbrev pub NameStands : ℕ → List ℕ → Name → ℕ → Type 0
+NameStands l s n k = Formed l n × (s ≡ write n (drop k s)) × (k ≡ long n)
 
 -- after a lawful head of h bytes, with arguments of at most l levels
-module _ (l at : ℕ) (s : List ℕ) (h : ℕ) (head : NameHead (take h s)) (size : length (take h s) ≡ h) (below : ℕ → List ℕ → Read) (sound-below : (p : ℕ) (r : List ℕ) → Ok (Stands l r) (below p r)) where
+module _ (l at : ℕ) (s : List ℕ) (h : ℕ) (head : NameHead (take h s)) (size : length (take h s) ≡ h) (below : ℕ → List ℕ → Read) (sound-below : (p : ℕ) (r : List ℕ) → Ok (NameStands l r) (below p r)) where
   opened : (w : List ℕ) → starts w (drop h s) ≡ true → s ≡ take h s ++ (w ++ drop (h + length w) s)
   opened w b = sym (take-append-drop h s) ∙ ap (λ (l : List ℕ). take h s ++ l) (starts-is w (drop h s) b ∙ ap (λ (l : List ℕ). w ++ l) (drop-drop (length w) h s))
 
-  simple-sound : Ok (Stands (suc l) s) (ended (simple (take h s)) s h)
+  simple-sound : Ok (NameStands (suc l) s) (ended (simple (take h s)) s h)
   unfolding Formed write long
   simple-sound =
       ended-sound at (simple (take h s) none) (simple (take h s)) s h
@@ -99,7 +99,7 @@ module _ (l at : ℕ) (s : List ℕ) (h : ℕ) (head : NameHead (take h s)) (siz
       let i : j ≡ length (take h s) + longTail t = omega arith in
       ((head, ok), sym (take-append-drop h s) ∙ ap (λ (l : List ℕ). take h s ++ l) q, i))
 
-  only-sound : starts (ascii "`1[[") (drop h s) ≡ true → (r : Read) → Ok (Stands l (drop (h + 4) s)) r → Ok (Stands (suc l) s) (onOnly at s h (h + 4) r)
+  only-sound : starts (ascii "`1[[") (drop h s) ≡ true → (r : Read) → Ok (NameStands l (drop (h + 4) s)) r → Ok (NameStands (suc l) s) (onOnly at s h (h + 4) r)
   unfolding onOnly Formed write long ascii
   only-sound b (broken m p hs) o = not-read
   only-sound b (name x k) o =
@@ -110,8 +110,8 @@ module _ (l at : ℕ) (s : List ℕ) (h : ℕ) (head : NameHead (take h s)) (siz
       let i : j ≡ length (take h s) + 4 + long x + 2 + longTail t = omega (arith, p .2) in
       ((head, p .0, ok), opened (ascii "`1[[") b ∙ ap (λ (l : List ℕ). take h s ++ (ascii "`1[[" ++ l)) v, i))
 
-  second-sound : (x : Name) (k : ℕ) → Stands l (drop (h + 4) s) x k → starts (ascii "`2[[") (drop h s) ≡ true → starts (ascii "],[") (drop (h + 4 + k) s) ≡ true
-      → (r : Read) → Ok (Stands l (drop (h + 4 + k + 3) s)) r → Ok (Stands (suc l) s) (onSecond at s h (h + 4) x (h + 4 + k + 3) r)
+  second-sound : (x : Name) (k : ℕ) → NameStands l (drop (h + 4) s) x k → starts (ascii "`2[[") (drop h s) ≡ true → starts (ascii "],[") (drop (h + 4 + k) s) ≡ true
+      → (r : Read) → Ok (NameStands l (drop (h + 4 + k + 3) s)) r → Ok (NameStands (suc l) s) (onSecond at s h (h + 4) x (h + 4 + k + 3) r)
   unfolding onSecond Formed write long ascii
   second-sound x k p b c (broken m q hs) o = not-read
   second-sound x k p b c (name y m) r =
@@ -125,26 +125,26 @@ module _ (l at : ℕ) (s : List ℕ) (h : ℕ) (head : NameHead (take h s)) (siz
       let i : j ≡ length (take h s) + 4 + long x + 3 + long y + 2 + longTail t = omega (arith, p .2, o .2) in
       ((head, p .0, o .0, ok), opened (ascii "`2[[") b ∙ ap (λ (l : List ℕ). take h s ++ (ascii "`2[[" ++ l)) w, i))
 
-  first-sound : starts (ascii "`2[[") (drop h s) ≡ true → (r : Read) → Ok (Stands l (drop (h + 4) s)) r → Ok (Stands (suc l) s) (onFirst below at s h (h + 4) r)
+  first-sound : starts (ascii "`2[[") (drop h s) ≡ true → (r : Read) → Ok (NameStands l (drop (h + 4) s)) r → Ok (NameStands (suc l) s) (onFirst below at s h (h + 4) r)
   unfolding onFirst
   first-sound b (broken m p hs) o = not-read
   first-sound b (name x k) o =
       ok-pick (starts (ascii "],[") (drop (h + 4 + k) s)) (λ c. second-sound x k (o .got refl) b c (below (at + (h + 4 + k + 3)) (drop (h + 4 + k + 3) s)) (sound-below (at + (h + 4 + k + 3)) (drop (h + 4 + k + 3) s))) not-read
 
   -- by what follows the head
-  by-opening : (b₁ b₂ b₃ : Bool) → starts (ascii "`1[[") (drop h s) ≡ b₁ → starts (ascii "`2[[") (drop h s) ≡ b₂ → Ok (Stands (suc l) s) (afterHead below at s h (cond b₁ 1 (cond b₂ 2 (cond b₃ 3 0))))
+  by-opening : (b₁ b₂ b₃ : Bool) → starts (ascii "`1[[") (drop h s) ≡ b₁ → starts (ascii "`2[[") (drop h s) ≡ b₂ → Ok (NameStands (suc l) s) (afterHead below at s h (cond b₁ 1 (cond b₂ 2 (cond b₃ 3 0))))
   unfolding afterHead
   by-opening true b₂ b₃ e₁ e₂ = only-sound e₁ (below (at + (h + 4)) (drop (h + 4) s)) (sound-below (at + (h + 4)) (drop (h + 4) s))
   by-opening false true b₃ e₁ e₂ = first-sound e₂ (below (at + (h + 4)) (drop (h + 4) s)) (sound-below (at + (h + 4)) (drop (h + 4) s))
   by-opening false false true e₁ e₂ = not-read
   by-opening false false false e₁ e₂ = simple-sound
 
-  after-sound : Ok (Stands (suc l) s) (afterHead below at s h (opening (drop h s)))
+  after-sound : Ok (NameStands (suc l) s) (afterHead below at s h (opening (drop h s)))
   unfolding opening
   after-sound = by-opening (starts (ascii "`1[[") (drop h s)) (starts (ascii "`2[[") (drop h s)) (starts (ascii "`") (drop h s)) refl refl
 
-head-sound : (l at : ℕ) (s : List ℕ) (below : ℕ → List ℕ → Read) → ((p : ℕ) (r : List ℕ) → Ok (Stands l r) (below p r)) → (h : ℕ) → h ≡ span headByte s
-    → Ok (Stands (suc l) s) (headed below at s h)
+head-sound : (l at : ℕ) (s : List ℕ) (below : ℕ → List ℕ → Read) → ((p : ℕ) (r : List ℕ) → Ok (NameStands l r) (below p r)) → (h : ℕ) → h ≡ span headByte s
+    → Ok (NameStands (suc l) s) (headed below at s h)
 unfolding headed
 head-sound l at s below f zero e = not-read
 head-sound l at s below f (suc h) e =
@@ -153,7 +153,7 @@ head-sound l at s below f (suc h) e =
     let some : take (suc h) s ≡ [] → ⊥ = λ q. omega (arith, ap length q) in
     after-sound l at s (suc h) (record { some = some; bytes = b }) z below f
 
-pub sound : (l at : ℕ) (s : List ℕ) → Ok (Stands l s) (nameIn l at s)
+pub sound : (l at : ℕ) (s : List ℕ) → Ok (NameStands l s) (nameIn l at s)
 unfolding nameIn
 sound zero at s = not-read
 sound (suc l) at s = head-sound l at s (nameIn l) (sound l) (span headByte s) refl

@@ -16,13 +16,13 @@ allSkipped [] = []
 allSkipped (b ∷ bs) = skipped b ∷ allSkipped bs
 
 -- Req 11: "a mark and a whole record that keeps Req 01's limits stand here", before the rest
-pub record Stands (f : Stored) (rest bs : List ℕ) : Type 0 where
+pub record RecordStands (f : Stored) (rest bs : List ℕ) : Type 0 where
   pub lawful : Lawful f
   pub parts : bs ≡ recordBytes marked f ++ rest
 
 -- no such record stands here
-abbrev pub NoneStands : List ℕ → Type 0
-NoneStands bs = (f : Stored) (rest : List ℕ) → Stands f rest bs → ⊥
+abbrev pub NoRecordStands : List ℕ → Type 0
+NoRecordStands bs = (f : Stored) (rest : List ℕ) → RecordStands f rest bs → ⊥
 
 -- these bytes are scanned as these pieces, where so many more records may be kept
 pub data Scanned : ℕ → List ℕ → List Piece → Type 0 where
@@ -31,9 +31,9 @@ pub data Scanned : ℕ → List ℕ → List Piece → Type 0 where
   -- "or after 4,096 records; the rest is skipped"
   no-more : {bs : List ℕ} → Scanned zero bs (allSkipped bs)
   -- "keep it and go on after it"
-  keeps : {k : ℕ} {f : Stored} {rest bs : List ℕ} {ps : List Piece} → Stands f rest bs → Scanned k rest ps → Scanned (suc k) bs (kept f ∷ ps)
+  keeps : {k : ℕ} {f : Stored} {rest bs : List ℕ} {ps : List Piece} → RecordStands f rest bs → Scanned k rest ps → Scanned (suc k) bs (kept f ∷ ps)
   -- "otherwise go on one byte"
-  goes-on : {k b : ℕ} {bs : List ℕ} {ps : List Piece} → NoneStands (b ∷ bs) → Scanned (suc k) bs ps → Scanned (suc k) (b ∷ bs) (skipped b ∷ ps)
+  goes-on : {k b : ℕ} {bs : List ℕ} {ps : List Piece} → NoRecordStands (b ∷ bs) → Scanned (suc k) bs ps → Scanned (suc k) (b ∷ bs) (skipped b ∷ ps)
 
 -- ---- The pieces make up the input
 

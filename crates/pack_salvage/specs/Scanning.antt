@@ -10,7 +10,7 @@ use Rattle.reading.specs.Reads.{Small, small-drop, Spans}
 use Rattle.pack_layout.specs.Pack.{Stored, Lawful, marked, recordBytes}
 use Rattle.pack_reading.specs.Pack.{recordAt}
 use Rattle.pack_reading.specs.Laws.{record-reads}
-use Rattle.pack_salvage.specs.Scan.{Piece, kept, skipped, allSkipped, Stands, NoneStands, Scanned, at-end, no-more, keeps, goes-on}
+use Rattle.pack_salvage.specs.Scan.{Piece, kept, skipped, allSkipped, RecordStands, NoRecordStands, Scanned, at-end, no-more, keeps, goes-on}
 
 -- what follows where a record was read or not
 unfoldable pub tried : Answer Stored → (b : ℕ) → (onward : ℕ → List Piece) → (further : Unit {0} → List Piece) → List Piece
@@ -45,13 +45,13 @@ record-length f = omega arith
 abbrev Whole : List ℕ → Stored → ℕ → Type 0
 Whole bs = Spans bs (λ f l. Lawful f × (l ≡ recordBytes marked f)) 0
 
-stands : (bs : List ℕ) (f : Stored) (e : ℕ) → Whole bs f e → Stands f (drop e bs) bs × (e ≡ length (recordBytes marked f))
+stands : (bs : List ℕ) (f : Stored) (e : ℕ) → Whole bs f e → RecordStands f (drop e bs) bs × (e ≡ length (recordBytes marked f))
 stands bs f e w =
     let l : e ≡ length (recordBytes marked f) = omega (arith, w .3, ap length (w .1 .1)) in
     (record { lawful = w .1 .0; parts = w .2 ∙ ap (λ (x : List ℕ). x ++ drop e bs) (w .1 .1) }, l)
 
 -- where a record stands it is read
-reads-it : (f : Stored) (rest bs : List ℕ) → Stands f rest bs → recordAt marked bs 0 ≡ read f (length (recordBytes marked f))
+reads-it : (f : Stored) (rest bs : List ℕ) → RecordStands f rest bs → recordAt marked bs 0 ≡ read f (length (recordBytes marked f))
 reads-it f rest bs w =
     let z : 0 + length (recordBytes marked f) ≡ length (recordBytes marked f) = omega arith in
     rw z at (record-reads marked bs .complete f (recordBytes marked f) rest 0 (w .lawful, refl) (w .parts))
@@ -80,10 +80,10 @@ is-scanned left bs h = scanned-from bs left zero h
 
 -- ---- and nothing else: there is one way to scan
 
-behind : {f : Stored} {rest bs : List ℕ} → Stands f rest bs → drop (length (recordBytes marked f)) bs ≡ rest
+behind : {f : Stored} {rest bs : List ℕ} → RecordStands f rest bs → drop (length (recordBytes marked f)) bs ≡ rest
 behind {f} {rest} w = ap (drop (length (recordBytes marked f))) (w .parts) ∙ drop-append-seam (recordBytes marked f) rest
 
-pub scan-keeps : (left : ℕ) (f : Stored) (rest bs : List ℕ) → Stands f rest bs → scan (suc left) zero bs ≡ kept f ∷ scan left zero rest
+pub scan-keeps : (left : ℕ) (f : Stored) (rest bs : List ℕ) → RecordStands f rest bs → scan (suc left) zero bs ≡ kept f ∷ scan left zero rest
 unfolding scan tried
 scan-keeps left f rest [] w = absurd (omega (arith, record-length f, ap length (w .parts), length-append (recordBytes marked f) rest))
 scan-keeps left f rest (b ∷ bs) w =
@@ -92,7 +92,7 @@ scan-keeps left f rest (b ∷ bs) w =
     let r : drop (pred n) bs ≡ rest = ap (λ (k : ℕ). drop k (b ∷ bs)) (sym z) ∙ behind w in
     rw (reads-it f rest (b ∷ bs) w, scan-past left (pred n) bs, r)
 
-pub scan-goes-on : (left b : ℕ) (bs : List ℕ) → Small (b ∷ bs) → NoneStands (b ∷ bs)
+pub scan-goes-on : (left b : ℕ) (bs : List ℕ) → Small (b ∷ bs) → NoRecordStands (b ∷ bs)
     → scan (suc left) zero (b ∷ bs) ≡ skipped b ∷ scan (suc left) zero bs
 unfolding scan tried
 scan-goes-on left b bs h none = go (recordAt marked (b ∷ bs) 0) (record-reads marked (b ∷ bs) .sound h 0) where

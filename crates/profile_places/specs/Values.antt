@@ -114,9 +114,9 @@ module _ (file : List ℕ) where
   abbrev Four : List Row → Type 0
   Four rows = (a : Row) × (b : Row) × (c : Row) × (d : Row) × (rest : List Row) × (rows ≡ a ∷ b ∷ c ∷ d ∷ rest) × (a .branch ≡ 1) × (b .branch ≡ 1) × (c .branch ≡ 1)
 
-  unfoldable Whole : List Row → Type 0
-  Whole [] = Unit {0}
-  Whole (r ∷ rows) = (r .kind ≡ 34 → Four rows) × Whole rows
+  unfoldable Paged : List Row → Type 0
+  Paged [] = Unit {0}
+  Paged (r ∷ rows) = (r .kind ≡ 34 → Four rows) × Paged rows
 
   -- the row of a value without children, before those of the rest
   alone : (k i : ℕ) (own : List ℕ) (cs rest : Trees) (rows : List Row) → Stand file (tree k i own cs rest) rows → size cs ≡ 0
@@ -149,8 +149,8 @@ module _ (file : List ℕ) where
           last : (c : Row) × (d : Row) × (more : List Row) × (others ≡ c ∷ d ∷ more) × (c .branch ≡ 1) × (d .branch ≡ 1) × Stand file rest more → Four (rows ++ post)
           last (c, d, more, f, u, v, w) = (a, b, c, d, more ++ post, ap (λ (l : List Row). l ++ post) (e ∙ ap (λ (l : List Row). a ∷ b ∷ l) f), x, y, u)
 
-  stand-whole : (ts : Trees) (rows post : List Row) → Stand file ts rows → Every Flat ts → Whole post → Whole (rows ++ post)
-  unfolding Stand Every Whole
+  stand-whole : (ts : Trees) (rows post : List Row) → Stand file ts rows → Every Flat ts → Paged post → Paged (rows ++ post)
+  unfolding Stand Every Paged
   stand-whole none rows post s f w = rw s w
   stand-whole (tree k i own cs rest) rows post (r, below, behind, e, q, s, t) f w =
       let g : rows ++ post ≡ r ∷ (below ++ (behind ++ post)) = ap (λ (l : List Row). l ++ post) e ∙ ap (λ (l : List Row). r ∷ l) (append-assoc below behind post) in
@@ -175,8 +175,8 @@ module _ (file : List ℕ) where
   four-length rows (a, b, c, d, rest, e, x, y, z) = omega (arith, ap length e)
 
   -- no next stands before the fifth row
-  fifth : (q from to : ℕ) (rows : List Row) → Whole rows → RowsRise from to rows → Among q (nextless rows) → (5 ≤ length rows) × (firstOf (drop 4 rows) ≤ q)
-  unfolding Whole RowsRise nextless Among
+  fifth : (q from to : ℕ) (rows : List Row) → Paged rows → RowsRise from to rows → Among q (nextless rows) → (5 ≤ length rows) × (firstOf (drop 4 rows) ≤ q)
+  unfolding Paged RowsRise nextless Among
   fifth q from to [] w r m = absurd m
   fifth q from to (a ∷ rows) w r m = go (among-append q (wrongAt (nextTest a rows) (firstOf (skip 3 rows))) (nextless rows) m) (λ x. fifth q (a .first) to rows (w .1) (r .1) x) where
     go : Among q (wrongAt (nextTest a rows) (firstOf (skip 3 rows))) ⊎ Among q (nextless rows) → (Among q (nextless rows) → (5 ≤ length rows) × (firstOf (drop 4 rows) ≤ q))
@@ -195,8 +195,8 @@ module _ (file : List ℕ) where
         let v = y .1 in
         (omega arith, omega arith)
 
-  nextless-least : (from to : ℕ) (rows : List Row) → Whole rows → RowsRise from to rows → Least (nextless rows)
-  unfolding Whole RowsRise nextless Least
+  nextless-least : (from to : ℕ) (rows : List Row) → Paged rows → RowsRise from to rows → Least (nextless rows)
+  unfolding Paged RowsRise nextless Least
   nextless-least from to [] w r = tt
   nextless-least from to (a ∷ rows) w r =
       least-wrong (nextTest a rows) (firstOf (skip 3 rows)) (nextless rows) (λ t q m. low t q (fifth q (a .first) to rows (w .1) (r .1) m)) (nextless-least (a .first) to rows (w .1) (r .1)) where
@@ -219,7 +219,7 @@ module _ (file : List ℕ) where
   -- 47
   pub nexts-lowest : (ts : Trees) (rows : List Row) (from to : ℕ) → Stand file ts rows → Every Flat ts → RowsRise from to rows
       → Lowest (λ p. Somewhere (NoNext p) ts rows) (firstPlace (nextless rows))
-  unfolding Whole
+  unfolding Paged
   nexts-lowest ts rows from to s f r =
       first-lowest (λ p. Somewhere (NoNext p) ts rows) (nextless rows) (nextless-least from to rows (rw (append-nil rows) at (stand-whole ts rows [] s f tt)) r) (λ p m. sound p m) (λ p m. complete p m) where
         sound : (p : ℕ) → Among p (nextless rows) → Somewhere (NoNext p) ts rows

@@ -17,7 +17,7 @@ use Rattle.pack_reading.specs.Laws.{record-reads}
 use Rattle.pack_records.specs.declared.Record.the-variants as record′
 use Rattle.pack_records.specs.Records.{recorded}
 use Rattle.packs.specs.Walk.{got}
-use Rattle.pack_salvage.specs.Scan.{Piece, skipped, allSkipped, Stands, NoneStands, Scanned, at-end, no-more, keeps, goes-on, keptOf}
+use Rattle.pack_salvage.specs.Scan.{Piece, skipped, allSkipped, RecordStands, NoRecordStands, Scanned, at-end, no-more, keeps, goes-on, keptOf}
 use Rattle.pack_salvage.specs.Scanning.{scan, scan-goes-on}
 use Rattle.pack_salvage.specs.Stretches.{Stretch, joined, stretches, Apart}
 use Rattle.salvage.specs.Salvaging.{NoLead, StandsFrom, NextRecord, gap}
@@ -25,18 +25,18 @@ use Rattle.salvage.specs.Salvaging.{NoLead, StandsFrom, NextRecord, gap}
 -- ---- Where a record stands, and where none does
 
 -- no record starts with another byte than its mark's first
-pub no-lead : (pack : List ℕ) (i : ℕ) → i < length pack → (getD pack i 0 ≡ 0xFD → ⊥) → NoneStands (drop i pack)
+pub no-lead : (pack : List ℕ) (i : ℕ) → i < length pack → (getD pack i 0 ≡ 0xFD → ⊥) → NoRecordStands (drop i pack)
 unfolding recordBytes
 no-lead pack i h other f rest w = other (ap (λ (l : List ℕ). getD l 0 0) (sym (drop-cons pack i 0 h) ∙ w .parts))
 
 module _ (pack : List ℕ) (at : ℕ) where
-  pub refused-none : {number place : ℕ} → record′.Refused number place ≡ recorded marked at (recordAt marked pack at) → NoneStands (drop at pack)
+  pub refused-none : {number place : ℕ} → record′.Refused number place ≡ recorded marked at (recordAt marked pack at) → NoRecordStands (drop at pack)
   refused-none {number} {place} q f rest w =
       let r : recordAt marked pack at ≡ read f (at + length (recordBytes marked f)) = record-reads marked pack .complete f (recordBytes marked f) rest at (w .lawful, refl) (w .parts) in
       let p : record′.Refused number place ≡ recorded marked at (read f (at + length (recordBytes marked f))) = rw r at q in
       differ cc
 
-  stands-of : {f : Stored} {e : ℕ} (x : Answer Stored) → Ok (Spans pack (λ f l. Lawful f × (l ≡ recordBytes marked f)) at) x → x ≡ read f e → Stands f (drop e pack) (drop at pack)
+  stands-of : {f : Stored} {e : ℕ} (x : Answer Stored) → Ok (Spans pack (λ f l. Lawful f × (l ≡ recordBytes marked f)) at) x → x ≡ read f e → RecordStands f (drop e pack) (drop at pack)
   stands-of {f} {e} x o q =
       let w = o .got q in
       record { lawful = w .1 .0; parts = w .2 ∙ ap (λ (l : List ℕ). l ++ drop e pack) (w .1 .1) }
@@ -51,21 +51,21 @@ module _ (pack : List ℕ) (at : ℕ) where
 pub record Past (pack : List ℕ) (from to : ℕ) : Type 0 where
   pub forward : from ≤ to
   pub inside : to ≤ length pack
-  pub none : (i : ℕ) → from ≤ i → i < to → NoneStands (drop i pack)
+  pub none : (i : ℕ) → from ≤ i → i < to → NoRecordStands (drop i pack)
 
 module _ (pack : List ℕ) where
   pub past-leads : {from to : ℕ} → NoLead pack from to → Past pack from to
   past-leads w = record { forward = w .forward; inside = w .inside; none = λ i p q. no-lead pack i (omega (arith, q, w .inside)) (w .none i p q) }
 
   -- past a place where a record was tried, and to the next one to try
-  pub past-tried : {from at to : ℕ} → Past pack from at → NoneStands (drop at pack) → NoLead pack (at + 1) to → Past pack from to
+  pub past-tried : {from at to : ℕ} → Past pack from at → NoRecordStands (drop at pack) → NoLead pack (at + 1) to → Past pack from to
   past-tried {from} {at} {to} v tried w = record { forward = omega (arith, v .forward, w .forward); inside = w .inside; none = none } where
-    here : (i : ℕ) → from ≤ i → i < to → Dec (i < at) → Dec (at < i) → NoneStands (drop i pack)
+    here : (i : ℕ) → from ≤ i → i < to → Dec (i < at) → Dec (at < i) → NoRecordStands (drop i pack)
     here i p q (yes k) m = v .none i p k
     here i p q (no k) (yes m) = past-leads w .none i (omega arith) q
-    here i p q (no k) (no m) = let e : at ≡ i = omega arith in subst (λ (n : ℕ). NoneStands (drop n pack)) e tried
+    here i p q (no k) (no m) = let e : at ≡ i = omega arith in subst (λ (n : ℕ). NoRecordStands (drop n pack)) e tried
 
-    none : (i : ℕ) → from ≤ i → i < to → NoneStands (drop i pack)
+    none : (i : ℕ) → from ≤ i → i < to → NoRecordStands (drop i pack)
     none i p q = here i p q (decLt i at) (decLt at i)
 
   pub next-found : {from at end : ℕ} → Past pack from at → (end ≤ length pack) × StandsFrom pack at end → NextRecord pack from at end
@@ -76,7 +76,7 @@ module _ (pack : List ℕ) where
 
 -- ---- Bytes that are skipped one after the other
 
-pub skip-run : (k : ℕ) (run rest : List ℕ) → Small (run ++ rest) → ((i : ℕ) → i < length run → NoneStands (drop i (run ++ rest)))
+pub skip-run : (k : ℕ) (run rest : List ℕ) → Small (run ++ rest) → ((i : ℕ) → i < length run → NoRecordStands (drop i (run ++ rest)))
     → scan (suc k) zero (run ++ rest) ≡ allSkipped run ++ scan (suc k) zero rest
 unfolding allSkipped Small
 skip-run k [] rest small none = refl

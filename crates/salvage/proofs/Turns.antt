@@ -11,7 +11,7 @@ use Rattle.reading.specs.Little.{length-little}
 use Rattle.layout.specs.Number.{little}
 use Rattle.pack_layout.specs.Pack.{Stored, marked, recordBytes, recordsBytes, packBytes}
 use Rattle.packs.specs.Walk.{records-append}
-use Rattle.pack_salvage.specs.Scan.{Piece, kept, allSkipped, NoneStands, keptOf}
+use Rattle.pack_salvage.specs.Scan.{Piece, kept, allSkipped, NoRecordStands, keptOf}
 use Rattle.pack_salvage.specs.Scanning.{scan, is-scanned, scan-none, scan-keeps, record-length}
 use Rattle.pack_salvage.specs.Stretches.{Stretch, stretches, Apart, apart-later, stretches-apart}
 use Rattle.pack_salvage.specs.Salvage.{piecesOf, newPack, skippedOf}
@@ -65,7 +65,7 @@ module _ (pack : List ℕ) where
     to-next k =
         ap (scan (suc k) zero) split
         ∙ skip-run k (take (start - at) (drop at pack)) (drop start pack) (subst Small split (small-drop at pack small))
-        (λ i h. subst NoneStands (sym (drop-drop i at pack) ∙ ap (drop i) split) (n .none (at + i) (omega arith) (omega (arith, run-length))))
+        (λ i h. subst NoRecordStands (sym (drop-drop i at pack) ∙ ap (drop i) split) (n .none (at + i) (omega arith) (omega (arith, run-length))))
 
     -- a record that is kept
     module _ (s : StandsFrom pack start end) (k : ℕ) where

@@ -6,7 +6,7 @@ use Prim.Native.Nat.{ℕ, zero, suc, _+_, _*_, _-_, _≤_, _<_}
 use lib.ListN.{length, take, drop, getD}
 use Rattle.layout.specs.Number.{little}
 use Rattle.pack_layout.specs.Pack.{Stored, marked, recordBytes}
-use Rattle.pack_salvage.specs.Scan.{Stands, NoneStands, keptOf}
+use Rattle.pack_salvage.specs.Scan.{RecordStands, NoRecordStands, keptOf}
 use Rattle.pack_salvage.specs.Stretches.{Stretch, words}
 use Rattle.pack_salvage.specs.Salvage.{piecesOf, newPack, skippedOf, Salvaged, refusal, salvaged}
 use Rattle.salvage.specs.declared.Size.{Size}
@@ -22,7 +22,7 @@ pub record NoLead (pack : List ℕ) (from to : ℕ) : Type 0 where
 -- a record stands from one place to another
 pub record StandsFrom (pack : List ℕ) (start end : ℕ) : Type 0 where
   pub file : Stored
-  pub stands : Stands file (drop end pack) (drop start pack)
+  pub stands : RecordStands file (drop end pack) (drop start pack)
   pub behind : end ≡ start + length (recordBytes marked file)
 
 -- from a place on, the first record stands from `start` to `end`; where there is none, both are the pack's end
@@ -30,7 +30,7 @@ pub record NextRecord (pack : List ℕ) (from start end : ℕ) : Type 0 where
   pub forward : from ≤ start
   pub onward : start ≤ end
   pub inside : end ≤ length pack
-  pub none : (i : ℕ) → from ≤ i → i < start → NoneStands (drop i pack)
+  pub none : (i : ℕ) → from ≤ i → i < start → NoRecordStands (drop i pack)
   pub found : ((start ≡ end) × (end ≡ length pack)) ⊎ StandsFrom pack start end
 
 -- so many bytes from a place on as a stretch; no stretch where they are none

@@ -15,25 +15,25 @@ use Rattle.targets.specs.Word.{word-kind, word-arity, fixed-small, mesh-
 use Rattle.targets.specs.Decode.{Pairwise}
 
 -- the codes of n types, and no more: each code is followed by as many types as it has arguments
-Whole : List ℕ → ℕ → Type 0
-Whole [] n = n ≡ 0
-Whole (w ∷ s) zero = ⊥
-Whole (w ∷ s) (suc n) = Whole s (n + arity w)
+Exactly : List ℕ → ℕ → Type 0
+Exactly [] n = n ≡ 0
+Exactly (w ∷ s) zero = ⊥
+Exactly (w ∷ s) (suc n) = Exactly s (n + arity w)
 
-more-code : (k a p n : ℕ) (s : List ℕ) → k < 64 → a < 4 → Whole s (n + a) → Whole (word k a p ∷ s) (suc n)
-unfolding Whole
+more-code : (k a p n : ℕ) (s : List ℕ) → k < 64 → a < 4 → Exactly s (n + a) → Exactly (word k a p ∷ s) (suc n)
+unfolding Exactly
 more-code k a p n s b f w = rw (word-arity k a p b f) w
 
-whole-alone : (k : ℕ) (ws : List ℕ) (n : ℕ) (s : List ℕ) → k < 64 → Alone k ws → Whole s n → Whole (ws ++ s) (suc n)
+whole-alone : (k : ℕ) (ws : List ℕ) (n : ℕ) (s : List ℕ) → k < 64 → Alone k ws → Exactly s n → Exactly (ws ++ s) (suc n)
 unfolding Alone
 whole-alone k ws n s b (p, e) w = rw e (more-code k 0 p n s b (omega arith) (let z : n + 0 ≡ n = omega arith in rw z w))
 
-whole-before : (k : ℕ) {A : List ℕ → Type 0} (ws : List ℕ) (n : ℕ) (s : List ℕ) → k < 64 → Before k A ws → ((us : List ℕ) → A us → Whole (us ++ s) (suc n)) → Whole (ws ++ s) (suc n)
+whole-before : (k : ℕ) {A : List ℕ → Type 0} (ws : List ℕ) (n : ℕ) (s : List ℕ) → k < 64 → Before k A ws → ((us : List ℕ) → A us → Exactly (us ++ s) (suc n)) → Exactly (ws ++ s) (suc n)
 unfolding Before
 whole-before k ws n s b (p, us, e, a) f = rw e (more-code k 1 p n (us ++ s) b (omega arith) (let z : n + 1 ≡ suc n = omega arith in rw z (f us a)))
 
 module _ (file : List ℕ) where
-  whole-code : (t : Target) (ws : List ℕ) (n : ℕ) (s : List ℕ) → Lawful t → Coded file t ws → Whole s n → Whole (ws ++ s) (suc n)
+  whole-code : (t : Target) (ws : List ℕ) (n : ℕ) (s : List ℕ) → Lawful t → Coded file t ws → Exactly s n → Exactly (ws ++ s) (suc n)
   unfolding Lawful Coded
   whole-code (fixed k) ws n s l c w = whole-alone k ws n s (omega (arith, fixed-small k l)) c w
   whole-code char ws n s l c w = whole-alone 12 ws n s (omega arith) c w
@@ -53,8 +53,8 @@ module _ (file : List ℕ) where
   whole-code page ws n s l c w = whole-alone 34 ws n s (omega arith) c w
   whole-code (mesh m) ws n s l c w = whole-alone (meshKind m) ws n s (omega (arith, mesh-small m)) c w
 
-  alone : (t : Target) (ws : List ℕ) → Lawful t → Coded file t ws → Whole ws 1
-  unfolding Whole
+  alone : (t : Target) (ws : List ℕ) → Lawful t → Coded file t ws → Exactly ws 1
+  unfolding Exactly
   alone t ws l c = rw (append-nil ws) at (whole-code t ws 0 [] l c refl)
 
 pub no-extent : (s : List ℕ) → extent s 0 ≡ 0
@@ -62,8 +62,8 @@ unfolding extent
 no-extent [] = refl
 no-extent (w ∷ s) = refl
 
-whole-extent : (s rest : List ℕ) (n : ℕ) → Whole s n → extent (s ++ rest) n ≡ length s
-unfolding Whole extent
+whole-extent : (s rest : List ℕ) (n : ℕ) → Exactly s n → extent (s ++ rest) n ≡ length s
+unfolding Exactly extent
 whole-extent [] rest n w = rw w (no-extent rest)
 whole-extent (b ∷ s) rest zero w = absurd w
 whole-extent (b ∷ s) rest (suc n) w = ap suc (whole-extent s rest (n + arity b) w)
@@ -103,8 +103,8 @@ module _ (file : List ℕ) where
   first-starts (w ∷ ws) [] r p = absurd p
   first-starts (w ∷ ws) (v ∷ us) r p = rw (p .0, first-starts ws us r (p .1))
 
-  whole-agree : (s rest : List ℕ) (n : ℕ) (u : List ℕ) → Whole s n → agree file (s ++ rest) n u ≡ startsSame s u
-  unfolding Whole agree startsSame
+  whole-agree : (s rest : List ℕ) (n : ℕ) (u : List ℕ) → Exactly s n → agree file (s ++ rest) n u ≡ startsSame s u
+  unfolding Exactly agree startsSame
   whole-agree [] rest n u w = rw w (no-agree rest u)
   whole-agree (b ∷ s) rest zero u w = absurd w
   whole-agree (b ∷ s) rest (suc n) [] w = refl

@@ -22,7 +22,7 @@ use Rattle.xml_reading.specs.Text as T
 use Rattle.xml_reading.specs.Text.{Plain, Character, joined, character-matches, character-some}
 use Rattle.xml_reading.specs.Plain.{plain-matches}
 use Rattle.xml_reading.specs.Steps.{resumed, until-step, first-taken}
-use Rattle.xml_import.specs.Places.{TakesAt, part, Chars, Stands, Known, Runs, Unmarked, AllUnmarked, Passed, character}
+use Rattle.xml_import.specs.Places.{TakesAt, part, Chars, CharsStand, Known, Runs, Unmarked, AllUnmarked, Passed, character}
 use Rattle.xml_import.specs.Puts.{textIn}
 use Rattle.xml_escape.specs.Runs.{cons-at}
 use Rattle.xml_import.proofs.Literals.{literal-fails}
@@ -121,18 +121,18 @@ utf8-standing : (most : ℕ) {l : List ℕ} → Utf8s l → Quiets most l → St
 utf8-standing most end q = standing-none
 utf8-standing most (then {bs = bs} {rest = rest} u r) q = let v = quiets-apart most bs rest q in standing-more (quiet-char most u (v .0)) (utf8-standing most r (v .1))
 
-pub stands-none : {xml : List ℕ} {from : ℕ} → from ≤ length xml → Stands xml from from
+pub stands-none : {xml : List ℕ} {from : ℕ} → from ≤ length xml → CharsStand xml from from
 unfolding Chars joined
 stands-none {xml} {from} h = let z : from - from ≡ 0 = omega arith in record { forward = omega arith; inside = h; chars = []; plain = tt; parts = rw z }
 
-stands-by : {xml : List ℕ} {from to : ℕ} → from ≤ to → to ≤ length xml → Standing (part xml from to) → Stands xml from to
+stands-by : {xml : List ℕ} {from to : ℕ} → from ≤ to → to ≤ length xml → Standing (part xml from to) → CharsStand xml from to
 stands-by f i s = record { forward = f; inside = i; chars = s .chars; plain = s .plain; parts = s .are }
 
-pub stands-ascii : {xml : List ℕ} {from to : ℕ} → Ran 0x7F xml from to → Stands xml from to
+pub stands-ascii : {xml : List ℕ} {from to : ℕ} → Ran 0x7F xml from to → CharsStand xml from to
 stands-ascii {xml} {from} {to} r = stands-by (r .forward) (r .inside) (ascii-standing (part xml from to) (quiets-at xml from (to - from) (r .quiet) (omega (arith, r .forward, r .inside))))
 
 -- a piece of the XML whose first n bytes are UTF-8
-pub stands-utf8 : {xml piece : List ℕ} {from end n : ℕ} → from ≤ end → end ≤ length xml → piece ≡ take (end - from) (drop from xml) → Ran 0xFF piece 0 n → Utf8s (take n piece) → Stands xml from (from + n)
+pub stands-utf8 : {xml piece : List ℕ} {from end n : ℕ} → from ≤ end → end ≤ length xml → piece ≡ take (end - from) (drop from xml) → Ran 0xFF piece 0 n → Utf8s (take n piece) → CharsStand xml from (from + n)
 stands-utf8 {xml} {piece} {from} {end} {n} f h e r u =
     let l : length piece ≡ end - from = ap length e ∙ length-take-le (end - from) (drop from xml) (omega (arith, length-drop from xml)) in
     let m : n ≤ end - from = omega (arith, r .inside, l) in
@@ -207,13 +207,13 @@ many-on xml at (t ∷ ts) c i size rest e r =
 part-long : (xml : List ℕ) {i to : ℕ} → i ≤ to → to ≤ length xml → length (part xml i to) ≡ to - i
 part-long xml {i} {to} f h = length-take-le (to - i) (drop i xml) (omega (arith, length-drop i xml))
 
-chars-long : {xml : List ℕ} {i to : ℕ} (s : Stands xml i to) → length (joined (s .chars)) ≡ to - i
+chars-long : {xml : List ℕ} {i to : ℕ} (s : CharsStand xml i to) → length (joined (s .chars)) ≡ to - i
 chars-long {xml} {i} {to} s = ap length (sym (s .parts)) ∙ part-long xml (s .forward) (s .inside)
 
-chars-here : {xml : List ℕ} {i to : ℕ} (s : Stands xml i to) → drop i xml ≡ joined (s .chars) ++ drop (to - i) (drop i xml)
+chars-here : {xml : List ℕ} {i to : ℕ} (s : CharsStand xml i to) → drop i xml ≡ joined (s .chars) ++ drop (to - i) (drop i xml)
 chars-here {xml} {i} {to} s = sym (take-append-drop (to - i) (drop i xml)) ∙ ap (λ (l : List ℕ). l ++ drop (to - i) (drop i xml)) (s .parts)
 
-pub run-on : {xml : List ℕ} {at i size run : ℕ} → Reading xml at i size → Stands xml i run → Reading xml at run (size + (run - i))
+pub run-on : {xml : List ℕ} {at i size run : ℕ} → Reading xml at i size → CharsStand xml i run → Reading xml at run (size + (run - i))
 run-on {xml} {at} {i} {size} {run} r s =
     let n = chars-long s in
     let z : i + length (joined (s .chars)) ≡ run = omega (arith, n, s .forward) in
@@ -355,7 +355,7 @@ runs-by {xml} {from} {to} r a =
 pub runs-none : {xml : List ℕ} {from : ℕ} → from ≤ length xml → Runs xml from from
 runs-none h = record { forward = omega arith; inside = h; stands = λ k. stands-none h }
 
-pub stands-runs : {xml : List ℕ} {from to : ℕ} → Stands xml from to → Runs xml from to
+pub stands-runs : {xml : List ℕ} {from to : ℕ} → CharsStand xml from to → Runs xml from to
 stands-runs s = record { forward = s .forward; inside = s .inside; stands = λ k. s }
 
 -- ---- A text is put

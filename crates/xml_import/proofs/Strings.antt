@@ -29,7 +29,7 @@ use Rattle.xml_escape.specs.Wrote.{Wrote, wrote-copy}
 use Rattle.xml_import.specs.declared.Texted.{Texted}
 use Rattle.xml_import.specs.declared.Texted.the-variants as texted
 use Rattle.xml_import.specs.Places.{FailsAt, TakesAt, Known, TextAt, character, text}
-use Rattle.xml_import.specs.Puts.{taken, textIn, Ready, Whole, TextPut, stringBytes, StringPut, Fits, StringsPut}
+use Rattle.xml_import.specs.Puts.{taken, textIn, Ready, Verbatim, TextPut, stringBytes, StringPut, Fits, StringsPut}
 use Rattle.xml_import.proofs.Whole.{item, texts, short-last}
 use Rattle.xml_import.proofs.Writing.{text-joined}
 use Rattle.xml_import.proofs.Wholes.{whole-text}
@@ -198,7 +198,7 @@ module _ {xml out₀ : List ℕ} {count : ℕ} {out : List ℕ} {i to k : ℕ} (
     pub after : i + 6 ≤ next
     pub fits-word : size + 7 ≤ next - (i + 6)
     pub inside-next : next ≤ length xml
-    pub whole-if : next - (i + 6) ≡ size + 7 → Whole xml (i + 6) size
+    pub whole-if : next - (i + 6) ≡ size + 7 → Verbatim xml (i + 6) size
     pub room : to + 1 + length (shortest size) + size ≤ length out
     pub turns : {out′ : List ℕ} {to′ : ℕ} → length out′ ≡ length out → StringPut xml (i + 6) to size out out′ to′ → Stringing xml out₀ count out′ next to′ (k + 1)
 

@@ -16,7 +16,7 @@ use Rattle.xml_reading.specs.Text.{Character, joined, character-matches, charac
 use Rattle.xml_reading.specs.Plain.{plain-matches}
 use Rattle.xml_reading.specs.Steps.{until-step, first-taken}
 use Rattle.xml_import.specs.Places.{character}
-use Rattle.xml_import.specs.Puts.{textIn, Ready, Whole, TextPut}
+use Rattle.xml_import.specs.Puts.{textIn, Ready, Verbatim, TextPut}
 use Rattle.xml_import.proofs.Writing.{text-joined}
 use Rattle.xml_import.proofs.Runs.{not-ended, told-character}
 
@@ -64,7 +64,7 @@ whole (t ∷ us) l rest e =
           c .2 ∙ ap (λ (x : List ℕ). x ++ w .0) f ∙ ap (λ (x : List ℕ). t ++ x) g ∙ sym (append-assoc t (joined us) (itemEnd ++ rest)),
     )
 
-pub whole-text : {xml : List ℕ} {at size next : ℕ} (r : Ready xml at size) → r .rest ≡ drop next xml → at ≤ next → next ≤ length xml → next - at ≡ size + 7 → Whole xml at size
+pub whole-text : {xml : List ℕ} {at size next : ℕ} (r : Ready xml at size) → r .rest ≡ drop next xml → at ≤ next → next ≤ length xml → next - at ≡ size + 7 → Verbatim xml at size
 whole-text {xml} {at} {size} {next} r e g h n =
     let v = whole (r .us) (drop at xml) (r .rest) (r .takes-them) in
     let d : drop at xml ≡ joined (r .us) ++ (itemEnd ++ r .rest) = v .1 (omega (arith, length-drop at xml, ap length e, length-drop next xml, r .sized)) in
@@ -72,7 +72,7 @@ whole-text {xml} {at} {size} {next} r e g h n =
     = ap (take size) d ∙ ap (λ (k : ℕ). take k (joined (r .us) ++ (itemEnd ++ r .rest))) (r .sized) ∙ take-append-seam (joined (r .us)) (itemEnd ++ r .rest) in
     (omega arith, t ∙ sym (text-joined r))
 
-pub whole-put : (xml out : List ℕ) (at to size : ℕ) {out′ : List ℕ} → Whole xml at size → out′ ≡ copied out to xml at size → TextPut xml at to size out out′
+pub whole-put : (xml out : List ℕ) (at to size : ℕ) {out′ : List ℕ} → Verbatim xml at size → out′ ≡ copied out to xml at size → TextPut xml at to size out out′
 unfolding TextPut
 whole-put xml out at to size {out′} v c base done w h =
     subst (λ (t : List ℕ). Wrote base (done ++ t) out′ (to + size)) (v .1) (wrote-copy w xml at size h (v .0) c)

@@ -82,7 +82,7 @@ Chars [] = Unit {0}
 Chars (t ∷ ts) = T.Plain t t × Chars ts
 
 -- such characters stand one after the other from a place to another
-pub record Stands (xml : List ℕ) (from to : ℕ) : Type 0 where
+pub record CharsStand (xml : List ℕ) (from to : ℕ) : Type 0 where
   pub forward : from ≤ to
   pub inside : to ≤ length xml
   pub chars : List (List ℕ)
@@ -97,7 +97,7 @@ Known xml at = (us : List (List ℕ)) × (rest : List ℕ) × (until character i
 pub record Runs (xml : List ℕ) (from to : ℕ) : Type 0 where
   pub forward : from ≤ to
   pub inside : to ≤ length xml
-  pub stands : Known xml from → Stands xml from to
+  pub stands : Known xml from → CharsStand xml from to
 
 -- a byte that starts no entity and no end of an item
 pub record Unmarked (b : ℕ) : Type 0 where

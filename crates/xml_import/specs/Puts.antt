@@ -48,11 +48,11 @@ pub record Ready (xml : List ℕ) (at size : ℕ) : Type 0 where
   pub sized : size ≡ length (joined us)
 
 -- the text stands in the XML as it is
-abbrev pub Whole : (xml : List ℕ) (at size : ℕ) → Type 0
-Whole xml at size = (at + size ≤ length xml) × (take size (drop at xml) ≡ textIn xml at)
+abbrev pub Verbatim : (xml : List ℕ) (at size : ℕ) → Type 0
+Verbatim xml at size = (at + size ≤ length xml) × (take size (drop at xml) ≡ textIn xml at)
 
-abbrev pub WholeIf : Bool → (xml : List ℕ) (at size : ℕ) → Type 0
-WholeIf plain xml at size = plain ≡ true → Whole xml at size
+abbrev pub VerbatimIf : Bool → (xml : List ℕ) (at size : ℕ) → Type 0
+VerbatimIf plain xml at size = plain ≡ true → Verbatim xml at size
 
 unfoldable pub TextPut : (xml : List ℕ) (at to size : ℕ) → (entry exit : List ℕ) → Type 0
 TextPut xml at to size entry exit = (base done : List ℕ) → Wrote base done entry to → to + size ≤ length base → Wrote base (done ++ textIn xml at) exit (to + size)

@@ -11,7 +11,7 @@ ghost use Rattle.layout.specs.Shortest.{shortest};
 ghost use Rattle.reading.specs.Output.{outputOf};
 ghost use Rattle.xml_reading.specs.Answers.{importOf};
 ghost use Rattle.xml_import.specs.Places.{Known, TextAt, Measures};
-ghost use Rattle.xml_import.specs.Puts.{frontPut, Ready, WholeIf, TextPut, StringPut, Fits, StringsPut, answerOf};
+ghost use Rattle.xml_import.specs.Puts.{frontPut, Ready, VerbatimIf, TextPut, StringPut, Fits, StringsPut, answerOf};
 
 // Where the text of an item fails, or how many bytes it has and where the item ends.
 pub enum Texted {
@@ -204,7 +204,7 @@ fn put_text(xml: &[u8], out: &mut [u8], at: usize, to: usize, size: usize)
 
 // The same, at once where the text stands as it is.
 fn put_taken(xml: &[u8], out: &mut [u8], at: usize, to: usize, size: usize, plain: bool)
-    requires { ⌜ Ready (now xml) at size × (to + size ≤ length (now out)) × WholeIf plain (now xml) at size ⌝ }
+    requires { ⌜ Ready (now xml) at size × (to + size ≤ length (now out)) × VerbatimIf plain (now xml) at size ⌝ }
     ensures { λ _. ⌜ TextPut (now (xml .entry)) at to size (now (out .entry)) (now (out .exit)) ⌝ }
 {
     if plain {
@@ -217,7 +217,7 @@ fn put_taken(xml: &[u8], out: &mut [u8], at: usize, to: usize, size: usize, plai
 // The same as a String: its type id, its length and the text; answers where it ends.
 fn put_string(xml: &[u8], out: &mut [u8], at: usize, to: usize, size: usize, plain: bool) -> usize
     requires { ⌜ Ready (now xml) at size × (size < 2 ^ 32) × (to + 1 + length (shortest size) + size ≤ length (now out))
-        × WholeIf plain (now xml) at size ⌝ }
+        × VerbatimIf plain (now xml) at size ⌝ }
     ensures { λ r. ⌜ StringPut (now (xml .entry)) at to size (now (out .entry)) (now (out .exit)) r ⌝ }
 {
     let id = [2u8];

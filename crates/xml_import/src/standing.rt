@@ -5,7 +5,7 @@ ghost use mathlib.Core.Bool.{false};
 ghost use Prim.Native.Nat.{_+_, _≤_, _<_};
 ghost use lib.ListN.{length};
 ghost use Rattle.xml_escape.specs.Quiet.{Quiet, AllQuiet, Ran};
-ghost use Rattle.xml_import.specs.Places.{Stands};
+ghost use Rattle.xml_import.specs.Places.{CharsStand};
 
 // Where a piece of the XML from `from` on ends that is judged at once: at most 1,024 bytes further, where a character starts.
 fn cut(xml: &[u8], from: usize) -> usize
@@ -31,7 +31,7 @@ fn cut(xml: &[u8], from: usize) -> usize
 // Past a run of UTF-8 from `from` on, where a piece is one.
 fn utf8_run(xml: &[u8], from: usize) -> usize
     requires { ⌜ from ≤ length (now xml) ⌝ }
-    ensures { λ r. ⌜ Stands (now (xml .entry)) from r ⌝ }
+    ensures { λ r. ⌜ CharsStand (now (xml .entry)) from r ⌝ }
 {
     let end = cut(xml, from);
     let piece = &xml[from..end];
@@ -112,7 +112,7 @@ fn usual_run(xml: &[u8], from: usize) -> usize
 // Past characters that stand as they are, from `from` on; `from` itself where none is found so.
 pub(crate) fn standing(xml: &[u8], from: usize) -> usize
     requires { ⌜ from < length (now xml) ⌝ }
-    ensures { λ r. ⌜ Stands (now (xml .entry)) from r ⌝ }
+    ensures { λ r. ⌜ CharsStand (now (xml .entry)) from r ⌝ }
 {
     if xml[from] < 0x80 {
         return usual_run(xml, from);
