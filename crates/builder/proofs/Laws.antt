@@ -19,8 +19,8 @@ use Rattle.load.specs.Loads.{answerOf}
 use Rattle.ticks.specs.declared.Time.{Time}
 use Rattle.lookups.specs.declared.Span.{Span}
 use Rattle.lookups.specs.declared.Span.the-variants as span
-use Rattle.lookups.specs.declared.Whole.{Whole}
-use Rattle.lookups.specs.declared.Whole.the-variants as whole
+use Rattle.lookups.specs.declared.Integer.{Integer}
+use Rattle.lookups.specs.declared.Integer.the-variants as integer
 use Rattle.lookups.specs.declared.Moment.{Moment}
 use Rattle.lookups.specs.declared.Moment.the-variants as moment
 use Rattle.builder.specs.Packed.{code, packed, rewritePacked}
@@ -79,11 +79,11 @@ pub span-found : {x : Span} {first size : ℕ} → x ≡ span.Found first size �
 unfolding spanTold
 span-found e = rw e
 
-pub signed-refused : {x : Whole} {n r : ℕ} → x ≡ whole.Refused n r → _≡_ {A = ℕ × ℤ} (n, pos 0) (signedTold x)
+pub signed-refused : {x : Integer} {n r : ℕ} → x ≡ integer.Refused n r → _≡_ {A = ℕ × ℤ} (n, pos 0) (signedTold x)
 unfolding signedTold
 signed-refused e = rw e
 
-pub signed-number : {x : Whole} {z : ℤ} → x ≡ whole.Number z → SFits w64 z → _≡_ {A = ℕ × ℤ} (0, toZ w64 (ofZ w64 z)) (signedTold x)
+pub signed-number : {x : Integer} {z : ℤ} → x ≡ integer.Number z → SFits w64 z → _≡_ {A = ℕ × ℤ} (0, toZ w64 (ofZ w64 z)) (signedTold x)
 unfolding signedTold
 signed-number e f = rw (toZ-ofZ {w = w64} f, e)
 

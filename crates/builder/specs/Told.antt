@@ -6,8 +6,8 @@ use Rattle.reading.specs.File.{Load, refusal, accepted}
 use Rattle.places.specs.Padding.{filePadding}
 use Rattle.lookups.specs.declared.Span.{Span}
 use Rattle.lookups.specs.declared.Span.the-variants as span
-use Rattle.lookups.specs.declared.Whole.{Whole}
-use Rattle.lookups.specs.declared.Whole.the-variants as whole
+use Rattle.lookups.specs.declared.Integer.{Integer}
+use Rattle.lookups.specs.declared.Integer.the-variants as integer
 use Rattle.lookups.specs.declared.Moment.{Moment}
 use Rattle.lookups.specs.declared.Moment.the-variants as moment
 use Rattle.builder.specs.Packed.{packed}
@@ -23,9 +23,9 @@ spanTold (span.Refused number row) = (number, 0, 0)
 spanTold (span.Found first size) = (0, first, size)
 
 -- 01: "its number 0": the refusal's number or 0, and the signed number
-unfoldable pub signedTold : Whole → ℕ × ℤ
-signedTold (whole.Refused number row) = (number, pos 0)
-signedTold (whole.Number value) = (0, value)
+unfoldable pub signedTold : Integer → ℕ × ℤ
+signedTold (integer.Refused number row) = (number, pos 0)
+signedTold (integer.Number value) = (0, value)
 
 -- the refusal's number or 0, the seconds and the ticks
 unfoldable pub timeTold : Moment → ℕ × ℤ × ℕ

@@ -9,9 +9,9 @@ mod xml;
 
 use ids::RowNumber;
 use load::Loading;
+use lookups::Integer;
 use lookups::Moment;
 use lookups::Span;
-use lookups::Whole;
 use rewrite::Rewriting;
 ghost use mathlib.Core.Path.{_≡_};
 ghost use mathlib.Core.List.{List, []};
@@ -186,15 +186,15 @@ pub extern "C" fn xnb_text(
 }
 
 // A signed number, 0 on a refusal: the answer is the refusal's number, or 0.
-pub(crate) fn tell_signed(looked: Whole, value: &mut i64) -> u32
+pub(crate) fn tell_signed(looked: Integer, value: &mut i64) -> u32
     ensures { λ r. ⌜ (r, now (value .exit)) ≡ signedTold looked ⌝ }
 {
     match looked {
-        Whole::Refused(number, _) => {
+        Integer::Refused(number, _) => {
             *value = 0;
             number
         }
-        Whole::Number(found) => {
+        Integer::Number(found) => {
             *value = found;
             0
         }

@@ -14,7 +14,7 @@ use borrow.Author.Tests.{le-leb, lt-leb, leb-true, leb-false, eq-eqb, ne-eqb}
 use Rattle.reading.specs.Answer.{Answer, refused, read}
 use Rattle.reading.specs.Reads.{Small}
 use Rattle.reading.specs.Little.{littleAt, little-next}
-use Rattle.lookups.specs.declared.Whole.the-variants.{Refused, Number}
+use Rattle.lookups.specs.declared.Integer.the-variants.{Refused, Number}
 use Rattle.lookups.specs.Signs.{twos, Within, signedFrom, lastBytes, signedIn}
 
 pub low : (top value : ℕ) → value ≤ top / 2 → twos top value ≡ pos value

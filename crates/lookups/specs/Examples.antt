@@ -13,7 +13,7 @@ use Rattle.reading.specs.Reads.{some}
 use Rattle.reading.specs.Little.{littleAt}
 use Rattle.lookups.specs.declared.Span.the-variants as span
 use Rattle.ticks.specs.Split.{splitOf}
-use Rattle.lookups.specs.declared.Whole.the-variants as whole
+use Rattle.lookups.specs.declared.Integer.the-variants as integer
 use Rattle.lookups.specs.declared.Moment.the-variants as moment
 use Rattle.lookups.specs.Parts.{orRefused, kindOf, firstOf, lengthOf, partOf, inPart, lookup, spanned}
 use Rattle.lookups.specs.Texts.{countAt, behind, textIn, textOf}
@@ -39,10 +39,10 @@ unfolding textOf lookup inPart textIn behind countAt partOf orRefused kindOf fir
 texts = (refl, refl, refl)
 
 -- an SByte behind a type id, two Int16, and an Int16 of one byte
-pub numbers : (signedOf grid (1 ∷ 0xFF ∷ []) (2 ∷ 0 ∷ 2 ∷ 0 ∷ 0 ∷ 1 ∷ 1 ∷ []) 0 ≡ whole.Number (negsuc 0))
-    × (signedOf grid (0x00 ∷ 0x80 ∷ []) (3 ∷ 0 ∷ 2 ∷ 0 ∷ 1 ∷ 0 ∷ 1 ∷ []) 0 ≡ whole.Number (negsuc 32767))
-    × (signedOf grid (0xFF ∷ 0x7F ∷ []) (3 ∷ 0 ∷ 2 ∷ 0 ∷ 1 ∷ 0 ∷ 1 ∷ []) 0 ≡ whole.Number (pos 32767))
-    × (signedOf grid (0xFF ∷ []) (3 ∷ 0 ∷ 1 ∷ 0 ∷ 1 ∷ 0 ∷ 1 ∷ []) 0 ≡ whole.Refused 24 0)
+pub numbers : (signedOf grid (1 ∷ 0xFF ∷ []) (2 ∷ 0 ∷ 2 ∷ 0 ∷ 0 ∷ 1 ∷ 1 ∷ []) 0 ≡ integer.Number (negsuc 0))
+    × (signedOf grid (0x00 ∷ 0x80 ∷ []) (3 ∷ 0 ∷ 2 ∷ 0 ∷ 1 ∷ 0 ∷ 1 ∷ []) 0 ≡ integer.Number (negsuc 32767))
+    × (signedOf grid (0xFF ∷ 0x7F ∷ []) (3 ∷ 0 ∷ 2 ∷ 0 ∷ 1 ∷ 0 ∷ 1 ∷ []) 0 ≡ integer.Number (pos 32767))
+    × (signedOf grid (0xFF ∷ []) (3 ∷ 0 ∷ 1 ∷ 0 ∷ 1 ∷ 0 ∷ 1 ∷ []) 0 ≡ integer.Refused 24 0)
 unfolding signedOf lookup inPart signedIn lastBytes signedFrom twos partOf orRefused kindOf firstOf lengthOf cell roomOf littleAt some valueOf bind check
 numbers = (refl, refl, refl, refl)
 

@@ -11,8 +11,8 @@ use Rattle.table.specs.declared.Grid.{Grid}
 use Rattle.table.specs.Same.{SameRows}
 use Rattle.lookups.specs.declared.Span.{Span}
 use Rattle.lookups.specs.declared.Span.the-variants.{Refused, Found}
-use Rattle.lookups.specs.declared.Whole.{Whole}
-use Rattle.lookups.specs.declared.Whole.the-variants as whole
+use Rattle.lookups.specs.declared.Integer.{Integer}
+use Rattle.lookups.specs.declared.Integer.the-variants as integer
 use Rattle.lookups.specs.Parts.{orRefused, kindOf, firstOf, lengthOf, partOf, inPart, lookup}
 use Rattle.lookups.specs.Texts.{textIn, textOf}
 use Rattle.lookups.specs.Signs.{signedIn, signedOf}
@@ -68,11 +68,11 @@ module _ {g h : Grid} {v w : List ℕ} (s : SameRows g h v w) (file : List ℕ) 
 
   pub same-signed : signedOf g file v row ≡ signedOf h file w row
   unfolding signedOf
-  same-signed = same-lookup whole.Refused (λ bytes first kind. signedIn bytes kind row)
+  same-signed = same-lookup integer.Refused (λ bytes first kind. signedIn bytes kind row)
 
   pub same-time : timeOf g file v row ≡ timeOf h file w row
   unfolding timeOf asTime signedOf lookup inPart
   same-time = go row-of where
     go : Row → timeOf g file v row ≡ timeOf h file w row
-    go (there k p) = ap (λ (x : ℕ). asTime row (signedOf g file v row) (eqb x 20)) k ∙ ap (λ (x : Whole). asTime row x (eqb (kindOf h w row) 20)) same-signed
+    go (there k p) = ap (λ (x : ℕ). asTime row (signedOf g file v row) (eqb x 20)) k ∙ ap (λ (x : Integer). asTime row x (eqb (kindOf h w row) 20)) same-signed
     go (none p q) = rw (p, q)

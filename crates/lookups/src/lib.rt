@@ -140,7 +140,7 @@ pub fn text_bytes_of<'a>(file: &'a [u8], words: &[u32], grid: Grid, row: RowNumb
 }
 
 // A refusal's number and the row number; or a signed number.
-pub enum Whole {
+pub enum Integer {
     Refused(u32, u32),
     Number(i64),
 }
@@ -158,13 +158,13 @@ fn twos_complement(value: u64, top: u64) -> i64
 }
 
 // The signed number that was read, or 24.
-fn signed_from(read: Number, top: u64, row: u32) -> Whole
+fn signed_from(read: Number, top: u64, row: u32) -> Integer
     requires { ⌜ Within top (told read) ⌝ }
     ensures { λ r. ⌜ r ≡ signedFrom top row (told read) ⌝ }
 {
     match read {
-        Number::Refused(_, _) => Whole::Refused(24, row),
-        Number::Read(value, _) => Whole::Number(twos_complement(value, top)),
+        Number::Refused(_, _) => Integer::Refused(24, row),
+        Number::Read(value, _) => Integer::Number(twos_complement(value, top)),
     }
 }
 
@@ -179,7 +179,7 @@ fn back(bytes: &[u8], size: usize) -> usize
 }
 
 // The signed number in the last bytes of a part, whose row has a kind and a number.
-fn signed_in(bytes: &[u8], kind: u32, row: u32) -> Whole
+fn signed_in(bytes: &[u8], kind: u32, row: u32) -> Integer
     ensures { λ r. ⌜ r ≡ signedIn (now (bytes .entry)) kind row ⌝ }
 {
     if kind == 2 {
@@ -202,16 +202,16 @@ fn signed_in(bytes: &[u8], kind: u32, row: u32) -> Whole
         let span = numbers::little::little8(bytes, back(bytes, 8));
         return signed_from(span, 0xFFFF_FFFF_FFFF_FFFF, row);
     }
-    Whole::Refused(24, row)
+    Integer::Refused(24, row)
 }
 
 // The signed number in the last bytes of a row's part, in a table of a shape.
-pub fn signed_of(file: &[u8], words: &[u32], grid: Grid, row: RowNumber) -> Whole
+pub fn signed_of(file: &[u8], words: &[u32], grid: Grid, row: RowNumber) -> Integer
     ensures { λ r. ⌜ r ≡ signedOf grid (now (file .entry)) (now (words .entry)) (row .0) ⌝ }
 {
     let number = row.0;
     match part_of(file, words, grid, row) {
-        Span::Refused(refusal, at) => Whole::Refused(refusal, at),
+        Span::Refused(refusal, at) => Integer::Refused(refusal, at),
         Span::Found(first, length) => {
             let end = first + length;
             let kind = table::word_of(words, grid, row, table::KIND);
@@ -221,7 +221,7 @@ pub fn signed_of(file: &[u8], words: &[u32], grid: Grid, row: RowNumber) -> Whol
 }
 
 // The signed number in the last bytes of a row's part.
-pub fn signed(file: &[u8], words: &[u32], row: RowNumber) -> Whole
+pub fn signed(file: &[u8], words: &[u32], row: RowNumber) -> Integer
     ensures { λ r. ⌜ r ≡ rowsSigned (now (file .entry)) (now (words .entry)) (row .0) ⌝ }
 {
     signed_of(file, words, table::rows_grid(words.len()), row)
@@ -239,8 +239,8 @@ pub fn time_of(file: &[u8], words: &[u32], grid: Grid, row: RowNumber) -> Moment
 {
     let number = row.0;
     match signed_of(file, words, grid, row) {
-        Whole::Refused(refusal, at) => Moment::Refused(refusal, at),
-        Whole::Number(count) => {
+        Integer::Refused(refusal, at) => Moment::Refused(refusal, at),
+        Integer::Number(count) => {
             let kind = table::word_of(words, grid, row, table::KIND);
             if kind != 20 {
                 return Moment::Refused(24, number);

@@ -1,9 +1,9 @@
 // What is demanded of a table in columns beside one by rows, as contracts of functions that call the code.
 use ids::RowNumber;
 use load::Loading;
+use lookups::Integer;
 use lookups::Moment;
 use lookups::Span;
-use lookups::Whole;
 ghost use mathlib.Core.Path.{_≡_};
 ghost use lib.ListN.{length};
 ghost use Rattle.table.specs.Grids.{rowsGrid, columnsGrid};
@@ -21,7 +21,7 @@ pub struct LoadedBoth {
 pub struct Lookups {
     pub part: Span,
     pub text: Span,
-    pub signed: Whole,
+    pub signed: Integer,
     pub time: Moment,
     pub next: u32,
 }

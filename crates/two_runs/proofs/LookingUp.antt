@@ -26,8 +26,8 @@ use Rattle.lookups.specs.Parts.{orRefused, kindOf, firstOf, lengthOf, partOf, i
 use Rattle.lookups.specs.Texts.{textIn, textOf}
 use Rattle.lookups.specs.Signs.{lastBytes, signedIn, signedOf}
 use Rattle.lookups.specs.Times.{asTime, timeOf}
-use Rattle.lookups.specs.declared.Whole.{Whole}
-use Rattle.lookups.specs.declared.Whole.the-variants as whole
+use Rattle.lookups.specs.declared.Integer.{Integer}
+use Rattle.lookups.specs.declared.Integer.the-variants as integer
 use Rattle.branches.specs.Next.{nextOf, same-next}
 use Rattle.lookups.specs.declared.Span as lookups
 use Rattle.lookups.specs.declared.Span.the-variants as span
@@ -81,9 +81,9 @@ lookup-file {A} refuse found grid f g v row e h = go (partOf grid f v row) refl 
 signed-by : (a b : List ℕ) (kind row : ℕ) → (isSigned kind ≡ true → a ≡ b) → signedIn a kind row ≡ signedIn b kind row
 unfolding signedIn isSigned
 signed-by a b kind row h = go (eqb kind 2) (eqb kind 3) (eqb kind 5) (eqb kind 7) (eqb kind 20) h where
-  told : List ℕ → (two three five seven twenty : Bool) → Whole
+  told : List ℕ → (two three five seven twenty : Bool) → Integer
   told l two three five seven twenty =
-      cond two (lastBytes l 1 row) (cond three (lastBytes l 2 row) (cond five (lastBytes l 4 row) (cond seven (lastBytes l 8 row) (cond twenty (lastBytes l 8 row) (whole.Refused 24 row)))))
+      cond two (lastBytes l 1 row) (cond three (lastBytes l 2 row) (cond five (lastBytes l 4 row) (cond seven (lastBytes l 8 row) (cond twenty (lastBytes l 8 row) (integer.Refused 24 row)))))
 
   go : (two three five seven twenty : Bool) → ((two || (three || (five || (seven || twenty)))) ≡ true → a ≡ b) → told a two three five seven twenty ≡ told b two three five seven twenty
   go true c d e x h = ap (λ (l : List ℕ). lastBytes l 1 row) (h refl)
@@ -141,7 +141,7 @@ module _ (columns : Bool) (enums f g : List ℕ) (n m : ℕ) (bytes : Bytes enum
   signed-file : (row : ℕ) → signedOf grid f v row ≡ signedOf grid g v row
   unfolding signedOf
   signed-file row =
-      lookup-file whole.Refused (λ bs first kind. signedIn bs kind row) grid f g v row (part-file row) (λ first size h. signed-by (take size (drop first f)) (take size (drop first g)) (kindOf grid v row) row (same first size h (at-row row))) where
+      lookup-file integer.Refused (λ bs first kind. signedIn bs kind row) grid f g v row (part-file row) (λ first size h. signed-by (take size (drop first f)) (take size (drop first g)) (kindOf grid v row) row (same first size h (at-row row))) where
         same : (first size : ℕ) → partOf grid f v row ≡ span.Found first size → At row → isSigned (kindOf grid v row) ≡ true → take size (drop first f) ≡ take size (drop first g)
         same first size h (none a b) k = differ (cc (sym a ∙ h))
         same first size h (there es l x a o e kind i j) k =
@@ -166,7 +166,7 @@ module _ (columns : Bool) (enums f g : List ℕ) (n m : ℕ) (bytes : Bytes enum
 
   time-file : (row : ℕ) → timeOf grid f v row ≡ timeOf grid g v row
   unfolding timeOf
-  time-file row = ap (λ (x : Whole). asTime row x (eqb (kindOf grid v row) 20)) (signed-file row)
+  time-file row = ap (λ (x : Integer). asTime row x (eqb (kindOf grid v row) 20)) (signed-file row)
 
   -- the lookups over both tables
   rows : SameRows grid (gridOf m columns) v w

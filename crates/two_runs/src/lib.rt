@@ -2,9 +2,9 @@
 // (specs/Texts.antt and specs/Alike.antt).
 use ids::RowNumber;
 use load::Loading;
+use lookups::Integer;
 use lookups::Moment;
 use lookups::Span;
-use lookups::Whole;
 use rewrite::Rewriting;
 ghost use mathlib.Core.Path.{_≡_};
 ghost use lib.ListN.{length};
@@ -34,7 +34,7 @@ pub struct TwoNumbers {
 pub struct Lookups {
     pub part: Span,
     pub text: Span,
-    pub signed: Whole,
+    pub signed: Integer,
     pub time: Moment,
     pub next: u32,
 }

@@ -1,6 +1,6 @@
 use mathlib.Core.Path.{sym, _∙_}
 use native.Mathlib.Omega.{arith}
-use Rattle.lookups.specs.declared.Whole.the-variants.{Refused}
+use Rattle.lookups.specs.declared.Integer.the-variants.{Refused}
 use Rattle.lookups.specs.Signs.{signedIn, signedOf}
 use Rattle.lookups.specs.Spans.{inside}
 use Rattle.lookups.proofs.Laws.{lookup-refused, lookup-found}

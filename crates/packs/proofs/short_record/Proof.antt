@@ -55,7 +55,9 @@ returns-5 : tie.Need-returns-5
 returns-5 c = λ e. absurd (omega arith)
 
 -- the tests of the record say that it stands there
-there : (c : tie.Else5) → Short (c .before .before .before .before .before .before .before .before .before .before .before .before .before .args .marked) (c .before .before .before .before .before .before .before .before .before .before .before .before .before .args .pack .now) (c .before .before .before .before .before .before .before .before .before .before .before .before .before .args .at) (c .before .before .before .n .given .0 .0 + 1)
+there : (c : tie.Else5)
+    → Short (c .before .before .before .before .before .before .before .before .before .before .before .before .before .args .marked) (c .before .before .before .before .before .before .before .before .before .before .before .before .before .args .pack .now)
+    (c .before .before .before .before .before .before .before .before .before .before .before .before .before .args .at) (c .before .before .before .n .given .0 .0 + 1)
 there c =
     let args = c .before .before .before .before .before .before .before .before .before .before .before .before .before .args in
     let shared-slice-known = c .before .before .before .before .before .before .before .before .before .before .before .before .shared-slice-known in
