@@ -22,7 +22,7 @@ use Rattle.reading.specs.Walk.{Taken, point, sequence, walk}
 use Rattle.reading.specs.Sound.{walks-sound}
 use Rattle.table.specs.declared.Grid.{Grid}
 use Rattle.walked.specs.Written.{written}
-use Rattle.fonts.specs.FontWords.{beyond, beyond-is, wordAt, after, some, equal, allThere, allEqual, fontWords, by-rows}
+use Rattle.fonts.specs.FontWords.{beyond, beyond-is, wordAt, rowAfter, some, equal, allThere, allEqual, fontWords, by-rows}
 use Rattle.fonts.specs.Held.{HoldsDrafts, written-holds}
 use Rattle.fonts.specs.Children.{childRow, row-next, lays-count, fixed-childless, There, Placed, placed-at, object-row}
 use Rattle.fonts.specs.Characters.{map-rising}
@@ -45,8 +45,8 @@ first-row (tree k d own cs rest) n = refl
 
 -- the row after a child and all below it is the next child's
 after-child : (g : Grid) (words : List ℕ) (i : ℕ) (ts : Trees) (n : ℕ) → i < count ts → wordAt g words (childRow i ts n) 6 ≡ suc (size (childrenAt i ts))
-    → childRow (suc i) ts n < 2 ^ 32 → childRow (suc i) ts n ≡ after g words (childRow i ts n)
-unfolding after
+    → childRow (suc i) ts n < 2 ^ 32 → childRow (suc i) ts n ≡ rowAfter g words (childRow i ts n)
+unfolding rowAfter
 after-child g words i ts n h r b =
     let z = row-next i ts n h in
     z ∙ sym (ap (beyond (childRow i ts n)) r ∙ beyond-is (childRow i ts n) (suc (size (childrenAt i ts))) (omega (arith, z)))
@@ -76,12 +76,12 @@ module _ (g : Grid) (file words : List ℕ) (readers : List Target) (refers : �
       let r₃ = object-row g file words readers refers p₃ in
       let r₆ = object-row g file words readers refers p₆ in
       let e₀ : childRow 0 ts n ≡ beyond used 1 = first-row ts n ∙ sym (beyond-is used 1 (omega (arith, s .fits)) ∙ add-one used) in
-      let e₁ : childRow 1 ts n ≡ after g words (childRow 0 ts n) = after-child g words 0 ts n (omega arith) (r₀ .2) (p₁ .few) in
-      let e₂ : childRow 2 ts n ≡ after g words (childRow 1 ts n) = after-child g words 1 ts n (omega arith) (r₁ .2) (p₂ .few) in
-      let e₃ : childRow 3 ts n ≡ after g words (childRow 2 ts n) = after-child g words 2 ts n (omega arith) (r₂ .2) (p₃ .few) in
-      let e₄ : childRow 4 ts n ≡ after g words (childRow 3 ts n) = after-child g words 3 ts n (omega arith) (r₃ .2) (p₄ .few) in
+      let e₁ : childRow 1 ts n ≡ rowAfter g words (childRow 0 ts n) = after-child g words 0 ts n (omega arith) (r₀ .2) (p₁ .few) in
+      let e₂ : childRow 2 ts n ≡ rowAfter g words (childRow 1 ts n) = after-child g words 1 ts n (omega arith) (r₁ .2) (p₂ .few) in
+      let e₃ : childRow 3 ts n ≡ rowAfter g words (childRow 2 ts n) = after-child g words 2 ts n (omega arith) (r₂ .2) (p₃ .few) in
+      let e₄ : childRow 4 ts n ≡ rowAfter g words (childRow 3 ts n) = after-child g words 3 ts n (omega arith) (r₃ .2) (p₄ .few) in
       let z : childRow 4 ts n + 2 ≡ childRow 6 ts n = omega (arith, row-next 4 ts n (omega arith), row-next 5 ts n (omega arith), no-child 5 p₄, no-child 9 p₅) in
-      let e₆ : childRow 6 ts n ≡ beyond (after g words (childRow 3 ts n)) 2 = sym (ap (λ (c : ℕ). beyond c 2) (sym e₄) ∙ beyond-is (childRow 4 ts n) 2 (omega (arith, z, p₆ .few)) ∙ z) in
+      let e₆ : childRow 6 ts n ≡ beyond (rowAfter g words (childRow 3 ts n)) 2 = sym (ap (λ (c : ℕ). beyond c 2) (sym e₄) ∙ beyond-is (childRow 4 ts n) 2 (omega (arith, z, p₆ .few)) ∙ z) in
       let f : suc (childRow 3 ts n) ≡ beyond (childRow 3 ts n) 1 = sym (beyond-is (childRow 3 ts n) 1 (omega (arith, row-next 3 ts n (omega arith), p₄ .few)) ∙ add-one (childRow 3 ts n)) in
       by-rows g file words used e₀ e₁ e₂ e₃ e₆ f
       ∙ rw (r₀ .0, r₁ .0, r₂ .0, r₃ .0, r₆ .0, r₁ .1, r₂ .1, r₆ .1, r₃ .1, ← map-rising g file words readers refers p₃)

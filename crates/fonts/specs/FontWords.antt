@@ -25,8 +25,8 @@ module _ (g : Grid) where
   wordAt words row i = getD words (cellOf g row i) 0
 
   -- the row after a value and all below it, whose number of rows is the value's seventh word: 01: "Rows stand in file order, a value before all below it"
-  unfoldable pub after : List ℕ → ℕ → ℕ
-  after words row = beyond row (wordAt words row 6)
+  unfoldable pub rowAfter : List ℕ → ℕ → ℕ
+  rowAfter words row = beyond row (wordAt words row 6)
 
   -- a value that is not null, whose row has kind 0
   unfoldable pub some : List ℕ → ℕ → Bool
@@ -64,16 +64,16 @@ module _ (g : Grid) where
   unfoldable pub fontWords : (file words : List ℕ) (row : ℕ) → Bool
   fontWords file words row =
       let texture = beyond row 1 in
-      let glyphs = after words texture in
-      let cropping = after words glyphs in
-      let characters = after words cropping in
-      let kerning = beyond (after words characters) 2 in
+      let glyphs = rowAfter words texture in
+      let cropping = rowAfter words glyphs in
+      let characters = rowAfter words cropping in
+      let kerning = beyond (rowAfter words characters) 2 in
       (allThere words texture glyphs cropping characters kerning
       && (allEqual words glyphs cropping characters kerning
       && risingRows file words (wordAt words characters 3) (beyond characters 1)))
 
   -- the rule by the rows of the texture, the glyphs, the cropping, the characters and the kerning, and the first character's
-  pub by-rows : (file words : List ℕ) (row : ℕ) {t l p c k f : ℕ} → t ≡ beyond row 1 → l ≡ after words t → p ≡ after words l → c ≡ after words p → k ≡ beyond (after words c) 2 → f ≡ beyond c 1
+  pub by-rows : (file words : List ℕ) (row : ℕ) {t l p c k f : ℕ} → t ≡ beyond row 1 → l ≡ rowAfter words t → p ≡ rowAfter words l → c ≡ rowAfter words p → k ≡ beyond (rowAfter words c) 2 → f ≡ beyond c 1
       → fontWords file words row ≡ (allThere words t l p c k && (allEqual words l p c k && risingRows file words (wordAt words c 3) f))
   unfolding fontWords
   by-rows file words row d e f h i j = rw (j, i, h, f, e, d)

@@ -5,7 +5,7 @@ use table::Grid;
 use table::word_of;
 use text::char_at;
 ghost use mathlib.Core.Path.{_≡_};
-ghost use Rattle.fonts.specs.FontWords.{beyond, after, some, equal, codeAt, risingRows, allThere, allEqual, fontWords};
+ghost use Rattle.fonts.specs.FontWords.{beyond, rowAfter, some, equal, codeAt, risingRows, allThere, allEqual, fontWords};
 
 // Whether the font of a row, whose children's rows are in the words, keeps its rule.
 pub fn font_rule(file: &[u8], words: &[u32], grid: Grid, row: RowNumber) -> bool
@@ -120,7 +120,7 @@ fn code(file: &[u8], words: &[u32], grid: Grid, row: RowNumber) -> u64
 
 // The row after a value and all below it.
 fn row_after(words: &[u32], grid: Grid, row: RowNumber) -> RowNumber
-    ensures { λ r. ⌜ (r .0) ≡ after grid (now (words .entry)) (row .0) ⌝ }
+    ensures { λ r. ⌜ (r .0) ≡ rowAfter grid (now (words .entry)) (row .0) ⌝ }
 {
     row_beyond(row, word_of(words, grid, row, table::BRANCH))
 }

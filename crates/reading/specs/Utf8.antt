@@ -41,14 +41,14 @@ charSize [] = 0
 charSize (b ∷ l) = cond (follow (pred (size b)) (least b) (most b) l) (size b) 0
 
 -- size 0 is no character; after one of size suc k, what f says of the list k bytes past the lead byte
-abbrev pub after : ℕ → (ℕ → Bool) → Bool
-after zero f = false
-after (suc k) f = f k
+abbrev pub ifChar : ℕ → (ℕ → Bool) → Bool
+ifChar zero f = false
+ifChar (suc k) f = f k
 
 -- whether past the first k bytes one character follows the other to the list's end
 unfoldable pub chars : ℕ → List ℕ → Bool
 chars k [] = true
-chars zero (b ∷ l) = after (charSize (b ∷ l)) (λ k. chars k l)
+chars zero (b ∷ l) = ifChar (charSize (b ∷ l)) (λ k. chars k l)
 chars (suc k) (b ∷ l) = chars k l
 
 -- whether the list is a text: characters one after the other (UTF8-octets)

@@ -1,4 +1,4 @@
-use Rattle.fonts.specs.FontWords.{wordAt, after}
+use Rattle.fonts.specs.FontWords.{wordAt, rowAfter}
 use borrow.Author.Needs.{needs}
 use Rattle.fonts.proofs.row_after.Statement.{statement}
 use Rattle.fonts.proofs.row_after.Tie as tie
@@ -10,7 +10,7 @@ row-beyond-requires : tie.Need-row-beyond-requires
 row-beyond-requires c κs = search needs
 
 returns : tie.Need-returns
-unfolding after wordAt
+unfolding rowAfter wordAt
 returns c = cc (c .row-beyond .ensures, c .before .word-of .ensures)
 
 pub row-after-spec : {M : Type 1} → statement M
