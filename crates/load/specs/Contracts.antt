@@ -59,10 +59,10 @@ abbrev pub RawWalks : Grid → (file codes : List ℕ) → Readers → (shared p
 RawWalks g file codes rd shared place h at next nest depth entry exit r =
     (readers : List Target) (t : Target) → Listed file codes rd readers → Stands file codes place t → OpenedAs file codes t at next (Nested nest) → Walked g file entry exit (h .row .0) (seen (rawOf file readers shared (g .room) depth t h at)) r
 
--- the values of a nest are walked one after the other
-abbrev pub NestWalks : Grid → (file codes : List ℕ) → Readers → (shared : ℕ) → Nest → (at used depth : ℕ) → (entry exit : List ℕ) → Children → Type 0
-NestWalks g file codes rd shared nest at used depth entry exit r =
-    (readers : List Target) (plan : L.Plan) → Listed file codes rd readers → NestIs file codes nest plan → Counts g file entry exit used (whole g file codes readers shared depth plan entry at used) r
+-- the values of a nest are walked one after the other, under a parent
+abbrev pub NestWalks : Grid → (file codes : List ℕ) → Readers → (shared : ℕ) → Nest → (at used depth parent : ℕ) → (entry exit : List ℕ) → Children → Type 0
+NestWalks g file codes rd shared nest at used depth parent entry exit r =
+    (readers : List Target) (plan : L.Plan) → Listed file codes rd readers → NestIs file codes nest plan → Counts g file entry exit used (whole g file codes readers shared depth plan entry at used parent) r
 
 -- a file whose rows stand in the words as drafts is loaded as far as its end says, with this padding
 abbrev pub Finishes : Grid → (file : List ℕ) (readers shared padding next used : ℕ) → (entry exit : List ℕ) → Loading → Type 0

@@ -142,7 +142,7 @@ module _ (g : Grid) (file : List ℕ) (small : Small file) (codes : List ℕ) (s
     whole = bind (objectsAt file (g .room) readers shared at) (λ a e. finished file platform flags names (length readers) shared a e)
 
     abbrev roots-walked : Answer Counted
-    roots-walked = whole-nest g file codes readers shared 32 (each roots) [] at 0
+    roots-walked = whole-nest g file codes readers shared 32 (each roots) [] at 0 0
 
     pub objects-lost : {w w′ : List ℕ} {n p : ℕ} {r : Children} → Counts g file w w′ 0 roots-walked r → r ≡ Children-refused n p → whole ≡ refused n p
     unfolding bind

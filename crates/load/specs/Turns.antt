@@ -63,9 +63,9 @@ counts-refused {n = n} {p = p} (refused m q) c =
     rw (e₁, e₂)
 counts-refused (read a f) c = absurd (let q = c .answers in differ cc)
 
-module _ (g : Grid) (file codes : List ℕ) (readers : List Target) (shared depth : ℕ) (plan₀ : Plan) (w₀ : List ℕ) (at used : ℕ) where
+module _ (g : Grid) (file codes : List ℕ) (readers : List Target) (shared depth : ℕ) (plan₀ : Plan) (w₀ : List ℕ) (at used parent : ℕ) where
   abbrev step : L.Slot → ℕ → ℕ → Outcome
-  step = λ y b v. walk file readers shared (g .room) depth y b v used
+  step = λ y b v. walk file readers shared (g .room) depth y b v parent
 
   abbrev pub whole : Answer Counted
   whole = counted (sequence step plan₀ at used)
@@ -114,17 +114,17 @@ module _ (g : Grid) (file codes : List ℕ) (readers : List Target) (shared dept
     pub next-walked : {w w′ : List ℕ} {stage : Stage} {next row sum a u p : ℕ} → Small file → Begin file w₀ g at used → (v : Next w stage next row sum) → Got g file w w′ row (step (v .x) next row) a u p
         → Standing w′ (afterOf file next nest stage) a u (inWord (sum + p)) × (row < u) × (u ≤ g .room)
     next-walked {w′ = w′} {stage} {next} {row} {sum} {a} {u} {p} small b v y =
-        let t = walk-takes file readers shared (g .room) small depth (v .x) next row used (y .taken) a (y .is) in
+        let t = walk-takes file readers shared (g .room) small depth (v .x) next row parent (y .taken) a (y .is) in
         let s : row < u = omega (arith, t, y .rows-used) in
         let plan = v .go (toldOf (y .taken .2)) in
         let r : Reading g file step plan₀ w₀ at used w′ plan a u (inWord (sum + p)) (stage .next + 1) =
-        turn g file step plan₀ w₀ at used (v .x) (v .go) (v .read-so) y (walk-single file readers shared (g .room) small depth (v .x) next row used (y .taken) a (y .is)) (walk-bounds file readers shared (g .room) small depth (v .x) next row used (y .taken) a (y .is)) in
+        turn g file step plan₀ w₀ at used (v .x) (v .go) (v .read-so) y (walk-single file readers shared (g .room) small depth (v .x) next row parent (y .taken) a (y .is)) (walk-bounds file readers shared (g .room) small depth (v .x) next row parent (y .taken) a (y .is)) in
         let f : u ≤ g .room = r .fits (b .rows) in
         let k : stage .next + 1 < 2 ^ 32 = omega (arith, s, f, v .ahead, b .few) in
         let z : stage .next + 1 ≡ (stage .next + 1) % 2 ^ 32 = omega (arith, k) in (
           record {
             plan = plan;
-            is = v .left k next (toldOf (y .taken .2)) (λ n t. told-is file readers shared (g .room) small n t depth next row used (y .taken) a (y .is));
+            is = v .left k next (toldOf (y .taken .2)) (λ n t. told-is file readers shared (g .room) small n t depth next row parent (y .taken) a (y .is));
             read-so = subst (λ i. Reading g file step plan₀ w₀ at used w′ plan a u (inWord (sum + p)) i) z r;
             ahead = omega (arith, v .ahead, s, z);
           },

@@ -88,7 +88,7 @@ fn objects(
 {
     let n = shared + 1;
     let nest = Nest::Each(Slot::Object(prelude::OBJECT), n);
-    match walk::nested(file, codes, rd, words, grid, shared, nest, at, 0, 32) {
+    match walk::nested(file, codes, rd, words, grid, shared, nest, at, 0, 32, 0) {
         Children::Refused(number, place) => Loading::Refused(number, place),
         Children::Done { count: _, reached } => finish(
             file,

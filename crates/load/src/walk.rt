@@ -272,6 +272,7 @@ fn raw(
         next,
         first,
         depth,
+        first,
     ) {
         Children::Refused(number, q) => Walk::Refused(number, q),
         Children::Done { count, reached } => {
@@ -281,7 +282,7 @@ fn raw(
     }
 }
 
-// Objects and raw values one after the other, as a nest says. Their parent is the row before the first of theirs, or none if that is row 0.
+// Objects and raw values one after the other, as a nest says, with rows from `used` on, under a parent.
 pub(crate) fn nested(
     file: &[u8],
     codes: &[u32],
@@ -293,9 +294,10 @@ pub(crate) fn nested(
     at: usize,
     used: u32,
     depth: u32,
+    parent: u32,
 ) -> Children
     requires { ⌜ Begin (now file) (now words) grid at used × Known (now file) (now codes) rd × KnownNest (now file) (now codes) nest ⌝ }
-    ensures { λ r. ⌜ NestWalks grid (now (file .entry)) (now (codes .entry)) rd shared nest at used depth
+    ensures { λ r. ⌜ NestWalks grid (now (file .entry)) (now (codes .entry)) rd shared nest at used depth parent
         (now (words .entry)) (now (words .exit)) r ⌝ }
 {
     let mut stage = heads::nest::begin(nest);
@@ -319,7 +321,7 @@ pub(crate) fn nested(
             next,
             row,
             depth,
-            used,
+            parent,
         ) {
             Stepped::Done(reached) => {
                 next = reached.next;
@@ -340,7 +342,7 @@ pub(crate) fn nested(
                 let h = Head {
                     row: RowNumber(row),
                     first: next,
-                    parent: used,
+                    parent,
                     detail: id.0,
                     padding,
                 };

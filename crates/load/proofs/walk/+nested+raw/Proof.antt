@@ -59,11 +59,11 @@ abbrev raw-below : ℕ → In 3 raw-kinds.ps
 raw-below t = and 3 raw-kinds.ps (falls 3 raw-kinds.ps _<_ μ-raw t) raw.Pre
 
 abbrev nested-Inv-loop : nested-lts.InvT-loop
-nested-Inv-loop file codes words₀ grid shared nest at used depth rd stage₀ next₀ row₀ sum₀ words stage next row sum =
-    (readers : List Target) (plan₀ : L.Plan) → Listed file codes rd readers → NestIs file codes nest plan₀ → Standing grid file codes readers shared depth plan₀ words₀ at used nest words stage next row sum
+nested-Inv-loop file codes words₀ grid shared nest at used depth parent rd stage₀ next₀ row₀ sum₀ words stage next row sum =
+    (readers : List Target) (plan₀ : L.Plan) → Listed file codes rd readers → NestIs file codes nest plan₀ → Standing grid file codes readers shared depth plan₀ words₀ at used parent nest words stage next row sum
 
 abbrev nested-μ-loop : nested-lts.MeasureT-loop
-nested-μ-loop file codes words₀ grid shared nest at used depth rd stage₀ next₀ row₀ sum₀ words stage next row sum =
+nested-μ-loop file codes words₀ grid shared nest at used depth parent rd stage₀ next₀ row₀ sum₀ words stage next row sum =
     grid .room - row
 
 nested-begin-requires : (t : ℕ) → nested-lts.Need-begin-requires (
@@ -101,7 +101,7 @@ nested-loop-holds : (t : ℕ) → nested-lts.Need-loop-holds (
   after-reads.Learnt,
 ) (nested-at t) nested.Post nested-Inv-loop nested-μ-loop
 nested-loop-holds t c =
-    λ readers plan l w. rw ((c .begin) .ensures) (standing _ _ _ _ _ _ _ _ _ _ _ w)
+    λ readers plan l w. rw ((c .begin) .ensures) (standing _ _ _ _ _ _ _ _ _ _ _ _ w)
 
 nested-cast-if1 : (t : ℕ) → nested-lts.Need-cast-if1 (
   begin-reads.Asked,
@@ -216,8 +216,8 @@ nested-value-requires : (t : ℕ) → nested-lts.Need-value-requires (
 nested-value-requires t c κs =
     let k = (c .before .before .before .before .before .before .before .before .before .before .before .before .pre) .1 .1 in
     let inv = (c .before .before .before .before .before .before .before .loop) .inv (k .readers) ((c .before .before .before .before .before .before .before .before .before .before .before .before .pre) .1 .2 .plan) (k .listed) ((c .before .before .before .before .before .before .before .before .before .before .before .before .pre) .1 .2 .is) in
-    let v = value-next _ _ _ _ _ _ _ _ _ _ _ (k .prelude) inv ((c .before .before .before .before .if1) .taken) in
-    (standing-begin _ _ _ _ _ _ _ _ _ _ _ ((c .before .before .before .before .before .before .before .before .before .before .before .before .pre) .1 .0) inv, record { rd = (c .before .before .before .before .before .before .before .before .before .before .before .before .args) .t3; readers = k .readers; has = record { counts = refl; at = ap (λ p. getD ((c .before .before .before .before .before .before .before .before .before .before .before .before .args) .t3 .targets) p 0) (sym ((c .before .before .reader-position) .ensures)) }; listed = k .listed }, record { x = v .x; is = rw ((c .before .before .before .slot-at) .ensures) (v .is) })
+    let v = value-next _ _ _ _ _ _ _ _ _ _ _ _ (k .prelude) inv ((c .before .before .before .before .if1) .taken) in
+    (standing-begin _ _ _ _ _ _ _ _ _ _ _ _ ((c .before .before .before .before .before .before .before .before .before .before .before .before .pre) .1 .0) inv, record { rd = (c .before .before .before .before .before .before .before .before .before .before .before .before .args) .t3; readers = k .readers; has = record { counts = refl; at = ap (λ p. getD ((c .before .before .before .before .before .before .before .before .before .before .before .before .args) .t3 .targets) p 0) (sym ((c .before .before .reader-position) .ensures)) }; listed = k .listed }, record { x = v .x; is = rw ((c .before .before .before .slot-at) .ensures) (v .is) })
 
 nested-enum-known-reached : (t : ℕ) → nested-lts.Need-enum-known-reached (
   begin-reads.Asked,
@@ -313,9 +313,9 @@ nested-returns : (t : ℕ) → nested-lts.Need-returns (
 nested-returns t c =
     λ readers plan l w.
     let inv = (c .before .before .before .before .before .before .before .before .before .before .before .before .before .loop) .inv readers plan l w in
-    let v = value-next _ _ _ _ _ _ _ _ _ _ _ ((c .before .before .before .before .before .before .before .before .before .before .before .before .before .before .before .before .before .before .pre) .1 .1 .prelude) inv ((c .before .before .before .before .before .before .before .before .before .before .if1) .taken) in
+    let v = value-next _ _ _ _ _ _ _ _ _ _ _ _ ((c .before .before .before .before .before .before .before .before .before .before .before .before .before .before .before .before .before .before .pre) .1 .1 .prelude) inv ((c .before .before .before .before .before .before .before .before .before .before .if1) .taken) in
     let s = rw ((c .before .number) .given .1) at ((c .before .before .before .before .before .value) .ensures ((c .before .before .before .before .before .before .before .before .before .before .before .before .before .before .before .before .before .before .args) .t3) readers (v .x) (record { counts = refl; at = ap (λ p. getD ((c .before .before .before .before .before .before .before .before .before .before .before .before .before .before .before .before .before .before .args) .t3 .targets) p 0) (sym ((c .before .before .before .before .before .before .before .before .reader-position) .ensures)) }) l (rw ((c .before .before .before .before .before .before .before .before .before .slot-at) .ensures) (v .is))) in
-    next-lost _ _ _ _ _ _ _ _ _ _ _ v (lost s refl)
+    next-lost _ _ _ _ _ _ _ _ _ _ _ _ v (lost s refl)
 
 nested-enum-known-place : (t : ℕ) → nested-lts.Need-enum-known-place (
   begin-reads.Asked,
@@ -354,7 +354,7 @@ nested-sub-raw : (t : ℕ) → nested-lts.Need-sub-raw (
 nested-sub-raw t c =
     let k = (c .before .before .before .before .before .before .before .before .before .before .before .before .before .before .before .before .before .before .before .pre) .1 .1 in
     let inv = (c .before .before .before .before .before .before .before .before .before .before .before .before .before .before .loop) .inv (k .readers) ((c .before .before .before .before .before .before .before .before .before .before .before .before .before .before .before .before .before .before .before .pre) .1 .2 .plan) (k .listed) ((c .before .before .before .before .before .before .before .before .before .before .before .before .before .before .before .before .before .before .before .pre) .1 .2 .is) in
-    let v = value-next _ _ _ _ _ _ _ _ _ _ _ (k .prelude) inv ((c .before .before .before .before .before .before .before .before .before .before .before .if1) .taken) in
+    let v = value-next _ _ _ _ _ _ _ _ _ _ _ _ (k .prelude) inv ((c .before .before .before .before .before .before .before .before .before .before .before .if1) .taken) in
     let s = rw ((c .before .before .place) .given .1) at ((c .before .before .before .before .before .before .value) .ensures ((c .before .before .before .before .before .before .before .before .before .before .before .before .before .before .before .before .before .before .before .args) .t3) (k .readers) (v .x) (record { counts = refl; at = ap (λ p. getD ((c .before .before .before .before .before .before .before .before .before .before .before .before .before .before .before .before .before .before .before .args) .t3 .targets) p 0) (sym ((c .before .before .before .before .before .before .before .before .before .reader-position) .ensures)) }) (k .listed) (rw ((c .before .before .before .before .before .before .before .before .before .before .slot-at) .ensures) (v .is))) in
     omega (arith, s .begins .deep)
 
@@ -377,9 +377,9 @@ nested-raw-requires : (t : ℕ) → nested-lts.Need-raw-requires (
 nested-raw-requires t c κs =
     let k = (c .before .before .before .before .before .before .before .before .before .before .before .before .before .before .before .before .before .before .before .pre) .1 .1 in
     let inv = (c .before .before .before .before .before .before .before .before .before .before .before .before .before .before .loop) .inv (k .readers) ((c .before .before .before .before .before .before .before .before .before .before .before .before .before .before .before .before .before .before .before .pre) .1 .2 .plan) (k .listed) ((c .before .before .before .before .before .before .before .before .before .before .before .before .before .before .before .before .before .before .before .pre) .1 .2 .is) in
-    let v = value-next _ _ _ _ _ _ _ _ _ _ _ (k .prelude) inv ((c .before .before .before .before .before .before .before .before .before .before .before .if1) .taken) in
+    let v = value-next _ _ _ _ _ _ _ _ _ _ _ _ (k .prelude) inv ((c .before .before .before .before .before .before .before .before .before .before .before .if1) .taken) in
     let s = rw ((c .before .before .place) .given .1) at ((c .before .before .before .before .before .before .value) .ensures ((c .before .before .before .before .before .before .before .before .before .before .before .before .before .before .before .before .before .before .before .args) .t3) (k .readers) (v .x) (record { counts = refl; at = ap (λ p. getD ((c .before .before .before .before .before .before .before .before .before .before .before .before .before .before .before .before .before .before .before .args) .t3 .targets) p 0) (sym ((c .before .before .before .before .before .before .before .before .before .reader-position) .ensures)) }) (k .listed) (rw ((c .before .before .before .before .before .before .before .before .before .before .slot-at) .ensures) (v .is))) in
-    let b = standing-begin _ _ _ _ _ _ _ _ _ _ _ ((c .before .before .before .before .before .before .before .before .before .before .before .before .before .before .before .before .before .before .before .pre) .1 .0) inv in
+    let b = standing-begin _ _ _ _ _ _ _ _ _ _ _ _ ((c .before .before .before .before .before .before .before .before .before .before .before .before .before .before .before .before .before .before .before .pre) .1 .0) inv in
     (omega (arith, (c .before .before .before .before .before .before .before .before .before .before .before .before .before .before .before .before .before .before .before .pre) .0, s .begins .deep), (record { long = omega (arith, b .long, ap length (s .same)); few = b .few; free = s .begins .free; begun = s .begins .ahead; place = s .begins .inside; short = b .short; ided = s .begins .ided }, k, record { type = s .begins .type; is = s .begins .stands; opened = s .opened }))
 
 nested-enum-known-reached-2 : (t : ℕ) → nested-lts.Need-enum-known-reached-2 (
@@ -477,9 +477,9 @@ nested-returns-2 t c =
     λ readers plan l w.
     let a = (c .before .before .before .before .before .before .before .before .before .before .before .before .before .before .before .before .before .before .before .before .before .before .before .before .before .args) in
     let inv = (c .before .before .before .before .before .before .before .before .before .before .before .before .before .before .before .before .before .before .before .before .loop) .inv readers plan l w in
-    let v = value-next _ _ _ _ _ _ _ _ _ _ _ ((c .before .before .before .before .before .before .before .before .before .before .before .before .before .before .before .before .before .before .before .before .before .before .before .before .before .pre) .1 .1 .prelude) inv ((c .before .before .before .before .before .before .before .before .before .before .before .before .before .before .before .before .before .if1) .taken) in
+    let v = value-next _ _ _ _ _ _ _ _ _ _ _ _ ((c .before .before .before .before .before .before .before .before .before .before .before .before .before .before .before .before .before .before .before .before .before .before .before .before .before .pre) .1 .1 .prelude) inv ((c .before .before .before .before .before .before .before .before .before .before .before .before .before .before .before .before .before .if1) .taken) in
     let s = rw ((c .before .before .before .before .before .before .before .before .place) .given .1) at ((c .before .before .before .before .before .before .before .before .before .before .before .before .value) .ensures (a .t3) readers (v .x) (record { counts = refl; at = ap (λ p. getD (a .t3 .targets) p 0) (sym ((c .before .before .before .before .before .before .before .before .before .before .before .before .before .before .before .reader-position) .ensures)) }) l (rw ((c .before .before .before .before .before .before .before .before .before .before .before .before .before .before .before .before .slot-at) .ensures) (v .is))) in
-    next-lost _ _ _ _ _ _ _ _ _ _ _ v (lost (left-walked (a .grid) (a .shared) (a .depth - 1) (a .used) (omega (arith, s .begins .deep)) s ((c .before .before .before .before .before .raw) .ensures readers (s .begins .type) l (s .begins .stands) (s .opened))) ((c .before .number2) .given .1))
+    next-lost _ _ _ _ _ _ _ _ _ _ _ _ v (lost (left-walked (a .grid) (a .shared) (a .depth - 1) (a .parent) (omega (arith, s .begins .deep)) s ((c .before .before .before .before .before .raw) .ensures readers (s .begins .type) l (s .begins .stands) (s .opened))) ((c .before .number2) .given .1))
 
 nested-after-requires : (t : ℕ) → nested-lts.Need-after-requires (
   begin-reads.Asked,
@@ -516,20 +516,20 @@ nested-walked : (t : ℕ) (c : nested-lts.After-after (
   after-reads.Asked,
   after-reads.Learnt,
 ) (nested-at t) nested.Post nested-Inv-loop nested-μ-loop) (readers : List Target) (plan : L.Plan) → Listed ((c .before .before .before .before .before .before .before .before .before .before .before .before .before .before .before .before .before .args) .file .now) ((c .before .before .before .before .before .before .before .before .before .before .before .before .before .before .before .before .before .args) .codes .now) ((c .before .before .before .before .before .before .before .before .before .before .before .before .before .before .before .before .before .args) .t3) readers → NestIs ((c .before .before .before .before .before .before .before .before .before .before .before .before .before .before .before .before .before .args) .file .now) ((c .before .before .before .before .before .before .before .before .before .before .before .before .before .before .before .before .before .args) .codes .now) ((c .before .before .before .before .before .before .before .before .before .before .before .before .before .before .before .before .before .args) .nest) plan
-    → Standing ((c .before .before .before .before .before .before .before .before .before .before .before .before .before .before .before .before .before .args) .grid) ((c .before .before .before .before .before .before .before .before .before .before .before .before .before .before .before .before .before .args) .file .now) ((c .before .before .before .before .before .before .before .before .before .before .before .before .before .before .before .before .before .args) .codes .now) readers ((c .before .before .before .before .before .before .before .before .before .before .before .before .before .before .before .before .before .args) .shared) ((c .before .before .before .before .before .before .before .before .before .before .before .before .before .before .before .before .before .args) .depth) plan ((c .before .before .before .before .before .before .before .before .before .before .before .before .before .before .before .before .before .args) .words .now) ((c .before .before .before .before .before .before .before .before .before .before .before .before .before .before .before .before .before .args) .at) ((c .before .before .before .before .before .before .before .before .before .before .before .before .before .before .before .before .before .args) .used) ((c .before .before .before .before .before .before .before .before .before .before .before .before .before .before .before .before .before .args) .nest) ((c .before .match) .words) (afterOf ((c .before .before .before .before .before .before .before .before .before .before .before .before .before .before .before .before .before .args) .file .now) ((c .before .before .before .before .before .before .before .before .before .before .before .before .loop) .next) ((c .before .before .before .before .before .before .before .before .before .before .before .before .before .before .before .before .before .args) .nest) ((c .before .before .before .before .before .before .before .before .before .before .before .before .loop) .stage)) ((c .before .match) .next) ((c .before .match) .row) ((c .before .match) .sum) × ((c .before .before .before .before .before .before .before .before .before .before .before .before .loop) .row < (c .before .match) .row) × ((c .before .match) .row ≤ (c .before .before .before .before .before .before .before .before .before .before .before .before .before .before .before .before .before .args) .grid .room)
+    → Standing ((c .before .before .before .before .before .before .before .before .before .before .before .before .before .before .before .before .before .args) .grid) ((c .before .before .before .before .before .before .before .before .before .before .before .before .before .before .before .before .before .args) .file .now) ((c .before .before .before .before .before .before .before .before .before .before .before .before .before .before .before .before .before .args) .codes .now) readers ((c .before .before .before .before .before .before .before .before .before .before .before .before .before .before .before .before .before .args) .shared) ((c .before .before .before .before .before .before .before .before .before .before .before .before .before .before .before .before .before .args) .depth) plan ((c .before .before .before .before .before .before .before .before .before .before .before .before .before .before .before .before .before .args) .words .now) ((c .before .before .before .before .before .before .before .before .before .before .before .before .before .before .before .before .before .args) .at) ((c .before .before .before .before .before .before .before .before .before .before .before .before .before .before .before .before .before .args) .used) ((c .before .before .before .before .before .before .before .before .before .before .before .before .before .before .before .before .before .args) .parent) ((c .before .before .before .before .before .before .before .before .before .before .before .before .before .before .before .before .before .args) .nest) ((c .before .match) .words) (afterOf ((c .before .before .before .before .before .before .before .before .before .before .before .before .before .before .before .before .before .args) .file .now) ((c .before .before .before .before .before .before .before .before .before .before .before .before .loop) .next) ((c .before .before .before .before .before .before .before .before .before .before .before .before .before .before .before .before .before .args) .nest) ((c .before .before .before .before .before .before .before .before .before .before .before .before .loop) .stage)) ((c .before .match) .next) ((c .before .match) .row) ((c .before .match) .sum) × ((c .before .before .before .before .before .before .before .before .before .before .before .before .loop) .row < (c .before .match) .row) × ((c .before .match) .row ≤ (c .before .before .before .before .before .before .before .before .before .before .before .before .before .before .before .before .before .args) .grid .room)
 nested-walked t c readers plan l n =
     let a = (c .before .before .before .before .before .before .before .before .before .before .before .before .before .before .before .before .before .args) in
     let file = a .file .now in
     let small = small-by-index file (λ i h. omega (arith, (c .before .before .before .before .before .before .before .before .before .before .before .before .before .before .before .before .shared-slice-known) .given i)) in
     let inv = (c .before .before .before .before .before .before .before .before .before .before .before .before .loop) .inv readers plan l n in
-    let v = value-next _ _ _ _ _ _ _ _ _ _ _ ((c .before .before .before .before .before .before .before .before .before .before .before .before .before .before .before .before .before .pre) .1 .1 .prelude) inv ((c .before .before .before .before .before .before .before .before .before .if1) .taken) in
+    let v = value-next _ _ _ _ _ _ _ _ _ _ _ _ ((c .before .before .before .before .before .before .before .before .before .before .before .before .before .before .before .before .before .pre) .1 .1 .prelude) inv ((c .before .before .before .before .before .before .before .before .before .if1) .taken) in
     let s = (c .before .before .before .before .value) .ensures (a .t3) readers (v .x) (record { counts = refl; at = ap (λ p. getD (a .t3 .targets) p 0) (sym ((c .before .before .before .before .before .before .before .reader-position) .ensures)) }) l (rw ((c .before .before .before .before .before .before .before .before .slot-at) .ensures) (v .is)) in
-    let y : (p : ℕ) × Got (a .grid) file ((c .before .before .before .before .before .before .before .before .before .before .before .before .loop) .words) ((c .before .match) .words) ((c .before .before .before .before .before .before .before .before .before .before .before .before .loop) .row) (walk file readers (a .shared) (a .grid .room) (a .depth) (v .x) ((c .before .before .before .before .before .before .before .before .before .before .before .before .loop) .next) ((c .before .before .before .before .before .before .before .before .before .before .before .before .loop) .row) (a .used)) ((c .before .match) .next) ((c .before .match) .row) p × ((c .before .match) .sum ≡ inWord ((c .before .before .before .before .before .before .before .before .before .before .before .before .loop) .sum + p)) =
+    let y : (p : ℕ) × Got (a .grid) file ((c .before .before .before .before .before .before .before .before .before .before .before .before .loop) .words) ((c .before .match) .words) ((c .before .before .before .before .before .before .before .before .before .before .before .before .loop) .row) (walk file readers (a .shared) (a .grid .room) (a .depth) (v .x) ((c .before .before .before .before .before .before .before .before .before .before .before .before .loop) .next) ((c .before .before .before .before .before .before .before .before .before .before .before .before .loop) .row) (a .parent)) ((c .before .match) .next) ((c .before .match) .row) p × ((c .before .match) .sum ≡ inWord ((c .before .before .before .before .before .before .before .before .before .before .before .before .loop) .sum + p)) =
     ⊎-elim
     (λ w. (_, got-as (got (rw (w .1 .given .1) at s) refl) (w .4) (w .5) (w .6) refl, w .7 ∙ w .3 .ensures))
-    (λ w. let q = rw (w .1 .given .1) at s in (_, got-as (got (left-walked (a .grid) (a .shared) (a .depth - 1) (a .used) (omega (arith, q .begins .deep)) q (w .4 .ensures readers (q .begins .type) l (q .begins .stands) (q .opened))) (w .8 .given .1)) (w .11) (w .12) (w .13) refl, w .14 ∙ w .10 .ensures))
+    (λ w. let q = rw (w .1 .given .1) at s in (_, got-as (got (left-walked (a .grid) (a .shared) (a .depth - 1) (a .parent) (omega (arith, q .begins .deep)) q (w .4 .ensures readers (q .begins .type) l (q .begins .stands) (q .opened))) (w .8 .given .1)) (w .11) (w .12) (w .13) refl, w .14 ∙ w .10 .ensures))
     ((c .before .match) .came) in
-    rw (y .2) (next-walked _ _ _ _ _ _ _ _ _ _ _ small ((c .before .before .before .before .before .before .before .before .before .before .before .before .before .before .before .before .before .pre) .1 .0) v (y .1))
+    rw (y .2) (next-walked _ _ _ _ _ _ _ _ _ _ _ _ small ((c .before .before .before .before .before .before .before .before .before .before .before .before .before .before .before .before .before .pre) .1 .0) v (y .1))
 
 nested-loop-less : (t : ℕ) → nested-lts.Need-loop-less (
   begin-reads.Asked,
@@ -609,7 +609,7 @@ nested-returns-3 : (t : ℕ) → nested-lts.Need-returns-3 (
   after-reads.Learnt,
 ) (nested-at t) nested.Post nested-Inv-loop nested-μ-loop
 nested-returns-3 t c =
-    λ readers plan l w. nothing-next _ _ _ _ _ _ _ _ _ _ _ ((c .before .before .before .loop) .inv readers plan l w) ((c .if1) .left)
+    λ readers plan l w. nothing-next _ _ _ _ _ _ _ _ _ _ _ _ ((c .before .before .before .loop) .inv readers plan l w) ((c .if1) .left)
 
 raw-add-first : (t : ℕ) → raw-lts.Need-add-first (
   nested-below t,
