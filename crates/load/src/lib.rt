@@ -88,7 +88,24 @@ fn objects(
 {
     let n = shared + 1;
     let nest = Nest::Each(Slot::Object(prelude::OBJECT), n);
-    match walk::nested(file, codes, rd, words, grid, shared, nest, at, 0, 32, 0) {
+    let children = if n < 2 {
+        walk::nested(file, codes, rd, words, grid, shared, nest, at, 0, 32, 0)
+    } else {
+        walk::objects_from(
+            file,
+            codes,
+            rd,
+            words,
+            grid,
+            shared,
+            prelude::OBJECT,
+            n,
+            at,
+            0,
+            32,
+        )
+    };
+    match children {
         Children::Refused(number, place) => Loading::Refused(number, place),
         Children::Done { count: _, reached } => finish(
             file,

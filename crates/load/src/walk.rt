@@ -17,6 +17,7 @@ ghost use mathlib.Core.Path.{_≡_};
 ghost use Rattle.leaves.specs.Plain.{Begin};
 ghost use Rattle.load.specs.Known.{Known, KnownNest, KnownValue, Ready};
 ghost use Rattle.load.specs.Steps.{KnownRaw, NoRule, stepOf, topped, plainWords};
+ghost use Rattle.load.specs.Front.{ObjectsIn, Takeable};
 ghost use Rattle.load.specs.Contracts.{FlatSteps, PlacedSteps, ValueSteps, RawWalks, NestWalks};
 
 // A value that needs no reader list, walked; or a raw value whose children need it:
@@ -261,7 +262,7 @@ fn raw(
         (now (words .entry)) (now (words .exit)) r ⌝ }
 {
     let first = h.row.0 + 1;
-    match nested(
+    match below(
         file,
         codes,
         rd,
@@ -272,13 +273,171 @@ fn raw(
         next,
         first,
         depth,
-        first,
     ) {
         Children::Refused(number, q) => Walk::Refused(number, q),
         Children::Done { count, reached } => {
             let kind = heads::slot::row_kind(codes, place);
             objects::close::close(file, words, grid, h, kind, count, at, Walk::Done(reached))
         }
+    }
+}
+
+// Objects that are declared alike: the place of their type, and how many there are.
+pub struct Objects {
+    pub declared: usize,
+    pub count: u32,
+}
+
+// The objects of a nest, if it has no other values; else none.
+fn objects_in(nest: Nest) -> Objects
+    ensures { λ r. ⌜ ObjectsIn nest r ⌝ }
+{
+    match nest {
+        Nest::Each(slot, n) => match slot {
+            Slot::Object(a) => Objects {
+                declared: a,
+                count: n,
+            },
+            _ => Objects {
+                declared: 0,
+                count: 0,
+            },
+        },
+        _ => Objects {
+            declared: 0,
+            count: 0,
+        },
+    }
+}
+
+// How many of n objects may be taken at once: all where they may be anything and depth is left, else none.
+fn takeable(codes: &[u32], declared: usize, n: u32, depth: u32) -> u32
+    ensures { λ r. ⌜ Takeable (now (codes .entry)) declared n depth r ⌝ }
+{
+    if depth == 0 {
+        return 0;
+    }
+    if targets::kind_at(codes, declared) == 14 {
+        return n;
+    }
+    0
+}
+
+// What stands below a raw value: two objects or more from the first on, all else as its nest says.
+// The parent is the row before the first of these.
+fn below(
+    file: &[u8],
+    codes: &[u32],
+    rd: Readers,
+    words: &mut [u32],
+    grid: Grid,
+    shared: u32,
+    nest: Nest,
+    at: usize,
+    used: u32,
+    depth: u32,
+) -> Children
+    requires { ⌜ Begin (now file) (now words) grid at used × Known (now file) (now codes) rd × KnownNest (now file) (now codes) nest ⌝ }
+    ensures { λ r. ⌜ NestWalks grid (now (file .entry)) (now (codes .entry)) rd shared nest at used depth used
+        (now (words .entry)) (now (words .exit)) r ⌝ }
+{
+    let list = objects_in(nest);
+    if 2 <= list.count {
+        return objects_from(
+            file,
+            codes,
+            rd,
+            words,
+            grid,
+            shared,
+            list.declared,
+            list.count,
+            at,
+            used,
+            depth,
+        );
+    }
+    nested(
+        file,
+        codes,
+        rd,
+        words,
+        grid,
+        shared,
+        nest,
+        at,
+        used,
+        depth,
+        used,
+    )
+}
+
+// n objects one after the other: the first of them at once, as far as each is seen at one look, then the others.
+// Their parent is the row before the first of theirs, or none if that is row 0.
+pub(crate) fn objects_from(
+    file: &[u8],
+    codes: &[u32],
+    rd: Readers,
+    words: &mut [u32],
+    grid: Grid,
+    shared: u32,
+    declared: usize,
+    n: u32,
+    at: usize,
+    used: u32,
+    depth: u32,
+) -> Children
+    requires { ⌜ Begin (now file) (now words) grid at used × Known (now file) (now codes) rd
+        × KnownNest (now file) (now codes) (Nest.Each (Slot.Object declared) n) ⌝ }
+    ensures { λ r. ⌜ NestWalks grid (now (file .entry)) (now (codes .entry)) rd shared (Nest.Each (Slot.Object declared) n) at used depth used
+        (now (words .entry)) (now (words .exit)) r ⌝ }
+{
+    let most = takeable(codes, declared, n, depth);
+    let front = first_values::take(
+        file,
+        codes,
+        &rd.targets,
+        rd.count,
+        words,
+        grid,
+        most,
+        at,
+        used,
+    );
+    let row = used + front.count;
+    if n <= front.count {
+        return Children::Done {
+            count: front.count,
+            reached: Reached {
+                used: row,
+                padding: front.padding,
+                next: front.next,
+            },
+        };
+    }
+    let left = n - front.count;
+    match nested(
+        file,
+        codes,
+        rd,
+        words,
+        grid,
+        shared,
+        Nest::Each(Slot::Object(declared), left),
+        front.next,
+        row,
+        depth,
+        used,
+    ) {
+        Children::Refused(number, q) => Children::Refused(number, q),
+        Children::Done { count: _, reached } => Children::Done {
+            count: n,
+            reached: Reached {
+                used: reached.used,
+                padding: table::sum(front.padding, reached.padding),
+                next: reached.next,
+            },
+        },
     }
 }
 

@@ -15,36 +15,57 @@ use Rattle.walked.specs.Loop.{same, Got, got, lost}
 use Rattle.readers.specs.Listed.{Listed}
 use Rattle.heads.specs.Nests.{NestIs, afterOf}
 use Rattle.objects.specs.Start.{position-in-list}
+use Rattle.load.specs.Known.{KnownNest}
 use Rattle.load.specs.Walks.{begin-below}
 use Rattle.load.specs.Turns.{Standing, standing, standing-begin, value-next, nothing-next, next-lost, next-walked, counts-walked, counts-refused}
 use Rattle.load.specs.Steps.{left-walked, got-as, raw-ends, raw-lost}
+use Rattle.load.specs.Front.{objects-nest, took-fits, list-left, list-begin, list-all, list-refused, list-done}
 use Prim.Native.Nat.{ℕ, _<_}
 use borrow.Fn.Kinds.{In}
 use borrow.Fn.PlainCycle.{Measures, is, falls, and}
+use Rattle.load.proofs.walk.below.Reads as below
+use Rattle.load.proofs.walk.below.Kinds as below-kinds
+use Rattle.load.proofs.walk.+below+nested+objects_from+raw.Lts-below as below-lts
 use Rattle.load.proofs.walk.nested.Reads as nested
 use Rattle.load.proofs.walk.nested.Kinds as nested-kinds
-use Rattle.load.proofs.walk.+nested+raw.Lts-nested as nested-lts
+use Rattle.load.proofs.walk.+below+nested+objects_from+raw.Lts-nested as nested-lts
+use Rattle.load.proofs.walk.objects_from.Reads as objects-from
+use Rattle.load.proofs.walk.objects_from.Kinds as objects-from-kinds
+use Rattle.load.proofs.walk.+below+nested+objects_from+raw.Lts-objects_from as objects-from-lts
 use Rattle.load.proofs.walk.raw.Reads as raw
 use Rattle.load.proofs.walk.raw.Kinds as raw-kinds
-use Rattle.load.proofs.walk.+nested+raw.Lts-raw as raw-lts
+use Rattle.load.proofs.walk.+below+nested+objects_from+raw.Lts-raw as raw-lts
+use Rattle.first_values.proofs.take.Reads as take-reads
 use Rattle.heads.proofs.nest.after.Reads as after-reads
 use Rattle.heads.proofs.nest.begin.Reads as begin-reads
 use Rattle.heads.proofs.nest.slot_at.Reads as slot-at-reads
+use Rattle.heads.proofs.slot.row_kind.Reads as row-kind-reads
+use Rattle.load.proofs.walk.objects_in.Reads as objects-in-reads
+use Rattle.load.proofs.walk.takeable.Reads as takeable-reads
 use Rattle.load.proofs.walk.value.Reads as value-reads
 use Rattle.objects.proofs.close.close.Reads as close-reads
 use Rattle.objects.proofs.start.reader_position.Reads as reader-position-reads
 use Rattle.table.proofs.sum.Reads as sum-reads
-use Rattle.heads.proofs.slot.row_kind.Reads as row-kind-reads
-use Rattle.load.proofs.walk.+nested+raw.{statement}
-use Rattle.load.proofs.walk.+nested+raw.Tie.{close}
+use Rattle.load.proofs.walk.+below+nested+objects_from+raw.{statement}
+use Rattle.load.proofs.walk.+below+nested+objects_from+raw.Tie.{close}
+
+abbrev μ-below : Measures 3 below-kinds.ps ℕ
+μ-below κs a = 4 * (a .1 .1 .1 .1 .1 .1 .1 .1 .1 .0) + 2
 
 abbrev μ-nested : Measures 3 nested-kinds.ps ℕ
-μ-nested κs a =
-    2 * (a .1 .1 .1 .1 .1 .1 .1 .1 .1 .0)
+μ-nested κs a = 4 * (a .1 .1 .1 .1 .1 .1 .1 .1 .1 .0)
+
+abbrev μ-objects-from : Measures 3 objects-from-kinds.ps ℕ
+μ-objects-from κs a = 4 * (a .1 .1 .1 .1 .1 .1 .1 .1 .1 .1 .0) + 1
 
 abbrev μ-raw : Measures 3 raw-kinds.ps ℕ
-μ-raw κs a =
-    2 * (a .1 .1 .1 .1 .1 .1 .1 .1 .1 .1 .1 .0) + 1
+μ-raw κs a = 4 * (a .1 .1 .1 .1 .1 .1 .1 .1 .1 .1 .1 .0) + 3
+
+abbrev below-at : ℕ → In 3 below-kinds.ps
+below-at t = and 3 below-kinds.ps (is 3 below-kinds.ps μ-below t) below.Pre
+
+abbrev below-below : ℕ → In 3 below-kinds.ps
+below-below t = and 3 below-kinds.ps (falls 3 below-kinds.ps _<_ μ-below t) below.Pre
 
 abbrev nested-at : ℕ → In 3 nested-kinds.ps
 nested-at t = and 3 nested-kinds.ps (is 3 nested-kinds.ps μ-nested t) nested.Pre
@@ -52,11 +73,100 @@ nested-at t = and 3 nested-kinds.ps (is 3 nested-kinds.ps μ-nested t) nested.Pr
 abbrev nested-below : ℕ → In 3 nested-kinds.ps
 nested-below t = and 3 nested-kinds.ps (falls 3 nested-kinds.ps _<_ μ-nested t) nested.Pre
 
+abbrev objects-from-at : ℕ → In 3 objects-from-kinds.ps
+objects-from-at t =
+    and 3 objects-from-kinds.ps (is 3 objects-from-kinds.ps μ-objects-from t) objects-from.Pre
+
+abbrev objects-from-below : ℕ → In 3 objects-from-kinds.ps
+objects-from-below t =
+    and
+    3
+    objects-from-kinds.ps
+    (falls 3 objects-from-kinds.ps _<_ μ-objects-from t)
+    objects-from.Pre
+
 abbrev raw-at : ℕ → In 3 raw-kinds.ps
 raw-at t = and 3 raw-kinds.ps (is 3 raw-kinds.ps μ-raw t) raw.Pre
 
 abbrev raw-below : ℕ → In 3 raw-kinds.ps
 raw-below t = and 3 raw-kinds.ps (falls 3 raw-kinds.ps _<_ μ-raw t) raw.Pre
+
+below-objects-in-requires : (t : ℕ) → below-lts.Need-objects-in-requires (
+  objects-in-reads.Asked,
+  objects-in-reads.Learnt,
+  objects-from-below t,
+  objects-from.Post,
+  nested-below t,
+  nested.Post,
+) (below-at t) below.Post
+below-objects-in-requires t c κs = search needs
+
+below-objects-from-requires : (t : ℕ) → below-lts.Need-objects-from-requires (
+  objects-in-reads.Asked,
+  objects-in-reads.Learnt,
+  objects-from-below t,
+  objects-from.Post,
+  nested-below t,
+  nested.Post,
+) (below-at t) below.Post
+below-objects-from-requires t c κs =
+    let a = (c .before .before .before .before .before .before .before .args) in
+    let e = objects-nest (a .nest) _ ((c .before .before .before .objects-in) .ensures) ((c .before .if1) .taken) in
+    (omega (arith, (c .before .before .before .before .before .before .before .pre) .0), ((c .before .before .before .before .before .before .before .pre) .1 .0, (c .before .before .before .before .before .before .before .pre) .1 .1, subst (λ y. KnownNest (a .file .now) (a .codes .now) y) e ((c .before .before .before .before .before .before .before .pre) .1 .2)))
+
+below-same-length : (t : ℕ) → below-lts.Need-same-length (
+  objects-in-reads.Asked,
+  objects-in-reads.Learnt,
+  objects-from-below t,
+  objects-from.Post,
+  nested-below t,
+  nested.Post,
+) (below-at t) below.Post
+below-same-length t c = search needs
+
+below-returns : (t : ℕ) → below-lts.Need-returns (
+  objects-in-reads.Asked,
+  objects-in-reads.Learnt,
+  objects-from-below t,
+  objects-from.Post,
+  nested-below t,
+  nested.Post,
+) (below-at t) below.Post
+below-returns t c =
+    λ readers plan l i.
+    let a = (c .before .before .before .before .before .before .before .before .before .before .args) in
+    let e = objects-nest (a .nest) _ ((c .before .before .before .before .before .before .objects-in) .ensures) ((c .before .before .before .before .if1) .taken) in
+    (c .before .before .objects-from) .ensures readers plan l (subst (λ y. NestIs (a .file .now) (a .codes .now) y plan) e i)
+
+below-nested-requires : (t : ℕ) → below-lts.Need-nested-requires (
+  objects-in-reads.Asked,
+  objects-in-reads.Learnt,
+  objects-from-below t,
+  objects-from.Post,
+  nested-below t,
+  nested.Post,
+) (below-at t) below.Post
+below-nested-requires t c κs = (omega (arith, (c .before .before .before .before .before .before .before .pre) .0), (c .before .before .before .before .before .before .before .pre) .1)
+
+below-same-length-2 : (t : ℕ) → below-lts.Need-same-length-2 (
+  objects-in-reads.Asked,
+  objects-in-reads.Learnt,
+  objects-from-below t,
+  objects-from.Post,
+  nested-below t,
+  nested.Post,
+) (below-at t) below.Post
+below-same-length-2 t c = search needs
+
+below-returns-2 : (t : ℕ) → below-lts.Need-returns-2 (
+  objects-in-reads.Asked,
+  objects-in-reads.Learnt,
+  objects-from-below t,
+  objects-from.Post,
+  nested-below t,
+  nested.Post,
+) (below-at t) below.Post
+below-returns-2 t c = (c .before .before .nested) .ensures
 
 abbrev nested-Inv-loop : nested-lts.InvT-loop
 nested-Inv-loop file codes words₀ grid shared nest at used depth parent rd stage₀ next₀ row₀ sum₀ words stage next row sum =
@@ -611,9 +721,203 @@ nested-returns-3 : (t : ℕ) → nested-lts.Need-returns-3 (
 nested-returns-3 t c =
     λ readers plan l w. nothing-next _ _ _ _ _ _ _ _ _ _ _ _ ((c .before .before .before .loop) .inv readers plan l w) ((c .if1) .left)
 
-raw-add-first : (t : ℕ) → raw-lts.Need-add-first (
+objects-from-takeable-requires : (t : ℕ) → objects-from-lts.Need-takeable-requires (
+  takeable-reads.Asked,
+  takeable-reads.Learnt,
+  take-reads.Asked,
+  take-reads.Learnt,
   nested-below t,
   nested.Post,
+  sum-reads.Asked,
+  sum-reads.Learnt,
+) (objects-from-at t) objects-from.Post
+objects-from-takeable-requires t c κs = search needs
+
+objects-from-take-requires : (t : ℕ) → objects-from-lts.Need-take-requires (
+  takeable-reads.Asked,
+  takeable-reads.Learnt,
+  take-reads.Asked,
+  take-reads.Learnt,
+  nested-below t,
+  nested.Post,
+  sum-reads.Asked,
+  sum-reads.Learnt,
+) (objects-from-at t) objects-from.Post
+objects-from-take-requires t c κs = search needs
+
+objects-from-add-row : (t : ℕ) → objects-from-lts.Need-add-row (
+  takeable-reads.Asked,
+  takeable-reads.Learnt,
+  take-reads.Asked,
+  take-reads.Learnt,
+  nested-below t,
+  nested.Post,
+  sum-reads.Asked,
+  sum-reads.Learnt,
+) (objects-from-at t) objects-from.Post
+objects-from-add-row t c =
+    let a = (c .before .before .before .before .before .before .before .before .before .before .before .args) in
+    let b = (c .before .before .before .before .before .before .before .before .before .before .before .pre) .1 .0 in
+    omega (arith, b .few, took-fits (a .grid) (a .file .now) (a .codes .now) _ _ (a .used) (a .words .now) (a .at) _ _ _ _ (b .rows) ((c .before .before .before .take) .ensures .1))
+
+objects-from-same-length : (t : ℕ) → objects-from-lts.Need-same-length (
+  takeable-reads.Asked,
+  takeable-reads.Learnt,
+  take-reads.Asked,
+  take-reads.Learnt,
+  nested-below t,
+  nested.Post,
+  sum-reads.Asked,
+  sum-reads.Learnt,
+) (objects-from-at t) objects-from.Post
+objects-from-same-length t c = search needs
+
+objects-from-returns : (t : ℕ) → objects-from-lts.Need-returns (
+  takeable-reads.Asked,
+  takeable-reads.Learnt,
+  take-reads.Asked,
+  take-reads.Learnt,
+  nested-below t,
+  nested.Post,
+  sum-reads.Asked,
+  sum-reads.Learnt,
+) (objects-from-at t) objects-from.Post
+objects-from-returns t c =
+    λ readers plan l i.
+    let a = (c .before .before .before .before .before .before .before .before .before .before .before .before .before .args) in
+    let small = small-by-index (a .file .now) (λ j h. omega (arith, (c .before .before .before .before .before .before .before .before .before .before .before .before .shared-slice-known) .given j)) in
+    list-all (a .grid) (a .file .now) (a .codes .now) _ readers l small (a .shared) (a .declared) (a .n) plan i (a .words .now) (a .at) (a .used) ((c .before .before .before .before .before .before .before .before .before .before .before .before .before .pre) .1 .0) (a .depth) _ _ _ _ _ ((c .before .before .before .before .before .before .before .before .before .takeable) .ensures) ((c .before .before .before .before .before .take) .ensures .0) ((c .before .before .before .before .before .take) .ensures .1) ((c .if1) .taken)
+
+objects-from-sub-left : (t : ℕ) → objects-from-lts.Need-sub-left (
+  takeable-reads.Asked,
+  takeable-reads.Learnt,
+  take-reads.Asked,
+  take-reads.Learnt,
+  nested-below t,
+  nested.Post,
+  sum-reads.Asked,
+  sum-reads.Learnt,
+) (objects-from-at t) objects-from.Post
+objects-from-sub-left t c = search needs
+
+objects-from-nested-requires : (t : ℕ) → objects-from-lts.Need-nested-requires (
+  takeable-reads.Asked,
+  takeable-reads.Learnt,
+  take-reads.Asked,
+  take-reads.Learnt,
+  nested-below t,
+  nested.Post,
+  sum-reads.Asked,
+  sum-reads.Learnt,
+) (objects-from-at t) objects-from.Post
+objects-from-nested-requires t c κs =
+    let a = (c .before .before .before .before .before .before .before .before .before .before .before .before .before .before .before .args) in
+    let k = (c .before .before .before .before .before .before .before .before .before .before .before .before .before .before .before .pre) .1 .1 in
+    let i = (c .before .before .before .before .before .before .before .before .before .before .before .before .before .before .before .pre) .1 .2 .is in
+    let small = small-by-index (a .file .now) (λ j h. omega (arith, (c .before .before .before .before .before .before .before .before .before .before .before .before .before .before .shared-slice-known) .given j)) in
+    let b = list-begin (a .grid) (a .file .now) (a .codes .now) _ (k .readers) (k .listed) small (a .shared) (a .declared) (a .n) _ i (a .words .now) (a .at) (a .used) ((c .before .before .before .before .before .before .before .before .before .before .before .before .before .before .before .pre) .1 .0) (a .depth) _ _ _ _ _ ((c .before .before .before .before .before .before .before .before .before .before .before .takeable) .ensures) ((c .before .before .before .before .before .before .before .take) .ensures .0) ((c .before .before .before .before .before .before .before .take) .ensures .1) in
+    let n = list-left (a .grid) (a .file .now) (a .codes .now) _ (k .readers) (k .listed) small (a .shared) (a .declared) (a .n) _ i (a .words .now) (a .at) (a .used) ((c .before .before .before .before .before .before .before .before .before .before .before .before .before .before .before .pre) .1 .0) (a .depth) _ _ _ _ _ ((c .before .before .before .before .before .before .before .before .before .before .before .takeable) .ensures) ((c .before .before .before .before .before .before .before .take) .ensures .0) ((c .before .before .before .before .before .before .before .take) .ensures .1) in
+    (omega (arith, (c .before .before .before .before .before .before .before .before .before .before .before .before .before .before .before .pre) .0), (b, k, record { plan = _; is = n }))
+
+objects-from-enum-known-number : (t : ℕ) → objects-from-lts.Need-enum-known-number (
+  takeable-reads.Asked,
+  takeable-reads.Learnt,
+  take-reads.Asked,
+  take-reads.Learnt,
+  nested-below t,
+  nested.Post,
+  sum-reads.Asked,
+  sum-reads.Learnt,
+) (objects-from-at t) objects-from.Post
+objects-from-enum-known-number t c = search needs
+
+objects-from-enum-known-reached : (t : ℕ) → objects-from-lts.Need-enum-known-reached (
+  takeable-reads.Asked,
+  takeable-reads.Learnt,
+  take-reads.Asked,
+  take-reads.Learnt,
+  nested-below t,
+  nested.Post,
+  sum-reads.Asked,
+  sum-reads.Learnt,
+) (objects-from-at t) objects-from.Post
+objects-from-enum-known-reached t c = search needs
+
+objects-from-sum-requires : (t : ℕ) → objects-from-lts.Need-sum-requires (
+  takeable-reads.Asked,
+  takeable-reads.Learnt,
+  take-reads.Asked,
+  take-reads.Learnt,
+  nested-below t,
+  nested.Post,
+  sum-reads.Asked,
+  sum-reads.Learnt,
+) (objects-from-at t) objects-from.Post
+objects-from-sum-requires t c κs = search needs
+
+objects-from-same-length-2 : (t : ℕ) → objects-from-lts.Need-same-length-2 (
+  takeable-reads.Asked,
+  takeable-reads.Learnt,
+  take-reads.Asked,
+  take-reads.Learnt,
+  nested-below t,
+  nested.Post,
+  sum-reads.Asked,
+  sum-reads.Learnt,
+) (objects-from-at t) objects-from.Post
+objects-from-same-length-2 t c = search needs
+
+objects-from-returns-2 : (t : ℕ) → objects-from-lts.Need-returns-2 (
+  takeable-reads.Asked,
+  takeable-reads.Learnt,
+  take-reads.Asked,
+  take-reads.Learnt,
+  nested-below t,
+  nested.Post,
+  sum-reads.Asked,
+  sum-reads.Learnt,
+) (objects-from-at t) objects-from.Post
+objects-from-returns-2 t c =
+    λ readers plan l i.
+    let a = (c .before .before .before .before .before .before .before .before .before .before .before .before .before .before .before .before .before .before .before .before .before .args) in
+    let small = small-by-index (a .file .now) (λ j h. omega (arith, (c .before .before .before .before .before .before .before .before .before .before .before .before .before .before .before .before .before .before .before .before .shared-slice-known) .given j)) in
+    let n = list-left (a .grid) (a .file .now) (a .codes .now) _ readers l small (a .shared) (a .declared) (a .n) plan i (a .words .now) (a .at) (a .used) ((c .before .before .before .before .before .before .before .before .before .before .before .before .before .before .before .before .before .before .before .before .before .pre) .1 .0) (a .depth) _ _ _ _ _ ((c .before .before .before .before .before .before .before .before .before .before .before .before .before .before .before .before .before .takeable) .ensures) ((c .before .before .before .before .before .before .before .before .before .before .before .before .before .take) .ensures .0) ((c .before .before .before .before .before .before .before .before .before .before .before .before .before .take) .ensures .1) in
+    list-refused (a .grid) (a .file .now) (a .codes .now) _ readers l small (a .shared) (a .declared) (a .n) plan i (a .words .now) (a .at) (a .used) ((c .before .before .before .before .before .before .before .before .before .before .before .before .before .before .before .before .before .before .before .before .before .pre) .1 .0) (a .depth) _ _ _ _ _ ((c .before .before .before .before .before .before .before .before .before .before .before .before .before .before .before .before .before .takeable) .ensures) ((c .before .before .before .before .before .before .before .before .before .before .before .before .before .take) .ensures .0) ((c .before .before .before .before .before .before .before .before .before .before .before .before .before .take) .ensures .1)
+    (rw ((c .before .number) .given .1) at ((c .before .before .before .before .before .nested) .ensures readers _ l n))
+
+objects-from-same-length-3 : (t : ℕ) → objects-from-lts.Need-same-length-3 (
+  takeable-reads.Asked,
+  takeable-reads.Learnt,
+  take-reads.Asked,
+  take-reads.Learnt,
+  nested-below t,
+  nested.Post,
+  sum-reads.Asked,
+  sum-reads.Learnt,
+) (objects-from-at t) objects-from.Post
+objects-from-same-length-3 t c = search needs
+
+objects-from-returns-3 : (t : ℕ) → objects-from-lts.Need-returns-3 (
+  takeable-reads.Asked,
+  takeable-reads.Learnt,
+  take-reads.Asked,
+  take-reads.Learnt,
+  nested-below t,
+  nested.Post,
+  sum-reads.Asked,
+  sum-reads.Learnt,
+) (objects-from-at t) objects-from.Post
+objects-from-returns-3 t c =
+    λ readers plan l i.
+    let a = (c .before .before .before .before .before .before .before .before .before .before .before .before .before .before .before .before .before .before .before .before .before .before .args) in
+    let small = small-by-index (a .file .now) (λ j h. omega (arith, (c .before .before .before .before .before .before .before .before .before .before .before .before .before .before .before .before .before .before .before .before .before .shared-slice-known) .given j)) in
+    let n = list-left (a .grid) (a .file .now) (a .codes .now) _ readers l small (a .shared) (a .declared) (a .n) plan i (a .words .now) (a .at) (a .used) ((c .before .before .before .before .before .before .before .before .before .before .before .before .before .before .before .before .before .before .before .before .before .before .pre) .1 .0) (a .depth) _ _ _ _ _ ((c .before .before .before .before .before .before .before .before .before .before .before .before .before .before .before .before .before .before .takeable) .ensures) ((c .before .before .before .before .before .before .before .before .before .before .before .before .before .before .take) .ensures .0) ((c .before .before .before .before .before .before .before .before .before .before .before .before .before .before .take) .ensures .1) in
+    rw ((c .sum) .ensures) (list-done (a .grid) (a .file .now) (a .codes .now) _ readers l small (a .shared) (a .declared) (a .n) plan i (a .words .now) (a .at) (a .used) ((c .before .before .before .before .before .before .before .before .before .before .before .before .before .before .before .before .before .before .before .before .before .before .pre) .1 .0) (a .depth) _ _ _ _ _ ((c .before .before .before .before .before .before .before .before .before .before .before .before .before .before .before .before .before .before .takeable) .ensures) ((c .before .before .before .before .before .before .before .before .before .before .before .before .before .before .take) .ensures .0) ((c .before .before .before .before .before .before .before .before .before .before .before .before .before .before .take) .ensures .1)
+    (rw ((c .before .before .reached) .given .1) at ((c .before .before .before .before .before .before .nested) .ensures readers _ l n)))
+
+raw-add-first : (t : ℕ) → raw-lts.Need-add-first (
+  below-below t,
+  below.Post,
   row-kind-reads.Asked,
   row-kind-reads.Learnt,
   close-reads.Asked,
@@ -622,22 +926,22 @@ raw-add-first : (t : ℕ) → raw-lts.Need-add-first (
 raw-add-first t c =
     omega (arith, (c .before .before .before .before .pre) .1 .0 .free)
 
-raw-nested-requires : (t : ℕ) → raw-lts.Need-nested-requires (
-  nested-below t,
-  nested.Post,
+raw-below-requires : (t : ℕ) → raw-lts.Need-below-requires (
+  below-below t,
+  below.Post,
   row-kind-reads.Asked,
   row-kind-reads.Learnt,
   close-reads.Asked,
   close-reads.Learnt,
 ) (raw-at t) raw.Post
-raw-nested-requires t c κs =
+raw-below-requires t c κs =
     let k = (c .before .before .before .before .before .pre) .1 .2 in
     let small = small-by-index ((c .before .before .before .before .before .args) .file .now) (λ i h. omega (arith, (c .before .before .before .before .shared-slice-known) .given i)) in
     (omega (arith, (c .before .before .before .before .before .pre) .0), (begin-below (k .type) small ((c .before .before .before .before .before .pre) .1 .0) (k .opened .is), (c .before .before .before .before .before .pre) .1 .1, record { plan = _; is = k .opened .goes }))
 
 raw-enum-known-number : (t : ℕ) → raw-lts.Need-enum-known-number (
-  nested-below t,
-  nested.Post,
+  below-below t,
+  below.Post,
   row-kind-reads.Asked,
   row-kind-reads.Learnt,
   close-reads.Asked,
@@ -646,8 +950,8 @@ raw-enum-known-number : (t : ℕ) → raw-lts.Need-enum-known-number (
 raw-enum-known-number t c = search needs
 
 raw-enum-known-count : (t : ℕ) → raw-lts.Need-enum-known-count (
-  nested-below t,
-  nested.Post,
+  below-below t,
+  below.Post,
   row-kind-reads.Asked,
   row-kind-reads.Learnt,
   close-reads.Asked,
@@ -656,8 +960,8 @@ raw-enum-known-count : (t : ℕ) → raw-lts.Need-enum-known-count (
 raw-enum-known-count t c = search needs
 
 raw-row-kind-requires : (t : ℕ) → raw-lts.Need-row-kind-requires (
-  nested-below t,
-  nested.Post,
+  below-below t,
+  below.Post,
   row-kind-reads.Asked,
   row-kind-reads.Learnt,
   close-reads.Asked,
@@ -666,8 +970,8 @@ raw-row-kind-requires : (t : ℕ) → raw-lts.Need-row-kind-requires (
 raw-row-kind-requires t c κs = search needs
 
 raw-close-requires : (t : ℕ) → raw-lts.Need-close-requires (
-  nested-below t,
-  nested.Post,
+  below-below t,
+  below.Post,
   row-kind-reads.Asked,
   row-kind-reads.Learnt,
   close-reads.Asked,
@@ -676,8 +980,8 @@ raw-close-requires : (t : ℕ) → raw-lts.Need-close-requires (
 raw-close-requires t c κs = search needs
 
 raw-same-length : (t : ℕ) → raw-lts.Need-same-length (
-  nested-below t,
-  nested.Post,
+  below-below t,
+  below.Post,
   row-kind-reads.Asked,
   row-kind-reads.Learnt,
   close-reads.Asked,
@@ -686,8 +990,8 @@ raw-same-length : (t : ℕ) → raw-lts.Need-same-length (
 raw-same-length t c = search needs
 
 raw-returns : (t : ℕ) → raw-lts.Need-returns (
-  nested-below t,
-  nested.Post,
+  below-below t,
+  below.Post,
   row-kind-reads.Asked,
   row-kind-reads.Learnt,
   close-reads.Asked,
@@ -696,11 +1000,11 @@ raw-returns : (t : ℕ) → raw-lts.Need-returns (
 raw-returns t c =
     λ readers t l i o.
     let a = (c .before .before .before .before .before .before .before .before .before .before .before .args) in
-    raw-lost (a .grid) (a .file .now) (a .h) (a .at) t readers (a .shared) (a .depth) o (counts-refused _ (rw ((c .before .number) .given .1) at ((c .before .before .before .before .before .nested) .ensures readers _ l (o .goes))))
+    raw-lost (a .grid) (a .file .now) (a .h) (a .at) t readers (a .shared) (a .depth) o (counts-refused _ (rw ((c .before .number) .given .1) at ((c .before .before .before .before .before .below) .ensures readers _ l (o .goes))))
 
 raw-same-length-2 : (t : ℕ) → raw-lts.Need-same-length-2 (
-  nested-below t,
-  nested.Post,
+  below-below t,
+  below.Post,
   row-kind-reads.Asked,
   row-kind-reads.Learnt,
   close-reads.Asked,
@@ -709,8 +1013,8 @@ raw-same-length-2 : (t : ℕ) → raw-lts.Need-same-length-2 (
 raw-same-length-2 t c = search needs
 
 raw-returns-2 : (t : ℕ) → raw-lts.Need-returns-2 (
-  nested-below t,
-  nested.Post,
+  below-below t,
+  below.Post,
   row-kind-reads.Asked,
   row-kind-reads.Learnt,
   close-reads.Asked,
@@ -721,26 +1025,44 @@ raw-returns-2 t c =
     let a = (c .before .before .before .before .before .before .before .before .before .before .before .before .before .before .before .before .args) in
     let small = small-by-index (a .file .now) (λ j h. omega (arith, (c .before .before .before .before .before .before .before .before .before .before .before .before .before .before .before .shared-slice-known) .given j)) in
     let e = (c .before .before .close) .ensures in
-    let x = counts-walked _ (rw ((c .before .before .before .before .before .before .count) .given .1) at ((c .before .before .before .before .before .before .before .before .before .before .nested) .ensures readers _ l (o .goes))) in
+    let x = counts-walked _ (rw ((c .before .before .before .before .before .before .count) .given .1) at ((c .before .before .before .before .before .before .before .before .before .before .below) .ensures readers _ l (o .goes))) in
     rw (e .0, e .1) (raw-ends (a .grid) (a .file .now) (a .h) (a .at) t readers (a .shared) (a .depth) _ _ _ small ((c .before .before .before .before .before .before .before .before .before .before .before .before .before .before .before .before .pre) .1 .0) (i .lawful) o refl (x .1) ((c .before .before .before .before .row-kind) .ensures ∙ row-kind i) (x .0))
 
-pub +nested+raw-spec : {M : Type 1} → statement M
-+nested+raw-spec = close μ-nested μ-raw (λ t. nested-lts.spec (
-  begin-reads.Asked,
-  begin-reads.Learnt,
-  slot-at-reads.Asked,
-  slot-at-reads.Learnt,
-  reader-position-reads.Asked,
-  reader-position-reads.Learnt,
-  value-reads.Asked,
-  value-reads.Learnt,
-  sum-reads.Asked,
-  sum-reads.Learnt,
-  raw-below t,
-  raw.Post,
-  after-reads.Asked,
-  after-reads.Learnt,
-)
+pub +below+nested+objects-from+raw-spec : {M : Type 1} → statement M
++below+nested+objects-from+raw-spec =
+    close μ-below μ-nested μ-objects-from μ-raw (λ t. below-lts.spec (
+      objects-in-reads.Asked,
+      objects-in-reads.Learnt,
+      objects-from-below t,
+      objects-from.Post,
+      nested-below t,
+      nested.Post,
+    )
+    (below-at t)
+    below.Post
+    (below-objects-in-requires t)
+    (below-objects-from-requires t)
+    (below-same-length t)
+    (below-returns t)
+    (below-nested-requires t)
+    (below-same-length-2 t)
+    (below-returns-2 t))
+    (λ t. nested-lts.spec (
+      begin-reads.Asked,
+      begin-reads.Learnt,
+      slot-at-reads.Asked,
+      slot-at-reads.Learnt,
+      reader-position-reads.Asked,
+      reader-position-reads.Learnt,
+      value-reads.Asked,
+      value-reads.Learnt,
+      sum-reads.Asked,
+      sum-reads.Learnt,
+      raw-below t,
+      raw.Post,
+      after-reads.Asked,
+      after-reads.Learnt,
+    )
     (nested-at t)
     nested.Post
     nested-Inv-loop
@@ -771,9 +1093,35 @@ pub +nested+raw-spec : {M : Type 1} → statement M
     (nested-loop-again t)
     (nested-same-length-3 t)
     (nested-returns-3 t))
-    λ t. raw-lts.spec (
+    (λ t. objects-from-lts.spec (
+      takeable-reads.Asked,
+      takeable-reads.Learnt,
+      take-reads.Asked,
+      take-reads.Learnt,
       nested-below t,
       nested.Post,
+      sum-reads.Asked,
+      sum-reads.Learnt,
+    )
+    (objects-from-at t)
+    objects-from.Post
+    (objects-from-takeable-requires t)
+    (objects-from-take-requires t)
+    (objects-from-add-row t)
+    (objects-from-same-length t)
+    (objects-from-returns t)
+    (objects-from-sub-left t)
+    (objects-from-nested-requires t)
+    (objects-from-enum-known-number t)
+    (objects-from-enum-known-reached t)
+    (objects-from-sum-requires t)
+    (objects-from-same-length-2 t)
+    (objects-from-returns-2 t)
+    (objects-from-same-length-3 t)
+    (objects-from-returns-3 t))
+    λ t. raw-lts.spec (
+      below-below t,
+      below.Post,
       row-kind-reads.Asked,
       row-kind-reads.Learnt,
       close-reads.Asked,
@@ -782,7 +1130,7 @@ pub +nested+raw-spec : {M : Type 1} → statement M
     (raw-at t)
     raw.Post
     (raw-add-first t)
-    (raw-nested-requires t)
+    (raw-below-requires t)
     (raw-enum-known-number t)
     (raw-enum-known-count t)
     (raw-row-kind-requires t)
