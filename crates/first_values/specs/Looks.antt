@@ -23,11 +23,12 @@ use Rattle.targets.specs.Place.{kindAt, fitsAt}
 use Rattle.leaves.specs.Text.{text-there, text-counted}
 use Rattle.heads.specs.declared.nest.Below.the-variants.{Nothing}
 use Rattle.heads.specs.declared.open.Opened.the-variants.{Head}
-use Rattle.heads.specs.Slots.{bytesOf, rowKind}
+use Rattle.heads.specs.Placed.{bytesOf, rowKind}
 use Rattle.heads.specs.Total.{leafAs, aloneAs, kindAs, openAs}
 use Rattle.objects.specs.declared.start.Started.the-variants.{Raw}
 use Rattle.objects.specs.declared.start.Started.the-variants.{Null as NullValue}
-use Rattle.objects.specs.Start.{positionAt, first-byte}
+use Rattle.objects.specs.Beginnings.{positionAt}
+use Rattle.objects.specs.Start.{first-byte}
 use Rattle.objects.specs.Total.{placeAs, readerAs, objectAs}
 use Rattle.first_values.specs.declared.Id.{Id}
 use Rattle.first_values.specs.declared.Seen.{Seen}

@@ -9,7 +9,7 @@ use Rattle.table.specs.Put.{putRow}
 use Rattle.walked.specs.Leaf.{valueRow}
 use Rattle.leaves.specs.Plain.{headOf}
 use Rattle.targets.specs.Place.{kindAt}
-use Rattle.objects.specs.Start.{positionAt}
+use Rattle.objects.specs.Beginnings.{positionAt}
 use Rattle.first_values.specs.declared.Seen.{Seen}
 use Rattle.first_values.specs.Looks.{Looked}
 

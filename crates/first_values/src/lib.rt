@@ -10,9 +10,9 @@ ghost use lib.ListN.{getD};
 ghost use Rattle.reading.specs.Answer.{read};
 ghost use Rattle.reading.specs.Seven.{sevenAt};
 ghost use Rattle.numbers.specs.Padded.{padOf};
-ghost use Rattle.heads.specs.Slots.{bytesOf};
+ghost use Rattle.heads.specs.Placed.{bytesOf};
 ghost use Rattle.targets.specs.Place.{kindAt};
-ghost use Rattle.objects.specs.Start.{positionAt};
+ghost use Rattle.objects.specs.Beginnings.{positionAt};
 ghost use Rattle.first_values.specs.Looks.{Numbered, TextEnds, Ends, Looked};
 ghost use Rattle.first_values.specs.Took.{Took};
 

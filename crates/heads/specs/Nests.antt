@@ -31,9 +31,7 @@ use Rattle.heads.specs.declared.nest.Below.{Below}
 use Rattle.heads.specs.declared.nest.Below.the-variants.{Nothing, Nested}
 use Rattle.heads.specs.declared.nest.Below.the-variants.{Simple as SimpleRun}
 use Rattle.heads.specs.Placed.{ObjectIs, SlotIs}
-use Rattle.heads.specs.Plans.{EachIs, PairsAre, SlotsAre, BelowIs, fontChild, fieldChild, pageChild, onwardOf, ListStage, MeshStage, BelowPlan}
-unfoldable pub use Rattle.heads.specs.Plans.{prelude}
-pub use Rattle.heads.specs.Plans.{Prelude, beginOf, slotAt, afterOf, StageIs, NestIs, Heard}
+use Rattle.heads.specs.Plans.{EachIs, PairsAre, SlotsAre, BelowIs, prelude, Prelude, fontChild, fieldChild, pageChild, slotAt, afterOf, onwardOf, ListStage, MeshStage, StageIs, NestIs, BelowPlan, Heard}
 
 -- how value i stands
 pub record ChildIs (file codes : List ℕ) (slots : List L.Slot) (i : ℕ) (s : Slot) : Type 0 where

@@ -22,8 +22,7 @@ use Rattle.targets.specs.Laws.{kind-is, kind-of-code}
 use Rattle.leaves.specs.declared.plain.Plain.the-variants.{Fixed, Enum}
 use Rattle.leaves.specs.Plain.{plainSlot, Lawful}
 use Rattle.leaves.specs.Like.{Like, same, enums}
-use Rattle.heads.specs.Placed.{bytesOf, plainOf, rawOf, slotBy, rowKind}
-pub use Rattle.heads.specs.Placed.{SlotIs}
+use Rattle.heads.specs.Placed.{SlotIs, bytesOf, plainOf, rawOf, slotBy, rowKind}
 
 -- the sorts of types, by the kinds of their codes: characters, nullables, other values of a size, and what stands as an object
 data Sort : Target → Type 0 where

@@ -23,10 +23,10 @@ use Rattle.heads.specs.declared.slot.Slot.{Slot}
 use Rattle.heads.specs.declared.nest.Nest.{Nest}
 use Rattle.heads.specs.declared.nest.Below.{Below}
 use Rattle.heads.specs.declared.nest.Below.the-variants.{Nested}
-use Rattle.heads.specs.Slots.{SlotIs}
-use Rattle.heads.specs.Nests.{NestIs}
+use Rattle.heads.specs.Placed.{SlotIs}
+use Rattle.heads.specs.Plans.{NestIs}
 use Rattle.targets.specs.Code.{Stands}
-use Rattle.objects.specs.Start.{Has, positionAt}
+use Rattle.objects.specs.Beginnings.{Has, positionAt}
 use Rattle.load.specs.declared.Loading.{Loading}
 use Rattle.load.specs.declared.walk.Stepped.{Stepped}
 use Rattle.load.specs.declared.walk.Children.{Children}

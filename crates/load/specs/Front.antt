@@ -36,11 +36,13 @@ use Rattle.heads.specs.declared.slot.Slot.the-variants.{Object}
 use Rattle.heads.specs.declared.nest.Nest.{Nest}
 use Rattle.heads.specs.declared.nest.Nest.the-variants.{Each}
 use Rattle.heads.specs.declared.nest.Below.the-variants.{Nothing}
-use Rattle.heads.specs.Slots.{SlotIs, row-kind}
-use Rattle.heads.specs.Nests.{NestIs, begins}
+use Rattle.heads.specs.Placed.{SlotIs}
+use Rattle.heads.specs.Slots.{row-kind}
+use Rattle.heads.specs.Plans.{NestIs}
+use Rattle.heads.specs.Nests.{begins}
 use Rattle.heads.specs.Pads.{open-pads}
 use Rattle.heads.specs.Meaning.{opens-as}
-use Rattle.objects.specs.Start.{Has, positionAt}
+use Rattle.objects.specs.Beginnings.{Has, positionAt}
 use Rattle.objects.specs.Meaning.{starts-as}
 use Rattle.objects.specs.Close.{slots-counted}
 use Rattle.first_values.specs.declared.Seen.{Seen}

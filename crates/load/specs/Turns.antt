@@ -22,8 +22,9 @@ use Rattle.leaves.specs.Plain.{Begin}
 use Rattle.leaves.specs.Run.{begin-on}
 use Rattle.heads.specs.declared.nest.Nest.{Nest}
 use Rattle.heads.specs.declared.nest.Stage.{Stage}
-use Rattle.heads.specs.Slots.{SlotIs}
-use Rattle.heads.specs.Nests.{Prelude, NestIs, StageIs, Heard, beginOf, afterOf, slotAt, ends, goes}
+use Rattle.heads.specs.Placed.{SlotIs}
+use Rattle.heads.specs.Plans.{Prelude, NestIs, StageIs, Heard, beginOf, afterOf, slotAt}
+use Rattle.heads.specs.Nests.{ends, goes}
 use Rattle.meshes.specs.Tells.{told-is}
 use Rattle.load.specs.declared.walk.Children.{Children}
 use Rattle.load.specs.declared.walk.Children.the-variants.{Done, Refused}

@@ -24,7 +24,7 @@ ghost use Rattle.names.specs.Entries.{enumsOf};
 ghost use Rattle.targets.specs.Code.{preludeSize};
 ghost use Rattle.readers.specs.Left.{codesFor, enough};
 ghost use Rattle.leaves.specs.Plain.{Begin};
-ghost use Rattle.heads.specs.Nests.{prelude};
+ghost use Rattle.heads.specs.Plans.{prelude};
 ghost use Rattle.load.specs.Known.{Known};
 ghost use Rattle.load.specs.Under.{loadUnder};
 ghost use Rattle.load.specs.Loads.{answerOf};

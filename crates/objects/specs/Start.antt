@@ -34,8 +34,7 @@ use Rattle.objects.specs.declared.start.Identified.the-variants.{Refused
 use Rattle.objects.specs.declared.start.Started.{Started}
 use Rattle.objects.specs.declared.start.Started.the-variants.{Raw, Plain}
 use Rattle.objects.specs.declared.start.Started.the-variants.{Null as NullValue, Refused as RefusedValue}
-use Rattle.objects.specs.Beginnings.{positionIn, ReadBy, Identifies, by, Ided, ObjectStarts, under}
-pub use Rattle.objects.specs.Beginnings.{positionAt, Has, Starts}
+use Rattle.objects.specs.Beginnings.{positionIn, positionAt, Has, ReadBy, Identifies, by, Ided, ObjectStarts, under, Starts}
 
 -- each position is one of a list of 64
 pub position-in-list : (file : List ℕ) (at : ℕ) → positionAt file at < 64

@@ -1,7 +1,7 @@
 use mathlib.Core.Path.{refl, sym, ap, _∙_}
 use mathlib.Core.Logic.{inl, inr, ⊎-elim}
 use Rattle.answers.specs.Told.{told}
-use Rattle.heads.specs.Slots.{bytesOf}
+use Rattle.heads.specs.Placed.{bytesOf}
 use Rattle.first_values.specs.Looks.{fixed-opens, text-opens}
 use borrow.Author.Needs.{needs}
 use Rattle.first_values.proofs.leaf_end.Statement.{statement}

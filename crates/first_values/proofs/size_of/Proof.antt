@@ -1,5 +1,5 @@
 use Rattle.layout.specs.Fixed.{sizes}
-use Rattle.heads.specs.Slots.{bytesOf}
+use Rattle.heads.specs.Placed.{bytesOf}
 use borrow.Author.Needs.{needs}
 use Rattle.first_values.proofs.size_of.Statement.{statement}
 use Rattle.first_values.proofs.size_of.Tie as tie

@@ -13,7 +13,7 @@ use Rattle.heads.specs.Slots.{row-kind}
 use Rattle.table.specs.Word.{inWord}
 use Rattle.walked.specs.Loop.{same, Got, got, lost}
 use Rattle.readers.specs.Listed.{Listed}
-use Rattle.heads.specs.Nests.{NestIs, afterOf}
+use Rattle.heads.specs.Plans.{NestIs, afterOf}
 use Rattle.objects.specs.Start.{position-in-list}
 use Rattle.load.specs.Known.{KnownNest}
 use Rattle.load.specs.Walks.{begin-below}

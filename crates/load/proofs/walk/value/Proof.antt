@@ -7,8 +7,8 @@ use Rattle.layout.specs.Target.{Target}
 use Rattle.layout.specs.Slot.{Slot}
 use Rattle.readers.specs.declared.Readers.{Readers}
 use Rattle.readers.specs.Listed.{Listed}
-use Rattle.heads.specs.Slots.{SlotIs}
-use Rattle.objects.specs.Start.{Has, positionAt, Starts}
+use Rattle.heads.specs.Placed.{SlotIs}
+use Rattle.objects.specs.Beginnings.{Has, positionAt, Starts}
 use Rattle.objects.specs.Meaning.{starts-as}
 use Rattle.reading.specs.Drafts.{nothing}
 use Rattle.reading.specs.Answer.{read}
