@@ -180,6 +180,18 @@ fn depths_and_rows() -> Vec<Limit> {
         }
         limits.push(limit(format!("depth {depth}"), past(depth > 32, 18), file));
     }
+    for depth in [2, 31, 32] {
+        for before in [0, 1] {
+            let file = alone(&[list_of("System.Object")], beside(depth, before, null()));
+            limits.push(limit(
+                format!("depth {depth} behind {before} of two"),
+                0,
+                file,
+            ));
+        }
+    }
+    let deep = alone(&[list_of("System.Object")], beside(33, 0, faulty(null())));
+    limits.push(limit("depth 33 before one of two", 18, deep));
     for rows in [1, 2, 1024, 1025, 65_535, 65_536, 65_537] {
         for room in [1, 1024, 65_536, 70_000] {
             let room_used = room.min(65_536);
@@ -200,6 +212,17 @@ fn depths_and_rows() -> Vec<Limit> {
     no_room.case.words = WORDS_PER_ROW - 1;
     limits.push(no_room);
     limits
+}
+
+/// A value at a depth, with a null behind the list at each level, or before it: lists of two objects, of which only a null is taken at once.
+fn beside(depth: u32, before: usize, innermost: Value) -> Value {
+    let mut value = innermost;
+    for _ in 1..depth {
+        let mut pair = vec![null(), null()];
+        pair[before] = value;
+        value = object(1, list(pair));
+    }
+    value
 }
 
 fn fixed_values() -> Vec<Limit> {
