@@ -11,7 +11,8 @@ use borrow.Author.Tests.{lt-leb, ne-eqb}
 use Rattle.laws.specs.Small.{differ}
 use Rattle.layout.specs.Target.{Target, kindOf}
 use Rattle.layout.specs.Slot as L
-use Rattle.layout.specs.Slot.{Plan, stop, put, each}
+use Rattle.layout.specs.Slot.{Plan, stop, put, each, raw}
+use Rattle.layout.specs.Tree.{count}
 use Rattle.reading.specs.Answer.{Answer, refused, read}
 use Rattle.reading.specs.Reads.{Small}
 use Rattle.reading.specs.Drafts.{Draft, nothing, bare}
@@ -23,7 +24,8 @@ use Rattle.table.specs.declared.Grid.{Grid}
 use Rattle.table.specs.Word.{inWord, in-word, word-sum}
 use Rattle.table.specs.Put.{putRow}
 use Rattle.walked.specs.declared.Reached.{Reached}
-use Rattle.walked.specs.Contract.{seen, reaching, padded, Free}
+use Rattle.walked.specs.declared.Walk.the-variants.{Done as Walk-done}
+use Rattle.walked.specs.Contract.{seen, reaching, padded, Free, Walked}
 use Rattle.walked.specs.Leaf.{valueRow, leaf-walked}
 use Rattle.walked.specs.Loop.{Counted, counted, counted-read, prefixed, Got, got, Reading, start, turn, ended}
 use Rattle.walked.specs.Written.{written, written-append}
@@ -32,7 +34,8 @@ use Rattle.leaves.specs.Run.{begin-on}
 use Rattle.readers.specs.declared.Readers.{Readers}
 use Rattle.readers.specs.Listed.{Listed}
 use Rattle.targets.specs.Place.{kindAt}
-use Rattle.heads.specs.declared.slot.Slot.the-variants.{Object}
+use Rattle.heads.specs.declared.slot.Slot.{Slot}
+use Rattle.heads.specs.declared.slot.Slot.the-variants.{Object, Raw}
 use Rattle.heads.specs.declared.nest.Nest.{Nest}
 use Rattle.heads.specs.declared.nest.Nest.the-variants.{Each}
 use Rattle.heads.specs.declared.nest.Below.the-variants.{Nothing}
@@ -45,10 +48,11 @@ use Rattle.heads.specs.Meaning.{opens-as}
 use Rattle.objects.specs.Beginnings.{Has, positionAt}
 use Rattle.objects.specs.Meaning.{starts-as}
 use Rattle.objects.specs.Close.{slots-counted}
+use Rattle.nullables.specs.declared.Listed.the-variants.{All}
+use Rattle.nullables.specs.Walked.{ListWalks}
 use Rattle.first_values.specs.declared.Seen.{Seen}
 use Rattle.first_values.specs.Looks.{NullSeen, LeafSeen, Looked}
 use Rattle.first_values.specs.Took.{Took}
-use Rattle.load.specs.declared.walk.Objects.{Objects}
 use Rattle.load.specs.declared.walk.Children.{Children}
 use Rattle.load.specs.declared.walk.Children.the-variants.{Done, Refused}
 use Rattle.load.specs.Known.{Ready}
@@ -56,14 +60,41 @@ use Rattle.load.specs.Turns.{Counts, childrenOf, whole}
 use Rattle.load.specs.Walks.{OpenedAs, opened-as}
 use Rattle.load.specs.Steps.{no-rule, null-pads, head-ends, got-as}
 
--- a nest of objects, if one was found
-abbrev pub ObjectsIn : Nest → Objects → Type 0
-ObjectsIn nest r = (r .count ≡ 0) ⊎ (nest ≡ Each (Object (r .declared)) (r .count))
+-- the values of a nest are n that stand alike
+abbrev pub AllAlike : Nest → (n : ℕ) → Type 0
+AllAlike nest n = (s : Slot) × (nest ≡ Each s n)
 
--- one was found that has two objects or more
-pub objects-nest : (nest : Nest) (r : Objects) → ObjectsIn nest r → 2 ≤ r .count → nest ≡ Each (Object (r .declared)) (r .count)
-objects-nest nest r (inl z) h = absurd (omega (arith, z, h))
-objects-nest nest r (inr e) h = e
+-- so many, or none where they do not
+abbrev pub ListOf : Nest → (n : ℕ) → Type 0
+ListOf nest n = (n ≡ 0) ⊎ AllAlike nest n
+
+-- a list of two or more was found
+pub list-nest : (nest : Nest) (n : ℕ) → ListOf nest n → 2 ≤ n → AllAlike nest n
+list-nest nest n (inl z) h = absurd (omega (arith, z, h))
+list-nest nest n (inr e) h = e
+
+-- a list's elements stand as the code found it
+pub list-element : (nest : Nest) (n : ℕ) → AllAlike nest n → (r t : Slot) → ((s : Slot) (m : ℕ) → nest ≡ Each s m → r ≡ s) → r ≡ t → nest ≡ Each t n
+list-element nest n al r t h e = al .1 ∙ ap (λ y. Each y n) (sym (h (al .0) n (al .1)) ∙ e)
+
+-- nullables that were walked at once
+pub list-nullables : (g : Grid) (file codes : List ℕ) (readers : List Target) (small : Small file) (shared a n : ℕ) (plan : Plan) (i : NestIs file codes (Each (Raw a) n) plan) (at used depth : ℕ) (entry exit : List ℕ) (r : Reached)
+    → Begin file entry g at used → ListWalks g file codes a n at used depth entry exit (All r) → Counts g file entry exit used (whole g file codes readers shared depth plan entry at used used) (Done n r)
+unfolding seen counted
+list-nullables g file codes readers small shared a n plan i at used depth entry exit r b l =
+    let q = i .are .is in
+    let p : plan ≡ each (replicate n (raw (q .type))) = i .left ∙ ap each (i .are .are ∙ ap (replicate n) (q .is)) in
+    rw p (go (sequence step (each (replicate n (raw (q .type)))) at used) refl (l readers shared (q .type) b (q .stands))) where
+      step : L.Slot → ℕ → ℕ → Outcome
+      step = λ y v u. walk file readers shared (g .room) depth y v u used
+
+      go : (o : Outcome) → sequence step (each (replicate n (raw (i .are .is .type)))) at used ≡ o → Walked g file entry exit used (seen o) (Walk-done r) → Counts g file entry exit used (counted o) (Done n r)
+      go (refused m p) e w = let z = w .answers in differ cc
+      go (read v f) e w =
+          let s : count (v .2) ≡ n = slots-counted g file small readers shared depth (replicate n (raw (i .are .is .type))) at used used v f e .0 ∙ length-replicate n (raw (i .are .is .type)) in
+          let y : Walk-done r ≡ Walk-done (record { used = v .0; padding = padded file (v .1); next = f }) = w .answers in
+          let z : _≡_ {A = Reached} r (record { used = v .0; padding = padded file (v .1); next = f }) = cc in
+          rw (s, z) (record { answers = refl; writes = w .writes })
 
 -- so many of n objects may be taken: none, or up to all where they may be anything
 abbrev pub Takeable : (codes : List ℕ) (declared n depth most : ℕ) → Type 0

@@ -91,19 +91,7 @@ fn objects(
     let children = if n < 2 {
         walk::nested(file, codes, rd, words, grid, shared, nest, at, 0, 32, 0)
     } else {
-        walk::objects_from(
-            file,
-            codes,
-            rd,
-            words,
-            grid,
-            shared,
-            prelude::OBJECT,
-            n,
-            at,
-            0,
-            32,
-        )
+        walk::list_from(file, codes, rd, words, grid, shared, nest, n, at, 0, 32)
     };
     match children {
         Children::Refused(number, place) => Loading::Refused(number, place),

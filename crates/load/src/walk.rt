@@ -7,6 +7,7 @@ use heads::slot::Slot;
 use ids::RowNumber;
 use ids::TypeId;
 use leaves::plain::Plain;
+use nullables::Listed;
 use objects::start::Started;
 use readers::Readers;
 use table::Grid;
@@ -14,10 +15,11 @@ use walked::Head;
 use walked::Reached;
 use walked::Walk;
 ghost use mathlib.Core.Path.{_≡_};
+ghost use Prim.Native.Nat.{ℕ};
 ghost use Rattle.leaves.specs.Plain.{Begin};
 ghost use Rattle.load.specs.Known.{Known, KnownNest, KnownValue, Ready};
 ghost use Rattle.load.specs.Steps.{KnownRaw, NoRule, stepOf, topped, plainWords};
-ghost use Rattle.load.specs.Front.{ObjectsIn, Takeable};
+ghost use Rattle.load.specs.Front.{ListOf, AllAlike, Takeable};
 ghost use Rattle.load.specs.Contracts.{FlatSteps, PlacedSteps, ValueSteps, RawWalks, NestWalks};
 
 // A value that needs no reader list, walked; or a raw value whose children need it:
@@ -282,31 +284,23 @@ fn raw(
     }
 }
 
-// Objects that are declared alike: the place of their type, and how many there are.
-pub struct Objects {
-    pub declared: usize,
-    pub count: u32,
-}
-
-// The objects of a nest, if it has no other values; else none.
-fn objects_in(nest: Nest) -> Objects
-    ensures { λ r. ⌜ ObjectsIn nest r ⌝ }
+// How many elements that stand alike a nest has; 0 where its values do not.
+fn list_count(nest: Nest) -> u32
+    ensures { λ r. ⌜ ListOf nest r ⌝ }
 {
     match nest {
-        Nest::Each(slot, n) => match slot {
-            Slot::Object(a) => Objects {
-                declared: a,
-                count: n,
-            },
-            _ => Objects {
-                declared: 0,
-                count: 0,
-            },
-        },
-        _ => Objects {
-            declared: 0,
-            count: 0,
-        },
+        Nest::Each(_, n) => n,
+        _ => 0,
+    }
+}
+
+// How the elements of a nest stand, where they stand alike.
+fn element(nest: Nest) -> Slot
+    ensures { λ r. ⌜ ((s : Slot) (n : ℕ) → nest ≡ Nest.Each s n → r ≡ s) ⌝ }
+{
+    match nest {
+        Nest::Each(slot, _) => slot,
+        _ => Slot::Raw(0),
     }
 }
 
@@ -323,7 +317,7 @@ fn takeable(codes: &[u32], declared: usize, n: u32, depth: u32) -> u32
     0
 }
 
-// What stands below a raw value: two objects or more from the first on, all else as its nest says.
+// What stands below a raw value: a list of two elements or more as such, all else as its nest says.
 // The parent is the row before the first of these.
 fn below(
     file: &[u8],
@@ -341,17 +335,17 @@ fn below(
     ensures { λ r. ⌜ NestWalks grid (now (file .entry)) (now (codes .entry)) rd shared nest at used depth used
         (now (words .entry)) (now (words .exit)) r ⌝ }
 {
-    let list = objects_in(nest);
-    if 2 <= list.count {
-        return objects_from(
+    let n = list_count(nest);
+    if 2 <= n {
+        return list_from(
             file,
             codes,
             rd,
             words,
             grid,
             shared,
-            list.declared,
-            list.count,
+            nest,
+            n,
             at,
             used,
             depth,
@@ -372,9 +366,95 @@ fn below(
     )
 }
 
-// n objects one after the other: the first of them at once, as far as each is seen at one look, then the others.
-// Their parent is the row before the first of theirs, or none if that is row 0.
-pub(crate) fn objects_from(
+// A list of n elements. Their parent is the row before the first of theirs, or none if that is row 0.
+pub(crate) fn list_from(
+    file: &[u8],
+    codes: &[u32],
+    rd: Readers,
+    words: &mut [u32],
+    grid: Grid,
+    shared: u32,
+    nest: Nest,
+    n: u32,
+    at: usize,
+    used: u32,
+    depth: u32,
+) -> Children
+    requires { ⌜ Begin (now file) (now words) grid at used × Known (now file) (now codes) rd × KnownNest (now file) (now codes) nest
+        × AllAlike nest n ⌝ }
+    ensures { λ r. ⌜ NestWalks grid (now (file .entry)) (now (codes .entry)) rd shared nest at used depth used
+        (now (words .entry)) (now (words .exit)) r ⌝ }
+{
+    match element(nest) {
+        Slot::Object(declared) => objects_from(
+            file,
+            codes,
+            rd,
+            words,
+            grid,
+            shared,
+            declared,
+            n,
+            at,
+            used,
+            depth,
+        ),
+        Slot::Raw(a) => raws_from(file, codes, rd, words, grid, shared, a, n, at, used, depth),
+        Slot::Simple(_) => nested(
+            file,
+            codes,
+            rd,
+            words,
+            grid,
+            shared,
+            nest,
+            at,
+            used,
+            depth,
+            used,
+        ),
+    }
+}
+
+// n raw values of the type at `a`: all at once, if they are nullables that are seen to be there; else one after the other.
+fn raws_from(
+    file: &[u8],
+    codes: &[u32],
+    rd: Readers,
+    words: &mut [u32],
+    grid: Grid,
+    shared: u32,
+    a: usize,
+    n: u32,
+    at: usize,
+    used: u32,
+    depth: u32,
+) -> Children
+    requires { ⌜ Begin (now file) (now words) grid at used × Known (now file) (now codes) rd
+        × KnownNest (now file) (now codes) (Nest.Each (Slot.Raw a) n) ⌝ }
+    ensures { λ r. ⌜ NestWalks grid (now (file .entry)) (now (codes .entry)) rd shared (Nest.Each (Slot.Raw a) n) at used depth used
+        (now (words .entry)) (now (words .exit)) r ⌝ }
+{
+    match nullables::read(file, codes, words, grid, a, n, at, used, depth) {
+        Listed::All(reached) => Children::Done { count: n, reached },
+        Listed::Unseen => nested(
+            file,
+            codes,
+            rd,
+            words,
+            grid,
+            shared,
+            Nest::Each(Slot::Raw(a), n),
+            at,
+            used,
+            depth,
+            used,
+        ),
+    }
+}
+
+// n objects declared as the type at `declared`: the first of them at once, as far as each is seen at one look, then the others.
+fn objects_from(
     file: &[u8],
     codes: &[u32],
     rd: Readers,

@@ -1,4 +1,4 @@
-use mathlib.Core.Path.{_≡_, sym, ap, _∙_}
+use mathlib.Core.Path.{_≡_, refl, sym, ap, _∙_}
 use mathlib.Core.List.{List}
 use mathlib.Core.Logic.{⊎-elim}
 use native.Mathlib.Omega.{arith}
@@ -30,12 +30,12 @@ nested-requires c κs =
     let small = small-by-index (a .file .now) (λ i h. omega (arith, c .before .before .before .before .shared-slice-known .given i)) in
     (p .0, p .1, record { plan = each (roots (a .grid) (a .file .now) small (a .codes .now) (a .shared) (a .at) (p .2)); is = roots-are (a .grid) (a .file .now) small (a .codes .now) (a .shared) (a .at) (p .2) (p .1 .prelude) })
 
-objects-from-requires : tie.Need-objects-from-requires
-objects-from-requires c κs =
+list-from-requires : tie.Need-list-from-requires
+list-from-requires c κs =
     let a = c .before .before .before .before .before .args in
     let p = c .before .before .before .before .before .pre in
     let small = small-by-index (a .file .now) (λ i h. omega (arith, c .before .before .before .before .shared-slice-known .given i)) in
-    (p .0, p .1, record { plan = each (roots (a .grid) (a .file .now) small (a .codes .now) (a .shared) (a .at) (p .2)); is = roots-are (a .grid) (a .file .now) small (a .codes .now) (a .shared) (a .at) (p .2) (p .1 .prelude) })
+    (p .0, p .1, record { plan = each (roots (a .grid) (a .file .now) small (a .codes .now) (a .shared) (a .at) (p .2)); is = roots-are (a .grid) (a .file .now) small (a .codes .now) (a .shared) (a .at) (p .2) (p .1 .prelude) }, (_, refl))
 
 enum-known-children : tie.Need-enum-known-children
 enum-known-children c = search needs
@@ -111,7 +111,7 @@ objects-spec =
     (tie.spec
     add-n
     nested-requires
-    objects-from-requires
+    list-from-requires
     enum-known-children
     enum-known-children-2
     sum-requires

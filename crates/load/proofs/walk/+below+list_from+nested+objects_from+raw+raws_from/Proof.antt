@@ -19,53 +19,75 @@ use Rattle.load.specs.Known.{KnownNest}
 use Rattle.load.specs.Walks.{begin-below}
 use Rattle.load.specs.Turns.{Standing, standing, standing-begin, value-next, nothing-next, next-lost, next-walked, counts-walked, counts-refused}
 use Rattle.load.specs.Steps.{left-walked, got-as, raw-ends, raw-lost}
-use Rattle.load.specs.Front.{objects-nest, took-fits, list-left, list-begin, list-all, list-refused, list-done}
+use Rattle.leaves.specs.Plain.{Begin}
+use Rattle.load.specs.Front.{list-nest, list-element, list-nullables, took-fits, list-left, list-begin, list-all, list-refused, list-done}
 use Prim.Native.Nat.{ℕ, _<_}
 use borrow.Fn.Kinds.{In}
 use borrow.Fn.PlainCycle.{Measures, is, falls, and}
 use Rattle.load.proofs.walk.below.Reads as below
 use Rattle.load.proofs.walk.below.Kinds as below-kinds
-use Rattle.load.proofs.walk.+below+nested+objects_from+raw.Lts-below as below-lts
+use Rattle.load.proofs.walk.+below+list_from+nested+objects_from+raw+raws_from.Lts-below as below-lts
+use Rattle.load.proofs.walk.list_from.Reads as list-from
+use Rattle.load.proofs.walk.list_from.Kinds as list-from-kinds
+use Rattle.load.proofs.walk.+below+list_from+nested+objects_from+raw+raws_from.Lts-list_from as list-from-lts
 use Rattle.load.proofs.walk.nested.Reads as nested
 use Rattle.load.proofs.walk.nested.Kinds as nested-kinds
-use Rattle.load.proofs.walk.+below+nested+objects_from+raw.Lts-nested as nested-lts
+use Rattle.load.proofs.walk.+below+list_from+nested+objects_from+raw+raws_from.Lts-nested as nested-lts
 use Rattle.load.proofs.walk.objects_from.Reads as objects-from
 use Rattle.load.proofs.walk.objects_from.Kinds as objects-from-kinds
-use Rattle.load.proofs.walk.+below+nested+objects_from+raw.Lts-objects_from as objects-from-lts
+use Rattle.load.proofs.walk.+below+list_from+nested+objects_from+raw+raws_from.Lts-objects_from as objects-from-lts
 use Rattle.load.proofs.walk.raw.Reads as raw
 use Rattle.load.proofs.walk.raw.Kinds as raw-kinds
-use Rattle.load.proofs.walk.+below+nested+objects_from+raw.Lts-raw as raw-lts
+use Rattle.load.proofs.walk.+below+list_from+nested+objects_from+raw+raws_from.Lts-raw as raw-lts
+use Rattle.load.proofs.walk.raws_from.Reads as raws-from
+use Rattle.load.proofs.walk.raws_from.Kinds as raws-from-kinds
+use Rattle.load.proofs.walk.+below+list_from+nested+objects_from+raw+raws_from.Lts-raws_from as raws-from-lts
 use Rattle.first_values.proofs.take.Reads as take-reads
 use Rattle.heads.proofs.nest.after.Reads as after-reads
 use Rattle.heads.proofs.nest.begin.Reads as begin-reads
 use Rattle.heads.proofs.nest.slot_at.Reads as slot-at-reads
 use Rattle.heads.proofs.slot.row_kind.Reads as row-kind-reads
-use Rattle.load.proofs.walk.objects_in.Reads as objects-in-reads
+use Rattle.load.proofs.walk.element.Reads as element-reads
+use Rattle.load.proofs.walk.list_count.Reads as list-count-reads
 use Rattle.load.proofs.walk.takeable.Reads as takeable-reads
 use Rattle.load.proofs.walk.value.Reads as value-reads
+use Rattle.nullables.proofs.read.Reads as read-reads
 use Rattle.objects.proofs.close.close.Reads as close-reads
 use Rattle.objects.proofs.start.reader_position.Reads as reader-position-reads
 use Rattle.table.proofs.sum.Reads as sum-reads
-use Rattle.load.proofs.walk.+below+nested+objects_from+raw.{statement}
-use Rattle.load.proofs.walk.+below+nested+objects_from+raw.Tie.{close}
+use Rattle.load.proofs.walk.+below+list_from+nested+objects_from+raw+raws_from.{statement}
+use Rattle.load.proofs.walk.+below+list_from+nested+objects_from+raw+raws_from.Tie.{close}
 
 abbrev μ-below : Measures 3 below-kinds.ps ℕ
-μ-below κs a = 4 * (a .1 .1 .1 .1 .1 .1 .1 .1 .1 .0) + 2
+μ-below κs a = 6 * (a .1 .1 .1 .1 .1 .1 .1 .1 .1 .0) + 3
+
+abbrev μ-list-from : Measures 3 list-from-kinds.ps ℕ
+μ-list-from κs a = 6 * (a .1 .1 .1 .1 .1 .1 .1 .1 .1 .1 .0) + 2
 
 abbrev μ-nested : Measures 3 nested-kinds.ps ℕ
-μ-nested κs a = 4 * (a .1 .1 .1 .1 .1 .1 .1 .1 .1 .0)
+μ-nested κs a = 6 * (a .1 .1 .1 .1 .1 .1 .1 .1 .1 .0)
 
 abbrev μ-objects-from : Measures 3 objects-from-kinds.ps ℕ
-μ-objects-from κs a = 4 * (a .1 .1 .1 .1 .1 .1 .1 .1 .1 .1 .0) + 1
+μ-objects-from κs a = 6 * (a .1 .1 .1 .1 .1 .1 .1 .1 .1 .1 .0) + 1
 
 abbrev μ-raw : Measures 3 raw-kinds.ps ℕ
-μ-raw κs a = 4 * (a .1 .1 .1 .1 .1 .1 .1 .1 .1 .1 .1 .0) + 3
+μ-raw κs a = 6 * (a .1 .1 .1 .1 .1 .1 .1 .1 .1 .1 .1 .0) + 4
+
+abbrev μ-raws-from : Measures 3 raws-from-kinds.ps ℕ
+μ-raws-from κs a = 6 * (a .1 .1 .1 .1 .1 .1 .1 .1 .1 .1 .0) + 1
 
 abbrev below-at : ℕ → In 3 below-kinds.ps
 below-at t = and 3 below-kinds.ps (is 3 below-kinds.ps μ-below t) below.Pre
 
 abbrev below-below : ℕ → In 3 below-kinds.ps
 below-below t = and 3 below-kinds.ps (falls 3 below-kinds.ps _<_ μ-below t) below.Pre
+
+abbrev list-from-at : ℕ → In 3 list-from-kinds.ps
+list-from-at t = and 3 list-from-kinds.ps (is 3 list-from-kinds.ps μ-list-from t) list-from.Pre
+
+abbrev list-from-below : ℕ → In 3 list-from-kinds.ps
+list-from-below t =
+    and 3 list-from-kinds.ps (falls 3 list-from-kinds.ps _<_ μ-list-from t) list-from.Pre
 
 abbrev nested-at : ℕ → In 3 nested-kinds.ps
 nested-at t = and 3 nested-kinds.ps (is 3 nested-kinds.ps μ-nested t) nested.Pre
@@ -91,82 +113,254 @@ raw-at t = and 3 raw-kinds.ps (is 3 raw-kinds.ps μ-raw t) raw.Pre
 abbrev raw-below : ℕ → In 3 raw-kinds.ps
 raw-below t = and 3 raw-kinds.ps (falls 3 raw-kinds.ps _<_ μ-raw t) raw.Pre
 
-below-objects-in-requires : (t : ℕ) → below-lts.Need-objects-in-requires (
-  objects-in-reads.Asked,
-  objects-in-reads.Learnt,
-  objects-from-below t,
-  objects-from.Post,
-  nested-below t,
-  nested.Post,
-) (below-at t) below.Post
-below-objects-in-requires t c κs = search needs
+abbrev raws-from-at : ℕ → In 3 raws-from-kinds.ps
+raws-from-at t = and 3 raws-from-kinds.ps (is 3 raws-from-kinds.ps μ-raws-from t) raws-from.Pre
 
-below-objects-from-requires : (t : ℕ) → below-lts.Need-objects-from-requires (
-  objects-in-reads.Asked,
-  objects-in-reads.Learnt,
-  objects-from-below t,
-  objects-from.Post,
+abbrev raws-from-below : ℕ → In 3 raws-from-kinds.ps
+raws-from-below t =
+    and 3 raws-from-kinds.ps (falls 3 raws-from-kinds.ps _<_ μ-raws-from t) raws-from.Pre
+
+below-list-count-requires : (t : ℕ) → below-lts.Need-list-count-requires (
+  list-count-reads.Asked,
+  list-count-reads.Learnt,
+  list-from-below t,
+  list-from.Post,
   nested-below t,
   nested.Post,
 ) (below-at t) below.Post
-below-objects-from-requires t c κs =
-    let a = (c .before .before .before .before .before .before .before .args) in
-    let e = objects-nest (a .nest) _ ((c .before .before .before .objects-in) .ensures) ((c .before .if1) .taken) in
-    (omega (arith, (c .before .before .before .before .before .before .before .pre) .0), ((c .before .before .before .before .before .before .before .pre) .1 .0, (c .before .before .before .before .before .before .before .pre) .1 .1, subst (λ y. KnownNest (a .file .now) (a .codes .now) y) e ((c .before .before .before .before .before .before .before .pre) .1 .2)))
+below-list-count-requires t c κs = search needs
+
+below-list-from-requires : (t : ℕ) → below-lts.Need-list-from-requires (
+  list-count-reads.Asked,
+  list-count-reads.Learnt,
+  list-from-below t,
+  list-from.Post,
+  nested-below t,
+  nested.Post,
+) (below-at t) below.Post
+below-list-from-requires t c κs =
+    let a = (c .before .before .before .before .before .before .args) in
+    (omega (arith, (c .before .before .before .before .before .before .pre) .0), ((c .before .before .before .before .before .before .pre) .1 .0, (c .before .before .before .before .before .before .pre) .1 .1, (c .before .before .before .before .before .before .pre) .1 .2, list-nest (a .nest) _ ((c .before .before .list-count) .ensures) ((c .before .if1) .taken)))
 
 below-same-length : (t : ℕ) → below-lts.Need-same-length (
-  objects-in-reads.Asked,
-  objects-in-reads.Learnt,
-  objects-from-below t,
-  objects-from.Post,
+  list-count-reads.Asked,
+  list-count-reads.Learnt,
+  list-from-below t,
+  list-from.Post,
   nested-below t,
   nested.Post,
 ) (below-at t) below.Post
 below-same-length t c = search needs
 
 below-returns : (t : ℕ) → below-lts.Need-returns (
-  objects-in-reads.Asked,
-  objects-in-reads.Learnt,
-  objects-from-below t,
-  objects-from.Post,
+  list-count-reads.Asked,
+  list-count-reads.Learnt,
+  list-from-below t,
+  list-from.Post,
   nested-below t,
   nested.Post,
 ) (below-at t) below.Post
-below-returns t c =
-    λ readers plan l i.
-    let a = (c .before .before .before .before .before .before .before .before .before .before .args) in
-    let e = objects-nest (a .nest) _ ((c .before .before .before .before .before .before .objects-in) .ensures) ((c .before .before .before .before .if1) .taken) in
-    (c .before .before .objects-from) .ensures readers plan l (subst (λ y. NestIs (a .file .now) (a .codes .now) y plan) e i)
+below-returns t c = (c .before .before .list-from) .ensures
 
 below-nested-requires : (t : ℕ) → below-lts.Need-nested-requires (
-  objects-in-reads.Asked,
-  objects-in-reads.Learnt,
-  objects-from-below t,
-  objects-from.Post,
+  list-count-reads.Asked,
+  list-count-reads.Learnt,
+  list-from-below t,
+  list-from.Post,
   nested-below t,
   nested.Post,
 ) (below-at t) below.Post
-below-nested-requires t c κs = (omega (arith, (c .before .before .before .before .before .before .before .pre) .0), (c .before .before .before .before .before .before .before .pre) .1)
+below-nested-requires t c κs = (omega (arith, (c .before .before .before .before .before .before .pre) .0), (c .before .before .before .before .before .before .pre) .1)
 
 below-same-length-2 : (t : ℕ) → below-lts.Need-same-length-2 (
-  objects-in-reads.Asked,
-  objects-in-reads.Learnt,
-  objects-from-below t,
-  objects-from.Post,
+  list-count-reads.Asked,
+  list-count-reads.Learnt,
+  list-from-below t,
+  list-from.Post,
   nested-below t,
   nested.Post,
 ) (below-at t) below.Post
 below-same-length-2 t c = search needs
 
 below-returns-2 : (t : ℕ) → below-lts.Need-returns-2 (
-  objects-in-reads.Asked,
-  objects-in-reads.Learnt,
-  objects-from-below t,
-  objects-from.Post,
+  list-count-reads.Asked,
+  list-count-reads.Learnt,
+  list-from-below t,
+  list-from.Post,
   nested-below t,
   nested.Post,
 ) (below-at t) below.Post
 below-returns-2 t c = (c .before .before .nested) .ensures
+
+list-from-element-requires : (t : ℕ) → list-from-lts.Need-element-requires (
+  element-reads.Asked,
+  element-reads.Learnt,
+  objects-from-below t,
+  objects-from.Post,
+  raws-from-below t,
+  raws-from.Post,
+  nested-below t,
+  nested.Post,
+) (list-from-at t) list-from.Post
+list-from-element-requires t c κs = search needs
+
+list-from-enum-known-declared : (t : ℕ) → list-from-lts.Need-enum-known-declared (
+  element-reads.Asked,
+  element-reads.Learnt,
+  objects-from-below t,
+  objects-from.Post,
+  raws-from-below t,
+  raws-from.Post,
+  nested-below t,
+  nested.Post,
+) (list-from-at t) list-from.Post
+list-from-enum-known-declared t c = search needs
+
+list-from-objects-from-requires : (t : ℕ) → list-from-lts.Need-objects-from-requires (
+  element-reads.Asked,
+  element-reads.Learnt,
+  objects-from-below t,
+  objects-from.Post,
+  raws-from-below t,
+  raws-from.Post,
+  nested-below t,
+  nested.Post,
+) (list-from-at t) list-from.Post
+list-from-objects-from-requires t c κs =
+    let a = (c .before .before .before .before .before .before .before .before .args) in
+    let e = list-element (a .nest) (a .n) ((c .before .before .before .before .before .before .before .before .pre) .1 .3) _ _ ((c .before .before .before .before .element) .ensures) ((c .before .before .declared) .given .1) in
+    (omega (arith, (c .before .before .before .before .before .before .before .before .pre) .0), ((c .before .before .before .before .before .before .before .before .pre) .1 .0, (c .before .before .before .before .before .before .before .before .pre) .1 .1, subst (λ y. KnownNest (a .file .now) (a .codes .now) y) e ((c .before .before .before .before .before .before .before .before .pre) .1 .2)))
+
+list-from-enum-known-a : (t : ℕ) → list-from-lts.Need-enum-known-a (
+  element-reads.Asked,
+  element-reads.Learnt,
+  objects-from-below t,
+  objects-from.Post,
+  raws-from-below t,
+  raws-from.Post,
+  nested-below t,
+  nested.Post,
+) (list-from-at t) list-from.Post
+list-from-enum-known-a t c = search needs
+
+list-from-raws-from-requires : (t : ℕ) → list-from-lts.Need-raws-from-requires (
+  element-reads.Asked,
+  element-reads.Learnt,
+  objects-from-below t,
+  objects-from.Post,
+  raws-from-below t,
+  raws-from.Post,
+  nested-below t,
+  nested.Post,
+) (list-from-at t) list-from.Post
+list-from-raws-from-requires t c κs =
+    let a = (c .before .before .before .before .before .before .before .before .args) in
+    let e = list-element (a .nest) (a .n) ((c .before .before .before .before .before .before .before .before .pre) .1 .3) _ _ ((c .before .before .before .before .element) .ensures) ((c .before .before .a) .given .1) in
+    (omega (arith, (c .before .before .before .before .before .before .before .before .pre) .0), ((c .before .before .before .before .before .before .before .before .pre) .1 .0, (c .before .before .before .before .before .before .before .before .pre) .1 .1, subst (λ y. KnownNest (a .file .now) (a .codes .now) y) e ((c .before .before .before .before .before .before .before .before .pre) .1 .2)))
+
+list-from-enum-told : (t : ℕ) → list-from-lts.Need-enum-told (
+  element-reads.Asked,
+  element-reads.Learnt,
+  objects-from-below t,
+  objects-from.Post,
+  raws-from-below t,
+  raws-from.Post,
+  nested-below t,
+  nested.Post,
+) (list-from-at t) list-from.Post
+list-from-enum-told t c = search needs
+
+list-from-nested-requires : (t : ℕ) → list-from-lts.Need-nested-requires (
+  element-reads.Asked,
+  element-reads.Learnt,
+  objects-from-below t,
+  objects-from.Post,
+  raws-from-below t,
+  raws-from.Post,
+  nested-below t,
+  nested.Post,
+) (list-from-at t) list-from.Post
+list-from-nested-requires t c κs = (omega (arith, (c .before .before .before .before .before .before .before .pre) .0), ((c .before .before .before .before .before .before .before .pre) .1 .0, (c .before .before .before .before .before .before .before .pre) .1 .1, (c .before .before .before .before .before .before .before .pre) .1 .2))
+
+list-from-same-length : (t : ℕ) → list-from-lts.Need-same-length (
+  element-reads.Asked,
+  element-reads.Learnt,
+  objects-from-below t,
+  objects-from.Post,
+  raws-from-below t,
+  raws-from.Post,
+  nested-below t,
+  nested.Post,
+) (list-from-at t) list-from.Post
+list-from-same-length t c = search needs
+
+list-from-returns : (t : ℕ) → list-from-lts.Need-returns (
+  element-reads.Asked,
+  element-reads.Learnt,
+  objects-from-below t,
+  objects-from.Post,
+  raws-from-below t,
+  raws-from.Post,
+  nested-below t,
+  nested.Post,
+) (list-from-at t) list-from.Post
+list-from-returns t c =
+    λ readers plan l i.
+    let a = (c .before .before .before .before .before .before .before .before .before .before .before .args) in
+    let e = list-element (a .nest) (a .n) ((c .before .before .before .before .before .before .before .before .before .before .before .pre) .1 .3) _ _ ((c .before .before .before .before .before .before .before .element) .ensures) ((c .before .before .before .before .before .declared) .given .1) in
+    (c .before .before .objects-from) .ensures readers plan l (subst (λ y. NestIs (a .file .now) (a .codes .now) y plan) e i)
+
+list-from-same-length-2 : (t : ℕ) → list-from-lts.Need-same-length-2 (
+  element-reads.Asked,
+  element-reads.Learnt,
+  objects-from-below t,
+  objects-from.Post,
+  raws-from-below t,
+  raws-from.Post,
+  nested-below t,
+  nested.Post,
+) (list-from-at t) list-from.Post
+list-from-same-length-2 t c = search needs
+
+list-from-returns-2 : (t : ℕ) → list-from-lts.Need-returns-2 (
+  element-reads.Asked,
+  element-reads.Learnt,
+  objects-from-below t,
+  objects-from.Post,
+  raws-from-below t,
+  raws-from.Post,
+  nested-below t,
+  nested.Post,
+) (list-from-at t) list-from.Post
+list-from-returns-2 t c =
+    λ readers plan l i.
+    let a = (c .before .before .before .before .before .before .before .before .before .before .before .args) in
+    let e = list-element (a .nest) (a .n) ((c .before .before .before .before .before .before .before .before .before .before .before .pre) .1 .3) _ _ ((c .before .before .before .before .before .before .before .element) .ensures) ((c .before .before .before .before .before .a) .given .1) in
+    (c .before .before .raws-from) .ensures readers plan l (subst (λ y. NestIs (a .file .now) (a .codes .now) y plan) e i)
+
+list-from-same-length-3 : (t : ℕ) → list-from-lts.Need-same-length-3 (
+  element-reads.Asked,
+  element-reads.Learnt,
+  objects-from-below t,
+  objects-from.Post,
+  raws-from-below t,
+  raws-from.Post,
+  nested-below t,
+  nested.Post,
+) (list-from-at t) list-from.Post
+list-from-same-length-3 t c = search needs
+
+list-from-returns-3 : (t : ℕ) → list-from-lts.Need-returns-3 (
+  element-reads.Asked,
+  element-reads.Learnt,
+  objects-from-below t,
+  objects-from.Post,
+  raws-from-below t,
+  raws-from.Post,
+  nested-below t,
+  nested.Post,
+) (list-from-at t) list-from.Post
+list-from-returns-3 t c = (c .before .before .nested) .ensures
 
 abbrev nested-Inv-loop : nested-lts.InvT-loop
 nested-Inv-loop file codes words₀ grid shared nest at used depth parent rd stage₀ next₀ row₀ sum₀ words stage next row sum =
@@ -1028,25 +1222,125 @@ raw-returns-2 t c =
     let x = counts-walked _ (rw ((c .before .before .before .before .before .before .count) .given .1) at ((c .before .before .before .before .before .before .before .before .before .before .below) .ensures readers _ l (o .goes))) in
     rw (e .0, e .1) (raw-ends (a .grid) (a .file .now) (a .h) (a .at) t readers (a .shared) (a .depth) _ _ _ small ((c .before .before .before .before .before .before .before .before .before .before .before .before .before .before .before .before .pre) .1 .0) (i .lawful) o refl (x .1) ((c .before .before .before .before .row-kind) .ensures ∙ row-kind i) (x .0))
 
-pub +below+nested+objects-from+raw-spec : {M : Type 1} → statement M
-+below+nested+objects-from+raw-spec =
-    close μ-below μ-nested μ-objects-from μ-raw (λ t. below-lts.spec (
-      objects-in-reads.Asked,
-      objects-in-reads.Learnt,
-      objects-from-below t,
-      objects-from.Post,
+raws-from-read-requires : (t : ℕ) → raws-from-lts.Need-read-requires (
+  read-reads.Asked,
+  read-reads.Learnt,
+  nested-below t,
+  nested.Post,
+) (raws-from-at t) raws-from.Post
+raws-from-read-requires t c κs = search needs
+
+raws-from-enum-known-reached : (t : ℕ) → raws-from-lts.Need-enum-known-reached (
+  read-reads.Asked,
+  read-reads.Learnt,
+  nested-below t,
+  nested.Post,
+) (raws-from-at t) raws-from.Post
+raws-from-enum-known-reached t c = search needs
+
+raws-from-enum-told : (t : ℕ) → raws-from-lts.Need-enum-told (
+  read-reads.Asked,
+  read-reads.Learnt,
+  nested-below t,
+  nested.Post,
+) (raws-from-at t) raws-from.Post
+raws-from-enum-told t c = search needs
+
+raws-from-nested-requires : (t : ℕ) → raws-from-lts.Need-nested-requires (
+  read-reads.Asked,
+  read-reads.Learnt,
+  nested-below t,
+  nested.Post,
+) (raws-from-at t) raws-from.Post
+raws-from-nested-requires t c κs =
+    let a = (c .before .before .before .before .before .before .before .before .before .before .args) in
+    let e = rw ((c .before .enum-told) .given .1) at ((c .before .before .before .before .before .read) .ensures) in
+    (omega (arith, (c .before .before .before .before .before .before .before .before .before .before .pre) .0), (subst (λ w. Begin (a .file .now) w (a .grid) (a .at) (a .used)) (sym e) ((c .before .before .before .before .before .before .before .before .before .before .pre) .1 .0), (c .before .before .before .before .before .before .before .before .before .before .pre) .1 .1, (c .before .before .before .before .before .before .before .before .before .before .pre) .1 .2))
+
+raws-from-same-length : (t : ℕ) → raws-from-lts.Need-same-length (
+  read-reads.Asked,
+  read-reads.Learnt,
+  nested-below t,
+  nested.Post,
+) (raws-from-at t) raws-from.Post
+raws-from-same-length t c = search needs
+
+raws-from-returns : (t : ℕ) → raws-from-lts.Need-returns (
+  read-reads.Asked,
+  read-reads.Learnt,
+  nested-below t,
+  nested.Post,
+) (raws-from-at t) raws-from.Post
+raws-from-returns t c =
+    λ readers plan l i.
+    let a = (c .before .before .before .before .before .before .before .before .before .before .args) in
+    let small = small-by-index (a .file .now) (λ j h. omega (arith, (c .before .before .before .before .before .before .before .before .before .shared-slice-known) .given j)) in
+    let w = rw ((c .before .reached) .given .1) at ((c .before .before .before .before .before .read) .ensures) in
+    list-nullables (a .grid) (a .file .now) (a .codes .now) readers small (a .shared) (a .a) (a .n) plan i (a .at) (a .used) (a .depth) (a .words .now) _ _ ((c .before .before .before .before .before .before .before .before .before .before .pre) .1 .0) w
+
+raws-from-same-length-2 : (t : ℕ) → raws-from-lts.Need-same-length-2 (
+  read-reads.Asked,
+  read-reads.Learnt,
+  nested-below t,
+  nested.Post,
+) (raws-from-at t) raws-from.Post
+raws-from-same-length-2 t c = search needs
+
+raws-from-returns-2 : (t : ℕ) → raws-from-lts.Need-returns-2 (
+  read-reads.Asked,
+  read-reads.Learnt,
+  nested-below t,
+  nested.Post,
+) (raws-from-at t) raws-from.Post
+raws-from-returns-2 t c =
+    λ readers plan l i.
+    let e = rw ((c .before .before .before .before .enum-told) .given .1) at ((c .before .before .before .before .before .before .before .before .read) .ensures) in
+    rw e at ((c .before .before .nested) .ensures readers plan l i)
+
+pub +below+list-from+nested+objects-from+raw+raws-from-spec : {M : Type 1} → statement M
++below+list-from+nested+objects-from+raw+raws-from-spec =
+    close μ-below μ-list-from μ-nested μ-objects-from μ-raw μ-raws-from (λ t. below-lts.spec (
+      list-count-reads.Asked,
+      list-count-reads.Learnt,
+      list-from-below t,
+      list-from.Post,
       nested-below t,
       nested.Post,
     )
     (below-at t)
     below.Post
-    (below-objects-in-requires t)
-    (below-objects-from-requires t)
+    (below-list-count-requires t)
+    (below-list-from-requires t)
     (below-same-length t)
     (below-returns t)
     (below-nested-requires t)
     (below-same-length-2 t)
     (below-returns-2 t))
+    (λ t. list-from-lts.spec (
+      element-reads.Asked,
+      element-reads.Learnt,
+      objects-from-below t,
+      objects-from.Post,
+      raws-from-below t,
+      raws-from.Post,
+      nested-below t,
+      nested.Post,
+    )
+    (list-from-at t)
+    list-from.Post
+    (list-from-element-requires t)
+    (list-from-enum-known-declared t)
+    (list-from-objects-from-requires t)
+    (list-from-enum-known-a t)
+    (list-from-raws-from-requires t)
+    (list-from-enum-told t)
+    (list-from-nested-requires t)
+    (list-from-same-length t)
+    (list-from-returns t)
+    (list-from-same-length-2 t)
+    (list-from-returns-2 t)
+    (list-from-same-length-3 t)
+    (list-from-returns-3 t))
     (λ t. nested-lts.spec (
       begin-reads.Asked,
       begin-reads.Learnt,
@@ -1119,7 +1413,7 @@ pub +below+nested+objects-from+raw-spec : {M : Type 1} → statement M
     (objects-from-returns-2 t)
     (objects-from-same-length-3 t)
     (objects-from-returns-3 t))
-    λ t. raw-lts.spec (
+    (λ t. raw-lts.spec (
       below-below t,
       below.Post,
       row-kind-reads.Asked,
@@ -1138,4 +1432,16 @@ pub +below+nested+objects-from+raw-spec : {M : Type 1} → statement M
     (raw-same-length t)
     (raw-returns t)
     (raw-same-length-2 t)
-    (raw-returns-2 t)
+    (raw-returns-2 t))
+    λ t. raws-from-lts.spec
+    (read-reads.Asked, read-reads.Learnt, nested-below t, nested.Post)
+    (raws-from-at t)
+    raws-from.Post
+    (raws-from-read-requires t)
+    (raws-from-enum-known-reached t)
+    (raws-from-enum-told t)
+    (raws-from-nested-requires t)
+    (raws-from-same-length t)
+    (raws-from-returns t)
+    (raws-from-same-length-2 t)
+    (raws-from-returns-2 t)
