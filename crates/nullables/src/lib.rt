@@ -233,7 +233,8 @@ fn of_plain(
     }
 }
 
-// n values of the type at `a`, if they are nullables of one size, all there and with room for their rows, which begin at row `used` and have the row before it as parent.
+// n values of the type at `a`, if they are nullables of one size, all there and with room for their rows.
+// These begin at row `used` and have the row before it as parent.
 pub fn read(
     file: &[u8],
     codes: &[u32],

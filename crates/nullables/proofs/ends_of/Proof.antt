@@ -79,7 +79,8 @@ loop-again : tie.Need-loop-again Inv-loop μ-loop
 loop-again c =
     let a = c .before .before .before .before .before .before .before .before .before .before .before .args in
     let m = c .before .before .before .before .before .before .before .before .before .loop in
-    let v = seen-more (a .file .now) (a .kind) (a .size) (a .most) (a .at) (a .used) (m .i) (m .next) (m .last) _ (c .before .before .before .value-bytes .result) (c .before .before .before .before .before .before .before .before .before .before .before .pre .1) (m .inv .1) (m .inv .2) (m .inv .3) (c .before .before .before .before .before .wide .ensures .0) (c .before .before .before .value-bytes .ensures .0)
+    let v = seen-more (a .file .now) (a .kind) (a .size) (a .most) (a .at) (a .used) (m .i) (m .next) (m .last) _ (c .before .before .before .value-bytes .result) (c .before .before .before .before .before .before .before .before .before .before .before .pre .1) (m .inv .1) (m .inv .2)
+    (m .inv .3) (c .before .before .before .before .before .wide .ensures .0) (c .before .before .before .value-bytes .ensures .0)
     (c .before .before .before .before .before .before .before .if1 .left) (c .before .before .before .before .if2 .left) (omega (arith, c .before .before .if3 .left)) (c .if4 .left) in
     (omega (arith, c .before .before .before .before .before .before .before .before .loop-test .taken), v .0, v .1, v .2, omega (arith, m .inv .4, c .before .before .before .before .if2 .left))
 

@@ -63,7 +63,8 @@ add-whole : tie.Need-add-whole Inv-loop μ-loop
 add-whole c =
     let a = c .before .before .before .before .before .before .before .before .before .before .before .args in
     let m = c .before .before .before .before .before .before .before .before .loop in
-    let f = fit-at (a .file .now) (a .kind) (a .size) (a .at) (a .used) (a .n) (m .i) (m .next) (m .number) (c .before .before .before .before .before .before .before .before .before .before .before .pre .1) (c .before .before .before .before .before .before .before .loop-test .taken) (m .inv .2) (m .inv .3) in
+    let f = fit-at (a .file .now) (a .kind) (a .size) (a .at) (a .used) (a .n) (m .i) (m .next) (m .number) (c .before .before .before .before .before .before .before .before .before .before .before .pre .1) (c .before .before .before .before .before .before .before .loop-test .taken)
+    (m .inv .2) (m .inv .3) in
     let y : c .before .before .before .before .value-bytes .result ≡ flagAt (a .file .now) (m .next) * a .size = c .before .before .before .before .value-bytes .ensures .0 ∙ ap (λ (k : ℕ). k * a .size) (c .before .before .before .before .before .wide .ensures .0) in
     record { fits = omega (arith, f .0 .inside, y) }
 
@@ -71,7 +72,8 @@ add-branch : tie.Need-add-branch Inv-loop μ-loop
 add-branch c =
     let a = c .before .before .before .before .before .before .before .before .before .before .before .args in
     let m = c .before .before .before .before .before .before .before .before .loop in
-    let f = fit-at (a .file .now) (a .kind) (a .size) (a .at) (a .used) (a .n) (m .i) (m .next) (m .number) (c .before .before .before .before .before .before .before .before .before .before .before .pre .1) (c .before .before .before .before .before .before .before .loop-test .taken) (m .inv .2) (m .inv .3) in
+    let f = fit-at (a .file .now) (a .kind) (a .size) (a .at) (a .used) (a .n) (m .i) (m .next) (m .number) (c .before .before .before .before .before .before .before .before .before .before .before .pre .1) (c .before .before .before .before .before .before .before .loop-test .taken)
+    (m .inv .2) (m .inv .3) in
     record { fits = omega (arith, f .0 .flagged, c .before .before .before .before .before .wide .ensures .0) }
 
 word-requires : tie.Need-word-requires Inv-loop μ-loop
@@ -87,15 +89,18 @@ add-next : tie.Need-add-next Inv-loop μ-loop
 add-next c =
     let a = c .before .before .before .before .before .before .before .before .before .before .before .before .before .before .before .before .before .args in
     let m = c .before .before .before .before .before .before .before .before .before .before .before .before .before .before .loop in
-    let f = fit-at (a .file .now) (a .kind) (a .size) (a .at) (a .used) (a .n) (m .i) (m .next) (m .number) (c .before .before .before .before .before .before .before .before .before .before .before .before .before .before .before .before .before .pre .1) (c .before .before .before .before .before .before .before .before .before .before .before .before .before .loop-test .taken) (m .inv .2) (m .inv .3) in
-    let y : c .before .before .before .before .before .before .before .before .before .before .value-bytes .result ≡ flagAt (a .file .now) (m .next) * a .size = c .before .before .before .before .before .before .before .before .before .before .value-bytes .ensures .0 ∙ ap (λ (k : ℕ). k * a .size) (c .before .before .before .before .before .before .before .before .before .before .before .wide .ensures .0) in
+    let f = fit-at (a .file .now) (a .kind) (a .size) (a .at) (a .used) (a .n) (m .i) (m .next) (m .number) (c .before .before .before .before .before .before .before .before .before .before .before .before .before .before .before .before .before .pre .1)
+    (c .before .before .before .before .before .before .before .before .before .before .before .before .before .loop-test .taken) (m .inv .2) (m .inv .3) in
+    let y : c .before .before .before .before .before .before .before .before .before .before .value-bytes .result ≡ flagAt (a .file .now) (m .next) * a .size = c .before .before .before .before .before .before .before .before .before .before .value-bytes .ensures .0 ∙ ap
+    (λ (k : ℕ). k * a .size) (c .before .before .before .before .before .before .before .before .before .before .before .wide .ensures .0) in
     record { fits = omega (arith, f .0 .inside, y) }
 
 add-number : tie.Need-add-number Inv-loop μ-loop
 add-number c =
     let a = c .before .before .before .before .before .before .before .before .before .before .before .before .before .before .before .before .before .args in
     let m = c .before .before .before .before .before .before .before .before .before .before .before .before .before .before .loop in
-    let f = fit-at (a .file .now) (a .kind) (a .size) (a .at) (a .used) (a .n) (m .i) (m .next) (m .number) (c .before .before .before .before .before .before .before .before .before .before .before .before .before .before .before .before .before .pre .1) (c .before .before .before .before .before .before .before .before .before .before .before .before .before .loop-test .taken) (m .inv .2) (m .inv .3) in
+    let f = fit-at (a .file .now) (a .kind) (a .size) (a .at) (a .used) (a .n) (m .i) (m .next) (m .number) (c .before .before .before .before .before .before .before .before .before .before .before .before .before .before .before .before .before .pre .1)
+    (c .before .before .before .before .before .before .before .before .before .before .before .before .before .loop-test .taken) (m .inv .2) (m .inv .3) in
     record { fits = omega (arith, f .1, c .before .before .before .before .before .before .before .before .before .before .before .before .before .before .before .before .before .pre .2, c .before .before .before .before .before .before .before .before .before .before .before .wide .ensures .0) }
 
 add-i : tie.Need-add-i Inv-loop μ-loop
@@ -108,7 +113,8 @@ loop-again : tie.Need-loop-again Inv-loop μ-loop
 loop-again c =
     let a = c .before .before .before .before .before .before .before .before .before .before .before .before .before .before .before .before .before .args in
     let m = c .before .before .before .before .before .before .before .before .before .before .before .before .before .before .loop in
-    let v = put-next (a .grid) (a .file .now) (a .kind) (a .size) (a .at) (a .used) (m .i) (m .next) (m .number) _ (c .before .before .before .before .before .before .before .before .before .before .value-bytes .result) (a .words .now) (m .words) _ _ _ _ (m .inv .2) (m .inv .3) (c .before .before .before .before .before .before .before .before .before .before .before .wide .ensures .0) (c .before .before .before .before .before .before .before .before .before .before .value-bytes .ensures .0) (m .inv .4)
+    let v = put-next (a .grid) (a .file .now) (a .kind) (a .size) (a .at) (a .used) (m .i) (m .next) (m .number) _ (c .before .before .before .before .before .before .before .before .before .before .value-bytes .result) (a .words .now) (m .words) _ _ _ _ (m .inv .2) (m .inv .3)
+    (c .before .before .before .before .before .before .before .before .before .before .before .wide .ensures .0) (c .before .before .before .before .before .before .before .before .before .before .value-bytes .ensures .0) (m .inv .4)
     (c .before .before .before .before .before .before .before .before .put-value .ensures) (c .before .before .before .before .before .word .ensures) (c .before .before .before .before .word2 .ensures) (c .before .before .put-row .ensures) in
     (omega (arith, c .before .before .before .before .before .before .before .before .before .before .before .before .before .loop-test .taken), search needs, v .0, v .1, v .2)
 

@@ -37,7 +37,9 @@ returns-4 : tie.Need-returns-4
 returns-4 c =
     let a = c .before .before .before .before .before .before .before .before .before .before .before .before .before .before .before .args in
     let small = small-by-index (a .file .now) (λ j h. omega (arith, c .before .before .before .before .before .before .before .before .before .before .before .before .before .before .shared-slice-known .given j)) in
-    list-walked (a .grid) (a .file .now) (a .codes .now) small (a .a) (a .n) (a .at) (a .used) (a .depth) _ (a .words .now) (c .before .before .of-plain .last .1 .0) (c .before .before .of-plain .result) (sym (c .before .before .before .before .before .before .before .before .before .kind-at .ensures) ∙ c .before .before .before .before .before .before .before .before .if3 .left) (c .before .before .before .before .before .before .before .before .before .before .before .if1 .left) (sym (c .before .before .before .before .before .before .before .raw-of .ensures) ∙ c .before .before .before .before .before .slot .given .1) (c .before .before .of-plain .ensures)
+    list-walked (a .grid) (a .file .now) (a .codes .now) small (a .a) (a .n) (a .at) (a .used) (a .depth) _ (a .words .now) (c .before .before .of-plain .last .1 .0) (c .before .before .of-plain .result)
+    (sym (c .before .before .before .before .before .before .before .before .before .kind-at .ensures) ∙ c .before .before .before .before .before .before .before .before .if3 .left) (c .before .before .before .before .before .before .before .before .before .before .before .if1 .left)
+    (sym (c .before .before .before .before .before .before .before .raw-of .ensures) ∙ c .before .before .before .before .before .slot .given .1) (c .before .before .of-plain .ensures)
 
 returns-5 : tie.Need-returns-5
 returns-5 c = search needs
