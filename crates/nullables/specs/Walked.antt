@@ -42,10 +42,12 @@ use Rattle.leaves.specs.Like.{Like, like-walk, alike-each, alike-sequence}
 use Rattle.leaves.specs.Run.{run-walked, begin-on}
 use Rattle.leaves.specs.Same.{Uniform, same-run}
 use Rattle.heads.specs.declared.slot.Slot.the-variants.{Simple}
-use Rattle.heads.specs.Slots.{SlotIs, rawOf, raw-is}
+use Rattle.heads.specs.Placed.{SlotIs, rawOf}
+use Rattle.heads.specs.Slots.{raw-is}
 use Rattle.heads.specs.Below.{flag-zero, flag-one}
-use Rattle.objects.specs.Start.{Ided, under}
-use Rattle.objects.specs.Close.{keeps, raw-closed, slots-counted}
+use Rattle.objects.specs.Beginnings.{Ided, under}
+use Rattle.objects.specs.Endings.{keeps}
+use Rattle.objects.specs.Close.{raw-closed, slots-counted}
 use Rattle.nullables.specs.declared.Listed.{Listed}
 use Rattle.nullables.specs.declared.Listed.the-variants.{All, Unseen}
 use Rattle.nullables.specs.Placed.{flagAt, placeOf, rowOf, Fits, AllFit, ListedAre, kindIn, sizeIn, uniform-in, putNullable, putAll, row-below, place-more, row-more, put-more}
