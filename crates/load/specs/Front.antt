@@ -68,8 +68,8 @@ AllAlike nest n = (s : Slot) × (nest ≡ Each s n)
 abbrev pub ListOf : Nest → (n : ℕ) → Type 0
 ListOf nest n = (n ≡ 0) ⊎ AllAlike nest n
 
--- a list of two or more was found
-pub list-nest : (nest : Nest) (n : ℕ) → ListOf nest n → 2 ≤ n → AllAlike nest n
+-- a long list was found
+pub list-nest : (nest : Nest) (n : ℕ) → ListOf nest n → 32 ≤ n → AllAlike nest n
 list-nest nest n (inl z) h = absurd (omega (arith, z, h))
 list-nest nest n (inr e) h = e
 

@@ -88,7 +88,7 @@ fn objects(
 {
     let n = shared + 1;
     let nest = Nest::Each(Slot::Object(prelude::OBJECT), n);
-    let children = if n < 2 {
+    let children = if n < walk::LONG {
         walk::nested(file, codes, rd, words, grid, shared, nest, at, 0, 32, 0)
     } else {
         walk::list_from(file, codes, rd, words, grid, shared, nest, n, at, 0, 32)

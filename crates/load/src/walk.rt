@@ -284,6 +284,9 @@ fn raw(
     }
 }
 
+// Lists of fewer elements are walked one element after the other: what `list_from` takes at once would not make up for the call.
+pub(crate) const LONG: u32 = 32;
+
 // How many elements that stand alike a nest has; 0 where its values do not.
 fn list_count(nest: Nest) -> u32
     ensures { λ r. ⌜ ListOf nest r ⌝ }
@@ -317,7 +320,7 @@ fn takeable(codes: &[u32], declared: usize, n: u32, depth: u32) -> u32
     0
 }
 
-// What stands below a raw value: a list of two elements or more as such, all else as its nest says.
+// What stands below a raw value: a long list as such, all else as its nest says.
 // The parent is the row before the first of these.
 fn below(
     file: &[u8],
@@ -336,7 +339,7 @@ fn below(
         (now (words .entry)) (now (words .exit)) r ⌝ }
 {
     let n = list_count(nest);
-    if 2 <= n {
+    if LONG <= n {
         return list_from(
             file,
             codes,
