@@ -181,17 +181,13 @@ fn depths_and_rows() -> Vec<Limit> {
         limits.push(limit(format!("depth {depth}"), past(depth > 32, 18), file));
     }
     for depth in [2, 31, 32] {
-        for before in [0, 1] {
-            let file = alone(&[list_of("System.Object")], beside(depth, before, null()));
-            limits.push(limit(
-                format!("depth {depth} behind {before} of two"),
-                0,
-                file,
-            ));
+        for before in [0, 1, 40] {
+            let file = alone(&[list_of("System.Object")], among(depth, before, null()));
+            limits.push(limit(format!("depth {depth} behind {before}"), 0, file));
         }
     }
-    let deep = alone(&[list_of("System.Object")], beside(33, 0, faulty(null())));
-    limits.push(limit("depth 33 before one of two", 18, deep));
+    let deep = alone(&[list_of("System.Object")], among(33, 0, faulty(null())));
+    limits.push(limit("depth 33 before others", 18, deep));
     for rows in [1, 2, 1024, 1025, 65_535, 65_536, 65_537] {
         for room in [1, 1024, 65_536, 70_000] {
             let room_used = room.min(65_536);
@@ -214,13 +210,13 @@ fn depths_and_rows() -> Vec<Limit> {
     limits
 }
 
-/// A value at a depth, with a null behind the list at each level, or before it: lists of two objects, of which only a null is taken at once.
-fn beside(depth: u32, before: usize, innermost: Value) -> Value {
+/// A value at a depth, in lists of 41 objects: so many nulls stand before it at each level, which a long list takes at once, and the others behind it.
+fn among(depth: u32, before: usize, innermost: Value) -> Value {
     let mut value = innermost;
     for _ in 1..depth {
-        let mut pair = vec![null(), null()];
-        pair[before] = value;
-        value = object(1, list(pair));
+        let mut elements = vec![null(); 41];
+        elements[before] = value;
+        value = object(1, list(elements));
     }
     value
 }
