@@ -9,7 +9,8 @@ use lib.ListN.{length, take, drop, length-append, length-drop}
 use lib.Seq.{drop-drop, take-append-seam, drop-append-seam}
 use borrow.Author.Tests.{le-leb}
 use Rattle.laws.specs.Small.{differ}
-use Rattle.fill.specs.Fill.{inside, pasted, copied}
+use Rattle.fill.specs.Fill.{copied}
+use Rattle.fill.specs.Copies.{copy-puts}
 use Rattle.layout.specs.Number.{little}
 use Rattle.reading.specs.Answer.{read}
 use Rattle.reading.specs.Reads.{seam}
@@ -25,21 +26,6 @@ use Rattle.pack_records.specs.Records.{recorded}
 use Rattle.packs.specs.Walk.{records-append, entry-end}
 use Rattle.pack_writing.specs.Convert.{converts}
 use Rattle.marks.specs.Converting.{Placed, placed, Fits, converted}
-
--- ---- A block behind what is written
-
-module _ (base done : List ℕ) (to : ℕ) (long : length done ≡ to) where
-  pub copy-puts : (src : List ℕ) (from n : ℕ) → to + n ≤ length base → from + n ≤ length src
-      → copied (done ++ drop to base) to src from n ≡ (done ++ take n (drop from src)) ++ drop (to + n) base
-  unfolding inside copied pasted
-  copy-puts src from n h k =
-      let l : length (done ++ drop to base) ≡ length base = omega (arith, length-append done (drop to base), length-drop to base) in
-      let p : leb (to + n) (length (done ++ drop to base)) ≡ true = le-leb (to + n) (length (done ++ drop to base)) (omega arith) in
-      let q : leb (from + n) (length src) ≡ true = le-leb (from + n) (length src) k in
-      let a : take to (done ++ drop to base) ≡ done = rw (← long) (take-append-seam done (drop (length done) base)) in
-      let b : drop (to + n) (done ++ drop to base) ≡ drop (to + n) base
-      = sym (drop-drop n to (done ++ drop to base)) ∙ ap (drop n) (rw (← long) (drop-append-seam done (drop (length done) base))) ∙ drop-drop n to base in
-      rw (p, q, a, b)
 
 -- ---- A record, and its mark
 

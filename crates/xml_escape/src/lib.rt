@@ -86,3 +86,23 @@ pub fn place_if(counts: bool, place: u8, behind: u8) -> u8
     }
     behind
 }
+
+// How many of the 32 bytes from i on stand before the first that may be one; none where fewer than 32 are left.
+pub fn quiet_start(s: &[u8], i: usize) -> usize
+    ensures { λ r. ⌜ AllQuiet 0xFF (now (s .entry)) i r ⌝ }
+{
+    if s.len() < 32 {
+        return 0;
+    }
+    if s.len() - 32 < i {
+        return 0;
+    }
+    let mut j = 0u8;
+    let mut first = 32u8;
+    while j < 32 {
+        let here = place_if(loud(s[i + j as usize], 0xFF), j, 32);
+        first = smaller(first, here);
+        j += 1;
+    }
+    first as usize
+}

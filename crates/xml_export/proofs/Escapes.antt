@@ -1,5 +1,5 @@
 -- The size of a text in the XML, and its bytes put into an output. Assumes nothing.
-use mathlib.Core.Path.{_≡_, refl, sym, ap, _∙_}
+use mathlib.Core.Path.{_≡_, refl, sym, ap, subst, _∙_}
 use mathlib.Core.Bool.{Bool, true, false, not, _||_, _&&_, cond}
 use mathlib.Core.List.{List, [], _∷_, _++_, append-nil, append-assoc}
 use Prim.Native.Nat.{ℕ, zero, suc, _+_, _*_, _-_, _≤_, _<_}
@@ -7,7 +7,7 @@ use native.Mathlib.Omega.{arith}
 use native.Mathlib.Decide.{ℕ-discrete}
 use lib.Dec.{leb, eqb, ltb}
 use lib.ListN.{length, take, drop, getD, set, length-append, length-drop, length-set, drop-of-length-le}
-use lib.Seq.{length-take-le}
+use lib.Seq.{drop-drop, drop-append-seam, length-take-le}
 use borrow.Author.Tests.{ne-eqb, eqb-false, ltb-false, le-leb, lt-leb}
 use Rattle.laws.specs.Small.{neither}
 use Rattle.layout.specs.Text.{ascii}
@@ -16,8 +16,8 @@ use Rattle.xml_layout.specs.Xml.{escaped, escape, itemStart, itemEnd}
 use Rattle.xml_reading.specs.Written.{noncharacter, writable}
 use Rattle.xml_escape.specs.Runs.{AllOf, cons-at, all-on}
 use Rattle.xml_escape.specs.Quiet.{Quiet, AllQuiet, Ran}
-use Rattle.xml_escape.specs.Wrote.{Put, PutTo, put-none, put-copy, put-more, put-one, put-on, sets, put-each}
-use Rattle.xml_escape.specs.Sizes.{item, few-bytes, start-long, end-long, item-long}
+use Rattle.xml_escape.specs.Wrote.{Wrote, Put, PutTo, put-none, put-copy, put-more, put-one, put-on, take-more, sets, put-each}
+use Rattle.xml_escape.specs.Sizes.{item, few-bytes, start-long, item-long}
 use Rattle.xml_export.specs.declared.escape.Sizing.the-variants.{Unwritten, Size}
 use Rattle.xml_export.specs.Escaping.{Alone, byteSize, Grows, Runs, FewPut, RunPut, EntityPut}
 use Rattle.xml_export.specs.Gathering.{sizeOf}
@@ -87,10 +87,10 @@ alone-by b e =
     other-alone b (eqb-false b 0x26 (n₁ .1)) (eqb-false b 0x3C (n₂ .1)) (eqb-false b 0x3E (n₃ .1)) (eqb-false b 0x22 (n₁ .0))
 
 -- the sum of what each of the four is worth
-pub extra-of : (b : ℕ) → 1 + (cond (eqb b 0x26) 4 0 + cond (eqb b 0x3C) 3 0 + cond (eqb b 0x3E) 3 0 + cond (eqb b 0x22) 5 0) ≡ length (escaped b)
+pub extra-of : (b : ℕ) → 1 + (cond (eqb b 0x26) 4 0 + cond (eqb b 0x3C || eqb b 0x3E) 3 0 + cond (eqb b 0x22) 5 0) ≡ length (escaped b)
 unfolding escaped ascii
 extra-of b = go (ℕ-discrete b 0x26) (ℕ-discrete b 0x3C) (ℕ-discrete b 0x3E) (ℕ-discrete b 0x22) where
-  go : Dec (b ≡ 0x26) → Dec (b ≡ 0x3C) → Dec (b ≡ 0x3E) → Dec (b ≡ 0x22) → 1 + (cond (eqb b 0x26) 4 0 + cond (eqb b 0x3C) 3 0 + cond (eqb b 0x3E) 3 0 + cond (eqb b 0x22) 5 0) ≡ length (escaped b)
+  go : Dec (b ≡ 0x26) → Dec (b ≡ 0x3C) → Dec (b ≡ 0x3E) → Dec (b ≡ 0x22) → 1 + (cond (eqb b 0x26) 4 0 + cond (eqb b 0x3C || eqb b 0x3E) 3 0 + cond (eqb b 0x22) 5 0) ≡ length (escaped b)
   go (yes e) q r t = rw e refl
   go (no n) (yes e) r t = rw e refl
   go (no n) (no m) (yes e) t = rw e refl
@@ -226,8 +226,43 @@ module _ {s : List ℕ} {i size : ℕ} (z : Sized s i size) where
       let n : size ≡ length (escape s) = omega (arith, z .sum, ap (λ (l : List ℕ). length (escape l)) d) in
       rw w (ap Size n)
 
-pub empty-size : (s : List ℕ) → length s ≡ 0 → Size 0 ≡ sizeOf s
-empty-size s e = sized-end sized-start (omega arith)
+pub none-size : (l : List ℕ) (n : ℕ) → n ≡ 0 → Size 0 ≡ sizeOf (take n l)
+none-size l n e = rw e (sized-end sized-start (omega arith))
+
+-- ---- A part of the file that stands as it is
+
+alone-part : (s : List ℕ) (n i : ℕ) → i + n ≤ length s → AllOf Alone s i n → escape (take n (drop i s)) ≡ take n (drop i s)
+unfolding escape
+alone-part s zero i h q = refl
+alone-part s (suc n) i h q =
+    let z : i + 0 ≡ i = omega arith in
+    let b : Alone (getD s i 0) = rw z at (q 0 (omega arith)) in
+    let r = alone-part s n (i + 1) (omega arith) (λ k l. let y : i + suc k ≡ i + 1 + k = omega arith in rw y at (q (suc k) (omega arith))) in
+    rw (cons-at s i (omega arith), b) (ap (λ (l : List ℕ). getD s i 0 ∷ l) r)
+
+quiet-part : {most : ℕ} (s : List ℕ) (n i : ℕ) → i + n ≤ length s → AllQuiet most s i n → writable (take n (drop i s)) ≡ true
+unfolding writable
+quiet-part s zero i h q = refl
+quiet-part {most} s (suc n) i h q =
+    let z : i + 0 ≡ i = omega arith in
+    let b : Quiet most (getD s i 0) = rw z at (q 0 (omega arith)) in
+    let r = quiet-part s n (i + 1) (omega arith) (λ k l. let y : i + suc k ≡ i + 1 + k = omega arith in rw y at (q (suc k) (omega arith))) in
+    rw (cons-at s i (omega arith)) (quiet-written (take n (drop (i + 1) s)) b ∙ r)
+
+module _ (s : List ℕ) (n i : ℕ) (h : i + n ≤ length s) where
+  part-long : length (take n (drop i s)) ≡ n
+  part-long = length-take-le n (drop i s) (omega (arith, length-drop i s))
+
+  pub quiet-size : {most : ℕ} → AllQuiet most s i n → Size n ≡ sizeOf (take n (drop i s))
+  unfolding sizeOf
+  quiet-size q = rw (quiet-part s n i h q, alone-part s n i h (λ k l. quiet-escaped (q k l)), part-long)
+
+  pub plain-put : AllOf Alone s i n → (out : List ℕ) {out′ : List ℕ} (to : ℕ) → out′ ≡ copied out to s i n → PutTo (escape (take n (drop i s))) to out out′ (to + n)
+  plain-put q out to e = rw (alone-part s n i h q) (record { ends = omega (arith, part-long); put = put-copy s i n h e })
+
+pub no-put : (l : List ℕ) (n : ℕ) → n ≡ 0 → (out : List ℕ) (to : ℕ) → PutTo (escape (take n l)) to out out to
+unfolding escape
+no-put l n e out to = rw e (record { ends = omega arith; put = put-none })
 
 -- the quiet bytes at the start
 pub sized-first : {most next : ℕ} {s : List ℕ} → Ran most s 0 next → Sized s next next
@@ -311,6 +346,70 @@ no-run {s} {from} h = let z : from - from ≡ 0 = omega arith in record { runs =
 
 pub copy-run : {s : List ℕ} {from to r : ℕ} {out out′ : List ℕ} → Runs s from r → out′ ≡ copied out to s from (r - from) → RunPut s from to out out′ r
 copy-run {s} {from} {to} {r} u c = record { runs = u; put = put-copy s from (r - from) (omega (arith, u .forward, u .inside)) c }
+
+-- ---- Blocks of bytes, which may overlap
+
+four-at : (s : List ℕ) (i : ℕ) → i + 4 ≤ length s → take 4 (drop i s) ≡ getD s i 0 ∷ getD s (i + 1) 0 ∷ getD s (i + 2) 0 ∷ getD s (i + 3) 0 ∷ []
+four-at s i h =
+    let a : i + 1 + 1 ≡ i + 2 = omega arith in
+    let b : i + 2 + 1 ≡ i + 3 = omega arith in
+    rw (cons-at s i (omega arith), cons-at s (i + 1) (omega arith), a, cons-at s (i + 2) (omega arith), b, cons-at s (i + 3) (omega arith))
+
+pub four-put : (s : List ℕ) (i to : ℕ) {out out′ : List ℕ} → i + 4 ≤ length s → out′ ≡ sets out to 0 (getD s i 0 ∷ getD s (i + 1) 0 ∷ getD s (i + 2) 0 ∷ getD s (i + 3) 0 ∷ [])
+    → Put (take 4 (drop i s)) to out out′
+four-put s i to h e = rw (four-at s i h) (stored-put (getD s i 0 ∷ getD s (i + 1) 0 ∷ getD s (i + 2) 0 ∷ getD s (i + 3) 0 ∷ []) e)
+
+-- one block, and one behind it
+pub put-both : (s : List ℕ) (from m n to : ℕ) {o₀ o₁ o₂ : List ℕ} → from + m + n ≤ length s → Put (take m (drop from s)) to o₀ o₁ → Put (take n (drop (from + m) s)) (to + m) o₁ o₂
+    → Put (take (m + n) (drop from s)) to o₀ o₂
+put-both s from m n to {o₀} {o₁} {o₂} h p q =
+    let y : from + m + n - (from + m) ≡ n = omega arith in
+    let z : from + m + n - from ≡ m + n = omega arith in
+    let v : Put (take (from + m + n - from) (drop from s)) to o₀ o₂ = put-on s from m (omega arith) h p (rw y q) in
+    rw z at v
+
+-- two blocks of k bytes, of which the second ends behind n
+module _ (s : List ℕ) (from n k to : ℕ) (f : k ≤ n) (g : n ≤ k + k) (h : from + n ≤ length s) where
+  abbrev l : List ℕ
+  l = drop from s
+
+  abbrev m : ℕ
+  m = n - k
+
+  long : (j : ℕ) → j ≤ n → length (take j l) ≡ j
+  long j e = length-take-le j l (omega (arith, length-drop from s))
+
+  pub put-over : {o₀ o₁ o₂ : List ℕ} → Put (take k l) to o₀ o₁ → Put (take k (drop (from + m) s)) (to + m) o₁ o₂ → Put (take n l) to o₀ o₂
+  put-over {o₀} {o₁} {o₂} p q = record {
+    puts = λ base done w r.
+        let lk = long k f in
+        let ln = long n (omega arith) in
+        let lm = long m (omega arith) in
+        let w₁ : Wrote base (done ++ take k l) o₁ (to + k) = rw lk at (p .puts base done w (omega (arith, lk, ln))) in
+        let cut : take k l ≡ take m l ++ take (k - m) (drop m l) = ap (λ (j : ℕ). take j l) (let z : k ≡ m + (k - m) = omega arith in z) ∙ take-more m (k - m) l in
+        let parts : o₁ ≡ (done ++ take m l) ++ (take (k - m) (drop m l) ++ drop (to + k) base)
+        = w₁ .stands ∙ ap (λ (j : List ℕ). (done ++ j) ++ drop (to + k) base) cut ∙ ap (λ (j : List ℕ). j ++ drop (to + k) base) (sym (append-assoc done (take m l) (take (k - m) (drop m l))))
+        ∙ append-assoc (done ++ take m l) (take (k - m) (drop m l)) (drop (to + k) base) in
+        let lb : length (done ++ take m l) ≡ to + m = length-append done (take m l) ∙ omega (arith, w .long, lm) in
+        let tail : drop (to + m) o₁ ≡ take (k - m) (drop m l) ++ drop (to + k) base
+        = ap (drop (to + m)) parts ∙ subst (λ (j : ℕ). drop j ((done ++ take m l) ++ (take (k - m) (drop m l) ++ drop (to + k) base)) ≡ take (k - m) (drop m l) ++ drop (to + k) base) lb
+        (drop-append-seam (done ++ take m l) (take (k - m) (drop m l) ++ drop (to + k) base)) in
+        let w₂ : Wrote o₁ (done ++ take m l) o₁ (to + m) = record { long = lb; stands = parts ∙ ap (λ (j : List ℕ). (done ++ take m l) ++ j) (sym tail) } in
+        let lo : length o₁ ≡ length base = ap length (w₁ .stands) ∙ omega (arith, length-append (done ++ take k l) (drop (to + k) base), length-drop (to + k) base, w₁ .long, ln) in
+        let block : take k (drop (from + m) s) ≡ take k (drop m l) = ap (take k) (sym (drop-drop m from s)) in
+        let lq : length (take k (drop (from + m) s)) ≡ k = length-take-le k (drop (from + m) s) (omega (arith, length-drop (from + m) s)) in
+        let e : to + m + k ≡ to + n = omega arith in
+        let v : Wrote o₁ ((done ++ take m l) ++ take k (drop (from + m) s)) o₂ (to + n) = rw e at (rw lq at (q .puts o₁ (done ++ take m l) w₂ (omega (arith, lq, lo, ln)))) in
+        let all : (done ++ take m l) ++ take k (drop (from + m) s) ≡ done ++ take n l
+        = append-assoc done (take m l) (take k (drop (from + m) s)) ∙ ap (λ (j : List ℕ). done ++ (take m l ++ j)) block
+        ∙ ap (λ (j : List ℕ). done ++ j) (sym (take-more m k l) ∙ ap (λ (j : ℕ). take j l) (let z : m + k ≡ n = omega arith in z)) in
+        let behind : drop (to + k) o₁ ≡ drop (to + k) base
+        = ap (drop (to + k)) (w₁ .stands) ∙ subst (λ (j : ℕ). drop j ((done ++ take k l) ++ drop (to + k) base) ≡ drop (to + k) base) (w₁ .long) (drop-append-seam (done ++ take k l) (drop (to + k) base)) in
+        let far : drop (to + n) o₁ ≡ drop (to + n) base
+        = ap (λ (j : ℕ). drop j o₁) (let z : to + n ≡ to + k + m = omega arith in z) ∙ sym (drop-drop m (to + k) o₁) ∙ ap (drop m) behind ∙ drop-drop m (to + k) base
+        ∙ ap (λ (j : ℕ). drop j base) (let z : to + k + m ≡ to + n = omega arith in z) in
+        rw ln (record { long = ap length (sym all) ∙ v .long; stands = v .stands ∙ ap (λ (j : List ℕ). j ++ drop (to + n) o₁) all ∙ ap (λ (j : List ℕ). (done ++ take n l) ++ j) far });
+  }
 
 few-runs : {s : List ℕ} {at to n r : ℕ} {out out′ : List ℕ} → FewPut s at to n out out′ r → at + n ≤ length s → Runs s at (at + r)
 few-runs {s} {at} {r = r} p l = runs-more (runs-none (omega arith)) r (omega (arith, p .within)) (p .alone)

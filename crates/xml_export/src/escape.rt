@@ -3,12 +3,13 @@ ghost use mathlib.Core.Path.{_≡_};
 ghost use mathlib.Core.Bool.{true, false, cond};
 ghost use mathlib.Core.List.{[], _∷_};
 ghost use Prim.Native.Nat.{_+_, _-_, _≤_, _<_};
-ghost use lib.ListN.{length, drop};
+ghost use lib.ListN.{length, take, drop};
 ghost use Rattle.xml_layout.specs.Xml.{escaped, escape};
 ghost use Rattle.xml_reading.specs.Written.{noncharacter};
 ghost use Rattle.xml_escape.specs.Runs.{AllOf};
+ghost use Rattle.xml_escape.specs.Quiet.{AllQuiet};
 ghost use Rattle.xml_escape.specs.Sizes.{item};
-ghost use Rattle.xml_escape.specs.Wrote.{PutTo, sets};
+ghost use Rattle.xml_escape.specs.Wrote.{Put, PutTo, sets};
 ghost use Rattle.xml_export.specs.Gathering.{sizeOf};
 ghost use Rattle.xml_export.specs.Escaping.{Alone, byteSize, Grows, Runs, FewPut, RunPut, EntityPut};
 
@@ -82,7 +83,7 @@ fn worth(counts: bool, n: u8) -> u8
 fn extra(b: u8) -> u8
     ensures { λ r. ⌜ (1 + r ≡ length (escaped b)) × (r ≤ 5) ⌝ }
 {
-    worth(b == 0x26, 4) + worth(b == 0x3C, 3) + worth(b == 0x3E, 3) + worth(b == 0x22, 5)
+    worth(b == 0x26, 4) + worth((b == 0x3C) | (b == 0x3E), 3) + worth(b == 0x22, 5)
 }
 
 // Whether a byte may start a character that is not written.
@@ -157,15 +158,35 @@ fn filled_size(text: &[u8]) -> Sizing
     Sizing::Size(size)
 }
 
-// The same: an empty text is told by one test.
-pub(crate) fn text_size(text: &[u8]) -> Sizing
-    requires { ⌜ length (now text) ≤ 16777216 ⌝ }
-    ensures { λ r. ⌜ r ≡ sizeOf (now (text .entry)) ⌝ }
+// Whether a text of 8 to 32 bytes from `first` on is quiet: 32 bytes of the file are looked at at once.
+fn quiet_short(file: &[u8], first: usize, n: usize) -> bool
+    ensures { λ r. ⌜ (r ≡ true → AllQuiet 0xFF (now (file .entry)) first n) ⌝ }
 {
-    if text.len() == 0 {
+    if n < 8 {
+        return false;
+    }
+    if 32 < n {
+        return false;
+    }
+    if n <= xml_escape::quiet_start(file, first) {
+        return true;
+    }
+    false
+}
+
+// The same as `filled_size` for the n bytes of a file from `first` on: an empty text is told by one test, and a short one at once where it is quiet.
+pub(crate) fn text_size(file: &[u8], first: usize, n: usize) -> Sizing
+    requires { ⌜ (length (now file) ≤ 16777216) × (first + n ≤ length (now file)) ⌝ }
+    ensures { λ r. ⌜ r ≡ sizeOf (take n (drop first (now (file .entry)))) ⌝ }
+{
+    if n == 0 {
         return Sizing::Size(0);
     }
-    filled_size(text)
+    if quiet_short(file, first, n) {
+        return Sizing::Size(n);
+    }
+    let end = first + n;
+    filled_size(&file[first..end])
 }
 
 // Whether a byte of a text is written as an entity, in one expression: blocks of it are fast.
@@ -250,9 +271,64 @@ fn put_few(text: &[u8], out: &mut [u8], at: usize, to: usize, n: usize) -> usize
     k
 }
 
+// Four bytes into the output: the compiler stores them at once.
+fn put_four(out: &mut [u8], to: usize, a: u8, b: u8, c: u8, d: u8)
+    requires { ⌜ to + 4 ≤ length (now out) ⌝ }
+    ensures { λ _. ⌜ now (out .exit) ≡ sets (now (out .entry)) to 0 (a ∷ b ∷ c ∷ d ∷ []) ⌝ }
+{
+    out[to] = a;
+    out[to + 1] = b;
+    out[to + 2] = c;
+    out[to + 3] = d;
+}
+
+// Sixteen bytes from `from` on into the output, all read before the first is put: the compiler loads and stores them at once.
+fn put_sixteen(text: &[u8], out: &mut [u8], from: usize, to: usize)
+    requires { ⌜ (from + 16 ≤ length (now text)) × (to + 16 ≤ length (now out)) ⌝ }
+    ensures { λ _. ⌜ Put (take 16 (drop from (now (text .entry)))) to (now (out .entry)) (now (out .exit)) ⌝ }
+{
+    let second = from + 4;
+    let third = from + 8;
+    let fourth = from + 12;
+    let a0 = text[from];
+    let a1 = text[from + 1];
+    let a2 = text[from + 2];
+    let a3 = text[from + 3];
+    let b0 = text[second];
+    let b1 = text[second + 1];
+    let b2 = text[second + 2];
+    let b3 = text[second + 3];
+    let c0 = text[third];
+    let c1 = text[third + 1];
+    let c2 = text[third + 2];
+    let c3 = text[third + 3];
+    let d0 = text[fourth];
+    let d1 = text[fourth + 1];
+    let d2 = text[fourth + 2];
+    let d3 = text[fourth + 3];
+    put_four(out, to, a0, a1, a2, a3);
+    put_four(out, to + 4, b0, b1, b2, b3);
+    put_four(out, to + 8, c0, c1, c2, c3);
+    put_four(out, to + 12, d0, d1, d2, d3);
+}
+
+// n bytes from `from` on, 32 at most, into the output: 16 or more by two blocks of 16 that may overlap.
+fn put_near(text: &[u8], out: &mut [u8], from: usize, to: usize, n: usize)
+    requires { ⌜ (from + n ≤ length (now text)) × (to + n ≤ length (now out)) × (n ≤ 32) ⌝ }
+    ensures { λ _. ⌜ Put (take n (drop from (now (text .entry)))) to (now (out .entry)) (now (out .exit)) ⌝ }
+{
+    if n < 16 {
+        fill::copy(out, to, text, from, n);
+        return;
+    }
+    let more = n - 16;
+    put_sixteen(text, out, from, to);
+    put_sixteen(text, out, from + more, to + more);
+}
+
 // Puts such bytes from `from` on: up to the first of 32 that is not, or blocks; none where fewer than 32 are left. Answers where they end.
 fn put_far(text: &[u8], out: &mut [u8], from: usize, to: usize) -> usize
-    requires { ⌜ from ≤ length (now text) ⌝ }
+    requires { ⌜ (from ≤ length (now text)) × (to + (length (now text) - from) ≤ length (now out)) ⌝ }
     ensures { λ r. ⌜ RunPut (now (text .entry)) from to (now (out .entry)) (now (out .exit)) r ⌝ }
 {
     if text.len() - from < 32 {
@@ -260,7 +336,7 @@ fn put_far(text: &[u8], out: &mut [u8], from: usize, to: usize) -> usize
     }
     let n = first_sign(text, from);
     if n < 32 {
-        fill::copy(out, to, text, from, n);
+        put_near(text, out, from, to, n);
         return from + n;
     }
     let end = plain_blocks(text, from + 32);
@@ -284,29 +360,18 @@ fn put_run(text: &[u8], out: &mut [u8], from: usize, to: usize) -> usize
     put_far(text, out, from + 8, to + 8)
 }
 
-// Four bytes into the output: the compiler stores them at once.
-fn put_four(out: &mut [u8], to: usize, a: u8, b: u8, c: u8, d: u8)
-    requires { ⌜ to + 4 ≤ length (now out) ⌝ }
-    ensures { λ _. ⌜ now (out .exit) ≡ sets (now (out .entry)) to 0 (a ∷ b ∷ c ∷ d ∷ []) ⌝ }
-{
-    out[to] = a;
-    out[to + 1] = b;
-    out[to + 2] = c;
-    out[to + 3] = d;
-}
-
-// The entity of a byte into the output; answers how many bytes it has, none for a byte that has none, where nothing is put.
+// The entity of a byte into the output; answers how many bytes it has, none for a byte that has none, where nothing is put. `&` is told first, then letters.
 fn put_entity(out: &mut [u8], to: usize, b: u8) -> usize
     requires { ⌜ to + length (escaped b) ≤ length (now out) ⌝ }
     ensures { λ r. ⌜ EntityPut b to (now (out .entry)) (now (out .exit)) r ⌝ }
 {
-    if 0x3E < b {
-        return 0;
-    }
     if b == 0x26 {
         put_four(out, to, 0x26, 0x61, 0x6D, 0x70);
         out[to + 4] = 0x3B;
         return 5;
+    }
+    if 0x3E < b {
+        return 0;
     }
     if b == 0x3C {
         put_four(out, to, 0x26, 0x6C, 0x74, 0x3B);
@@ -348,15 +413,51 @@ fn put_text(text: &[u8], out: &mut [u8], to: usize) -> usize
     j
 }
 
-// The item of a text into the output, `<Item>` and `</Item>` byte by byte; answers where it ends.
-pub(crate) fn put_item(text: &[u8], out: &mut [u8], to: usize) -> usize
-    requires { ⌜ to + length (item (now text)) ≤ length (now out) ⌝ }
-    ensures { λ r. ⌜ PutTo (item (now (text .entry))) to (now (out .entry)) (now (out .exit)) r ⌝ }
+// Whether each of the 8 to 32 bytes of a text from `first` on is written as it is: 32 bytes of the file are looked at at once.
+fn plain_short(file: &[u8], first: usize, n: usize) -> bool
+    requires { ⌜ first ≤ length (now file) ⌝ }
+    ensures { λ r. ⌜ (r ≡ true → AllOf Alone (now (file .entry)) first n) ⌝ }
+{
+    if n < 8 {
+        return false;
+    }
+    if 32 < n {
+        return false;
+    }
+    if file.len() - first < 32 {
+        return false;
+    }
+    if n <= first_sign(file, first) {
+        return true;
+    }
+    false
+}
+
+// The text of n bytes of a file from `first` on into the output: none at once, a short one by one copy where it is plain; answers where it ends.
+fn put_part(file: &[u8], out: &mut [u8], first: usize, n: usize, to: usize) -> usize
+    requires { ⌜ (first + n ≤ length (now file)) × (to + length (escape (take n (drop first (now file)))) ≤ length (now out)) ⌝ }
+    ensures { λ r. ⌜ PutTo (escape (take n (drop first (now (file .entry))))) to (now (out .entry)) (now (out .exit)) r ⌝ }
+{
+    if n == 0 {
+        return to;
+    }
+    if plain_short(file, first, n) {
+        fill::copy(out, to, file, first, n);
+        return to + n;
+    }
+    let end = first + n;
+    put_text(&file[first..end], out, to)
+}
+
+// The item of such a text into the output, `<Item>` and `</Item>` byte by byte; answers where it ends.
+pub(crate) fn put_item(file: &[u8], out: &mut [u8], first: usize, n: usize, to: usize) -> usize
+    requires { ⌜ (first + n ≤ length (now file)) × (to + length (item (take n (drop first (now file)))) ≤ length (now out)) ⌝ }
+    ensures { λ r. ⌜ PutTo (item (take n (drop first (now (file .entry))))) to (now (out .entry)) (now (out .exit)) r ⌝ }
 {
     put_four(out, to, 0x3C, 0x49, 0x74, 0x65);
     out[to + 4] = 0x6D;
     out[to + 5] = 0x3E;
-    let end = put_text(text, out, to + 6);
+    let end = put_part(file, out, first, n, to + 6);
     put_four(out, end, 0x3C, 0x2F, 0x49, 0x74);
     out[end + 4] = 0x65;
     out[end + 5] = 0x6D;

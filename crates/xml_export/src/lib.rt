@@ -36,8 +36,7 @@ fn row_size(file: &[u8], words: &[u32], row: u32) -> RowSize
     match lookups::text(file, words, RowNumber(row)) {
         Span::Refused(_, _) => RowSize::Null,
         Span::Found(first, n) => {
-            let end = first + n;
-            match escape::text_size(&file[first..end]) {
+            match escape::text_size(file, first, n) {
                 Sizing::Unwritten => RowSize::Unwritten,
                 Sizing::Size(size) => RowSize::Size(size),
             }
@@ -82,10 +81,7 @@ fn put_row(file: &[u8], words: &[u32], out: &mut [u8], row: u32, to: usize) -> u
 {
     match lookups::text(file, words, RowNumber(row)) {
         Span::Refused(_, _) => to,
-        Span::Found(first, n) => {
-            let end = first + n;
-            escape::put_item(&file[first..end], out, to)
-        }
+        Span::Found(first, n) => escape::put_item(file, out, first, n, to),
     }
 }
 
@@ -148,7 +144,15 @@ fn listed_reader(file: &[u8], enums: &[u8], codes: &mut [u32], id: u32) -> bool
     }
 }
 
-// The same where the file lists at most 8 readers, and at most 64: no more codes are cleared than so many readers need.
+// The same where the file lists at most 2 readers, at most 8, and at most 64: no more codes are cleared than so many readers need.
+fn of_two(file: &[u8], enums: &[u8], id: u32) -> bool
+    requires { ⌜ (length (now file) ≤ 16777216) × (enough (now file) 10 (codesFor 2) ≡ true) ⌝ }
+    ensures { λ r. ⌜ TextsReader (now (enums .entry)) (now (file .entry)) id r ⌝ }
+{
+    let mut codes = [0u32; 292];
+    listed_reader(file, enums, &mut codes, id)
+}
+
 fn of_few(file: &[u8], enums: &[u8], id: u32) -> bool
     requires { ⌜ (length (now file) ≤ 16777216) × (enough (now file) 10 (codesFor 8) ≡ true) ⌝ }
     ensures { λ r. ⌜ TextsReader (now (enums .entry)) (now (file .entry)) id r ⌝ }
@@ -171,8 +175,11 @@ fn texts_reader(file: &[u8], enums: &[u8], id: u32) -> bool
     ensures { λ r. ⌜ TextsReader (now (enums .entry)) (now (file .entry)) id r ⌝ }
 {
     match readers::reader_count(file, readers::START) {
-        Number::Refused(_, _) => of_few(file, enums, id),
+        Number::Refused(_, _) => of_two(file, enums, id),
         Number::Read(n, _) => {
+            if n <= 2 {
+                return of_two(file, enums, id);
+            }
             if n <= 8 {
                 return of_few(file, enums, id);
             }

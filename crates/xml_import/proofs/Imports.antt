@@ -1,15 +1,13 @@
 -- What importing answers, and the whole file in the output. Assumes nothing.
-use mathlib.Core.Path.{_≡_, refl, sym, ap, subst, _∙_}
-use mathlib.Core.Bool.{true, false}
+use mathlib.Core.Path.{_≡_, refl, sym, ap, _∙_}
 use mathlib.Core.List.{List, [], _∷_, _++_, append-assoc}
 use Prim.Native.Nat.{ℕ, _+_, _≤_, _<_}
 use native.Mathlib.Omega.{arith}
-use lib.Dec.{leb}
 use lib.ListN.{length, take, drop}
 use borrow.Author.Tests.{le-leb, lt-leb}
 use Rattle.layout.specs.Number.{little}
 use Rattle.layout.specs.Text.{ascii}
-use Rattle.layout.specs.Tree.{none, tree, count}
+use Rattle.layout.specs.Tree.{count}
 use Rattle.layout.specs.File.{sharedOf, header}
 use Rattle.layout.specs.Shortest.{shortest, fewest, short, shortEntry, shortEntries, shortLists, shortBody, shortFile}
 use Rattle.fill.specs.Fill.{copied}
@@ -114,8 +112,8 @@ module _ {xml : List ℕ} {many size : ℕ} (f : Found xml many size) (out : ℕ
       unfolding fitted
       enough h = within-limits ∙ rw (le-leb (length (shortFile (treeOf (f .ts)))) out (omega (arith, f .sized)))
 
-      pub fits : {n : ℕ} → n ≡ out → size ≤ out → Fits xml many n
-      fits e h = record { ts = f .ts; is = f .is; many = f .counted; short-file = omega (arith, f .sized); room = omega (arith, f .sized) }
+      pub fits : {n : ℕ} → n ≡ out → size ≤ out → Fits xml many size n
+      fits e h = record { ts = f .ts; is = f .is; many = f .counted; sized = f .sized; short-file = omega (arith, f .sized); room = omega (arith, f .sized) }
 
 -- the file is written
 pub written-answer : {xml : List ℕ} {many size : ℕ} (f : Found xml many size) (out mid end : List ℕ) → many ≤ 65535 → size ≤ 16777216 → size ≤ length out

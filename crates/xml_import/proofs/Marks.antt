@@ -45,6 +45,10 @@ stops-at r m = record { passed = r; marked = m }
 pub stops-by : {s : List ℕ} {i n r : ℕ} → Before s i n r → r < n → i + n ≤ length s → Stops s i (i + r)
 stops-by {s} {i} {n} {r} b h l = record { passed = passed-more (passed-none (omega arith)) r (omega (arith, b .within)) (b .unmarked); marked = λ g. b .marked h }
 
+-- a run, and r of n bytes behind it
+pub stops-past : {s : List ℕ} {from i n r : ℕ} → Passed s from i → Before s i n r → r < n → i + n ≤ length s → Stops s from (i + r)
+stops-past p b h l = record { passed = passed-more p _ (omega (arith, b .within)) (b .unmarked); marked = λ g. b .marked h }
+
 -- all n bytes, and a run behind them
 pub stops-on : {s : List ℕ} {i n r to : ℕ} → Before s i n r → n ≤ r → i + n ≤ length s → Stops s (i + n) to → Stops s i to
 stops-on {s} {i} {n} {r} {to} b h l t =

@@ -1,14 +1,12 @@
 -- Runs of characters that stand as they are. Assumes nothing.
 use mathlib.Core.Path.{_≡_, refl, sym, ap, subst, _∙_}
-use mathlib.Core.Bool.{Bool, true, false}
 use mathlib.Core.List.{List, [], _∷_, _++_, append-nil, append-assoc}
 use mathlib.Core.Logic.{_⊎_, inl, inr}
 use Prim.Native.Nat.{ℕ, zero, suc, _+_, _-_, _≤_, _<_}
 use native.Mathlib.Omega.{arith}
 use native.Mathlib.Decide.{decLe}
-use lib.Dec.{eqb}
 use lib.ListN.{length, take, drop, getD, length-append, length-drop, take-append-drop, List·getD-append}
-use lib.Seq.{drop-cons, length-take-le, take-append-seam, take-append-add, drop-append-seam, getD-drop}
+use lib.Seq.{length-take-le, take-append-add, getD-drop}
 use borrow.Author.Tests.{ne-eqb}
 use Rattle.laws.specs.Small.{differ}
 use Rattle.layout.specs.Text.{ascii, Utf8, one, two, three, four, Utf8s, end, then}
@@ -17,16 +15,15 @@ use Rattle.reading.specs.Reads.{seam}
 use Rattle.xml_layout.specs.Xml.{itemEnd}
 use Rattle.xml_escape.specs.Quiet.{Quiet, AllQuiet, Ran}
 use Rattle.xml_escape.specs.Wrote.{Wrote, Put}
-use Rattle.xml_reading.specs.Match.{Match, fails, takes, Told, failed, taken as taken-of, literal, shifted, before, oneOf, until}
+use Rattle.xml_reading.specs.Match.{Match, fails, takes, Told, failed, taken as taken-of, Matches, Is, literal, literal-matches, shifted, before, oneOf, until}
 use Rattle.xml_reading.specs.Text as T
 use Rattle.xml_reading.specs.Text.{Plain, Character, joined, character-matches, character-some}
 use Rattle.xml_reading.specs.Plain.{plain-matches}
 use Rattle.xml_reading.specs.Steps.{resumed, until-step, first-taken}
 use Rattle.xml_import.specs.Places.{TakesAt, part, Chars, CharsStand, Known, Runs, Unmarked, AllUnmarked, Passed, character}
-use Rattle.xml_import.specs.Puts.{textIn}
 use Rattle.xml_escape.specs.Runs.{cons-at}
 use Rattle.xml_import.proofs.Literals.{literal-fails}
-use Rattle.xml_import.proofs.Texts.{Reading, more}
+use Rattle.xml_import.proofs.Texts.{Reading, start, more}
 use Rattle.xml_import.proofs.Writing.{Putting, size-is}
 
 -- ---- Quiet bytes are characters that stand as they are
@@ -219,6 +216,10 @@ run-on {xml} {at} {i} {size} {run} r s =
     let z : i + length (joined (s .chars)) ≡ run = omega (arith, n, s .forward) in
     rw (z, n) at (many-on xml at (s .chars) (s .plain) i size (drop (run - i) (drop i xml)) (chars-here s) r)
 
+-- from the start of a text
+pub opened : {xml : List ℕ} {at run : ℕ} → at ≤ length xml → CharsStand xml at run → Reading xml at run (run - at)
+opened {xml} {at} {run} h s = let z : 0 + (run - at) ≡ run - at = omega arith in rw z at (run-on (start h) s)
+
 -- what is left of a text that was taken before
 pub known-on : {xml : List ℕ} {at i size : ℕ} → Reading xml at i size → Known xml at → Known xml i
 unfolding resumed
@@ -248,19 +249,36 @@ later-byte (four g f) (suc (suc (suc (suc k)))) h l = absurd (omega arith)
 abbrev pub Apart : (xml : List ℕ) (i : ℕ) → Type 0
 Apart xml i = i < length xml → (getD xml i 0 < 0x80) ⊎ (0xC0 ≤ getD xml i 0)
 
+module _ {U : List ℕ → List ℕ → Type 0} {u : List ℕ → Match (List ℕ)} (w : List ℕ) (x : Matches U u) (some : (a form : List ℕ) → U a form → 1 ≤ length form) where
+  -- where the literal does not stand, the forms do not end
+  none-left : (l : List ℕ) {n : ℕ} → literal w l ≡ fails n → (rest : List ℕ) → until u w l ≡ takes [] rest → ⊥
+  unfolding oneOf shifted before
+  none-left l {n} f rest e = go (u l) refl (sym (until-step w x some l) ∙ e) where
+    by : (k : ℕ) (t : List ℕ) (m : Match (List (List ℕ))) → shifted k (before t m) ≡ takes [] rest → ⊥
+    by k t (fails j) e = differ cc
+    by k t (takes us r) e = let z : _≡_ {A = List (List ℕ)} (t ∷ us) [] = cc in differ cc
+
+    go : (m : Match (List ℕ)) → u l ≡ m → oneOf l (literal w l) (u l) (λ v. until u w v) ≡ takes [] rest → ⊥
+    go (fails j) q e =
+        let z : oneOf l (fails n) (fails j) (λ v. until u w v) ≡ takes [] rest = rw (f, q) at e in
+        differ cc
+    go (takes t r) q e = by (length l - length r) t (until u w r) (rw (f, q) at e)
+
+  -- where they end, it stands
+  pub ended-here : (l rest : List ℕ) → until u w l ≡ takes [] rest → l ≡ w ++ rest
+  unfolding oneOf
+  ended-here l rest e = go (literal w l) refl (literal-matches w .tells l) where
+    go : (o : Match (Unit {0})) → literal w l ≡ o → Told (Is w) l o → l ≡ w ++ rest
+    go o q (failed g) = absurd (none-left l q rest e)
+    go o q (taken-of {rest = r} form f d) =
+        let v : until u w l ≡ takes [] r = until-step w x some l ∙ rw q in
+        let s : _≡_ {A = Match (List (List ℕ))} (takes [] r) (takes [] rest) = sym v ∙ e in
+        let z : r ≡ rest = cc in
+        d ∙ ap (λ (k : List ℕ). k ++ r) f ∙ ap (λ (k : List ℕ). w ++ k) z
+
 -- where the item's end does not stand, the text does not end
 pub not-ended : (l : List ℕ) {n : ℕ} → literal itemEnd l ≡ fails n → (rest : List ℕ) → until character itemEnd l ≡ takes [] rest → ⊥
-unfolding oneOf shifted before
-not-ended l {n} f rest e = go (character l) refl (sym (until-step itemEnd (character-matches plain-matches) character-some l) ∙ e) where
-  by : (k : ℕ) (t : List ℕ) (m : Match (List (List ℕ))) → shifted k (before t m) ≡ takes [] rest → ⊥
-  by k t (fails j) e = differ cc
-  by k t (takes us r) e = let z : _≡_ {A = List (List ℕ)} (t ∷ us) [] = cc in differ cc
-
-  go : (m : Match (List ℕ)) → character l ≡ m → oneOf l (literal itemEnd l) (character l) (λ v. until character itemEnd v) ≡ takes [] rest → ⊥
-  go (fails j) q e =
-      let z : oneOf l (fails n) (fails j) (λ v. until character itemEnd v) ≡ takes [] rest = rw (f, q) at e in
-      differ cc
-  go (takes t r) q e = by (length l - length r) t (until character itemEnd r) (rw (f, q) at e)
+not-ended = none-left itemEnd (character-matches plain-matches) character-some
 
 module _ (xml : List ℕ) (i n : ℕ) (h : i + suc n ≤ length xml) (q : AllUnmarked xml i (suc n)) where
   here-unmarked : Unmarked (getD xml i 0)

@@ -1,22 +1,22 @@
 -- The Strings of an imported file, put one after the other. Assumes nothing.
 use mathlib.Core.Path.{_≡_, refl, sym, ap, subst, _∙_}
-use mathlib.Core.Bool.{Bool, true, false, cond}
+use mathlib.Core.Bool.{true}
 use mathlib.Core.List.{List, [], _∷_, _++_, append-nil, append-assoc}
 use Prim.Native.Nat.{ℕ, _+_, _-_, _^_, _≤_, _<_}
 use native.Mathlib.Omega.{arith}
 use lib.Dec.{leb}
-use lib.ListN.{length, take, drop, length-append, length-drop}
+use lib.ListN.{length, take, drop, set, length-append, length-drop}
 use lib.Seq.{drop-drop, take-append-seam, drop-append-seam}
 use borrow.Author.Tests.{le-leb}
 use Rattle.laws.specs.Small.{differ}
 use Rattle.layout.specs.Text.{ascii}
 use Rattle.layout.specs.Tree.{none}
-use Rattle.layout.specs.Shortest.{shortest, fewest, numbered, idBytes, body, short, shortFile}
-use Rattle.fill.specs.Fill.{copied}
+use Rattle.layout.specs.Shortest.{shortest, fewest, numbered, idBytes, body, short}
 use Rattle.numbers.specs.Shortest.{writtenAt}
+use Rattle.reading.specs.Reads.{seam}
 use Rattle.xml_layout.specs.Xml.{itemStart, itemEnd, documentStart, documentEnd}
-use Rattle.xml_layout.specs.Tree.{textTrees, treeOf}
-use Rattle.xml_reading.specs.Match.{Match, fails, takes, Told, failed, taken as taken-of, shifted, literal, literal-matches, followed, mapped, until, Document, other, document, whole}
+use Rattle.xml_layout.specs.Tree.{textTrees}
+use Rattle.xml_reading.specs.Match.{Match, fails, takes, Told, failed, taken as taken-of, shifted, literal, literal-matches, followed, mapped, until, other, document, whole as whole-xml}
 use Rattle.xml_reading.specs.Text as T
 use Rattle.xml_reading.specs.Text.{joined}
 use Rattle.xml_reading.specs.Plain.{plain-matches}
@@ -25,14 +25,16 @@ use Rattle.xml_reading.specs.Document.{item-matches, item-some}
 use Rattle.xml_reading.specs.Import.{textsOf}
 use Rattle.xml_reading.specs.Strings.{short-more, built-length}
 use Rattle.xml_reading.specs.Steps.{first-taken}
-use Rattle.xml_escape.specs.Wrote.{Wrote, wrote-copy}
+use Rattle.xml_escape.specs.Wrote.{Wrote, Put, wrote-one, put-one}
 use Rattle.xml_import.specs.declared.Texted.{Texted}
 use Rattle.xml_import.specs.declared.Texted.the-variants as texted
 use Rattle.xml_import.specs.Places.{FailsAt, TakesAt, Known, TextAt, character, text}
-use Rattle.xml_import.specs.Puts.{taken, textIn, Ready, Verbatim, TextPut, stringBytes, StringPut, Fits, StringsPut}
+use Rattle.xml_import.specs.Puts.{taken, textIn, Last, LastIf, Ready, Verbatim, TextPut, stringBytes, StringPut, Fits, StringsPut}
 use Rattle.xml_import.proofs.Whole.{item, texts, short-last}
 use Rattle.xml_import.proofs.Writing.{text-joined}
-use Rattle.xml_import.proofs.Wholes.{whole-text}
+use Rattle.xml_import.proofs.Wholes.{whole, whole-text}
+use Rattle.xml_import.proofs.Runs.{ended-here}
+use Rattle.xml_import.proofs.Lengths.{short-one}
 
 -- ---- A String
 
@@ -48,28 +50,35 @@ wrote-shortest {base} {done} {out} {out′} {to} w n h e =
     ∙ ap (drop m) (subst (λ (k : ℕ). drop k (done ++ drop to base) ≡ drop to base) (w .long) (drop-append-seam done (drop to base))) ∙ drop-drop m to base in
     record { long = length-append done (shortest n) ∙ omega (arith, w .long); stands = e ∙ rw (p, a, b) }
 
-module _ {xml : List ℕ} {at : ℕ} (to : ℕ) {size : ℕ} (o₀ o₁ o₂ o₃ : List ℕ) {e : ℕ} (r : Ready xml at size)
-    (e₁ : o₁ ≡ copied o₀ to (2 ∷ []) 0 1) (e₂ : o₂ ≡ writtenAt o₁ (to + 1) size) (ee : e ≡ length (shortest size)) (tp : TextPut xml at (to + 1 + e) size o₂ o₃) where
+-- a length of one byte, and any length
+pub put-small : {out out′ : List ℕ} {to : ℕ} (n : ℕ) → n < 128 → out′ ≡ set out to n → Put (shortest n) to out out′
+put-small n h e = rw (short-one n h) (put-one n e)
+
+pub put-shortest : {out out′ : List ℕ} {to : ℕ} (n : ℕ) → out′ ≡ writtenAt out to n → Put (shortest n) to out out′
+put-shortest n e = record { puts = λ base done w h. wrote-shortest w n h e }
+
+module _ {xml : List ℕ} {at : ℕ} (to : ℕ) {size begin : ℕ} (o₀ o₁ o₂ o₃ : List ℕ) (r : Ready xml at size)
+    (e : o₁ ≡ set o₀ to 2) (p : Put (shortest size) (to + 1) o₁ o₂) (b : begin ≡ to + 1 + length (shortest size)) (tp : TextPut xml at begin size o₂ o₃) where
   abbrev t : List ℕ
   t = textIn xml at
 
   sz : size ≡ length t
   sz = r .sized ∙ ap length (sym (text-joined r))
 
-  ends-at : to + 1 + e + size ≡ to + length (stringBytes t)
-  ends-at = omega (arith, ee, sz, ap (λ (k : ℕ). length (shortest k)) sz, length-append (shortest (length t)) t)
+  ends-at : begin + size ≡ to + length (stringBytes t)
+  ends-at = omega (arith, b, sz, ap (λ (k : ℕ). length (shortest k)) sz, length-append (shortest (length t)) t)
 
-  puts-it : (base done : List ℕ) → Wrote base done o₀ to → to + 1 + length (shortest size) + size ≤ length base → Wrote base (done ++ stringBytes t) o₃ (to + 1 + e + size)
+  puts-it : (base done : List ℕ) → Wrote base done o₀ to → to + 1 + length (shortest size) + size ≤ length base → Wrote base (done ++ stringBytes t) o₃ (begin + size)
   unfolding TextPut
   puts-it base done w h =
-      let w₁ : Wrote base (done ++ (2 ∷ [])) o₁ (to + 1) = wrote-copy w (2 ∷ []) 0 1 (omega arith) (omega arith) e₁ in
-      let w₂ : Wrote base ((done ++ (2 ∷ [])) ++ shortest size) o₂ (to + 1 + e) = rw ee (wrote-shortest w₁ size (omega arith) e₂) in
-      let w₃ : Wrote base (((done ++ (2 ∷ [])) ++ shortest size) ++ t) o₃ (to + 1 + e + size) = tp base ((done ++ (2 ∷ [])) ++ shortest size) w₂ (omega arith) in
+      let w₁ : Wrote base (done ++ (2 ∷ [])) o₁ (to + 1) = wrote-one 2 w (omega arith) e in
+      let w₂ : Wrote base ((done ++ (2 ∷ [])) ++ shortest size) o₂ begin = rw b (p .puts base (done ++ (2 ∷ [])) w₁ (omega arith)) in
+      let w₃ : Wrote base (((done ++ (2 ∷ [])) ++ shortest size) ++ t) o₃ (begin + size) = tp base ((done ++ (2 ∷ [])) ++ shortest size) w₂ (omega (arith, b)) in
       let a : ((done ++ (2 ∷ [])) ++ shortest size) ++ t ≡ done ++ ((2 ∷ []) ++ (shortest (length t) ++ t))
       = ap (λ (l : List ℕ). l ++ t) (append-assoc done (2 ∷ []) (shortest size)) ∙ append-assoc done ((2 ∷ []) ++ shortest size) t ∙ ap (λ (k : ℕ). done ++ ((2 ∷ []) ++ (shortest k ++ t))) sz in
-      subst (λ (l : List ℕ). Wrote base l o₃ (to + 1 + e + size)) a w₃
+      subst (λ (l : List ℕ). Wrote base l o₃ (begin + size)) a w₃
 
-  pub string-put : StringPut xml at to size o₀ o₃ (to + 1 + e + size)
+  pub string-put : StringPut xml at to size o₀ o₃ (begin + size)
   unfolding StringPut
   string-put = (ends-at, puts-it)
 
@@ -77,9 +86,9 @@ module _ {xml : List ℕ} {at : ℕ} (to : ℕ) {size : ℕ} (o₀ o₁ o₂ o�
 
 -- the texts from byte 73 on
 pub after-start : (xml : List ℕ) (ts : List (List ℕ)) → textsOf xml ≡ document ts → (73 ≤ length xml) × (until item documentEnd (drop 73 xml) ≡ takes ts [])
-unfolding D.documentOf D.texts whole followed shifted documentStart ascii
+unfolding D.documentOf D.texts whole-xml followed shifted documentStart ascii
 after-start xml ts e = go (literal documentStart xml) (literal-matches documentStart .tells xml) e where
-  all : (m : Match (List (List ℕ))) → whole xml m ≡ document ts → m ≡ takes ts []
+  all : (m : Match (List (List ℕ))) → whole-xml xml m ≡ document ts → m ≡ takes ts []
   all (fails n) q = differ cc
   all (takes us []) q = let z : us ≡ ts = cc in rw z
   all (takes us (b ∷ l)) q = differ cc
@@ -88,7 +97,7 @@ after-start xml ts e = go (literal documentStart xml) (literal-matches documentS
   unshifted k (fails n) q = differ cc
   unshifted k (takes us r) q = q
 
-  go : (o : Match (Unit {0})) → Told (λ u bs. bs ≡ documentStart) xml o → whole xml (followed xml o (λ u rest. until item documentEnd rest)) ≡ document ts
+  go : (o : Match (Unit {0})) → Told (λ u bs. bs ≡ documentStart) xml o → whole-xml xml (followed xml o (λ u rest. until item documentEnd rest)) ≡ document ts
       → (73 ≤ length xml) × (until item documentEnd (drop 73 xml) ≡ takes ts [])
   go o (failed g) q = differ cc
   go o (taken-of {rest = rest} form f p) q =
@@ -111,6 +120,39 @@ item-text l t more e = go (literal itemStart l) (literal-matches itemStart .tell
       let d : drop 6 l ≡ rest = ap (drop 6) x in
       (omega (arith, ap length x, length-append itemStart rest), ap text d ∙ unshifted (length l - length rest) (text rest) q)
 
+text-forms : (l t more : List ℕ) → text l ≡ takes t more → (us : List (List ℕ)) × (until character itemEnd l ≡ takes us more) × (t ≡ joined us)
+unfolding T.text mapped
+text-forms l t more e = go (until character itemEnd l) refl e where
+  go : (m : Match (List (List ℕ))) → until character itemEnd l ≡ m → mapped joined m ≡ takes t more → (us : List (List ℕ)) × (until character itemEnd l ≡ takes us more) × (t ≡ joined us)
+  go (fails n) q e = differ cc
+  go (takes us r) q e = let a : joined us ≡ t = cc in let b : r ≡ more = cc in (us, q ∙ ap (takes us) b, sym a)
+
+told-text : (l t more : List ℕ) → text l ≡ takes t more → (form : List ℕ) × (l ≡ form ++ more)
+told-text l t more e = go (text l) (T.text-matches plain-matches .tells l) e where
+  go : (o : Match (List ℕ)) → Told T.Texted l o → o ≡ takes t more → (form : List ℕ) × (l ≡ form ++ more)
+  go o (failed x) q = differ cc
+  go o (taken-of {rest = r} form c d) q = let y : r ≡ more = cc in (form, d ∙ ap (λ (k : List ℕ). form ++ k) y)
+
+end-long : length documentEnd ≡ 21
+unfolding documentEnd ascii
+end-long = refl
+
+-- the last text ends 21 bytes before the XML does
+pub last-at : {xml : List ℕ} {at bytes r : ℕ} (v : Last xml at bytes) → at ≤ length xml → r ≡ length (v .t) → (28 ≤ length xml) × TextAt xml at (texted.Ends r (length xml - 21))
+unfolding TextAt
+last-at {xml} {at} {bytes} {r} v h e =
+    let f = told-text (drop at xml) (v .t) documentEnd (v .takes-it) in
+    let us = text-forms (drop at xml) (v .t) documentEnd (v .takes-it) in
+    let n = whole (us .0) (drop at xml) documentEnd (us .1) .0 in
+    let d : drop (at + length (f .0)) xml ≡ documentEnd = seam xml at (f .0) documentEnd [] (f .1 ∙ sym (append-nil (f .0 ++ documentEnd))) ∙ append-nil documentEnd in
+    let z : at + length (f .0) ≡ length xml - 21 = omega (arith, ap length (f .1), length-append (f .0) documentEnd, end-long, length-drop at xml, n) in
+    let far : length (v .t) + 28 ≤ length xml - at = omega (arith, n, end-long, ap length (us .2), length-drop at xml) in
+    (omega arith, (v .t, e, (v .takes-it ∙ ap (takes (v .t)) (sym d ∙ ap (λ (k : ℕ). drop k xml) z), omega arith, omega arith), omega arith))
+
+empty : (l : List (List ℕ)) → length l ≡ 0 → l ≡ []
+empty [] e = refl
+empty (x ∷ l) e = absurd (omega arith)
+
 -- ---- One after the other
 
 short-snoc : (ts : List (List ℕ)) (t : List ℕ) → short (textTrees (ts ++ t ∷ [])) ≡ short (textTrees ts) ++ stringBytes t
@@ -126,8 +168,8 @@ short-le [] c = omega arith
 short-le (u ∷ a) c = let x = short-more u a in let y = short-more u (a ++ c) in omega (arith, short-le a c, x, y)
 
 -- some of the texts are put, and the others stand in the XML from i on
-pub record Stringing (xml out₀ : List ℕ) (count : ℕ) (out : List ℕ) (i to k : ℕ) : Type 0 where
-  pub fits : Fits xml count (length out₀)
+pub record Stringing (xml out₀ : List ℕ) (count size : ℕ) (out : List ℕ) (i to k : ℕ) : Type 0 where
+  pub fits : Fits xml count size (length out₀)
   pub put : List (List ℕ)
   pub left : List (List ℕ)
   pub split : fits .ts ≡ put ++ left
@@ -138,7 +180,7 @@ pub record Stringing (xml out₀ : List ℕ) (count : ℕ) (out : List ℕ) (i t
   pub same-size : length out ≡ length out₀
   pub wrote : (base done : List ℕ) → Wrote base done out₀ 133 → 133 + length (short (textTrees (fits .ts))) ≤ length base → Wrote base (done ++ short (textTrees put)) out to
 
-pub start : {xml out₀ : List ℕ} {count : ℕ} → Fits xml count (length out₀) → Stringing xml out₀ count out₀ 73 133 0
+pub start : {xml out₀ : List ℕ} {count size : ℕ} → Fits xml count size (length out₀) → Stringing xml out₀ count size out₀ 73 133 0
 unfolding short textTrees
 start {xml} {out₀} f =
     let a = after-start xml (f .ts) (f .is) in
@@ -155,7 +197,12 @@ start {xml} {out₀} f =
       wrote = λ base done w h. rw (append-nil done) w;
     }
 
-module _ {xml out₀ : List ℕ} {count : ℕ} {out : List ℕ} {i to k : ℕ} (s : Stringing xml out₀ count out i to k) where
+module _ {xml out₀ : List ℕ} {count size : ℕ} {out : List ℕ} {i to k : ℕ} (s : Stringing xml out₀ count size out i to k) where
+  pub place-inside : to ≤ size
+  place-inside =
+      let b = built-length (s .fits .ts) in
+      omega (arith, s .place, s .fits .sized, ap (λ (l : List (List ℕ)). length (short (textTrees l))) (s .split), short-le (s .put) (s .left))
+
   -- an item that is next
   pub record Next : Type 0 where
     pub t : List ℕ
@@ -192,22 +239,15 @@ module _ {xml out₀ : List ℕ} {count : ℕ} {out : List ℕ} {i to k : ℕ} (
       differ cc
 
   -- what is known of it, and what holds behind it
-  pub record Turned (size next : ℕ) : Type 0 where
-    pub ready : Ready xml (i + 6) size
-    pub small : size < 2 ^ 32
+  pub record Turned (bytes next : ℕ) : Type 0 where
+    pub ready : Ready xml (i + 6) bytes
+    pub small : bytes < 2 ^ 32
     pub after : i + 6 ≤ next
-    pub fits-word : size + 7 ≤ next - (i + 6)
+    pub fits-word : bytes + 7 ≤ next - (i + 6)
     pub inside-next : next ≤ length xml
-    pub whole-if : next - (i + 6) ≡ size + 7 → Verbatim xml (i + 6) size
-    pub room : to + 1 + length (shortest size) + size ≤ length out
-    pub turns : {out′ : List ℕ} {to′ : ℕ} → length out′ ≡ length out → StringPut xml (i + 6) to size out out′ to′ → Stringing xml out₀ count out′ next to′ (k + 1)
-
-  text-forms : (l t more : List ℕ) → text l ≡ takes t more → (us : List (List ℕ)) × (until character itemEnd l ≡ takes us more) × (t ≡ joined us)
-  unfolding T.text mapped
-  text-forms l t more e = go (until character itemEnd l) refl e where
-    go : (m : Match (List (List ℕ))) → until character itemEnd l ≡ m → mapped joined m ≡ takes t more → (us : List (List ℕ)) × (until character itemEnd l ≡ takes us more) × (t ≡ joined us)
-    go (fails n) q e = differ cc
-    go (takes us r) q e = let a : joined us ≡ t = cc in let b : r ≡ more = cc in (us, q ∙ ap (takes us) b, sym a)
+    pub whole-if : next - (i + 6) ≡ bytes + 7 → Verbatim xml (i + 6) bytes
+    pub room : to + 1 + length (shortest bytes) + bytes ≤ length out
+    pub turns : {out′ : List ℕ} {to′ : ℕ} → length out′ ≡ length out → StringPut xml (i + 6) to bytes out out′ to′ → Stringing xml out₀ count size out′ next to′ (k + 1)
 
   -- its text was taken before
   pub known-next : (h : k < count) → Known xml (i + 6)
@@ -216,25 +256,42 @@ module _ {xml out₀ : List ℕ} {count : ℕ} {out : List ℕ} {i to k : ℕ} (
       let f = text-forms (drop (i + 6) xml) (n .t) (n .more) (n .text-is) in
       (f .0, n .more, f .1)
 
-  pub turn : (h : k < count) {x : Texted} {size next : ℕ} → TextAt xml (i + 6) x → x ≡ texted.Ends size next → Turned size next
+  pub last-next : (h : k < count) → LastIf xml (i + 6) (count - k) (size - to)
+  last-next h one =
+      let n = next-item h in
+      let none : n .others ≡ [] = empty (n .others) (omega (arith, s .counted, s .fits .many, ap length (s .split), length-append (s .put) (s .left), ap length (n .is))) in
+      let rest : n .more ≡ documentEnd
+      = ended-here documentEnd (item-matches plain-matches) item-some (n .more) [] (n .then-them ∙ ap (λ (l : List (List ℕ)). takes l []) none) ∙ append-nil documentEnd in
+      let all : s .fits .ts ≡ s .put ++ n .t ∷ [] = s .split ∙ ap (λ (l : List (List ℕ)). s .put ++ l) (n .is ∙ ap (λ (l : List (List ℕ)). n .t ∷ l) none) in
+      let b = built-length (s .fits .ts) in
+      let c : length (short (textTrees (s .fits .ts))) ≡ length (short (textTrees (s .put))) + (1 + length (shortest (length (n .t))) + length (n .t))
+      = ap (λ (l : List (List ℕ)). length (short (textTrees l))) all ∙ short-last (s .put) (n .t) in
+      record {
+        t = n .t;
+        takes-it = n .text-is ∙ ap (takes (n .t)) rest;
+        long = omega (arith, s .fits .sized, s .place);
+        small = omega (arith, s .fits .short-file);
+      }
+
+  pub turn : (h : k < count) {x : Texted} {bytes next : ℕ} → TextAt xml (i + 6) x → x ≡ texted.Ends bytes next → Turned bytes next
   unfolding TextAt StringPut taken
-  turn h {x} {size} {next} v q =
-      let u : (t : List ℕ) × (size ≡ length t) × TakesAt (text (drop (i + 6) xml)) t xml (i + 6) next × (size + 7 ≤ next - (i + 6)) = rw q at v in
+  turn h {x} {bytes} {next} v q =
+      let u : (t : List ℕ) × (bytes ≡ length t) × TakesAt (text (drop (i + 6) xml)) t xml (i + 6) next × (bytes + 7 ≤ next - (i + 6)) = rw q at v in
       let n = next-item h in
       let z : takes (n .t) (n .more) ≡ takes (u .0) (drop next xml) = sym (n .text-is) ∙ u .2 .0 in
       let same-text : n .t ≡ u .0 = cc in
       let same-rest : n .more ≡ drop next xml = cc in
       let f = text-forms (drop (i + 6) xml) (n .t) (n .more) (n .text-is) in
-      let sz : size ≡ length (n .t) = u .1 ∙ ap length (sym same-text) in
+      let sz : bytes ≡ length (n .t) = u .1 ∙ ap length (sym same-text) in
       let whole-ts : s .fits .ts ≡ (s .put ++ n .t ∷ []) ++ n .others
       = s .split ∙ ap (λ (l : List (List ℕ)). s .put ++ l) (n .is) ∙ sym (append-assoc (s .put) (n .t ∷ []) (n .others)) in
       let more-bytes : length (short (textTrees (s .put))) + (1 + length (shortest (length (n .t))) + length (n .t)) ≤ length (short (textTrees (s .fits .ts)))
       = within (s .put ++ n .t ∷ []) (n .others) (s .fits .ts) whole-ts (short-last (s .put) (n .t)) in
-      let eq-short : length (shortest size) ≡ length (shortest (length (n .t))) = ap (λ (j : ℕ). length (shortest j)) sz in
+      let eq-short : length (shortest bytes) ≡ length (shortest (length (n .t))) = ap (λ (j : ℕ). length (shortest j)) sz in
       let b = built-length (s .fits .ts) in
       let in-text : textIn xml (i + 6) ≡ n .t = ap taken (n .text-is) in
       let new-bytes : short (textTrees (s .put ++ n .t ∷ [])) ≡ short (textTrees (s .put)) ++ stringBytes (n .t) = short-snoc (s .put) (n .t) in
-      let is-ready : Ready xml (i + 6) size = record { inside = n .at-text; us = f .0; rest = n .more; takes-them = f .1; sized = sz ∙ ap length (f .2) } in
+      let is-ready : Ready xml (i + 6) bytes = record { inside = n .at-text; us = f .0; rest = n .more; takes-them = f .1; sized = sz ∙ ap length (f .2) } in
       record {
         ready = is-ready;
         after = omega (arith, u .2 .1);
@@ -271,7 +328,4 @@ module _ {xml out₀ : List ℕ} {count : ℕ} {out : List ℕ} {i to k : ℕ} (
       let none-left : s .left ≡ [] = empty (s .left) (omega (arith, s .counted, s .fits .many, ap length (s .split), length-append (s .put) (s .left))) in
       let all-put : s .put ≡ ts = sym (append-nil (s .put)) ∙ ap (λ (l : List (List ℕ)). s .put ++ l) (sym none-left) ∙ sym (s .split) ∙ same in
       let n : to ≡ 133 + length (short (textTrees ts)) = s .place ∙ ap (λ (l : List (List ℕ)). 133 + length (short (textTrees l))) all-put in
-      rw (← all-put, ← s .place) (s .wrote base done w (rw same g)) where
-        empty : (l : List (List ℕ)) → length l ≡ 0 → l ≡ []
-        empty [] e = refl
-        empty (x ∷ l) e = absurd (omega arith)
+      rw (← all-put, ← s .place) (s .wrote base done w (rw same g))

@@ -1,33 +1,31 @@
 -- Texts that were taken before: what stands next in them. Assumes nothing.
-use mathlib.Core.Path.{_≡_, refl, sym, ap, subst, _∙_}
+use mathlib.Core.Path.{_≡_, refl, sym, ap, _∙_}
 use mathlib.Core.Bool.{Bool, true, false}
-use mathlib.Core.List.{List, [], _∷_, _++_, append-nil}
+use mathlib.Core.List.{List, [], _∷_, _++_}
 use mathlib.Core.Logic.{_⊎_, inl, inr}
 use Prim.Native.Nat.{ℕ, _+_, _-_, _≤_, _<_}
 use native.Mathlib.Omega.{arith}
 use native.Mathlib.Decide.{decLt}
 use lib.Dec.{eqb}
 use lib.ListN.{length, drop, getD, length-append, length-drop}
-use lib.Seq.{getD-drop}
+use lib.Seq.{getD-drop, length-take-le}
 use borrow.Author.Tests.{eqb-true, eqb-false}
 use Rattle.layout.specs.Text.{ascii}
 use Rattle.names.specs.Parse.{common}
-use Rattle.reading.specs.Reads.{seam}
 use Rattle.xml_layout.specs.Xml.{itemEnd}
-use Rattle.xml_escape.specs.Wrote.{Wrote}
-use Rattle.xml_reading.specs.Match.{Match, fails, takes, literal, until}
+use Rattle.xml_reading.specs.Match.{fails, takes, literal, until}
 use Rattle.xml_reading.specs.Text.{Character, character-matches, character-some, character-first, not-first, special-amp}
 use Rattle.xml_reading.specs.Plain.{plain-matches}
 use Rattle.xml_reading.specs.Steps.{first-taken}
 use Rattle.xml_import.specs.declared.character.Piece.{Piece}
 use Rattle.xml_import.specs.declared.character.Piece.the-variants as piece
 use Rattle.xml_import.specs.declared.Texted.the-variants as texted
-use Rattle.xml_import.specs.Places.{FailsAt, TakesAt, PieceAt, TextAt, Known, Runs, Unmarked, Marked, Stops, entityByte, entitySize, character}
+use Rattle.xml_import.specs.Places.{FailsAt, TakesAt, PieceAt, TextAt, Known, Runs, Unmarked, Marked, Stops, part, character}
 use Rattle.xml_import.proofs.Literals.{literal-fails}
 use Rattle.xml_import.proofs.Marks.{not-both}
-use Rattle.xml_import.proofs.Texts.{Reading, ends, end-inside, wrong, entity-on, plain-on, more}
-use Rattle.xml_import.proofs.Writing.{Putting, Turned, turned, next-character, before-end}
-use Rattle.xml_import.proofs.Runs.{no-end, not-ended, told-character, known-on, run-on, runs-by}
+use Rattle.xml_import.proofs.Texts.{Reading, ends, end-inside, wrong, entity-on, plain-on}
+use Rattle.xml_import.proofs.Writing.{Putting, next-character, before-end}
+use Rattle.xml_import.proofs.Runs.{no-end, not-ended, told-character, known-on, run-on, opened, runs-by}
 
 -- ---- The next character
 
@@ -77,33 +75,21 @@ none-fails xml i h b = literal-fails itemEnd xml i (none-ends xml i h b) (λ q. 
 
 -- ---- An entity
 
-abbrev EntityAt : (xml : List ℕ) (i : ℕ) → Type 0
-EntityAt xml i = (i + 1 < length xml) × TakesAt (character (drop i xml)) (entityByte (getD xml (i + 1) 0) ∷ []) xml i (i + entitySize (getD xml (i + 1) 0))
-
-by-form : (xml : List ℕ) (i : ℕ) → i < length xml → (c s size : ℕ) (w : List ℕ) (v : NextOf xml i) → v .t ≡ c ∷ [] → v .form ≡ w → getD (w ++ v .more) 1 0 ≡ s → length w ≡ size → entityByte s ≡ c → entitySize s ≡ size → 2 ≤ size
-    → EntityAt xml i
-by-form xml i h c s size w v te fe second long bytes sizes two =
-    let d : drop i xml ≡ w ++ v .more = v .stands ∙ ap (λ (l : List ℕ). l ++ v .more) fe in
-    let q : getD xml (i + 1) 0 ≡ s = sym (getD-drop i xml 1 0) ∙ ap (λ (l : List ℕ). getD l 1 0) d ∙ second in
-    let b : drop (i + length w) xml ≡ v .more = seam xml i w (v .more) [] (d ∙ sym (append-nil (w ++ v .more))) ∙ append-nil (v .more) in
-    let z : i + size ≡ i + length w = omega arith in
-    let n : i + size ≤ length xml = omega (arith, ap length d, length-append w (v .more), length-drop i xml) in
-    let e : character (drop i xml) ≡ takes (c ∷ []) (drop (i + size) xml)
-    = v .takes-it ∙ ap (λ (l : List ℕ). takes l (v .more)) te ∙ ap (takes (c ∷ [])) (sym b ∙ ap (λ (k : ℕ). drop k xml) (sym z)) in
-    (omega arith, rw (q, bytes, sizes) (e, omega arith, n))
-
-known-entity : (xml : List ℕ) (i : ℕ) → Known xml i → i < length xml → getD xml i 0 ≡ 0x26 → EntityAt xml i
-unfolding ascii entityByte entitySize
-known-entity xml i k h b = go (next-known xml i k (none-fails xml i h b)) where
-  by : (v : NextOf xml i) → Character (v .t) (v .form) → EntityAt xml i
-  by v (inl f) = by-form xml i h 0x26 0x61 5 (ascii "&amp;") v (f .0) (f .1) refl refl refl refl (omega arith)
-  by v (inr (inl f)) = by-form xml i h 0x3C 0x6C 4 (ascii "&lt;") v (f .0) (f .1) refl refl refl refl (omega arith)
-  by v (inr (inr (inl f))) = by-form xml i h 0x3E 0x67 4 (ascii "&gt;") v (f .0) (f .1) refl refl refl refl (omega arith)
-  by v (inr (inr (inr (inl f)))) = by-form xml i h 0x22 0x71 6 (ascii "&quot;") v (f .0) (f .1) refl refl refl refl (omega arith)
-  by v (inr (inr (inr (inr f)))) = absurd (not-first (v .more) f 0x26 special-amp (omega arith) (first-is xml i (v .form ++ v .more) (v .stands) ∙ b))
-
-  go : NextOf xml i → EntityAt xml i
-  go v = by v (v .is)
+-- it is not taken as it stands
+pub amp-single : (xml : List ℕ) (i : ℕ) → getD xml i 0 ≡ 0x26 → {x : Piece} {next : ℕ} → PieceAt xml i x → x ≡ piece.Plain next → ⊥
+unfolding PieceAt ascii
+amp-single xml i b {x} {next} p q =
+    let w : TakesAt (character (drop i xml)) (part xml i next) xml i next = rw q at p in
+    let c = told-character (drop i xml) (part xml i next) (drop next xml) (w .0) in
+    let l : length (part xml i next) ≡ next - i = length-take-le (next - i) (drop i xml) (omega (arith, length-drop i xml, w .2)) in
+    let n : length (c .0) ≡ length (part xml i next) = omega (arith, l, ap length (c .2), length-append (c .0) (drop next xml), length-drop i xml, length-drop next xml, w .1, w .2) in
+    by (part xml i next) (c .0) (drop next xml) (c .1) n (first-is xml i (c .0 ++ drop next xml) (c .2) ∙ b) where
+      by : (t form more : List ℕ) → Character t form → length form ≡ length t → getD (form ++ more) 0 0 ≡ 0x26 → ⊥
+      by t form more (inl f) e g = let a = ap length (f .0) in let k = ap length (f .1) in omega arith
+      by t form more (inr (inl f)) e g = let a = ap length (f .0) in let k = ap length (f .1) in omega arith
+      by t form more (inr (inr (inl f))) e g = let a = ap length (f .0) in let k = ap length (f .1) in omega arith
+      by t form more (inr (inr (inr (inl f)))) e g = let a = ap length (f .0) in let k = ap length (f .1) in omega arith
+      by t form more (inr (inr (inr (inr f)))) e g = not-first more f 0x26 special-amp (omega arith) g
 
 -- ---- A run
 
@@ -137,15 +123,13 @@ module _ {xml : List ℕ} {at i size : ℕ} (r : Reading xml at i size) (h : i <
 
 -- ---- A text is measured
 
+-- up to the first byte that is marked
+pub known-start : {xml : List ℕ} {at run : ℕ} → at ≤ length xml → Known xml at → Stops xml at run → Reading xml at run (run - at)
+known-start h k s = opened h (run-of s .stands k)
+
 module _ {xml : List ℕ} {at i size : ℕ} (r : Reading xml at i size) (k : Known xml at) (h : i < length xml) where
   pub known-ends : getD xml i 0 ≡ 0x3C → TextAt xml at (texted.Ends size (i + 7)) × (i + 7 ≤ length xml)
   known-ends b = let e = known-end xml i (known-on r k) b in (ends r e refl, end-inside r e)
-
-  pub known-amp : getD xml i 0 ≡ 0x26 → (i + 1 < length xml) × Reading xml at (i + entitySize (getD xml (i + 1) 0)) (size + 1) × (i < i + entitySize (getD xml (i + 1) 0)) × (i + entitySize (getD xml (i + 1) 0) ≤ length xml)
-  known-amp b =
-      let e = known-entity xml i (known-on r k) h b in
-      let w = e .1 in
-      (e .0, more r (none-ends xml i h b) (λ z. omega arith) w (omega (arith, w .1)) refl, w .1, w .2)
 
   pub known-run : {run : ℕ} → (getD xml i 0 ≡ 0x26 → ⊥) → (getD xml i 0 ≡ 0x3C → ⊥) → Stops xml i run → Reading xml at run (size + (run - i)) × (i < run)
   known-run n m s = (run-on r (run-of s .stands (known-on r k)), goes-on s h (record { no-and = n; no-less = m }))
@@ -153,12 +137,6 @@ module _ {xml : List ℕ} {at i size : ℕ} (r : Reading xml at i size) (k : Kno
 -- ---- A text is put
 
 module _ {xml out₀ : List ℕ} {at to size : ℕ} {out : List ℕ} {i j : ℕ} (p : Putting xml out₀ at to size out i j) (h : j < to + size) where
-  left-known : Known xml i
-  left-known = (p .left, p .ready .rest, p .forms)
-
-  pub put-amp : getD xml i 0 ≡ 0x26 → (i + 1 < length xml) × Turned p (entityByte (getD xml (i + 1) 0) ∷ []) 1 (i + entitySize (getD xml (i + 1) 0))
-  put-amp b = let e = known-entity xml i left-known (before-end p h) b in (e .0, turned p h (entityByte (getD xml (i + 1) 0) ∷ []) 1 (i + entitySize (getD xml (i + 1) 0)) refl (e .1))
-
   pub put-run : {run : ℕ} → (getD xml i 0 ≡ 0x26 → ⊥) → Stops xml i run → Runs xml i run × (i < run)
   put-run n s =
       let c = next-character p h in

@@ -6,30 +6,18 @@ use Prim.Native.Nat.{ℕ, _+_, _-_, _≤_}
 use native.Mathlib.Omega.{arith}
 use lib.ListN.{length, take, drop, length-append, length-drop}
 use lib.Seq.{take-append-seam}
-use Rattle.laws.specs.Small.{differ}
 use Rattle.layout.specs.Text.{ascii}
 use Rattle.xml_layout.specs.Xml.{itemEnd}
 use Rattle.xml_escape.specs.Wrote.{Wrote, wrote-copy}
 use Rattle.fill.specs.Fill.{copied}
-use Rattle.xml_reading.specs.Match.{Match, fails, takes, Told, failed, taken as taken-of, Is, literal, literal-matches, oneOf, until}
+use Rattle.xml_reading.specs.Match.{takes, until}
 use Rattle.xml_reading.specs.Text.{Character, joined, character-matches, character-some}
 use Rattle.xml_reading.specs.Plain.{plain-matches}
-use Rattle.xml_reading.specs.Steps.{until-step, first-taken}
+use Rattle.xml_reading.specs.Steps.{first-taken}
 use Rattle.xml_import.specs.Places.{character}
-use Rattle.xml_import.specs.Puts.{textIn, Ready, Verbatim, TextPut}
+use Rattle.xml_import.specs.Puts.{Ready, Verbatim, TextPut}
 use Rattle.xml_import.proofs.Writing.{text-joined}
-use Rattle.xml_import.proofs.Runs.{not-ended, told-character}
-
-ended-here : (l rest : List ℕ) → until character itemEnd l ≡ takes [] rest → l ≡ itemEnd ++ rest
-unfolding oneOf
-ended-here l rest e = go (literal itemEnd l) refl (literal-matches itemEnd .tells l) where
-  go : (o : Match (Unit {0})) → literal itemEnd l ≡ o → Told (Is itemEnd) l o → l ≡ itemEnd ++ rest
-  go o q (failed g) = absurd (not-ended l q rest e)
-  go o q (taken-of {rest = r} form f d) =
-      let u : until character itemEnd l ≡ takes [] r = until-step itemEnd (character-matches plain-matches) character-some l ∙ rw q in
-      let s : _≡_ {A = Match (List (List ℕ))} (takes [] r) (takes [] rest) = sym u ∙ e in
-      let z : r ≡ rest = cc in
-      d ∙ ap (λ (k : List ℕ). k ++ r) f ∙ ap (λ (k : List ℕ). itemEnd ++ k) z
+use Rattle.xml_import.proofs.Runs.{ended-here, told-character}
 
 -- an entity has more bytes than its character
 no-shorter : (t form : List ℕ) → Character t form → (length t ≤ length form) × (length form ≡ length t → form ≡ t)
@@ -44,11 +32,11 @@ end-long : length itemEnd ≡ 7
 unfolding itemEnd ascii
 end-long = refl
 
-whole : (us : List (List ℕ)) (l rest : List ℕ) → until character itemEnd l ≡ takes us rest
+pub whole : (us : List (List ℕ)) (l rest : List ℕ) → until character itemEnd l ≡ takes us rest
     → (length (joined us) + 7 + length rest ≤ length l) × (length l ≡ length (joined us) + 7 + length rest → l ≡ joined us ++ (itemEnd ++ rest))
 unfolding joined
 whole [] l rest e =
-    let d = ended-here l rest e in
+    let d = ended-here itemEnd (character-matches plain-matches) character-some l rest e in
     (omega (arith, ap length d, length-append itemEnd rest, end-long), λ n. d)
 whole (t ∷ us) l rest e =
     let w = first-taken itemEnd (character-matches plain-matches) character-some l t us rest e in

@@ -1,15 +1,14 @@
 -- Bytes put one after the other into an output. Assumes nothing.
 use mathlib.Core.Path.{_≡_, refl, sym, ap, subst, _∙_}
-use mathlib.Core.Bool.{Bool, true, false, _&&_, cond}
+use mathlib.Core.Bool.{Bool, true, false}
 use mathlib.Core.List.{List, [], _∷_, _++_, append-nil, append-assoc}
 use Prim.Native.Nat.{ℕ, _+_, _-_, _≤_, _<_}
 use native.Mathlib.Omega.{arith}
 use lib.Dec.{leb}
-use lib.ListN.{length, take, drop, length-append, length-drop, drop-of-length-le}
-use lib.Seq.{drop-drop, take-append-seam, drop-append-seam, length-take-le}
-use borrow.Author.Tests.{le-leb, leb-true, leb-false}
+use lib.ListN.{length, drop, length-append, drop-of-length-le}
+use borrow.Author.Tests.{leb-true, leb-false}
 use Rattle.laws.specs.Small.{differ}
-use Rattle.fill.specs.Fill.{inside, pasted, copied}
+use Rattle.fill.specs.Fill.{inside}
 use Rattle.xml_layout.specs.Xml.{itemEnd}
 use Rattle.xml_reading.specs.Match.{Match, fails, takes, Told, failed, taken as taken-of, mapped, until}
 use Rattle.xml_reading.specs.Text as T
@@ -19,7 +18,7 @@ use Rattle.xml_reading.specs.Steps.{first-taken}
 use Rattle.xml_escape.specs.Wrote.{Wrote}
 use Rattle.xml_import.specs.declared.character.Piece.{Piece}
 use Rattle.xml_import.specs.declared.character.Piece.the-variants as piece
-use Rattle.xml_import.specs.Places.{FailsAt, TakesAt, part, PieceAt, character, text}
+use Rattle.xml_import.specs.Places.{FailsAt, TakesAt, PieceAt, character, text}
 use Rattle.xml_import.specs.Puts.{taken, textIn, Ready, TextPut}
 use Rattle.xml_import.proofs.Texts.{nothing-left}
 
@@ -141,12 +140,6 @@ module _ {xml out₀ : List ℕ} {at to size : ℕ} {out : List ℕ} {i j : ℕ}
   pub entity-turn : j < to + size → {x : Piece} {b next : ℕ} → PieceAt xml i x → x ≡ piece.Entity b next → Turned (b ∷ []) 1 next
   unfolding PieceAt
   entity-turn h {x} {b} {next} k q = turned h (b ∷ []) 1 next refl (rw q at k)
-
-  pub plain-turn : j < to + size → {x : Piece} {next : ℕ} → PieceAt xml i x → x ≡ piece.Plain next → Turned (part xml i next) (next - i) next
-  unfolding PieceAt
-  plain-turn h {x} {next} k q =
-      let w : TakesAt (character (drop i xml)) (part xml i next) xml i next = rw q at k in
-      turned h (part xml i next) (next - i) next (sym (length-take-le (next - i) (drop i xml) (omega (arith, length-drop i xml, w .2)))) w
 
   -- all is put
   pub ended : to + size ≤ j → TextPut xml at to size out₀ out

@@ -1,18 +1,16 @@
 -- What matching answers in code, by places in the XML. Assumes nothing.
 use mathlib.Core.Path.{_≡_}
-use mathlib.Core.Bool.{Bool, not, _&&_, cond}
+use mathlib.Core.Bool.{Bool, not, _&&_}
 use mathlib.Core.List.{List, [], _∷_}
 use mathlib.Core.Logic.{_⊎_}
 use Prim.Native.Nat.{ℕ, _+_, _-_, _*_, _≤_, _<_}
 use lib.Dec.{leb, eqb}
 use lib.ListN.{length, take, drop, getD}
-use Rattle.layout.specs.Number.{between}
 use Rattle.layout.specs.Shortest.{shortFile}
-use Rattle.reading.specs.Output.{Rewritten, refusal, written}
 use Rattle.xml_escape.specs.Runs.{AllOf}
 use Rattle.xml_layout.specs.Tree.{treeOf}
 use Rattle.xml_layout.specs.Xml.{itemEnd}
-use Rattle.xml_reading.specs.Match.{Match, fails, takes, orElse, until, Document, other, document}
+use Rattle.xml_reading.specs.Match.{Match, fails, takes, orElse, until, other, document}
 use Rattle.xml_reading.specs.Ranges.{Range, ranges}
 use Rattle.xml_reading.specs.Text as T
 use Rattle.xml_reading.specs.Plain.{plainCharacter, plain-matches}
@@ -138,13 +136,6 @@ pub record RunPut (xml : List ℕ) (from to : ℕ) (entry exit : List ℕ) (i : 
 pub record StartPut (xml : List ℕ) (from to : ℕ) (entry exit : List ℕ) (r : ℕ) : Type 0 where
   pub before : Before xml from 8 r
   pub put : Put (take r (drop from xml)) to entry exit
-
--- an entity by the byte behind its `&`: its character, and how many bytes it has
-unfoldable pub entityByte : ℕ → ℕ
-entityByte b = cond (eqb b 0x61) 0x26 (cond (eqb b 0x71) 0x22 (cond (eqb b 0x6C) 0x3C 0x3E))
-
-unfoldable pub entitySize : ℕ → ℕ
-entitySize b = cond (eqb b 0x61) 5 (cond (eqb b 0x71) 6 4)
 
 -- the text of an item, of which so many bytes are taken, and the item's end
 unfoldable pub TextAt : (xml : List ℕ) (at : ℕ) → Texted → Type 0

@@ -2,14 +2,14 @@
 use mathlib.Core.Path.{_≡_}
 use mathlib.Core.Bool.{Bool, true}
 use mathlib.Core.List.{List, [], _∷_, _++_}
-use Prim.Native.Nat.{ℕ, _+_, _≤_}
+use Prim.Native.Nat.{ℕ, _+_, _^_, _≤_, _<_}
 use lib.ListN.{length, take, drop}
 use Rattle.layout.specs.Number.{little}
 use Rattle.layout.specs.Text.{ascii}
 use Rattle.layout.specs.Shortest.{shortest, short, shortLists, shortFile}
 use Rattle.fill.specs.Fill.{copied}
 use Rattle.reading.specs.Output.{Rewritten, refusal, written}
-use Rattle.xml_layout.specs.Xml.{itemEnd}
+use Rattle.xml_layout.specs.Xml.{itemEnd, documentEnd}
 use Rattle.xml_layout.specs.Tree.{arrayName, stringName, textTrees, treeOf}
 use Rattle.xml_reading.specs.Match.{Match, fails, takes, document, until}
 use Rattle.xml_reading.specs.Text.{joined}
@@ -39,6 +39,20 @@ taken (takes t rest) = t
 abbrev pub textIn : (xml : List ℕ) (at : ℕ) → List ℕ
 textIn xml at = taken (text (drop at xml))
 
+-- so many bytes has a text whose length and bytes are n together
+unfoldable pub TextOf : (n r : ℕ) → Type 0
+TextOf n r = (size : ℕ) → size < 2 ^ 28 → n ≡ length (shortest size) + size → r ≡ size
+
+-- the text of the last item stands from a place on, and has so many bytes as a String
+pub record Last (xml : List ℕ) (at bytes : ℕ) : Type 0 where
+  pub t : List ℕ
+  pub takes-it : text (drop at xml) ≡ takes t documentEnd
+  pub long : bytes ≡ 1 + length (shortest (length t)) + length t
+  pub small : length t < 2 ^ 28
+
+abbrev pub LastIf : (xml : List ℕ) (at items bytes : ℕ) → Type 0
+LastIf xml at items bytes = items ≡ 1 → Last xml at bytes
+
 -- an item's text stands from a place on, and has so many bytes
 pub record Ready (xml : List ℕ) (at size : ℕ) : Type 0 where
   pub inside : at ≤ length xml
@@ -66,11 +80,12 @@ StringPut xml at to size entry exit r =
     (r ≡ to + length (stringBytes (textIn xml at)))
     × ((base done : List ℕ) → Wrote base done entry to → to + 1 + length (shortest size) + size ≤ length base → Wrote base (done ++ stringBytes (textIn xml at)) exit r)
 
--- the XML has so many texts, and the output has room for their file
-pub record Fits (xml : List ℕ) (count out : ℕ) : Type 0 where
+-- the XML has so many texts, their file has so many bytes, and the output has room for it
+pub record Fits (xml : List ℕ) (count size out : ℕ) : Type 0 where
   pub ts : List (List ℕ)
   pub is : textsOf xml ≡ document ts
   pub many : count ≡ length ts
+  pub sized : size ≡ length (shortFile (treeOf ts))
   pub short-file : length (shortFile (treeOf ts)) ≤ 16777216
   pub room : length (shortFile (treeOf ts)) ≤ out
 

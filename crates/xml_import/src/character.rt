@@ -37,34 +37,70 @@ fn word(xml: &[u8], at: usize) -> u64
     a + 256 * b + 65536 * c + 16777216 * d
 }
 
-// How many bytes of an item's start stand in the XML from `at` on: `<Ite` and `tem>`, or byte by byte.
+// Whether an item's start stands in the XML from `at` on: `<Ite` and `tem>`.
+fn starts_at(xml: &[u8], at: usize) -> bool
+    requires { ⌜ at + 6 ≤ length (now xml) ⌝ }
+    ensures { λ r. ⌜ (r ≡ true → 6 ≡ common itemStart (drop at (now (xml .entry)))) ⌝ }
+{
+    if word(xml, at) == 0x6574493C {
+        if word(xml, at + 2) == 0x3E6D6574 {
+            return true;
+        }
+    }
+    false
+}
+
+// How many bytes of it stand there, byte by byte.
+fn other_start(xml: &[u8], at: usize) -> usize
+    ensures { λ r. ⌜ r ≡ common itemStart (drop at (now (xml .entry))) ⌝ }
+{
+    names::texts::matched_at(xml, at, b"<Item>")
+}
+
+// The same: the whole start is told at once.
 pub(crate) fn start_at(xml: &[u8], at: usize) -> usize
     requires { ⌜ at < length (now xml) ⌝ }
     ensures { λ r. ⌜ r ≡ common itemStart (drop at (now (xml .entry))) ⌝ }
 {
     if 6 <= xml.len() - at {
-        if word(xml, at) == 0x6574493C {
-            if word(xml, at + 2) == 0x3E6D6574 {
-                return 6;
-            }
+        if starts_at(xml, at) {
+            return 6;
         }
     }
-    names::texts::matched_at(xml, at, b"<Item>")
+    other_start(xml, at)
 }
 
-// How many bytes of an item's end stand in the XML from `at` on: `</It` and `tem>`, or byte by byte.
+// Whether an item's end stands in the XML from `at` on: `</It` and `tem>`.
+pub(crate) fn ends_at(xml: &[u8], at: usize) -> bool
+    requires { ⌜ at + 7 ≤ length (now xml) ⌝ }
+    ensures { λ r. ⌜ (r ≡ true → 7 ≡ common itemEnd (drop at (now (xml .entry)))) ⌝ }
+{
+    if word(xml, at) == 0x74492F3C {
+        if word(xml, at + 3) == 0x3E6D6574 {
+            return true;
+        }
+    }
+    false
+}
+
+// How many bytes of it stand there, byte by byte.
+fn other_end(xml: &[u8], at: usize) -> usize
+    ensures { λ r. ⌜ r ≡ common itemEnd (drop at (now (xml .entry))) ⌝ }
+{
+    names::texts::matched_at(xml, at, b"</Item>")
+}
+
+// The same: the whole end is told at once.
 pub(crate) fn end_at(xml: &[u8], at: usize) -> usize
     requires { ⌜ at < length (now xml) ⌝ }
     ensures { λ r. ⌜ r ≡ common itemEnd (drop at (now (xml .entry))) ⌝ }
 {
     if 7 <= xml.len() - at {
-        if word(xml, at) == 0x74492F3C {
-            if word(xml, at + 3) == 0x3E6D6574 {
-                return 7;
-            }
+        if ends_at(xml, at) {
+            return 7;
         }
     }
-    names::texts::matched_at(xml, at, b"</Item>")
+    other_end(xml, at)
 }
 
 // Where bytes fail, or where they end.

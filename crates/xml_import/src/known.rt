@@ -1,38 +1,9 @@
-// Texts that were taken before: runs of their characters, and their entities, none of which is judged again.
+// Texts that were taken before: runs of their characters, none of which is judged again.
 ghost use mathlib.Core.Path.{_≡_};
 ghost use mathlib.Core.Bool.{true, false};
 ghost use Prim.Native.Nat.{_+_, _≤_};
 ghost use lib.ListN.{length};
-ghost use Rattle.xml_import.specs.Places.{Unmarked, AllUnmarked, Marked, Before, Passed, Stops, RunPut, StartPut, entityByte, entitySize};
-
-// The character of an entity, by the byte behind its `&`.
-pub(crate) fn entity_byte(second: u8) -> u8
-    ensures { λ r. ⌜ r ≡ entityByte second ⌝ }
-{
-    if second == 0x61 {
-        return 0x26;
-    }
-    if second == 0x71 {
-        return 0x22;
-    }
-    if second == 0x6C {
-        return 0x3C;
-    }
-    0x3E
-}
-
-// How many bytes an entity has, by the same.
-pub(crate) fn entity_size(second: u8) -> usize
-    ensures { λ r. ⌜ r ≡ entitySize second ⌝ }
-{
-    if second == 0x61 {
-        return 5;
-    }
-    if second == 0x71 {
-        return 6;
-    }
-    4
-}
+ghost use Rattle.xml_import.specs.Places.{Unmarked, AllUnmarked, Marked, Before, Passed, Stops, RunPut, StartPut};
 
 // Whether a byte starts an entity or the end of an item.
 fn marked(b: u8) -> bool
@@ -74,12 +45,33 @@ fn unmarked_blocks(xml: &[u8], from: usize) -> usize
     i
 }
 
-// Past such bytes from `from` on, to the first other: blocks, then one by one.
+// How many of the 64 bytes from i on stand before the first that does.
+fn first_marked(xml: &[u8], i: usize) -> usize
+    requires { ⌜ i + 64 ≤ length (now xml) ⌝ }
+    ensures { λ r. ⌜ Before (now (xml .entry)) i 64 r ⌝ }
+{
+    let mut j = 0u8;
+    let mut first = 64u8;
+    while j < 64 {
+        let here = xml_escape::place_if(marked(xml[i + j as usize]), j, 64);
+        first = xml_escape::smaller(first, here);
+        j += 1;
+    }
+    first as usize
+}
+
+// Past such bytes from `from` on, to the first other: blocks, then 64 bytes at once, or one by one where fewer are left.
 fn unmarked_far(xml: &[u8], from: usize) -> usize
     requires { ⌜ from ≤ length (now xml) ⌝ }
     ensures { λ r. ⌜ Stops (now (xml .entry)) from r ⌝ }
 {
     let mut i = unmarked_blocks(xml, from);
+    if 64 <= xml.len() - i {
+        let n = first_marked(xml, i);
+        if n < 64 {
+            return i + n;
+        }
+    }
     while i < xml.len() {
         if marked(xml[i]) {
             return i;
@@ -102,22 +94,7 @@ fn sign(b: u8) -> bool
     b == 0x26
 }
 
-// How many of the 64 bytes from i on stand before the first such.
-fn first_marked(xml: &[u8], i: usize) -> usize
-    requires { ⌜ i + 64 ≤ length (now xml) ⌝ }
-    ensures { λ r. ⌜ Before (now (xml .entry)) i 64 r ⌝ }
-{
-    let mut j = 0u8;
-    let mut first = 64u8;
-    while j < 64 {
-        let here = xml_escape::place_if(marked(xml[i + j as usize]), j, 64);
-        first = xml_escape::smaller(first, here);
-        j += 1;
-    }
-    first as usize
-}
-
-// How many of the 8 bytes from i on do, one by one.
+// How many of the 8 bytes from i on stand before the first that does, one by one.
 fn unmarked_start(xml: &[u8], i: usize) -> usize
     requires { ⌜ i + 8 ≤ length (now xml) ⌝ }
     ensures { λ r. ⌜ Before (now (xml .entry)) i 8 r ⌝ }
@@ -133,7 +110,7 @@ fn unmarked_start(xml: &[u8], i: usize) -> usize
 }
 
 // Past such bytes from `from` on: 64 bytes at once, then blocks.
-fn unmarked_rest(xml: &[u8], from: usize) -> usize
+pub(crate) fn unmarked_rest(xml: &[u8], from: usize) -> usize
     requires { ⌜ from ≤ length (now xml) ⌝ }
     ensures { λ r. ⌜ Stops (now (xml .entry)) from r ⌝ }
 {

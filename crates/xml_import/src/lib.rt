@@ -11,7 +11,7 @@ ghost use Rattle.layout.specs.Shortest.{shortest};
 ghost use Rattle.reading.specs.Output.{outputOf};
 ghost use Rattle.xml_reading.specs.Answers.{importOf};
 ghost use Rattle.xml_import.specs.Places.{Known, TextAt, Measures};
-ghost use Rattle.xml_import.specs.Puts.{frontPut, Ready, VerbatimIf, TextPut, StringPut, Fits, StringsPut, answerOf};
+ghost use Rattle.xml_import.specs.Puts.{frontPut, TextOf, LastIf, Ready, VerbatimIf, TextPut, StringPut, Fits, StringsPut, answerOf};
 
 // Where the text of an item fails, or how many bytes it has and where the item ends.
 pub enum Texted {
@@ -20,12 +20,12 @@ pub enum Texted {
 }
 
 // The text of an item from `at` on, and the item's end.
-fn text_at(xml: &[u8], at: usize) -> Texted
+fn filled_at(xml: &[u8], at: usize) -> Texted
     requires { ⌜ at ≤ length (now xml) ⌝ }
     ensures { λ r. ⌜ TextAt (now (xml .entry)) at r ⌝ }
 {
-    let mut i = at;
-    let mut size = 0;
+    let mut i = standing::opening(xml, at);
+    let mut size = i - at;
     while i < xml.len() {
         if xml[i] == 0x26 {
             match character::entity_at(xml, i) {
@@ -70,22 +70,50 @@ fn text_at(xml: &[u8], at: usize) -> Texted
     Texted::Fails(i)
 }
 
+// The same: an empty text is told at once.
+fn text_at(xml: &[u8], at: usize) -> Texted
+    requires { ⌜ at ≤ length (now xml) ⌝ }
+    ensures { λ r. ⌜ TextAt (now (xml .entry)) at r ⌝ }
+{
+    if 7 <= xml.len() - at {
+        if character::ends_at(xml, at) {
+            return Texted::Ends(0, at + 7);
+        }
+    }
+    filled_at(xml, at)
+}
+
 // The same for a text that was taken before: it is only measured.
 fn known_at(xml: &[u8], at: usize) -> Texted
     requires { ⌜ (at ≤ length (now xml)) × Known (now xml) at ⌝ }
     ensures { λ r. ⌜ TextAt (now (xml .entry)) at r ⌝ }
 {
-    let mut i = at;
-    let mut size = 0;
+    if at < xml.len() {
+        if xml[at] == 0x3C {
+            return Texted::Ends(0, at + 7);
+        }
+    }
+    let mut i = known::unmarked_rest(xml, at);
+    let mut size = i - at;
     while i < xml.len() {
         let b = xml[i];
         if b == 0x3C {
             return Texted::Ends(size, i + 7);
         }
         if b == 0x26 {
-            let second = xml[i + 1];
-            i += known::entity_size(second);
-            size += 1;
+            match character::entity_at(xml, i) {
+                Piece::Fails(place) => {
+                    return Texted::Fails(place);
+                }
+                Piece::Entity(_, next) => {
+                    size += 1;
+                    i = next;
+                }
+                Piece::Plain(next) => {
+                    size += next - i;
+                    i = next;
+                }
+            }
         } else {
             let run = known::unmarked_run(xml, i);
             size += run - i;
@@ -93,6 +121,34 @@ fn known_at(xml: &[u8], at: usize) -> Texted
         }
     }
     Texted::Fails(i)
+}
+
+// How many bytes a text has whose length and bytes have n together.
+fn text_bytes(n: usize) -> usize
+    requires { ⌜ 1 ≤ n ⌝ }
+    ensures { λ r. ⌜ TextOf n r ⌝ }
+{
+    if n < 129 {
+        return n - 1;
+    }
+    if n < 16386 {
+        return n - 2;
+    }
+    if n < 2097155 {
+        return n - 3;
+    }
+    n - 4
+}
+
+// The same as `known_at` where so many items are left, which have so many bytes in the file: the last is not measured.
+fn item_at(xml: &[u8], at: usize, items: usize, bytes: usize) -> Texted
+    requires { ⌜ (at ≤ length (now xml)) × Known (now xml) at × LastIf (now xml) at items bytes ⌝ }
+    ensures { λ r. ⌜ TextAt (now (xml .entry)) at r ⌝ }
+{
+    if items == 1 {
+        return Texted::Ends(text_bytes(bytes - 1), xml.len() - 21);
+    }
+    known_at(xml, at)
 }
 
 // How many bytes the shortest form of a text's length has.
@@ -190,10 +246,19 @@ fn put_text(xml: &[u8], out: &mut [u8], at: usize, to: usize, size: usize)
     let mut j = to;
     while j < end {
         if xml[i] == 0x26 {
-            let second = xml[i + 1];
-            out[j] = known::entity_byte(second);
-            i += known::entity_size(second);
-            j += 1;
+            match character::entity_at(xml, i) {
+                Piece::Fails(_) => {
+                    return;
+                }
+                Piece::Entity(b, next) => {
+                    out[j] = b;
+                    j += 1;
+                    i = next;
+                }
+                Piece::Plain(_) => {
+                    return;
+                }
+            }
         } else {
             let run = known::put_run(xml, out, i, j);
             j += run - i;
@@ -220,18 +285,23 @@ fn put_string(xml: &[u8], out: &mut [u8], at: usize, to: usize, size: usize, pla
         × VerbatimIf plain (now xml) at size ⌝ }
     ensures { λ r. ⌜ StringPut (now (xml .entry)) at to size (now (out .entry)) (now (out .exit)) r ⌝ }
 {
-    let id = [2u8];
-    fill::copy(out, to, &id, 0, 1);
+    out[to] = 2;
     let next = to + 1;
+    if size < 128 {
+        out[next] = size as u8;
+        let start = next + 1;
+        put_taken(xml, out, at, start, size, plain);
+        return start + size;
+    }
     numbers::shortest::write_shortest(out, next, size as u32);
     let start = next + length_size(size);
     put_taken(xml, out, at, start, size, plain);
     start + size
 }
 
-// So many items from byte 73 on, as Strings into the output from byte 133 on.
-fn put_strings(xml: &[u8], out: &mut [u8], count: usize)
-    requires { ⌜ Fits (now xml) count (length (now out)) ⌝ }
+// So many items from byte 73 on, as Strings into the output from byte 133 on, of a file of so many bytes.
+fn put_strings(xml: &[u8], out: &mut [u8], count: usize, size: usize)
+    requires { ⌜ Fits (now xml) count size (length (now out)) ⌝ }
     ensures { λ _. ⌜ StringsPut (now (xml .entry)) (now (out .entry)) (now (out .exit)) ⌝ }
 {
     let mut i = 73;
@@ -239,13 +309,13 @@ fn put_strings(xml: &[u8], out: &mut [u8], count: usize)
     let mut k = 0;
     while k < count {
         let at = i + 6;
-        match known_at(xml, at) {
+        match item_at(xml, at, count - k, size - to) {
             Texted::Fails(_) => {
                 return;
             }
-            Texted::Ends(size, next) => {
-                let plain = next - at == size + 7;
-                to = put_string(xml, out, at, to, size, plain);
+            Texted::Ends(bytes, next) => {
+                let plain = next - at == bytes + 7;
+                to = put_string(xml, out, at, to, bytes, plain);
                 i = next;
             }
         }
@@ -277,7 +347,7 @@ pub fn import(xml: &[u8], out: &mut [u8]) -> Importing
                 return Importing::Refused(21, size);
             }
             put_front(out, size, count);
-            put_strings(xml, out, count);
+            put_strings(xml, out, count, size);
             Importing::Imported { length: size }
         }
     }

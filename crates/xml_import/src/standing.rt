@@ -79,7 +79,7 @@ fn usual_start(xml: &[u8], i: usize) -> usize
     k
 }
 
-// Past a run of ASCII from `from` on: 32 bytes at once, then blocks.
+// Past a run of ASCII from `from` on: 32 bytes at once, then blocks, then 32 bytes at once again.
 fn usual_rest(xml: &[u8], from: usize) -> usize
     requires { ⌜ from ≤ length (now xml) ⌝ }
     ensures { λ r. ⌜ Ran 0x7F (now (xml .entry)) from r ⌝ }
@@ -91,7 +91,11 @@ fn usual_rest(xml: &[u8], from: usize) -> usize
     if n < 32 {
         return from + n;
     }
-    xml_escape::quiet_run(xml, from + 32, 0x7F)
+    let i = xml_escape::quiet_blocks(xml, from + 32, 0x7F);
+    if xml.len() - i < 32 {
+        return xml_escape::quiet_run(xml, i, 0x7F);
+    }
+    i + first_odd(xml, i)
 }
 
 // The same: eight bytes one by one, then the rest.
@@ -114,8 +118,25 @@ pub(crate) fn standing(xml: &[u8], from: usize) -> usize
     requires { ⌜ from < length (now xml) ⌝ }
     ensures { λ r. ⌜ CharsStand (now (xml .entry)) from r ⌝ }
 {
+    if xml[from] == 0x3C {
+        return from;
+    }
     if xml[from] < 0x80 {
         return usual_run(xml, from);
     }
     utf8_run(xml, from)
+}
+
+// The same at the start of a text, which is mostly longer than eight bytes: ASCII alone, by 32 bytes at once.
+pub(crate) fn opening(xml: &[u8], from: usize) -> usize
+    requires { ⌜ from ≤ length (now xml) ⌝ }
+    ensures { λ r. ⌜ CharsStand (now (xml .entry)) from r ⌝ }
+{
+    if xml.len() - from < 32 {
+        return from;
+    }
+    if 0x7F < xml[from] {
+        return from;
+    }
+    usual_rest(xml, from)
 }

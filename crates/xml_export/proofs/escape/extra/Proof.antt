@@ -20,21 +20,14 @@ worth-requires-3 c κs = search needs
 add-result-2 : tie.Need-add-result-2
 add-result-2 c = search needs
 
-worth-requires-4 : tie.Need-worth-requires-4
-worth-requires-4 c κs = search needs
-
-add-result-3 : tie.Need-add-result-3
-add-result-3 c = search needs
-
 returns : tie.Need-returns
 returns c =
-    let worth = c .before .before .before .worth in
-    let worth2 = c .before .before .worth2 in
-    let worth3 = c .before .worth3 in
-    let worth4 = c .worth4 in
-    let a = c .before .before .before .before .args in (
-      omega (arith, worth .ensures .0, worth2 .ensures .0, worth3 .ensures .0, worth4 .ensures .0, extra-of (a .b)),
-      omega (arith, worth .ensures .0, worth2 .ensures .0, worth3 .ensures .0, worth4 .ensures .0, extra-of (a .b), few-bytes (a .b)),
+    let worth = c .before .before .worth in
+    let worth2 = c .before .worth2 in
+    let worth3 = c .worth3 in
+    let a = c .before .before .before .args in (
+      omega (arith, worth .ensures .0, worth2 .ensures .0, worth3 .ensures .0, extra-of (a .b)),
+      omega (arith, worth .ensures .0, worth2 .ensures .0, worth3 .ensures .0, extra-of (a .b), few-bytes (a .b)),
     )
 
 pub extra-spec : {M : Type 1} → statement M
@@ -46,6 +39,4 @@ extra-spec =
     add-result
     worth-requires-3
     add-result-2
-    worth-requires-4
-    add-result-3
     returns)

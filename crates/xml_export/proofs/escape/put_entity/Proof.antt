@@ -1,6 +1,6 @@
 use borrow.Author.Needs.{needs}
 use native.Mathlib.Omega.{arith}
-use mathlib.Core.Path.{_≡_, refl, sym, ap, _∙_}
+use mathlib.Core.Path.{refl, ap}
 use mathlib.Core.List.{List, [], _∷_}
 use Prim.Native.Nat.{ℕ, _+_}
 use lib.ListN.{set, length-set}
@@ -9,37 +9,37 @@ use Rattle.xml_export.proofs.Escapes.{letter-alone, other-alone, none-p
 use Rattle.xml_export.proofs.escape.put_entity.Statement.{statement}
 use Rattle.xml_export.proofs.escape.put_entity.Tie as tie
 
-returns : tie.Need-returns
-returns c = none-put (letter-alone (c .before .before .args .b) (c .if1 .taken))
-
 put-four-requires : tie.Need-put-four-requires
 put-four-requires c κs =
-    let p = c .before .before .before .before .pre in
-    let a = c .before .before .before .before .args in
-    let if2 = c .before .if2 in
-    omega (arith, p, amp-long (a .b) (if2 .taken))
+    let p = c .before .before .before .pre in
+    let a = c .before .before .before .args in
+    let if1 = c .before .if1 in
+    omega (arith, p, amp-long (a .b) (if1 .taken))
 
 add-out : tie.Need-add-out
 add-out c = search needs
 
 slice-write-out : tie.Need-slice-write-out
 slice-write-out c =
-    let p = c .before .before .before .before .before .before .before .pre in
-    let a = c .before .before .before .before .before .before .before .args in
-    let if2 = c .before .before .before .before .if2 in
+    let p = c .before .before .before .before .before .before .pre in
+    let a = c .before .before .before .before .before .before .args in
+    let if1 = c .before .before .before .before .if1 in
     let put-four = c .before .before .put-four in
-    omega (arith, p, amp-long (a .b) (if2 .taken), put-four .kept .0)
+    omega (arith, p, amp-long (a .b) (if1 .taken), put-four .kept .0)
 
 same-length : tie.Need-same-length
 same-length c = search needs
 
-returns-2 : tie.Need-returns-2
+returns : tie.Need-returns
 unfolding sets
-returns-2 c =
-    let a = c .before .before .before .before .before .before .before .args in
-    let if2 = c .before .before .before .before .if2 in
+returns c =
+    let a = c .before .before .before .before .before .before .args in
+    let if1 = c .before .before .before .before .if1 in
     let put-four = c .before .before .put-four in
-    entity-put (a .b) (0x26 ∷ 0x61 ∷ 0x6D ∷ 0x70 ∷ 0x3B ∷ []) (amp-is (a .b) (if2 .taken)) refl (λ q. omega (arith, q)) (ap (λ (l : List ℕ). set l (a .to + 4) 0x3B) (put-four .ensures))
+    entity-put (a .b) (0x26 ∷ 0x61 ∷ 0x6D ∷ 0x70 ∷ 0x3B ∷ []) (amp-is (a .b) (if1 .taken)) refl (λ q. omega (arith, q)) (ap (λ (l : List ℕ). set l (a .to + 4) 0x3B) (put-four .ensures))
+
+returns-2 : tie.Need-returns-2
+returns-2 c = none-put (letter-alone (c .before .before .before .args .b) (c .if2 .taken))
 
 put-four-requires-2 : tie.Need-put-four-requires-2
 put-four-requires-2 c κs =
@@ -120,21 +120,21 @@ returns-5 c =
 returns-6 : tie.Need-returns-6
 returns-6 c =
     let a = c .before .before .before .before .before .before .args in
-    let if2 = c .before .before .before .if2 in
+    let if1 = c .before .before .before .before .if1 in
     let if3 = c .before .before .if3 in
     let if4 = c .before .if4 in
     let if5 = c .if5 in
-    none-put (other-alone (a .b) (if2 .left) (if3 .left) (if4 .left) (if5 .left))
+    none-put (other-alone (a .b) (if1 .left) (if3 .left) (if4 .left) (if5 .left))
 
 pub put-entity-spec : {M : Type 1} → statement M
 put-entity-spec =
     tie.close
     (tie.spec
-    returns
     put-four-requires
     add-out
     slice-write-out
     same-length
+    returns
     returns-2
     put-four-requires-2
     same-length-2

@@ -1,6 +1,5 @@
 use borrow.Author.Needs.{needs}
 use native.Mathlib.Omega.{arith}
-use mathlib.Core.Path.{_≡_, refl, sym, ap, _∙_}
 use Rattle.xml_export.proofs.Escapes.{few-run, run-on}
 use Rattle.xml_export.proofs.escape.put_run.Statement.{statement}
 use Rattle.xml_export.proofs.escape.put_run.Tie as tie
