@@ -3,13 +3,13 @@ use mathlib.Core.Path.{_≡_, refl, sym, ap, subst, _∙_}
 use mathlib.Core.Bool.{Bool, true, false, _&&_}
 use mathlib.Core.List.{List}
 use mathlib.Core.Logic.{_⊎_, inl, inr}
-use Prim.Native.Nat.{ℕ, zero, suc, _+_, _-_, _≤_, _<_, _^_}
+use Prim.Native.Nat.{ℕ, zero, suc, _+_, _-_, _≤_, _<_, _*_, _^_, _/_, _%_}
 use native.Mathlib.Omega.{arith}
 use native.Mathlib.Numerals.{add-one}
 use lib.Dec.{leb}
 use lib.ListN.{length, getD, take, drop, List·getD-eq-default}
 use lib.Seq.{drop-cons}
-use borrow.Author.Tests.{lt-ltb, lt-leb, le-leb, leb-true, ne-eqb}
+use borrow.Author.Tests.{lt-ltb, lt-leb, le-leb, leb-true, leb-false, ne-eqb}
 use Rattle.layout.specs.Fixed.{sizes}
 use Rattle.layout.specs.Number.{between}
 use Rattle.layout.specs.Shortest.{shortest, fewest}
@@ -19,7 +19,8 @@ use Rattle.reading.specs.Fixed.{fixedAt, sized}
 use Rattle.reading.specs.Utf8.{utf8s}
 use Rattle.numbers.specs.Padded.{padOf, beside}
 use Rattle.ids.specs.Position.{typeId}
-use Rattle.targets.specs.Place.{kindAt, fitsAt}
+use Rattle.targets.specs.Place.{kindAt, sameName, sameCode, agree, equalAt, fitsAt}
+use Rattle.targets.specs.Extent.{no-agree}
 use Rattle.leaves.specs.Text.{text-there, text-counted}
 use Rattle.heads.specs.declared.nest.Below.the-variants.{Nothing}
 use Rattle.heads.specs.declared.open.Opened.the-variants.{Head}
@@ -63,6 +64,14 @@ pub record LeafSeen (file codes : List ℕ) (count target declared at : ℕ) (s 
   pub starts : objectAs file codes count target declared at (sevenAt file at) ≡ Raw place from (typeId (s .id)) (s .padding)
   pub opens : openAs file codes place from ≡ Head (s .end) (Nothing 0)
   pub kind-is : s .kind ≡ rowKind (kindAt codes place)
+
+-- the type at a place has a code that is wanted; 0 stands for every code
+abbrev pub Wanted : (codes : List ℕ) (wanted place : ℕ) → Type 0
+Wanted codes wanted place = (wanted ≡ 0) ⊎ (getD codes place 0 % 256 ≡ wanted)
+
+-- where the type at `declared` is declared, every type that has a wanted code may be read
+abbrev pub Wants : (file codes : List ℕ) (declared wanted : ℕ) → Type 0
+Wants file codes declared wanted = (place : ℕ) → Wanted codes wanted place → fitsAt file codes declared place ≡ true
 
 -- what a look at an object says, where the type of the reader that its type id names is at `target`
 abbrev pub Looked : (file codes : List ℕ) (count target declared at : ℕ) → Seen → Type 0
@@ -145,6 +154,34 @@ fixed-opens file codes place at size end i h e =
     ) in
     record { opens = o ∙ ap (λ y. aloneAs (beside 0 y)) e; no-object = other k 14 h refl; no-texture = other k 31 h refl }
 
+-- Object is declared: every type may be read
+pub wants-all : (file codes : List ℕ) (declared : ℕ) → kindAt codes declared ≡ 14 → Wants file codes declared 0
+unfolding fitsAt
+wants-all file codes declared k place w = rw k
+
+-- no code is wanted that none can be
+pub wants-none : (file codes : List ℕ) (declared : ℕ) → Wants file codes declared 256
+wants-none file codes declared place (inl z) = absurd (omega (arith, z))
+wants-none file codes declared place (inr e) = absurd (omega (arith, e))
+
+-- a code that is not 0 stands in the codes
+in-codes : (codes : List ℕ) (place : ℕ) → getD codes place 0 % 256 ≡ 13 → (b : Bool) → leb (length codes) place ≡ b → place < length codes
+in-codes codes place e true p = absurd (omega (arith, e, List·getD-eq-default codes 0 {n = place} (leb-true (length codes) place p)))
+in-codes codes place e false p = leb-false (length codes) place p
+
+-- String is declared: a text may be read
+pub wants-text : (file codes : List ℕ) (declared : ℕ) → getD codes declared 0 % 256 ≡ 13 → Wants file codes declared 13
+unfolding fitsAt kindAt equalAt agree sameCode sameName
+wants-text file codes declared k place (inl z) = absurd (omega (arith, z))
+wants-text file codes declared k place (inr e) =
+    let i = in-codes codes declared k (leb (length codes) declared) refl in
+    let j = in-codes codes place e (leb (length codes) place) refl in
+    let kind : getD codes declared 0 % 64 ≡ 13 = omega (arith, k) in
+    let four : getD codes declared 0 / 64 ≡ 4 * (getD codes declared 0 / 256) = omega (arith, k) in
+    let part : getD codes declared 0 / 64 / 4 ≡ getD codes declared 0 / 256 = omega (arith, four) in
+    let none : getD codes declared 0 / 64 % 4 ≡ 0 = omega (arith, four, part) in
+    rw (kind, drop-cons codes declared 0 i, drop-cons codes place 0 j, k, e, kind, none) (no-agree file (drop (suc declared) codes) (drop (suc place) codes))
+
 -- null
 pub null-seen : (file codes : List ℕ) (count target declared at next : ℕ) (s : Seen) → sevenAt file at ≡ read 0 next → padOf (sevenAt file at) at ≡ s .padding → s .end ≡ next → s .kind ≡ 0 → s .id ≡ 0
     → NullSeen file codes count target declared at s
@@ -153,10 +190,10 @@ null-seen file codes count target declared at next s e u f k i =
     record { starts = rw (e, v, f); kind-is = k; id-is = i }
 
 -- a value without children, by a reader of the list that is invoked and serves
-leaf-seen : (file codes : List ℕ) (count target declared at i next : ℕ) (s : Seen) → kindAt codes declared ≡ 14 → sevenAt file at ≡ read (suc i) next → padOf (sevenAt file at) at ≡ s .padding → i < 64 → i < count
+leaf-seen : (file codes : List ℕ) (count target declared at i next : ℕ) (s : Seen) → fitsAt file codes declared target ≡ true → sevenAt file at ≡ read (suc i) next → padOf (sevenAt file at) at ≡ s .padding → i < 64 → i < count
     → Leaf file codes target next (s .end) → s .kind ≡ rowKind (kindAt codes target) → s .id ≡ suc i
     → LeafSeen file codes count target declared at s
-unfolding readerAs placeAs fitsAt
+unfolding readerAs placeAs
 leaf-seen file codes count target declared at i next s d e u few c l k n =
     let v : padOf (read (suc i) next) at ≡ s .padding = sym (ap (λ y. padOf y at) e) ∙ u in
     let t = kindAt codes target in
@@ -173,7 +210,7 @@ pos zero h = absurd (h refl)
 pos (suc n) h = omega arith
 
 -- a type id that is no null's
-pub looked : (file codes targets : List ℕ) (count declared at id next : ℕ) (s : Seen) → kindAt codes declared ≡ 14 → sevenAt file at ≡ read id next → padOf (sevenAt file at) at ≡ s .padding
+pub looked : (file codes targets : List ℕ) (count declared at id next : ℕ) (s : Seen) → fitsAt file codes declared (getD targets (id - 1) 0) ≡ true → sevenAt file at ≡ read id next → padOf (sevenAt file at) at ≡ s .padding
     → (id ≡ 0 → ⊥) → id - 1 < count → id - 1 < 64
     → (s .end ≡ 0 → ⊥) → Ends file codes (getD targets (id - 1) 0) next (s .end) → s .kind ≡ rowKind (kindAt codes (getD targets (id - 1) 0)) → s .id ≡ id
     → Looked file codes count (getD targets (positionAt file at) 0) declared at s

@@ -8,12 +8,11 @@ use Rattle.table.specs.Word.{inWord}
 use Rattle.table.specs.Put.{putRow}
 use Rattle.walked.specs.Leaf.{valueRow}
 use Rattle.leaves.specs.Plain.{headOf}
-use Rattle.targets.specs.Place.{kindAt}
 use Rattle.objects.specs.Beginnings.{positionAt}
 use Rattle.first_values.specs.declared.Seen.{Seen}
 use Rattle.first_values.specs.Looks.{Looked}
 
-module _ (g : Grid) (file codes targets : List ℕ) (count used : ℕ) (w₀ : List ℕ) (at : ℕ) where
+module _ (g : Grid) (file codes targets : List ℕ) (count declared used : ℕ) (w₀ : List ℕ) (at : ℕ) where
   -- the object behind k others: what was seen of it, its row, and the padding with its own
   pub record Next (Before : (next sum : ℕ) (w : List ℕ) → Type 0) (k end sum : ℕ) (w : List ℕ) : Type 0 where
     pub first : ℕ
@@ -25,7 +24,7 @@ module _ (g : Grid) (file codes targets : List ℕ) (count used : ℕ) (w₀ : L
     pub ends : seen .end ≡ end
     pub there : end ≡ 0 → ⊥
     pub sums : sum ≡ inWord (had + seen .padding)
-    pub looked : (declared : ℕ) → kindAt codes declared ≡ 14 → Looked file codes count (getD targets (positionAt file first) 0) declared first seen
+    pub looked : Looked file codes count (getD targets (positionAt file first) 0) declared first seen
     pub puts : w ≡ putRow g old (used + k) (valueRow (headOf (used + k) first used (seen .id) (seen .padding)) (seen .kind) 0 1 end)
 
   -- k objects were taken: where the next one begins, the padding of their type ids, and the words

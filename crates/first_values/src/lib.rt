@@ -5,15 +5,16 @@ use numbers::seven::Padded;
 use table::Grid;
 use walked::Head;
 ghost use mathlib.Core.Path.{_≡_};
+ghost use mathlib.Core.List.{List};
 ghost use Prim.Native.Nat.{ℕ, _+_, _≤_, _<_};
+ghost use mathlib.Core.Bool.{true};
 ghost use lib.ListN.{getD};
 ghost use Rattle.reading.specs.Answer.{read};
 ghost use Rattle.reading.specs.Seven.{sevenAt};
 ghost use Rattle.numbers.specs.Padded.{padOf};
 ghost use Rattle.heads.specs.Placed.{bytesOf};
-ghost use Rattle.targets.specs.Place.{kindAt};
 ghost use Rattle.objects.specs.Beginnings.{positionAt};
-ghost use Rattle.first_values.specs.Looks.{Numbered, TextEnds, Ends, Looked};
+ghost use Rattle.first_values.specs.Looks.{Numbered, TextEnds, Ends, Wanted, Wants, Looked};
 ghost use Rattle.first_values.specs.Took.{Took};
 
 // A type id: the number, where it ends and its padding. The end is 0 where it was not read.
@@ -154,17 +155,48 @@ fn place_of(target: u16) -> usize
     target as usize
 }
 
-// The object whose type id was read up to `next`.
+// The code of the types that may be read where the type at `declared` is declared: 0 if all may be, 13 if only texts, 256 if it is another type.
+fn wanted_code(codes: &[u32], declared: usize) -> u32
+    ensures { λ r. ⌜ ((file : List ℕ) → Wants file (now (codes .entry)) declared r) ⌝ }
+{
+    if codes.len() <= declared {
+        return 256;
+    }
+    let code = codes[declared] % 256;
+    if code % 64 == 14 {
+        return 0;
+    }
+    if code == 13 {
+        return 13;
+    }
+    256
+}
+
+// The type at `place` has a code that is wanted.
+fn is_wanted(codes: &[u32], wanted: u32, place: usize) -> bool
+    ensures { λ r. ⌜ (r ≡ true → Wanted (now (codes .entry)) wanted place) ⌝ }
+{
+    if wanted == 0 {
+        return true;
+    }
+    if codes.len() <= place {
+        return false;
+    }
+    codes[place] % 256 == wanted
+}
+
+// The object whose type id was read up to `next`, where types of the wanted code are declared.
 fn named(
     file: &[u8],
     codes: &[u32],
     targets: &[u16; 64],
     count: u32,
+    wanted: u32,
     id: u32,
     next: usize,
     padding: u32,
 ) -> Seen
-    ensures { λ r. ⌜ ((declared at : ℕ) → kindAt (now (codes .entry)) declared ≡ 14
+    ensures { λ r. ⌜ ((declared at : ℕ) → Wants (now (file .entry)) (now (codes .entry)) declared wanted
         → sevenAt (now (file .entry)) at ≡ read id next → padOf (sevenAt (now (file .entry)) at) at ≡ padding
         → Looked (now (file .entry)) (now (codes .entry)) count (getD (now (targets .entry)) (positionAt (now (file .entry)) at) 0) declared at r) ⌝ }
 {
@@ -185,6 +217,9 @@ fn named(
     }
     let named = i as usize;
     let place = place_of(targets[named]);
+    if !is_wanted(codes, wanted, place) {
+        return unseen();
+    }
     let end = leaf_end(file, codes, place, next);
     if end == 0 {
         return unseen();
@@ -198,16 +233,25 @@ fn named(
     }
 }
 
-// The object at a place, which may be anything.
-fn look(file: &[u8], codes: &[u32], targets: &[u16; 64], count: u32, at: usize) -> Seen
-    ensures { λ r. ⌜ ((declared : ℕ) → kindAt (now (codes .entry)) declared ≡ 14
+// The object at a place, where types of the wanted code are declared.
+fn look(file: &[u8], codes: &[u32], targets: &[u16; 64], count: u32, wanted: u32, at: usize) -> Seen
+    ensures { λ r. ⌜ ((declared : ℕ) → Wants (now (file .entry)) (now (codes .entry)) declared wanted
         → Looked (now (file .entry)) (now (codes .entry)) count (getD (now (targets .entry)) (positionAt (now (file .entry)) at) 0) declared at r) ⌝ }
 {
     let it = id_at(file, at);
     if it.next == 0 {
         return unseen();
     }
-    named(file, codes, targets, count, it.id, it.next, it.padding)
+    named(
+        file,
+        codes,
+        targets,
+        count,
+        wanted,
+        it.id,
+        it.next,
+        it.padding,
+    )
 }
 
 // How many of n rows from `used` on there is room for.
@@ -224,27 +268,29 @@ fn fitting(room: u32, used: u32, n: u32) -> u32
     n
 }
 
-// Takes the first of n objects, which may be anything, with rows from `used` on.
+// Takes the first of n objects that are declared as the type at `declared`, with rows from `used` on.
 pub fn take(
     file: &[u8],
     codes: &[u32],
     targets: &[u16; 64],
     count: u32,
+    declared: usize,
     words: &mut [u32],
     grid: Grid,
     n: u32,
     at: usize,
     used: u32,
 ) -> Front
-    ensures { λ r. ⌜ (r .count ≤ n) × Took grid (now (file .entry)) (now (codes .entry)) (now (targets .entry)) count used (now (words .entry)) at
+    ensures { λ r. ⌜ (r .count ≤ n) × Took grid (now (file .entry)) (now (codes .entry)) (now (targets .entry)) count declared used (now (words .entry)) at
         (r .count) (r .next) (r .padding) (now (words .exit)) ⌝ }
 {
+    let wanted = wanted_code(codes, declared);
     let most = fitting(grid.room, used, n);
     let mut taken = 0;
     let mut next = at;
     let mut sum = 0;
     while taken < most {
-        let seen = look(file, codes, targets, count, next);
+        let seen = look(file, codes, targets, count, wanted, next);
         if seen.end == 0 {
             return Front {
                 count: taken,

@@ -33,7 +33,6 @@ use Rattle.leaves.specs.Plain.{Begin, headOf}
 use Rattle.leaves.specs.Run.{begin-on}
 use Rattle.readers.specs.declared.Readers.{Readers}
 use Rattle.readers.specs.Listed.{Listed}
-use Rattle.targets.specs.Place.{kindAt}
 use Rattle.heads.specs.declared.slot.Slot.{Slot}
 use Rattle.heads.specs.declared.slot.Slot.the-variants.{Object, Raw}
 use Rattle.heads.specs.declared.nest.Nest.{Nest}
@@ -96,9 +95,9 @@ list-nullables g file codes readers small shared a n plan i at used depth entry 
           let z : _≡_ {A = Reached} r (record { used = v .0; padding = padded file (v .1); next = f }) = cc in
           rw (s, z) (record { answers = refl; writes = w .writes })
 
--- so many of n objects may be taken: none, or up to all where they may be anything
-abbrev pub Takeable : (codes : List ℕ) (declared n depth most : ℕ) → Type 0
-Takeable codes declared n depth most = (most ≤ n) × ((most ≡ 0) ⊎ ((depth ≡ 0 → ⊥) × (kindAt codes declared ≡ 14)))
+-- so many of n objects may be taken: none, or up to all where depth is left
+abbrev pub Takeable : (n depth most : ℕ) → Type 0
+Takeable n depth most = (most ≤ n) × ((most ≡ 0) ⊎ (depth ≡ 0 → ⊥))
 
 id-few : (file : List ℕ) → Small file → (first id : ℕ) → idPad file first id ≤ 4
 unfolding idPad
@@ -164,11 +163,11 @@ rest-slots x zero (suc k) = let z : 0 ≡ 0 - suc k = omega arith in ap (λ (m :
 rest-slots x (suc n) (suc k) = let z : n - k ≡ suc n - suc k = omega arith in rest-slots x n k ∙ ap (λ (m : ℕ). replicate m x) z
 
 -- the rows of objects that were taken have the room
-pub took-fits : (g : Grid) (file codes targets : List ℕ) (count used : ℕ) (w₀ : List ℕ) (at k next sum : ℕ) (w : List ℕ) → used ≤ g .room
-    → Took g file codes targets count used w₀ at k next sum w → used + k ≤ g .room
+pub took-fits : (g : Grid) (file codes targets : List ℕ) (count declared used : ℕ) (w₀ : List ℕ) (at k next sum : ℕ) (w : List ℕ) → used ≤ g .room
+    → Took g file codes targets count declared used w₀ at k next sum w → used + k ≤ g .room
 unfolding Took
-took-fits g file codes targets count used w₀ at zero next sum w h t = omega (arith, h)
-took-fits g file codes targets count used w₀ at (suc k) next sum w h t = omega (arith, t .free)
+took-fits g file codes targets count declared used w₀ at zero next sum w h t = omega (arith, h)
+took-fits g file codes targets count declared used w₀ at (suc k) next sum w h t = omega (arith, t .free)
 
 module _ (g : Grid) (file codes : List ℕ) (rd : Readers) (readers : List Target) (l : Listed file codes rd readers) (small : Small file) (shared declared : ℕ) (x : L.Slot)
     (is : SlotIs file codes (Object declared) x) (w₀ : List ℕ) (at used : ℕ) (b : Begin file w₀ g at used) (n : ℕ) where
@@ -192,15 +191,15 @@ module _ (g : Grid) (file codes : List ℕ) (rd : Readers) (readers : List Targe
         rw (z, p, q, r) (start g file one (each slots) w₀ at used)
 
   -- k objects that were taken are walked
-  took-reading : (d : ℕ) → kindAt codes declared ≡ 14 → (k next sum : ℕ) (w : List ℕ) → k ≤ n
-      → Took g file codes (rd .targets) (rd .count) used w₀ at k next sum w → Taking (suc d) k next sum w
+  took-reading : (d k next sum : ℕ) (w : List ℕ) → k ≤ n
+      → Took g file codes (rd .targets) (rd .count) declared used w₀ at k next sum w → Taking (suc d) k next sum w
   unfolding Took
-  took-reading d o zero next sum w h t = none-taken (suc d) (t .0) (t .1) (t .2)
-  took-reading d o (suc k) next sum w h t =
-      let r = took-reading d o k (t .first) (t .had) (t .old) (omega (arith, h)) (t .before) in
+  took-reading d zero next sum w h t = none-taken (suc d) (t .0) (t .1) (t .2)
+  took-reading d (suc k) next sum w h t =
+      let r = took-reading d k (t .first) (t .had) (t .old) (omega (arith, h)) (t .before) in
       let r′ : Reading g file (one (suc d)) (each slots) w₀ at used (t .old) (put x (λ m. each (drop (suc k) slots))) (t .first) (used + k) (t .had) k =
       subst (λ y. Reading g file (one (suc d)) (each slots) w₀ at used (t .old) y (t .first) (used + k) (t .had) k) (next-is k (omega (arith, h))) r in
-      let y = seen-got g file codes rd readers l small shared d declared x is used (t .old) (used + k) (t .first) (begin-on b r) (t .free) (t .seen) (t .looked declared o) (λ z. t .there (sym (t .ends) ∙ z)) in
+      let y = seen-got g file codes rd readers l small shared d declared x is used (t .old) (used + k) (t .first) (begin-on b r) (t .free) (t .seen) (t .looked) (λ z. t .there (sym (t .ends) ∙ z)) in
       let row : ℕ → List ℕ = λ e. putRow g (t .old) (used + k) (valueRow (headOf (used + k) (t .first) used (t .seen .id) (t .seen .padding)) (t .seen .kind) 0 1 e) in
       let y′ : Got g file (t .old) w (used + k) (one (suc d) x (t .first) (used + k)) next (used + suc k) (t .seen .padding) = got-as y (t .puts ∙ ap row (sym (t .ends))) (sym (t .ends)) (omega arith) refl in
       let single = walk-single file readers shared (g .room) small (suc d) x (t .first) (used + k) used (y′ .taken) next (y′ .is) in
@@ -210,13 +209,13 @@ module _ (g : Grid) (file codes : List ℕ) (rd : Readers) (readers : List Targe
       (subst (λ (m : ℕ). Reading g file (one (suc d)) (each slots) w₀ at used w (each (drop (suc k) slots)) next (used + suc k) m (k + 1)) (sym (t .sums)) q)
 
   -- so many as may be taken
-  front-reading : (depth most k next sum : ℕ) (w : List ℕ) → Takeable codes declared n depth most → k ≤ most
-      → Took g file codes (rd .targets) (rd .count) used w₀ at k next sum w → Taking depth k next sum w
+  front-reading : (depth most k next sum : ℕ) (w : List ℕ) → Takeable n depth most → k ≤ most
+      → Took g file codes (rd .targets) (rd .count) declared used w₀ at k next sum w → Taking depth k next sum w
   unfolding Took
   front-reading depth most zero next sum w m h t = none-taken depth (t .0) (t .1) (t .2)
   front-reading depth most (suc k) next sum w (m, inl z) h t = absurd (omega (arith, z, h))
-  front-reading zero most (suc k) next sum w (m, inr o) h t = absurd (o .0 refl)
-  front-reading (suc d) most (suc k) next sum w (m, inr o) h t = took-reading d (o .1) (suc k) next sum w (omega (arith, m, h)) t
+  front-reading zero most (suc k) next sum w (m, inr o) h t = absurd (o refl)
+  front-reading (suc d) most (suc k) next sum w (m, inr o) h t = took-reading d (suc k) next sum w (omega (arith, m, h)) t
 
   module _ (depth : ℕ) {k next sum : ℕ} {w : List ℕ} (r : Taking depth k next sum w) where
     abbrev outcome : Outcome
@@ -277,7 +276,7 @@ module _ (g : Grid) (file codes : List ℕ) (rd : Readers) (readers : List Targe
 -- a list of n objects, of which k were taken at once
 module _ (g : Grid) (file codes : List ℕ) (rd : Readers) (readers : List Target) (l : Listed file codes rd readers) (small : Small file) (shared declared n : ℕ) (plan : Plan)
     (i : NestIs file codes (Each (Object declared) n) plan) (w₀ : List ℕ) (at used : ℕ) (b : Begin file w₀ g at used) (depth most k next sum : ℕ) (w : List ℕ)
-    (m : Takeable codes declared n depth most) (h : k ≤ most) (t : Took g file codes (rd .targets) (rd .count) used w₀ at k next sum w) where
+    (m : Takeable n depth most) (h : k ≤ most) (t : Took g file codes (rd .targets) (rd .count) declared used w₀ at k next sum w) where
   abbrev x : L.Slot
   x = i .are .slot
 

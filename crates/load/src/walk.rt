@@ -307,17 +307,18 @@ fn element(nest: Nest) -> Slot
     }
 }
 
-// How many of n objects may be taken at once: all where they may be anything and depth is left, else none.
+// How many of n objects may be taken at once: all where Object or String is declared and depth is left, else none.
 fn takeable(codes: &[u32], declared: usize, n: u32, depth: u32) -> u32
-    ensures { λ r. ⌜ Takeable (now (codes .entry)) declared n depth r ⌝ }
+    ensures { λ r. ⌜ Takeable n depth r ⌝ }
 {
     if depth == 0 {
         return 0;
     }
-    if targets::kind_at(codes, declared) == 14 {
-        return n;
+    match targets::kind_at(codes, declared) {
+        13 => n,
+        14 => n,
+        _ => 0,
     }
-    0
 }
 
 // What stands below a raw value: a long list as such, all else as its nest says.
@@ -481,6 +482,7 @@ fn objects_from(
         codes,
         &rd.targets,
         rd.count,
+        declared,
         words,
         grid,
         most,

@@ -4,6 +4,7 @@ use Prim.Native.Nat.{ℕ}
 use Rattle.reading.specs.Answer.{read}
 use Rattle.reading.specs.Seven.{sevenAt}
 use Rattle.first_values.specs.Looks.{null-seen, looked}
+use borrow.Author.Tests.{not-false}
 use borrow.Author.Needs.{needs}
 use Rattle.first_values.proofs.named.Statement.{statement}
 use Rattle.first_values.proofs.named.Tie as tie
@@ -41,8 +42,8 @@ element-copy-out-place-of c = search needs
 place-of-requires : tie.Need-place-of-requires
 place-of-requires c κs = search needs
 
-leaf-end-requires : tie.Need-leaf-end-requires
-leaf-end-requires c κs = search needs
+is-wanted-requires : tie.Need-is-wanted-requires
+is-wanted-requires c κs = search needs
 
 unseen-requires-3 : tie.Need-unseen-requires-3
 unseen-requires-3 c κs = search needs
@@ -50,16 +51,26 @@ unseen-requires-3 c κs = search needs
 returns-4 : tie.Need-returns-4
 returns-4 c = λ declared at d e u. inl (c .unseen3 .ensures)
 
+leaf-end-requires : tie.Need-leaf-end-requires
+leaf-end-requires c κs = search needs
+
+unseen-requires-4 : tie.Need-unseen-requires-4
+unseen-requires-4 c κs = search needs
+
+returns-5 : tie.Need-returns-5
+returns-5 c = λ declared at d e u. inl (c .unseen4 .ensures)
+
 row-kind-requires : tie.Need-row-kind-requires
 row-kind-requires c κs = search needs
 
-returns-5 : tie.Need-returns-5
-returns-5 c =
+returns-6 : tie.Need-returns-6
+returns-6 c =
     λ declared at d e u.
-    let a = c .before .before .before .before .before .before .before .before .before .before .args in
-    let q = c .before .before .before .place-of .ensures in
-    looked (a .file .now) (a .codes .now) (a .targets .now) (a .count) declared at (a .id) (a .next) _ d e u (c .before .before .before .before .before .before .before .if1 .left) (c .before .before .before .before .before .before .if2 .left) (c .before .before .before .before .before .if3 .left)
-    (c .before .if4 .left) (rw q at (c .before .before .leaf-end .ensures)) (rw q at (c .row-kind .ensures)) refl
+    let a = c .before .before .before .before .before .before .before .before .before .before .before .before .args in
+    let q = c .before .before .before .before .before .place-of .ensures in
+    let fits = d _ (c .before .before .before .before .is-wanted .ensures (not-false _ (c .before .before .before .if4 .left))) in
+    looked (a .file .now) (a .codes .now) (a .targets .now) (a .count) declared at (a .id) (a .next) _ (rw q at fits) e u (c .before .before .before .before .before .before .before .before .before .if1 .left) (c .before .before .before .before .before .before .before .before .if2 .left)
+    (c .before .before .before .before .before .before .before .if3 .left) (c .before .if5 .left) (rw q at (c .before .before .leaf-end .ensures)) (rw q at (c .row-kind .ensures)) refl
 
 pub named-spec : {M : Type 1} → statement M
 named-spec =
@@ -75,8 +86,11 @@ named-spec =
     mul-place-of
     element-copy-out-place-of
     place-of-requires
-    leaf-end-requires
+    is-wanted-requires
     unseen-requires-3
     returns-4
+    leaf-end-requires
+    unseen-requires-4
+    returns-5
     row-kind-requires
-    returns-5)
+    returns-6)

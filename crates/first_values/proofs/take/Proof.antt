@@ -9,12 +9,15 @@ use Rattle.first_values.proofs.take.Statement.{statement}
 use Rattle.first_values.proofs.take.Tie as tie
 
 abbrev Inv-loop : tie.InvT-loop
-Inv-loop file codes targets count words₀ grid n at used most taken₀ next₀ sum₀ words taken next sum =
-    (taken ≤ most) × (length words ≡ length words₀) × Took grid file codes targets count used words₀ at taken next sum words
+Inv-loop file codes targets count declared words₀ grid n at used wanted most taken₀ next₀ sum₀ words taken next sum =
+    (taken ≤ most) × (length words ≡ length words₀) × Took grid file codes targets count declared used words₀ at taken next sum words
 
 abbrev μ-loop : tie.MeasureT-loop
-μ-loop file codes targets count words₀ grid n at used most taken₀ next₀ sum₀ words taken next sum =
+μ-loop file codes targets count declared words₀ grid n at used wanted most taken₀ next₀ sum₀ words taken next sum =
     most - taken
+
+wanted-code-requires : tie.Need-wanted-code-requires Inv-loop μ-loop
+wanted-code-requires c κs = search needs
 
 fitting-requires : tie.Need-fitting-requires Inv-loop μ-loop
 fitting-requires c κs = search needs
@@ -53,12 +56,12 @@ loop-less c = search needs
 loop-again : tie.Need-loop-again Inv-loop μ-loop
 unfolding Took
 loop-again c =
-    let a = c .before .before .before .before .before .before .before .before .before .before .before .before .before .before .before .args in
+    let a = c .before .before .before .before .before .before .before .before .before .before .before .before .before .before .before .before .args in
     let m = c .before .before .before .before .before .before .before .before .before .before .loop in
     let s = c .before .before .before .before .before .before .before .before .look in (
       omega (arith, c .before .before .before .before .before .before .before .before .before .loop-test .taken),
       search needs,
-      subst (λ (k : ℕ). Took (a .grid) (a .file .now) (a .codes .now) (a .targets .now) (a .count) (a .used) (a .words .now) (a .at) k (s .result .end) (c .sum .result) (c .before .before .before .put-row .last .0)) (sym (add-one (m .taken)))
+      subst (λ (k : ℕ). Took (a .grid) (a .file .now) (a .codes .now) (a .targets .now) (a .count) (a .declared) (a .used) (a .words .now) (a .at) k (s .result .end) (c .sum .result) (c .before .before .before .put-row .last .0)) (sym (add-one (m .taken)))
           (record {
             first = m .next;
             had = m .sum;
@@ -69,7 +72,7 @@ loop-again c =
             ends = refl;
             there = c .before .before .before .before .before .before .if1 .left;
             sums = c .sum .ensures;
-            looked = s .ensures;
+            looked = s .ensures (a .declared) (c .before .before .before .before .before .before .before .before .before .before .before .before .wanted-code .ensures (a .file .now));
             puts = rw (← c .before .before .before .before .before .row-words .ensures) (c .before .before .before .put-row .ensures);
           }),
     )
@@ -86,6 +89,7 @@ take-spec =
     (tie.spec
     Inv-loop
     μ-loop
+    wanted-code-requires
     fitting-requires
     loop-holds
     look-requires

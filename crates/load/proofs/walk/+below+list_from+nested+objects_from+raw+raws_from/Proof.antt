@@ -952,7 +952,7 @@ objects-from-add-row : (t : ℕ) → objects-from-lts.Need-add-row (
 objects-from-add-row t c =
     let a = (c .before .before .before .before .before .before .before .before .before .before .before .args) in
     let b = (c .before .before .before .before .before .before .before .before .before .before .before .pre) .1 .0 in
-    omega (arith, b .few, took-fits (a .grid) (a .file .now) (a .codes .now) _ _ (a .used) (a .words .now) (a .at) _ _ _ _ (b .rows) ((c .before .before .before .take) .ensures .1))
+    omega (arith, b .few, took-fits (a .grid) (a .file .now) (a .codes .now) _ _ _ (a .used) (a .words .now) (a .at) _ _ _ _ (b .rows) ((c .before .before .before .take) .ensures .1))
 
 objects-from-same-length : (t : ℕ) → objects-from-lts.Need-same-length (
   takeable-reads.Asked,

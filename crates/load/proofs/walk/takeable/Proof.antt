@@ -1,4 +1,4 @@
-use mathlib.Core.Path.{refl, sym, _∙_}
+use mathlib.Core.Path.{refl}
 use mathlib.Core.Logic.{inl, inr}
 use native.Mathlib.Omega.{arith}
 use borrow.Author.Needs.{needs}
@@ -12,10 +12,13 @@ kind-at-requires : tie.Need-kind-at-requires
 kind-at-requires c κs = search needs
 
 returns-2 : tie.Need-returns-2
-returns-2 c = (omega arith, inr (c .before .before .if1 .left, sym (c .before .kind-at .ensures) ∙ c .if2 .taken))
+returns-2 c = (omega arith, inr (c .before .before .if1 .left))
 
 returns-3 : tie.Need-returns-3
-returns-3 c = (omega arith, inl refl)
+returns-3 c = (omega arith, inr (c .before .before .if1 .left))
+
+returns-4 : tie.Need-returns-4
+returns-4 c = (omega arith, inl refl)
 
 pub takeable-spec : {M : Type 1} → statement M
-takeable-spec = tie.close (tie.spec returns kind-at-requires returns-2 returns-3)
+takeable-spec = tie.close (tie.spec returns kind-at-requires returns-2 returns-3 returns-4)
