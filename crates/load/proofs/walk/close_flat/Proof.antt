@@ -62,19 +62,39 @@ same-length-2 : tie.Need-same-length-2
 same-length-2 c = search needs
 
 returns-2 : tie.Need-returns-2
-returns-2 c = λ codes readers t i k o.
+returns-2 c =
+    λ codes readers t i k o.
+    let p = c .before .before .before .before .before .before .before .before .before .before .before .before .before .before .before .before .pre in
+    let shared-slice-known = c .before .before .before .before .before .before .before .before .before .before .before .before .before .before .before .shared-slice-known in
+    let below2 = c .before .before .before .before .before .before .before .before .before .before .before .below2 in
+    let turns = c .before .before .before .before .before .before .before .before .before .turns in
+    let word = c .before .before .before .before .before .before .before .before .word in
+    let read-run = c .before .before .before .before .before .before .read-run in
+    let close-plain = c .before .before .close-plain in
     let a = c .before .before .before .before .before .before .before .before .before .before .before .before .before .before .before .before .args in
-    let r = c .before .before .before .before .before .before .before .before .before .before .before .before .before .before .before .before .pre .0 in
-    let small = small-by-index (a .file .now) (λ j h. omega (arith, c .before .before .before .before .before .before .before .before .before .before .before .before .before .before .before .shared-slice-known .given j)) in
-    let w = subst (λ b. OpenedAs (a .file .now) codes t (a .at) (a .next) b) (c .before .before .before .before .before .before .before .before .before .before .before .below2 .given .1) o in
+    let r = p .0 in
+    let small = small-by-index (a .file .now) (λ j h. omega (arith, shared-slice-known .given j)) in
+    let w = subst (λ b. OpenedAs (a .file .now) codes t (a .at) (a .next) b) (below2 .given .1) o in
     let v = w .goes in
-    let x = rw (c .before .before .before .before .before .before .before .before .before .before .before .below2 .given .1) at (c .before .before .before .before .before .before .before .before .before .before .before .before .before .before .before .before .pre .1) in
-    let run = c .before .before .before .before .before .before .read-run .ensures in
-    let e = c .before .before .close-plain .ensures in
-    let below = run-walked (a .grid) (a .file .now) small (a .shared) _ (v .lawful) readers (a .depth) (a .h .row .0 + 1) (a .words .now) (a .next) (a .h .row .0 + 1) (begin-below t small r (w .is)) in
-    let m = slots-are (a .grid) (a .file .now) small readers (a .shared) (a .depth) (v .slots) (a .next) (a .h .row .0 + 1) (c .before .before .before .before .before .before .before .before .word .result) (omega (arith, r .free)) (r .few) (c .before .before .before .before .before .before .before .before .word .ensures ∙ ap inWord (c .before .before .before .before .before .before .before .before .before .turns .ensures ∙ sym (alike-length (v .alike)))) in
-    let n = subst (λ plan. Children-are (a .grid) (a .file .now) readers (a .shared) (a .depth) plan (a .next) (a .h .row .0 + 1) (c .before .before .before .before .before .before .before .before .word .result)) (sym (v .are)) m in
-    rw (e .0, e .1) (raw-told (a .grid) (a .file .now) codes readers (a .shared) (a .depth) t (a .place) (a .h) (a .at) _ (plain-ends (a .grid) (a .file .now) {w₁ = c .before .before .before .before .before .before .read-run .last .1 .0} (a .h) (a .at) t readers (a .shared) (a .depth) (c .before .before .before .before .before .before .before .before .word .result) (a .kind) (c .before .before .before .before .before .before .read-run .result) x small r (i .lawful) w refl n k (rw (v .are, alike-sequence _ (λ y z q b u. like-walk (a .file .now) readers (a .shared) (a .grid .room) (a .depth) q b u (a .h .row .0 + 1)) (v .alike) (a .next) (a .h .row .0 + 1), run .0, run .1) below)))
+    let x = rw (below2 .given .1) at (p .1) in
+    let run = read-run .ensures in
+    let e = close-plain .ensures in
+    let below = run-walked (a .grid) (a .file .now) small (a .shared) _ (v .lawful) readers (a .depth) (a .h .row .0 + 1) (a .words .now) (a .next) (a .h .row .0 + 1)
+    (begin-below t small r (w .is)) in
+    let m = slots-are (a .grid) (a .file .now) small readers (a .shared) (a .depth) (v .slots) (a .next) (a .h .row .0 + 1) (word .result) (omega (arith, r .free)) (r .few)
+    (word .ensures ∙ ap inWord (turns .ensures ∙ sym (alike-length (v .alike)))) in
+    let n = subst (λ plan. Children-are (a .grid) (a .file .now) readers (a .shared) (a .depth) plan (a .next) (a .h .row .0 + 1) (word .result)) (sym (v .are)) m in
+    rw (
+      e .0,
+      e .1,
+    ) (raw-told (a .grid) (a .file .now) codes readers (a .shared) (a .depth) t (a .place) (a .h) (a .at) _
+    (plain-ends (a .grid) (a .file .now) {w₁ = read-run .last .1 .0} (a .h) (a .at) t readers (a .shared) (a .depth) (word .result) (a .kind) (read-run .result) x small r
+    (i .lawful) w refl n k (rw (
+      v .are,
+      alike-sequence _ (λ y z q b u. like-walk (a .file .now) readers (a .shared) (a .grid .room) (a .depth) q b u (a .h .row .0 + 1)) (v .alike) (a .next) (a .h .row .0 + 1),
+      run .0,
+      run .1,
+    ) below)))
 
 returns-3 : tie.Need-returns-3
 returns-3 c = λ codes readers t i k o.

@@ -29,7 +29,11 @@ same-length c = search needs
 
 returns-2 : tie.Need-returns-2
 returns-2 c =
-    rw (c .before .before .before .before .before .before .before .before .before .walked2 .given .1, ← c .before .before .before .before .before .before .rows-from .ensures, ← c .before .before .before .before .before .row-words .ensures, ← c .sum .ensures) (refl, c .before .before .before .put-row .ensures)
+    let walked2 = c .before .before .before .before .before .before .before .before .before .walked2 in
+    let rows-from = c .before .before .before .before .before .before .rows-from in
+    let row-words = c .before .before .before .before .before .row-words in
+    let put-row = c .before .before .before .put-row in
+    rw (walked2 .given .1, ← rows-from .ensures, ← row-words .ensures, ← c .sum .ensures) (refl, put-row .ensures)
 
 pub close-plain-spec : {M : Type 1} → statement M
 close-plain-spec =

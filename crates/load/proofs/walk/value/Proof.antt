@@ -31,8 +31,9 @@ starting : (c : tie.After-start) (rd : Readers) (readers : List Target) (x : Slo
     → c .before .before .before .before .args .at ≤ length (c .before .before .before .before .args .file .now)
     → Starts (c .before .before .before .before .args .file .now) (c .before .before .before .before .args .codes .now) readers (c .before .before .before .before .args .grid .room) (c .before .before .before .before .args .depth) x (c .before .before .before .before .args .at) (c .before .before .before .before .args .used) (c .start .result)
 starting c rd readers x h l s p =
+    let shared-slice-known = c .before .before .before .shared-slice-known in
     let a = c .before .before .before .before .args in
-    let small = small-by-index (a .file .now) (λ i h. omega (arith, c .before .before .before .shared-slice-known .given i)) in
+    let small = small-by-index (a .file .now) (λ i h. omega (arith, shared-slice-known .given i)) in
     rw (c .start .ensures) (starts-as (a .file .now) (a .codes .now) (a .count) (a .target) rd readers l small (a .grid .room) (a .slot) (a .at) (a .used) (a .depth) x h s p)
 
 start-requires : tie.Need-start-requires
@@ -90,12 +91,21 @@ same-length : tie.Need-same-length
 same-length c = search needs
 
 returns-2 : tie.Need-returns-2
-returns-2 c = λ rd readers x h l s.
+returns-2 c =
+    λ rd readers x h l s.
+    let p′ = c .before .before .before .before .before .before .before .before .before .before .before .before .before .before .before .pre in
+    let shared-slice-known = c .before .before .before .before .before .before .before .before .before .before .before .before .before .before .shared-slice-known in
+    let plain = c .before .before .before .before .before .before .before .before .before .plain in
+    let plain2 = c .before .before .before .before .before .before .plain2 in
+    let read-fixed = c .before .before .before .read-fixed in
     let a = c .before .before .before .before .before .before .before .before .before .before .before .before .before .before .before .args in
-    let p = c .before .before .before .before .before .before .before .before .before .before .before .before .before .before .before .pre .0 in
-    let small = small-by-index (a .file .now) (λ i h. omega (arith, c .before .before .before .before .before .before .before .before .before .before .before .before .before .before .shared-slice-known .given i)) in
-    let b = rw (c .before .before .before .before .before .before .before .before .before .plain .given .1, c .before .before .before .before .before .before .plain2 .given .1) at (starting (c .before .before .before .before .before .before .before .before .before .before .before) rd readers x h l s (p .place)) in
-    let e = c .before .before .before .read-fixed .ensures in
+    let p = p′ .0 in
+    let small = small-by-index (a .file .now) (λ i h. omega (arith, shared-slice-known .given i)) in
+    let b = rw (
+      plain .given .1,
+      plain2 .given .1,
+    ) at (starting (c .before .before .before .before .before .before .before .before .before .before .before) rd readers x h l s (p .place)) in
+    let e = read-fixed .ensures in
     let w = fixed-walked (a .file .now) (a .grid) (a .shared) _ _ (a .at) (a .used) (a .words .now) small p (b .1) readers (a .depth) (a .parent) in
     let v = rw (sym (like-walk (a .file .now) readers (a .shared) (a .grid .room) (a .depth) (b .0) (a .at) (a .used) (a .parent))) at w in
     rw (c .walked-step .ensures, e .0, e .1) (value-told (a .grid) (a .file .now) (a .codes .now) readers (a .shared) (a .depth) x (a .at) (a .used) (a .parent) _ v)
@@ -119,23 +129,37 @@ same-length-3 c = search needs
 
 returns-4 : tie.Need-returns-4
 unfolding seen
-returns-4 c = λ rd readers x h l s.
+returns-4 c =
+    λ rd readers x h l s.
+    let p′ = c .before .before .before .before .before .before .before .before .before .before .before .before .pre in
+    let shared-slice-known = c .before .before .before .before .before .before .before .before .before .before .before .shared-slice-known in
+    let next = c .before .before .before .before .before .before .next in
+    let leaf = c .before .before .before .leaf in
     let a = c .before .before .before .before .before .before .before .before .before .before .before .before .args in
-    let p = c .before .before .before .before .before .before .before .before .before .before .before .before .pre .0 in
-    let small = small-by-index (a .file .now) (λ i h. omega (arith, c .before .before .before .before .before .before .before .before .before .before .before .shared-slice-known .given i)) in
-    let b = rw (c .before .before .before .before .before .before .next .given .1) at (starting (c .before .before .before .before .before .before .before .before) rd readers x h l s (p .place)) in
-    let e = c .before .before .before .leaf .ensures in
+    let p = p′ .0 in
+    let small = small-by-index (a .file .now) (λ i h. omega (arith, shared-slice-known .given i)) in
+    let b = rw (next .given .1) at (starting (c .before .before .before .before .before .before .before .before) rd readers x h l s (p .place)) in
+    let e = leaf .ensures in
     let free : Free (a .grid) (a .words .now) (a .used) = record { long = p .long; there = b .free; few = omega (arith, b .free, p .few) } in
-    rw (c .walked-step3 .ensures, e .0, e .1, b .is (a .shared) (a .parent)) (leaf-walked {A = ℕ} (a .grid) (a .file .now) (a .words .now) (headOf (a .used) (a .at) (a .parent) 0 (c .before .before .before .before .before .before .next .given .0 .1 .0)) 0 nothing (read 0 _) free (b .ahead, omega (arith, b .inside, p .short)) (null-pads (a .file .now) small (a .used) (a .at) (a .parent) (b .pads)))
+    rw (c .walked-step3 .ensures, e .0, e .1, b .is (a .shared) (a .parent))
+    (leaf-walked {A = ℕ} (a .grid) (a .file .now) (a .words .now) (headOf (a .used) (a .at) (a .parent) 0 (next .given .0 .1 .0)) 0 nothing (read 0 _) free (
+      b .ahead,
+      omega (arith, b .inside, p .short),
+    ) (null-pads (a .file .now) small (a .used) (a .at) (a .parent) (b .pads)))
 
 same-length-4 : tie.Need-same-length-4
 same-length-4 c = search needs
 
 returns-5 : tie.Need-returns-5
-returns-5 c = λ rd readers x h l s.
+returns-5 c =
+    λ rd readers x h l s.
+    let p = c .before .before .before .before .before .before .before .before .before .before .before .pre in
+    let place = c .before .before .before .before .before .place in
+    let raw-step = c .before .before .raw-step in
     let a = c .before .before .before .before .before .before .before .before .before .before .before .args in
-    let b = rw (c .before .before .before .before .before .place .given .1) at (starting (c .before .before .before .before .before .before .before) rd readers x h l s (c .before .before .before .before .before .before .before .before .before .before .before .pre .0 .place)) in
-    raw-steps (a .grid) (a .file .now) (a .codes .now) readers (a .shared) (a .depth) (a .depth - 1) x (a .at) (a .used) (a .parent) _ _ _ _ (a .words .now) (c .before .before .raw-step .last .1 .1 .0) (c .before .before .raw-step .result) (omega (arith, b .deep)) b (c .before .before .raw-step .ensures readers (b .type) (b .stands))
+    let b = rw (place .given .1) at (starting (c .before .before .before .before .before .before .before) rd readers x h l s (p .0 .place)) in
+    raw-steps (a .grid) (a .file .now) (a .codes .now) readers (a .shared) (a .depth) (a .depth - 1) x (a .at) (a .used) (a .parent) _ _ _ _ (a .words .now)
+    (raw-step .last .1 .1 .0) (raw-step .result) (omega (arith, b .deep)) b (raw-step .ensures readers (b .type) (b .stands))
 
 pub value-spec : {M : Type 1} → statement M
 value-spec =
