@@ -49,9 +49,9 @@ use Rattle.resources.specs.Flat.{rows-flat}
 use Rattle.resources.specs.Objects.{objects-drafted}
 use Rattle.load.specs.declared.Loading.{Loading}
 use Rattle.load.specs.declared.Loading.the-variants.{Refused, Loaded}
-use Rattle.load.specs.declared.walk.Children.{Children}
-use Rattle.load.specs.declared.walk.Children.the-variants.{Done as Children-done, Refused as Children-refused}
-use Rattle.load.specs.Turns.{Counts, whole as whole-nest, counts-walked, counts-refused}
+use Rattle.steps.specs.declared.Children.{Children}
+use Rattle.steps.specs.declared.Children.the-variants.{Done as Children-done, Refused as Children-refused}
+use Rattle.steps.specs.Turns.{Counts, whole as whole-nest, counts-walked, counts-refused}
 use Rattle.load.specs.Loads.{Total, fileTotal, Loads, behindHeader, answerOf}
 use Rattle.readers.specs.Judged.{judgedName, judges}
 use Rattle.readers.specs.Left.{enough}

@@ -1,8 +1,3 @@
-pub mod Known
-pub mod Walks
-pub mod Turns
-pub mod Steps
-pub mod Front
 pub mod Under
 pub mod Loads
 pub mod Contracts

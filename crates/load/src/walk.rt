@@ -10,6 +10,8 @@ use leaves::plain::Plain;
 use nullables::Listed;
 use objects::start::Started;
 use readers::Readers;
+use steps::Children;
+use steps::Stepped;
 use table::Grid;
 use walked::Head;
 use walked::Reached;
@@ -17,31 +19,10 @@ use walked::Walk;
 ghost use mathlib.Core.Path.{_≡_};
 ghost use Prim.Native.Nat.{ℕ};
 ghost use Rattle.leaves.specs.Plain.{Begin};
-ghost use Rattle.load.specs.Known.{Known, KnownNest, KnownValue, Ready};
-ghost use Rattle.load.specs.Steps.{KnownRaw, NoRule, stepOf, topped, plainWords};
-ghost use Rattle.load.specs.Front.{ListOf, AllAlike, Takeable};
-ghost use Rattle.load.specs.Contracts.{FlatSteps, PlacedSteps, ValueSteps, RawWalks, NestWalks};
-
-// A value that needs no reader list, walked; or a raw value whose children need it:
-// the place of its type, its first byte, its children, the padding of its type id, the type id, and where its head ends.
-pub enum Stepped {
-    Done(Reached),
-    Refused(u32, usize),
-    Nested {
-        place: usize,
-        from: usize,
-        nest: Nest,
-        padding: u32,
-        id: TypeId,
-        next: usize,
-    },
-}
-
-// Values one after the other, walked: how many they are and what the walk reaches; or a refusal's number and place.
-pub enum Children {
-    Done { count: u32, reached: Reached },
-    Refused(u32, usize),
-}
+ghost use Rattle.steps.specs.Known.{Known, KnownNest, KnownValue, Ready};
+ghost use Rattle.steps.specs.Steps.{KnownRaw, NoRule, stepOf, topped, plainWords};
+ghost use Rattle.steps.specs.Front.{ListOf, AllAlike, Takeable};
+ghost use Rattle.steps.specs.Contracts.{FlatSteps, PlacedSteps, ValueSteps, RawWalks, NestWalks};
 
 // A value that was walked.
 fn walked_step(walked: Walk) -> Stepped

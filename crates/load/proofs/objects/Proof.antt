@@ -14,7 +14,7 @@ use Rattle.table.specs.declared.Grid.{Grid}
 use Rattle.readers.specs.Listed.{Listed}
 use Rattle.load.specs.declared.Loading.{Loading}
 use Rattle.load.specs.Loads.{Total, Loads}
-use Rattle.load.specs.Turns.{Counts, whole}
+use Rattle.steps.specs.Turns.{Counts, whole}
 use Rattle.load.specs.Laws.{roots, roots-are, objects-lost, objects-got, objects-loaded, objects-padded, loads-refused}
 use borrow.Author.Needs.{needs}
 use Rattle.load.proofs.objects.Statement.{statement}

@@ -15,12 +15,12 @@ use Rattle.walked.specs.Loop.{same, Got, got, lost}
 use Rattle.readers.specs.Listed.{Listed}
 use Rattle.heads.specs.Plans.{NestIs, afterOf}
 use Rattle.objects.specs.Start.{position-in-list}
-use Rattle.load.specs.Known.{KnownNest}
-use Rattle.load.specs.Walks.{begin-below}
-use Rattle.load.specs.Turns.{Standing, standing, standing-begin, value-next, nothing-next, next-lost, next-walked, counts-walked, counts-refused}
-use Rattle.load.specs.Steps.{left-walked, got-as, raw-ends, raw-lost}
+use Rattle.steps.specs.Known.{KnownNest}
+use Rattle.steps.specs.Walks.{begin-below}
+use Rattle.steps.specs.Turns.{Standing, standing, standing-begin, value-next, nothing-next, next-lost, next-walked, counts-walked, counts-refused}
+use Rattle.steps.specs.Steps.{left-walked, got-as, raw-ends, raw-lost}
 use Rattle.leaves.specs.Plain.{Begin}
-use Rattle.load.specs.Front.{list-nest, list-element, list-nullables, took-fits, list-left, list-begin, list-all, list-refused, list-done}
+use Rattle.steps.specs.Front.{list-nest, list-element, list-nullables, took-fits, list-left, list-begin, list-all, list-refused, list-done}
 use Prim.Native.Nat.{ℕ, _<_}
 use borrow.Fn.Kinds.{In}
 use borrow.Fn.PlainCycle.{Measures, is, falls, and}

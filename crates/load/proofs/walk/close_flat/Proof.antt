@@ -5,8 +5,8 @@ use Rattle.reading.specs.Reads.{small-by-index}
 use Rattle.table.specs.Word.{inWord}
 use Rattle.leaves.specs.Run.{run-walked}
 use Rattle.leaves.specs.Like.{like-walk, alike-sequence, alike-length}
-use Rattle.load.specs.Walks.{OpenedAs, begin-below}
-use Rattle.load.specs.Steps.{Children-are, raw-told, plain-ends, head-ends, slots-are}
+use Rattle.steps.specs.Walks.{OpenedAs, begin-below}
+use Rattle.steps.specs.Steps.{Children-are, raw-told, plain-ends, head-ends, slots-are}
 use borrow.Author.Needs.{needs}
 use Rattle.load.proofs.walk.close_flat.Statement.{statement}
 use Rattle.load.proofs.walk.close_flat.Tie as tie

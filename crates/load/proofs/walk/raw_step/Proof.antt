@@ -7,8 +7,8 @@ use Rattle.heads.specs.Pads.{open-pads}
 use Rattle.places.specs.Places.{countPlaces}
 use Rattle.places.specs.Padding.{padding}
 use Rattle.heads.specs.Meaning.{opens-as}
-use Rattle.load.specs.Walks.{opened-as, refused-as}
-use Rattle.load.specs.Steps.{no-rule, refusing-head}
+use Rattle.steps.specs.Walks.{opened-as, refused-as}
+use Rattle.steps.specs.Steps.{no-rule, refusing-head}
 use borrow.Author.Needs.{needs}
 use Rattle.load.proofs.walk.raw_step.Statement.{statement}
 use Rattle.load.proofs.walk.raw_step.Tie as tie

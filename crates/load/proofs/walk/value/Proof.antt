@@ -17,7 +17,7 @@ use Rattle.walked.specs.Contract.{seen, Free}
 use Rattle.walked.specs.Loop.{refusing}
 use Rattle.walked.specs.Leaf.{leaf-walked}
 use Rattle.leaves.specs.Plain.{headOf, plain-walked, fixed-walked}
-use Rattle.load.specs.Steps.{null-pads, value-told, raw-steps}
+use Rattle.steps.specs.Steps.{null-pads, value-told, raw-steps}
 use Rattle.leaves.specs.Like.{like-walk}
 use borrow.Author.Needs.{needs}
 use Rattle.load.proofs.walk.value.Statement.{statement}

@@ -51,10 +51,10 @@ use Rattle.fonts.specs.Bridge.{other-kind}
 use Rattle.objects.specs.Beginnings.{Begins, under}
 use Rattle.objects.specs.Endings.{closeAnswer, closeWords, keeps}
 use Rattle.objects.specs.Close.{row-padding, raw-closed, slots-counted}
-use Rattle.load.specs.declared.walk.Stepped.{Stepped}
-use Rattle.load.specs.declared.walk.Stepped.the-variants.{Done, Refused, Nested}
-use Rattle.load.specs.Known.{Ready}
-use Rattle.load.specs.Walks.{OpenedAs, close-ready}
+use Rattle.steps.specs.declared.Stepped.{Stepped}
+use Rattle.steps.specs.declared.Stepped.the-variants.{Done, Refused, Nested}
+use Rattle.steps.specs.Known.{Ready}
+use Rattle.steps.specs.Walks.{OpenedAs, close-ready}
 
 -- a value that was walked
 abbrev pub stepOf : Walk → Stepped

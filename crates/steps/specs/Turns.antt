@@ -26,9 +26,9 @@ use Rattle.heads.specs.Placed.{SlotIs}
 use Rattle.heads.specs.Plans.{Prelude, NestIs, StageIs, Heard, beginOf, afterOf, slotAt}
 use Rattle.heads.specs.Nests.{ends, goes}
 use Rattle.meshes.specs.Tells.{told-is}
-use Rattle.load.specs.declared.walk.Children.{Children}
-use Rattle.load.specs.declared.walk.Children.the-variants.{Done, Refused}
-use Rattle.load.specs.Walks.{walk-takes}
+use Rattle.steps.specs.declared.Children.{Children}
+use Rattle.steps.specs.declared.Children.the-variants.{Done, Refused}
+use Rattle.steps.specs.Walks.{walk-takes}
 
 -- 01's number and place for a refusal; for children their number, their end, the rows used and their padding
 abbrev pub childrenOf : (file : List ℕ) → Answer Counted → Children

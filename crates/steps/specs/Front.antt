@@ -52,12 +52,12 @@ use Rattle.nullables.specs.Walked.{ListWalks}
 use Rattle.first_values.specs.declared.Seen.{Seen}
 use Rattle.first_values.specs.Looks.{NullSeen, LeafSeen, Looked}
 use Rattle.first_values.specs.Took.{Took}
-use Rattle.load.specs.declared.walk.Children.{Children}
-use Rattle.load.specs.declared.walk.Children.the-variants.{Done, Refused}
-use Rattle.load.specs.Known.{Ready}
-use Rattle.load.specs.Turns.{Counts, childrenOf, whole}
-use Rattle.load.specs.Walks.{OpenedAs, opened-as}
-use Rattle.load.specs.Steps.{no-rule, null-pads, head-ends, got-as}
+use Rattle.steps.specs.declared.Children.{Children}
+use Rattle.steps.specs.declared.Children.the-variants.{Done, Refused}
+use Rattle.steps.specs.Known.{Ready}
+use Rattle.steps.specs.Turns.{Counts, childrenOf, whole}
+use Rattle.steps.specs.Walks.{OpenedAs, opened-as}
+use Rattle.steps.specs.Steps.{no-rule, null-pads, head-ends, got-as}
 
 -- the values of a nest are n that stand alike
 abbrev pub AllAlike : Nest → (n : ℕ) → Type 0

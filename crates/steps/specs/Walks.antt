@@ -29,7 +29,7 @@ use Rattle.heads.specs.Pads.{belowPad}
 use Rattle.places.specs.Places.{countPlaces}
 use Rattle.places.specs.Padding.{padding}
 use Rattle.objects.specs.Endings.{Closable}
-use Rattle.load.specs.Known.{Ready}
+use Rattle.steps.specs.Known.{Ready}
 
 -- a head that was read, with the padding of its count
 pub record OpenedAs (file codes : List ℕ) (t : Target) (at next : ℕ) (below : Below) : Type 0 where
