@@ -183,9 +183,6 @@ fn imported(line: &str) -> Option<String> {
     (!of_layout && !of_code).then(|| format!("{from}/specs/{module}.antt"))
 }
 
-/// Crates that still have longer lines.
-const LONG_LINES: [&str; 1] = ["load"];
-
 /// The lines of specifications and proofs below a folder that pass 300 characters, but for quoted texts.
 fn long_lines(folder: &Path, found: &mut Vec<String>) {
     for entry in fs::read_dir(folder).expect("a folder of a crate") {
@@ -214,7 +211,7 @@ fn no_line_of_a_proof_passes_300_characters() {
         let mut found = Vec::new();
         long_lines(&root().join("crates").join(name), &mut found);
         assert!(
-            found.is_empty() || LONG_LINES.contains(&name),
+            found.is_empty(),
             "lines of more than 300 characters: {found:?}"
         );
     }

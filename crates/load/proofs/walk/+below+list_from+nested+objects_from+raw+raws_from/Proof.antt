@@ -139,8 +139,11 @@ below-list-from-requires : (t : ℕ) → below-lts.Need-list-from-requires (
   nested.Post,
 ) (below-at t) below.Post
 below-list-from-requires t c κs =
-    let a = (c .before .before .before .before .before .before .args) in
-    (omega (arith, (c .before .before .before .before .before .before .pre) .0), ((c .before .before .before .before .before .before .pre) .1 .0, (c .before .before .before .before .before .before .pre) .1 .1, (c .before .before .before .before .before .before .pre) .1 .2, list-nest (a .nest) _ ((c .before .before .list-count) .ensures) ((c .before .if1) .taken)))
+    let a′ = c .before .before .before .before .before .before .args in
+    let p = c .before .before .before .before .before .before .pre in
+    let list-count = c .before .before .list-count in
+    let a = a′ in
+    (omega (arith, p .0), (p .1 .0, p .1 .1, p .1 .2, list-nest (a .nest) _ (list-count .ensures) ((c .before .if1) .taken)))
 
 below-same-length : (t : ℕ) → below-lts.Need-same-length (
   list-count-reads.Asked,
@@ -227,9 +230,13 @@ list-from-objects-from-requires : (t : ℕ) → list-from-lts.Need-objects-from-
   nested.Post,
 ) (list-from-at t) list-from.Post
 list-from-objects-from-requires t c κs =
-    let a = (c .before .before .before .before .before .before .before .before .args) in
-    let e = list-element (a .nest) (a .n) ((c .before .before .before .before .before .before .before .before .pre) .1 .3) _ _ ((c .before .before .before .before .element) .ensures) ((c .before .before .declared) .given .1) in
-    (omega (arith, (c .before .before .before .before .before .before .before .before .pre) .0), ((c .before .before .before .before .before .before .before .before .pre) .1 .0, (c .before .before .before .before .before .before .before .before .pre) .1 .1, subst (λ y. KnownNest (a .file .now) (a .codes .now) y) e ((c .before .before .before .before .before .before .before .before .pre) .1 .2)))
+    let a′ = c .before .before .before .before .before .before .before .before .args in
+    let p = c .before .before .before .before .before .before .before .before .pre in
+    let element = c .before .before .before .before .element in
+    let declared = c .before .before .declared in
+    let a = a′ in
+    let e = list-element (a .nest) (a .n) (p .1 .3) _ _ (element .ensures) (declared .given .1) in
+    (omega (arith, p .0), (p .1 .0, p .1 .1, subst (λ y. KnownNest (a .file .now) (a .codes .now) y) e (p .1 .2)))
 
 list-from-enum-known-a : (t : ℕ) → list-from-lts.Need-enum-known-a (
   element-reads.Asked,
@@ -254,9 +261,13 @@ list-from-raws-from-requires : (t : ℕ) → list-from-lts.Need-raws-from-requir
   nested.Post,
 ) (list-from-at t) list-from.Post
 list-from-raws-from-requires t c κs =
-    let a = (c .before .before .before .before .before .before .before .before .args) in
-    let e = list-element (a .nest) (a .n) ((c .before .before .before .before .before .before .before .before .pre) .1 .3) _ _ ((c .before .before .before .before .element) .ensures) ((c .before .before .a) .given .1) in
-    (omega (arith, (c .before .before .before .before .before .before .before .before .pre) .0), ((c .before .before .before .before .before .before .before .before .pre) .1 .0, (c .before .before .before .before .before .before .before .before .pre) .1 .1, subst (λ y. KnownNest (a .file .now) (a .codes .now) y) e ((c .before .before .before .before .before .before .before .before .pre) .1 .2)))
+    let a′ = c .before .before .before .before .before .before .before .before .args in
+    let p = c .before .before .before .before .before .before .before .before .pre in
+    let element = c .before .before .before .before .element in
+    let a′′ = c .before .before .a in
+    let a = a′ in
+    let e = list-element (a .nest) (a .n) (p .1 .3) _ _ (element .ensures) (a′′ .given .1) in
+    (omega (arith, p .0), (p .1 .0, p .1 .1, subst (λ y. KnownNest (a .file .now) (a .codes .now) y) e (p .1 .2)))
 
 list-from-enum-told : (t : ℕ) → list-from-lts.Need-enum-told (
   element-reads.Asked,
@@ -280,7 +291,9 @@ list-from-nested-requires : (t : ℕ) → list-from-lts.Need-nested-requires (
   nested-below t,
   nested.Post,
 ) (list-from-at t) list-from.Post
-list-from-nested-requires t c κs = (omega (arith, (c .before .before .before .before .before .before .before .pre) .0), ((c .before .before .before .before .before .before .before .pre) .1 .0, (c .before .before .before .before .before .before .before .pre) .1 .1, (c .before .before .before .before .before .before .before .pre) .1 .2))
+list-from-nested-requires t c κs =
+    let p = c .before .before .before .before .before .before .before .pre in
+    (omega (arith, p .0), (p .1 .0, p .1 .1, p .1 .2))
 
 list-from-same-length : (t : ℕ) → list-from-lts.Need-same-length (
   element-reads.Asked,
@@ -518,10 +531,19 @@ nested-value-requires : (t : ℕ) → nested-lts.Need-value-requires (
   after-reads.Learnt,
 ) (nested-at t) nested.Post nested-Inv-loop nested-μ-loop
 nested-value-requires t c κs =
-    let k = (c .before .before .before .before .before .before .before .before .before .before .before .before .pre) .1 .1 in
-    let inv = (c .before .before .before .before .before .before .before .loop) .inv (k .readers) ((c .before .before .before .before .before .before .before .before .before .before .before .before .pre) .1 .2 .plan) (k .listed) ((c .before .before .before .before .before .before .before .before .before .before .before .before .pre) .1 .2 .is) in
-    let v = value-next _ _ _ _ _ _ _ _ _ _ _ _ (k .prelude) inv ((c .before .before .before .before .if1) .taken) in
-    (standing-begin _ _ _ _ _ _ _ _ _ _ _ _ ((c .before .before .before .before .before .before .before .before .before .before .before .before .pre) .1 .0) inv, record { rd = (c .before .before .before .before .before .before .before .before .before .before .before .before .args) .t3; readers = k .readers; has = record { counts = refl; at = ap (λ p. getD ((c .before .before .before .before .before .before .before .before .before .before .before .before .args) .t3 .targets) p 0) (sym ((c .before .before .reader-position) .ensures)) }; listed = k .listed }, record { x = v .x; is = rw ((c .before .before .before .slot-at) .ensures) (v .is) })
+    let p′ = c .before .before .before .before .before .before .before .before .before .before .before .before .pre in
+    let a = c .before .before .before .before .before .before .before .before .before .before .before .before .args in
+    let m = c .before .before .before .before .before .before .before .loop in
+    let if1 = c .before .before .before .before .if1 in
+    let slot-at = c .before .before .before .slot-at in
+    let reader-position = c .before .before .reader-position in
+    let k = p′ .1 .1 in
+    let inv = m .inv (k .readers) (p′ .1 .2 .plan) (k .listed) (p′ .1 .2 .is) in
+    let v = value-next _ _ _ _ _ _ _ _ _ _ _ _ (k .prelude) inv (if1 .taken) in (
+      standing-begin _ _ _ _ _ _ _ _ _ _ _ _ (p′ .1 .0) inv,
+      record { rd = a .t3; readers = k .readers; has = record { counts = refl; at = ap (λ p. getD (a .t3 .targets) p 0) (sym (reader-position .ensures)) }; listed = k .listed },
+      record { x = v .x; is = rw (slot-at .ensures) (v .is) },
+    )
 
 nested-enum-known-reached : (t : ℕ) → nested-lts.Need-enum-known-reached (
   begin-reads.Asked,
@@ -594,7 +616,9 @@ nested-same-length : (t : ℕ) → nested-lts.Need-same-length (
   after-reads.Learnt,
 ) (nested-at t) nested.Post nested-Inv-loop nested-μ-loop
 nested-same-length t c =
-    let inv = (c .before .before .before .before .before .before .before .before .before .before .before .before .before .loop) .inv ((c .before .before .before .before .before .before .before .before .before .before .before .before .before .before .before .before .before .before .pre) .1 .1 .readers) ((c .before .before .before .before .before .before .before .before .before .before .before .before .before .before .before .before .before .before .pre) .1 .2 .plan) ((c .before .before .before .before .before .before .before .before .before .before .before .before .before .before .before .before .before .before .pre) .1 .1 .listed) ((c .before .before .before .before .before .before .before .before .before .before .before .before .before .before .before .before .before .before .pre) .1 .2 .is) in
+    let p = c .before .before .before .before .before .before .before .before .before .before .before .before .before .before .before .before .before .before .pre in
+    let m = c .before .before .before .before .before .before .before .before .before .before .before .before .before .loop in
+    let inv = m .inv (p .1 .1 .readers) (p .1 .2 .plan) (p .1 .1 .listed) (p .1 .2 .is) in
     let l = same _ _ _ _ _ _ _ (inv .read-so) in
     search needs
 
@@ -616,9 +640,17 @@ nested-returns : (t : ℕ) → nested-lts.Need-returns (
 ) (nested-at t) nested.Post nested-Inv-loop nested-μ-loop
 nested-returns t c =
     λ readers plan l w.
-    let inv = (c .before .before .before .before .before .before .before .before .before .before .before .before .before .loop) .inv readers plan l w in
-    let v = value-next _ _ _ _ _ _ _ _ _ _ _ _ ((c .before .before .before .before .before .before .before .before .before .before .before .before .before .before .before .before .before .before .pre) .1 .1 .prelude) inv ((c .before .before .before .before .before .before .before .before .before .before .if1) .taken) in
-    let s = rw ((c .before .number) .given .1) at ((c .before .before .before .before .before .value) .ensures ((c .before .before .before .before .before .before .before .before .before .before .before .before .before .before .before .before .before .before .args) .t3) readers (v .x) (record { counts = refl; at = ap (λ p. getD ((c .before .before .before .before .before .before .before .before .before .before .before .before .before .before .before .before .before .before .args) .t3 .targets) p 0) (sym ((c .before .before .before .before .before .before .before .before .reader-position) .ensures)) }) l (rw ((c .before .before .before .before .before .before .before .before .before .slot-at) .ensures) (v .is))) in
+    let p′ = c .before .before .before .before .before .before .before .before .before .before .before .before .before .before .before .before .before .before .pre in
+    let a = c .before .before .before .before .before .before .before .before .before .before .before .before .before .before .before .before .before .before .args in
+    let m = c .before .before .before .before .before .before .before .before .before .before .before .before .before .loop in
+    let if1 = c .before .before .before .before .before .before .before .before .before .before .if1 in
+    let slot-at = c .before .before .before .before .before .before .before .before .before .slot-at in
+    let reader-position = c .before .before .before .before .before .before .before .before .reader-position in
+    let value = c .before .before .before .before .before .value in
+    let inv = m .inv readers plan l w in
+    let v = value-next _ _ _ _ _ _ _ _ _ _ _ _ (p′ .1 .1 .prelude) inv (if1 .taken) in
+    let s = rw ((c .before .number) .given .1) at (value .ensures (a .t3) readers (v .x)
+    (record { counts = refl; at = ap (λ p. getD (a .t3 .targets) p 0) (sym (reader-position .ensures)) }) l (rw (slot-at .ensures) (v .is))) in
     next-lost _ _ _ _ _ _ _ _ _ _ _ _ v (lost s refl)
 
 nested-enum-known-place : (t : ℕ) → nested-lts.Need-enum-known-place (
@@ -656,10 +688,19 @@ nested-sub-raw : (t : ℕ) → nested-lts.Need-sub-raw (
   after-reads.Learnt,
 ) (nested-at t) nested.Post nested-Inv-loop nested-μ-loop
 nested-sub-raw t c =
-    let k = (c .before .before .before .before .before .before .before .before .before .before .before .before .before .before .before .before .before .before .before .pre) .1 .1 in
-    let inv = (c .before .before .before .before .before .before .before .before .before .before .before .before .before .before .loop) .inv (k .readers) ((c .before .before .before .before .before .before .before .before .before .before .before .before .before .before .before .before .before .before .before .pre) .1 .2 .plan) (k .listed) ((c .before .before .before .before .before .before .before .before .before .before .before .before .before .before .before .before .before .before .before .pre) .1 .2 .is) in
-    let v = value-next _ _ _ _ _ _ _ _ _ _ _ _ (k .prelude) inv ((c .before .before .before .before .before .before .before .before .before .before .before .if1) .taken) in
-    let s = rw ((c .before .before .place) .given .1) at ((c .before .before .before .before .before .before .value) .ensures ((c .before .before .before .before .before .before .before .before .before .before .before .before .before .before .before .before .before .before .before .args) .t3) (k .readers) (v .x) (record { counts = refl; at = ap (λ p. getD ((c .before .before .before .before .before .before .before .before .before .before .before .before .before .before .before .before .before .before .before .args) .t3 .targets) p 0) (sym ((c .before .before .before .before .before .before .before .before .before .reader-position) .ensures)) }) (k .listed) (rw ((c .before .before .before .before .before .before .before .before .before .before .slot-at) .ensures) (v .is))) in
+    let p′ = c .before .before .before .before .before .before .before .before .before .before .before .before .before .before .before .before .before .before .before .pre in
+    let a = c .before .before .before .before .before .before .before .before .before .before .before .before .before .before .before .before .before .before .before .args in
+    let m = c .before .before .before .before .before .before .before .before .before .before .before .before .before .before .loop in
+    let if1 = c .before .before .before .before .before .before .before .before .before .before .before .if1 in
+    let slot-at = c .before .before .before .before .before .before .before .before .before .before .slot-at in
+    let reader-position = c .before .before .before .before .before .before .before .before .before .reader-position in
+    let value = c .before .before .before .before .before .before .value in
+    let place = c .before .before .place in
+    let k = p′ .1 .1 in
+    let inv = m .inv (k .readers) (p′ .1 .2 .plan) (k .listed) (p′ .1 .2 .is) in
+    let v = value-next _ _ _ _ _ _ _ _ _ _ _ _ (k .prelude) inv (if1 .taken) in
+    let s = rw (place .given .1) at (value .ensures (a .t3) (k .readers) (v .x)
+    (record { counts = refl; at = ap (λ p. getD (a .t3 .targets) p 0) (sym (reader-position .ensures)) }) (k .listed) (rw (slot-at .ensures) (v .is))) in
     omega (arith, s .begins .deep)
 
 nested-raw-requires : (t : ℕ) → nested-lts.Need-raw-requires (
@@ -679,12 +720,39 @@ nested-raw-requires : (t : ℕ) → nested-lts.Need-raw-requires (
   after-reads.Learnt,
 ) (nested-at t) nested.Post nested-Inv-loop nested-μ-loop
 nested-raw-requires t c κs =
-    let k = (c .before .before .before .before .before .before .before .before .before .before .before .before .before .before .before .before .before .before .before .pre) .1 .1 in
-    let inv = (c .before .before .before .before .before .before .before .before .before .before .before .before .before .before .loop) .inv (k .readers) ((c .before .before .before .before .before .before .before .before .before .before .before .before .before .before .before .before .before .before .before .pre) .1 .2 .plan) (k .listed) ((c .before .before .before .before .before .before .before .before .before .before .before .before .before .before .before .before .before .before .before .pre) .1 .2 .is) in
-    let v = value-next _ _ _ _ _ _ _ _ _ _ _ _ (k .prelude) inv ((c .before .before .before .before .before .before .before .before .before .before .before .if1) .taken) in
-    let s = rw ((c .before .before .place) .given .1) at ((c .before .before .before .before .before .before .value) .ensures ((c .before .before .before .before .before .before .before .before .before .before .before .before .before .before .before .before .before .before .before .args) .t3) (k .readers) (v .x) (record { counts = refl; at = ap (λ p. getD ((c .before .before .before .before .before .before .before .before .before .before .before .before .before .before .before .before .before .before .before .args) .t3 .targets) p 0) (sym ((c .before .before .before .before .before .before .before .before .before .reader-position) .ensures)) }) (k .listed) (rw ((c .before .before .before .before .before .before .before .before .before .before .slot-at) .ensures) (v .is))) in
-    let b = standing-begin _ _ _ _ _ _ _ _ _ _ _ _ ((c .before .before .before .before .before .before .before .before .before .before .before .before .before .before .before .before .before .before .before .pre) .1 .0) inv in
-    (omega (arith, (c .before .before .before .before .before .before .before .before .before .before .before .before .before .before .before .before .before .before .before .pre) .0, s .begins .deep), (record { long = omega (arith, b .long, ap length (s .same)); few = b .few; free = s .begins .free; begun = s .begins .ahead; place = s .begins .inside; short = b .short; ided = s .begins .ided }, k, record { type = s .begins .type; is = s .begins .stands; opened = s .opened }))
+    let p′ = c .before .before .before .before .before .before .before .before .before .before .before .before .before .before .before .before .before .before .before .pre in
+    let a = c .before .before .before .before .before .before .before .before .before .before .before .before .before .before .before .before .before .before .before .args in
+    let m = c .before .before .before .before .before .before .before .before .before .before .before .before .before .before .loop in
+    let if1 = c .before .before .before .before .before .before .before .before .before .before .before .if1 in
+    let slot-at = c .before .before .before .before .before .before .before .before .before .before .slot-at in
+    let reader-position = c .before .before .before .before .before .before .before .before .before .reader-position in
+    let value = c .before .before .before .before .before .before .value in
+    let place′ = c .before .before .place in
+    let k = p′ .1 .1 in
+    let inv = m .inv (k .readers) (p′ .1 .2 .plan) (k .listed) (p′ .1 .2 .is) in
+    let v = value-next _ _ _ _ _ _ _ _ _ _ _ _ (k .prelude) inv (if1 .taken) in
+    let s = rw (place′ .given .1) at (value .ensures (a .t3) (k .readers) (v .x)
+    (record { counts = refl; at = ap (λ p. getD (a .t3 .targets) p 0) (sym (reader-position .ensures)) }) (k .listed) (rw (slot-at .ensures) (v .is))) in
+    let b = standing-begin _ _ _ _ _ _ _ _ _ _ _ _ (p′ .1 .0) inv in (
+      omega (arith, p′ .0, s .begins .deep),
+      (
+        record {
+          long = omega (
+            arith,
+            b .long,
+            ap length (s .same),
+          );
+          few = b .few;
+          free = s .begins .free;
+          begun = s .begins .ahead;
+          place = s .begins .inside;
+          short = b .short;
+          ided = s .begins .ided;
+        },
+        k,
+        record { type = s .begins .type; is = s .begins .stands; opened = s .opened },
+      ),
+    )
 
 nested-enum-known-reached-2 : (t : ℕ) → nested-lts.Need-enum-known-reached-2 (
   begin-reads.Asked,
@@ -757,7 +825,9 @@ nested-same-length-2 : (t : ℕ) → nested-lts.Need-same-length-2 (
   after-reads.Learnt,
 ) (nested-at t) nested.Post nested-Inv-loop nested-μ-loop
 nested-same-length-2 t c =
-    let inv = (c .before .before .before .before .before .before .before .before .before .before .before .before .before .before .before .before .before .before .before .before .loop) .inv ((c .before .before .before .before .before .before .before .before .before .before .before .before .before .before .before .before .before .before .before .before .before .before .before .before .before .pre) .1 .1 .readers) ((c .before .before .before .before .before .before .before .before .before .before .before .before .before .before .before .before .before .before .before .before .before .before .before .before .before .pre) .1 .2 .plan) ((c .before .before .before .before .before .before .before .before .before .before .before .before .before .before .before .before .before .before .before .before .before .before .before .before .before .pre) .1 .1 .listed) ((c .before .before .before .before .before .before .before .before .before .before .before .before .before .before .before .before .before .before .before .before .before .before .before .before .before .pre) .1 .2 .is) in
+    let p = c .before .before .before .before .before .before .before .before .before .before .before .before .before .before .before .before .before .before .before .before .before .before .before .before .before .pre in
+    let m = c .before .before .before .before .before .before .before .before .before .before .before .before .before .before .before .before .before .before .before .before .loop in
+    let inv = m .inv (p .1 .1 .readers) (p .1 .2 .plan) (p .1 .1 .listed) (p .1 .2 .is) in
     let l = same _ _ _ _ _ _ _ (inv .read-so) in
     search needs
 
@@ -779,11 +849,24 @@ nested-returns-2 : (t : ℕ) → nested-lts.Need-returns-2 (
 ) (nested-at t) nested.Post nested-Inv-loop nested-μ-loop
 nested-returns-2 t c =
     λ readers plan l w.
-    let a = (c .before .before .before .before .before .before .before .before .before .before .before .before .before .before .before .before .before .before .before .before .before .before .before .before .before .args) in
-    let inv = (c .before .before .before .before .before .before .before .before .before .before .before .before .before .before .before .before .before .before .before .before .loop) .inv readers plan l w in
-    let v = value-next _ _ _ _ _ _ _ _ _ _ _ _ ((c .before .before .before .before .before .before .before .before .before .before .before .before .before .before .before .before .before .before .before .before .before .before .before .before .before .pre) .1 .1 .prelude) inv ((c .before .before .before .before .before .before .before .before .before .before .before .before .before .before .before .before .before .if1) .taken) in
-    let s = rw ((c .before .before .before .before .before .before .before .before .place) .given .1) at ((c .before .before .before .before .before .before .before .before .before .before .before .before .value) .ensures (a .t3) readers (v .x) (record { counts = refl; at = ap (λ p. getD (a .t3 .targets) p 0) (sym ((c .before .before .before .before .before .before .before .before .before .before .before .before .before .before .before .reader-position) .ensures)) }) l (rw ((c .before .before .before .before .before .before .before .before .before .before .before .before .before .before .before .before .slot-at) .ensures) (v .is))) in
-    next-lost _ _ _ _ _ _ _ _ _ _ _ _ v (lost (left-walked (a .grid) (a .shared) (a .depth - 1) (a .parent) (omega (arith, s .begins .deep)) s ((c .before .before .before .before .before .raw) .ensures readers (s .begins .type) l (s .begins .stands) (s .opened))) ((c .before .number2) .given .1))
+    let a′ = c .before .before .before .before .before .before .before .before .before .before .before .before .before .before .before .before .before .before .before .before .before .before .before .before .before .args in
+    let p′ = c .before .before .before .before .before .before .before .before .before .before .before .before .before .before .before .before .before .before .before .before .before .before .before .before .before .pre in
+    let m = c .before .before .before .before .before .before .before .before .before .before .before .before .before .before .before .before .before .before .before .before .loop in
+    let if1 = c .before .before .before .before .before .before .before .before .before .before .before .before .before .before .before .before .before .if1 in
+    let slot-at = c .before .before .before .before .before .before .before .before .before .before .before .before .before .before .before .before .slot-at in
+    let reader-position = c .before .before .before .before .before .before .before .before .before .before .before .before .before .before .before .reader-position in
+    let value = c .before .before .before .before .before .before .before .before .before .before .before .before .value in
+    let place = c .before .before .before .before .before .before .before .before .place in
+    let raw = c .before .before .before .before .before .raw in
+    let a = a′ in
+    let inv = m .inv readers plan l w in
+    let v = value-next _ _ _ _ _ _ _ _ _ _ _ _ (p′ .1 .1 .prelude) inv (if1 .taken) in
+    let s = rw (place .given .1) at (value .ensures (a .t3) readers (v .x) (record { counts = refl; at = ap (λ p. getD (a .t3 .targets) p 0) (sym (reader-position .ensures)) }) l
+    (rw (slot-at .ensures) (v .is))) in
+    next-lost _ _ _ _ _ _ _ _ _ _ _ _ v (lost (left-walked (a .grid) (a .shared) (a .depth - 1) (a .parent) (omega (
+      arith,
+      s .begins .deep,
+    )) s (raw .ensures readers (s .begins .type) l (s .begins .stands) (s .opened))) ((c .before .number2) .given .1))
 
 nested-after-requires : (t : ℕ) → nested-lts.Need-after-requires (
   begin-reads.Asked,
@@ -819,21 +902,39 @@ nested-walked : (t : ℕ) (c : nested-lts.After-after (
   raw.Post,
   after-reads.Asked,
   after-reads.Learnt,
-) (nested-at t) nested.Post nested-Inv-loop nested-μ-loop) (readers : List Target) (plan : L.Plan) → Listed ((c .before .before .before .before .before .before .before .before .before .before .before .before .before .before .before .before .before .args) .file .now) ((c .before .before .before .before .before .before .before .before .before .before .before .before .before .before .before .before .before .args) .codes .now) ((c .before .before .before .before .before .before .before .before .before .before .before .before .before .before .before .before .before .args) .t3) readers → NestIs ((c .before .before .before .before .before .before .before .before .before .before .before .before .before .before .before .before .before .args) .file .now) ((c .before .before .before .before .before .before .before .before .before .before .before .before .before .before .before .before .before .args) .codes .now) ((c .before .before .before .before .before .before .before .before .before .before .before .before .before .before .before .before .before .args) .nest) plan
-    → Standing ((c .before .before .before .before .before .before .before .before .before .before .before .before .before .before .before .before .before .args) .grid) ((c .before .before .before .before .before .before .before .before .before .before .before .before .before .before .before .before .before .args) .file .now) ((c .before .before .before .before .before .before .before .before .before .before .before .before .before .before .before .before .before .args) .codes .now) readers ((c .before .before .before .before .before .before .before .before .before .before .before .before .before .before .before .before .before .args) .shared) ((c .before .before .before .before .before .before .before .before .before .before .before .before .before .before .before .before .before .args) .depth) plan ((c .before .before .before .before .before .before .before .before .before .before .before .before .before .before .before .before .before .args) .words .now) ((c .before .before .before .before .before .before .before .before .before .before .before .before .before .before .before .before .before .args) .at) ((c .before .before .before .before .before .before .before .before .before .before .before .before .before .before .before .before .before .args) .used) ((c .before .before .before .before .before .before .before .before .before .before .before .before .before .before .before .before .before .args) .parent) ((c .before .before .before .before .before .before .before .before .before .before .before .before .before .before .before .before .before .args) .nest) ((c .before .match) .words) (afterOf ((c .before .before .before .before .before .before .before .before .before .before .before .before .before .before .before .before .before .args) .file .now) ((c .before .before .before .before .before .before .before .before .before .before .before .before .loop) .next) ((c .before .before .before .before .before .before .before .before .before .before .before .before .before .before .before .before .before .args) .nest) ((c .before .before .before .before .before .before .before .before .before .before .before .before .loop) .stage)) ((c .before .match) .next) ((c .before .match) .row) ((c .before .match) .sum) × ((c .before .before .before .before .before .before .before .before .before .before .before .before .loop) .row < (c .before .match) .row) × ((c .before .match) .row ≤ (c .before .before .before .before .before .before .before .before .before .before .before .before .before .before .before .before .before .args) .grid .room)
+) (nested-at t) nested.Post nested-Inv-loop nested-μ-loop) (readers : List Target) (plan : L.Plan) →
+    let a = c .before .before .before .before .before .before .before .before .before .before .before .before .before .before .before .before .before .args in
+    let m = c .before .before .before .before .before .before .before .before .before .before .before .before .loop in
+    let k = c .before .match in
+    Listed (a .file .now) (a .codes .now) (a .t3) readers → NestIs (a .file .now) (a .codes .now) (a .nest) plan
+    → Standing (a .grid) (a .file .now) (a .codes .now) readers (a .shared) (a .depth) plan
+    (a .words .now) (a .at) (a .used) (a .parent) (a .nest) (k .words)
+    (afterOf (a .file .now) (m .next) (a .nest) (m .stage)) (k .next) (k .row) (k .sum)
+    × (m .row < k .row) × (k .row ≤ a .grid .room)
 nested-walked t c readers plan l n =
-    let a = (c .before .before .before .before .before .before .before .before .before .before .before .before .before .before .before .before .before .args) in
+    let a = c .before .before .before .before .before .before .before .before .before .before .before .before .before .before .before .before .before .args in
+    let p = c .before .before .before .before .before .before .before .before .before .before .before .before .before .before .before .before .before .pre in
+    let m = c .before .before .before .before .before .before .before .before .before .before .before .before .loop in
+    let k = c .before .match in
     let file = a .file .now in
     let small = small-by-index file (λ i h. omega (arith, (c .before .before .before .before .before .before .before .before .before .before .before .before .before .before .before .before .shared-slice-known) .given i)) in
-    let inv = (c .before .before .before .before .before .before .before .before .before .before .before .before .loop) .inv readers plan l n in
-    let v = value-next _ _ _ _ _ _ _ _ _ _ _ _ ((c .before .before .before .before .before .before .before .before .before .before .before .before .before .before .before .before .before .pre) .1 .1 .prelude) inv ((c .before .before .before .before .before .before .before .before .before .if1) .taken) in
-    let s = (c .before .before .before .before .value) .ensures (a .t3) readers (v .x) (record { counts = refl; at = ap (λ p. getD (a .t3 .targets) p 0) (sym ((c .before .before .before .before .before .before .before .reader-position) .ensures)) }) l (rw ((c .before .before .before .before .before .before .before .before .slot-at) .ensures) (v .is)) in
-    let y : (p : ℕ) × Got (a .grid) file ((c .before .before .before .before .before .before .before .before .before .before .before .before .loop) .words) ((c .before .match) .words) ((c .before .before .before .before .before .before .before .before .before .before .before .before .loop) .row) (walk file readers (a .shared) (a .grid .room) (a .depth) (v .x) ((c .before .before .before .before .before .before .before .before .before .before .before .before .loop) .next) ((c .before .before .before .before .before .before .before .before .before .before .before .before .loop) .row) (a .parent)) ((c .before .match) .next) ((c .before .match) .row) p × ((c .before .match) .sum ≡ inWord ((c .before .before .before .before .before .before .before .before .before .before .before .before .loop) .sum + p)) =
+    let inv = m .inv readers plan l n in
+    let v = value-next _ _ _ _ _ _ _ _ _ _ _ _ (p .1 .1 .prelude) inv ((c .before .before .before .before .before .before .before .before .before .if1) .taken) in
+    let s = (c .before .before .before .before .value) .ensures (a .t3) readers (v .x)
+    (record { counts = refl; at = ap (λ p. getD (a .t3 .targets) p 0) (sym ((c .before .before .before .before .before .before .before .reader-position) .ensures)) })
+    l (rw ((c .before .before .before .before .before .before .before .before .slot-at) .ensures) (v .is)) in
+    let y : (p : ℕ) × Got (a .grid) file (m .words) (k .words) (m .row)
+    (walk file readers (a .shared) (a .grid .room) (a .depth) (v .x) (m .next) (m .row) (a .parent)) (k .next) (k .row) p × (k .sum ≡ inWord (m .sum + p)) =
     ⊎-elim
     (λ w. (_, got-as (got (rw (w .1 .given .1) at s) refl) (w .4) (w .5) (w .6) refl, w .7 ∙ w .3 .ensures))
-    (λ w. let q = rw (w .1 .given .1) at s in (_, got-as (got (left-walked (a .grid) (a .shared) (a .depth - 1) (a .parent) (omega (arith, q .begins .deep)) q (w .4 .ensures readers (q .begins .type) l (q .begins .stands) (q .opened))) (w .8 .given .1)) (w .11) (w .12) (w .13) refl, w .14 ∙ w .10 .ensures))
-    ((c .before .match) .came) in
-    rw (y .2) (next-walked _ _ _ _ _ _ _ _ _ _ _ _ small ((c .before .before .before .before .before .before .before .before .before .before .before .before .before .before .before .before .before .pre) .1 .0) v (y .1))
+    (λ w. let q = rw (w .1 .given .1) at s in (
+      _,
+      got-as (got (left-walked (a .grid) (a .shared) (a .depth - 1) (a .parent) (omega (arith, q .begins .deep)) q
+          (w .4 .ensures readers (q .begins .type) l (q .begins .stands) (q .opened))) (w .8 .given .1)) (w .11) (w .12) (w .13) refl,
+      w .14 ∙ w .10 .ensures,
+    ))
+    (k .came) in
+    rw (y .2) (next-walked _ _ _ _ _ _ _ _ _ _ _ _ small (p .1 .0) v (y .1))
 
 nested-loop-less : (t : ℕ) → nested-lts.Need-loop-less (
   begin-reads.Asked,
@@ -852,8 +953,9 @@ nested-loop-less : (t : ℕ) → nested-lts.Need-loop-less (
   after-reads.Learnt,
 ) (nested-at t) nested.Post nested-Inv-loop nested-μ-loop
 nested-loop-less t c =
-    let k = (c .before .before .before .before .before .before .before .before .before .before .before .before .before .before .before .before .before .pre) .1 .1 in
-    let z = nested-walked t c (k .readers) ((c .before .before .before .before .before .before .before .before .before .before .before .before .before .before .before .before .before .pre) .1 .2 .plan) (k .listed) ((c .before .before .before .before .before .before .before .before .before .before .before .before .before .before .before .before .before .pre) .1 .2 .is) in
+    let p = c .before .before .before .before .before .before .before .before .before .before .before .before .before .before .before .before .before .pre in
+    let k = p .1 .1 in
+    let z = nested-walked t c (k .readers) (p .1 .2 .plan) (k .listed) (p .1 .2 .is) in
     omega (arith, z .1, z .2)
 
 nested-loop-again : (t : ℕ) → nested-lts.Need-loop-again (
@@ -892,7 +994,9 @@ nested-same-length-3 : (t : ℕ) → nested-lts.Need-same-length-3 (
   after-reads.Learnt,
 ) (nested-at t) nested.Post nested-Inv-loop nested-μ-loop
 nested-same-length-3 t c =
-    let inv = (c .before .before .before .loop) .inv ((c .before .before .before .before .before .before .before .before .pre) .1 .1 .readers) ((c .before .before .before .before .before .before .before .before .pre) .1 .2 .plan) ((c .before .before .before .before .before .before .before .before .pre) .1 .1 .listed) ((c .before .before .before .before .before .before .before .before .pre) .1 .2 .is) in
+    let p = c .before .before .before .before .before .before .before .before .pre in
+    let m = c .before .before .before .loop in
+    let inv = m .inv (p .1 .1 .readers) (p .1 .2 .plan) (p .1 .1 .listed) (p .1 .2 .is) in
     let l = same _ _ _ _ _ _ _ (inv .read-so) in
     search needs
 
@@ -978,9 +1082,15 @@ objects-from-returns : (t : ℕ) → objects-from-lts.Need-returns (
 ) (objects-from-at t) objects-from.Post
 objects-from-returns t c =
     λ readers plan l i.
-    let a = (c .before .before .before .before .before .before .before .before .before .before .before .before .before .args) in
-    let small = small-by-index (a .file .now) (λ j h. omega (arith, (c .before .before .before .before .before .before .before .before .before .before .before .before .shared-slice-known) .given j)) in
-    list-all (a .grid) (a .file .now) (a .codes .now) _ readers l small (a .shared) (a .declared) (a .n) plan i (a .words .now) (a .at) (a .used) ((c .before .before .before .before .before .before .before .before .before .before .before .before .before .pre) .1 .0) (a .depth) _ _ _ _ _ ((c .before .before .before .before .before .before .before .before .before .takeable) .ensures) ((c .before .before .before .before .before .take) .ensures .0) ((c .before .before .before .before .before .take) .ensures .1) ((c .if1) .taken)
+    let a′ = c .before .before .before .before .before .before .before .before .before .before .before .before .before .args in
+    let p = c .before .before .before .before .before .before .before .before .before .before .before .before .before .pre in
+    let shared-slice-known = c .before .before .before .before .before .before .before .before .before .before .before .before .shared-slice-known in
+    let takeable = c .before .before .before .before .before .before .before .before .before .takeable in
+    let take = c .before .before .before .before .before .take in
+    let a = a′ in
+    let small = small-by-index (a .file .now) (λ j h. omega (arith, shared-slice-known .given j)) in
+    list-all (a .grid) (a .file .now) (a .codes .now) _ readers l small (a .shared) (a .declared) (a .n) plan i (a .words .now) (a .at) (a .used) (p .1 .0) (a .depth) _ _ _ _ _
+    (takeable .ensures) (take .ensures .0) (take .ensures .1) ((c .if1) .taken)
 
 objects-from-sub-left : (t : ℕ) → objects-from-lts.Need-sub-left (
   takeable-reads.Asked,
@@ -1005,13 +1115,20 @@ objects-from-nested-requires : (t : ℕ) → objects-from-lts.Need-nested-requir
   sum-reads.Learnt,
 ) (objects-from-at t) objects-from.Post
 objects-from-nested-requires t c κs =
-    let a = (c .before .before .before .before .before .before .before .before .before .before .before .before .before .before .before .args) in
-    let k = (c .before .before .before .before .before .before .before .before .before .before .before .before .before .before .before .pre) .1 .1 in
-    let i = (c .before .before .before .before .before .before .before .before .before .before .before .before .before .before .before .pre) .1 .2 .is in
-    let small = small-by-index (a .file .now) (λ j h. omega (arith, (c .before .before .before .before .before .before .before .before .before .before .before .before .before .before .shared-slice-known) .given j)) in
-    let b = list-begin (a .grid) (a .file .now) (a .codes .now) _ (k .readers) (k .listed) small (a .shared) (a .declared) (a .n) _ i (a .words .now) (a .at) (a .used) ((c .before .before .before .before .before .before .before .before .before .before .before .before .before .before .before .pre) .1 .0) (a .depth) _ _ _ _ _ ((c .before .before .before .before .before .before .before .before .before .before .before .takeable) .ensures) ((c .before .before .before .before .before .before .before .take) .ensures .0) ((c .before .before .before .before .before .before .before .take) .ensures .1) in
-    let n = list-left (a .grid) (a .file .now) (a .codes .now) _ (k .readers) (k .listed) small (a .shared) (a .declared) (a .n) _ i (a .words .now) (a .at) (a .used) ((c .before .before .before .before .before .before .before .before .before .before .before .before .before .before .before .pre) .1 .0) (a .depth) _ _ _ _ _ ((c .before .before .before .before .before .before .before .before .before .before .before .takeable) .ensures) ((c .before .before .before .before .before .before .before .take) .ensures .0) ((c .before .before .before .before .before .before .before .take) .ensures .1) in
-    (omega (arith, (c .before .before .before .before .before .before .before .before .before .before .before .before .before .before .before .pre) .0), (b, k, record { plan = _; is = n }))
+    let a′ = c .before .before .before .before .before .before .before .before .before .before .before .before .before .before .before .args in
+    let p = c .before .before .before .before .before .before .before .before .before .before .before .before .before .before .before .pre in
+    let shared-slice-known = c .before .before .before .before .before .before .before .before .before .before .before .before .before .before .shared-slice-known in
+    let takeable = c .before .before .before .before .before .before .before .before .before .before .before .takeable in
+    let take = c .before .before .before .before .before .before .before .take in
+    let a = a′ in
+    let k = p .1 .1 in
+    let i = p .1 .2 .is in
+    let small = small-by-index (a .file .now) (λ j h. omega (arith, shared-slice-known .given j)) in
+    let b = list-begin (a .grid) (a .file .now) (a .codes .now) _ (k .readers) (k .listed) small (a .shared) (a .declared) (a .n) _ i (a .words .now) (a .at) (a .used) (p .1 .0)
+    (a .depth) _ _ _ _ _ (takeable .ensures) (take .ensures .0) (take .ensures .1) in
+    let n = list-left (a .grid) (a .file .now) (a .codes .now) _ (k .readers) (k .listed) small (a .shared) (a .declared) (a .n) _ i (a .words .now) (a .at) (a .used) (p .1 .0)
+    (a .depth) _ _ _ _ _ (takeable .ensures) (take .ensures .0) (take .ensures .1) in
+    (omega (arith, p .0), (b, k, record { plan = _; is = n }))
 
 objects-from-enum-known-number : (t : ℕ) → objects-from-lts.Need-enum-known-number (
   takeable-reads.Asked,
@@ -1073,11 +1190,19 @@ objects-from-returns-2 : (t : ℕ) → objects-from-lts.Need-returns-2 (
 ) (objects-from-at t) objects-from.Post
 objects-from-returns-2 t c =
     λ readers plan l i.
-    let a = (c .before .before .before .before .before .before .before .before .before .before .before .before .before .before .before .before .before .before .before .before .before .args) in
-    let small = small-by-index (a .file .now) (λ j h. omega (arith, (c .before .before .before .before .before .before .before .before .before .before .before .before .before .before .before .before .before .before .before .before .shared-slice-known) .given j)) in
-    let n = list-left (a .grid) (a .file .now) (a .codes .now) _ readers l small (a .shared) (a .declared) (a .n) plan i (a .words .now) (a .at) (a .used) ((c .before .before .before .before .before .before .before .before .before .before .before .before .before .before .before .before .before .before .before .before .before .pre) .1 .0) (a .depth) _ _ _ _ _ ((c .before .before .before .before .before .before .before .before .before .before .before .before .before .before .before .before .before .takeable) .ensures) ((c .before .before .before .before .before .before .before .before .before .before .before .before .before .take) .ensures .0) ((c .before .before .before .before .before .before .before .before .before .before .before .before .before .take) .ensures .1) in
-    list-refused (a .grid) (a .file .now) (a .codes .now) _ readers l small (a .shared) (a .declared) (a .n) plan i (a .words .now) (a .at) (a .used) ((c .before .before .before .before .before .before .before .before .before .before .before .before .before .before .before .before .before .before .before .before .before .pre) .1 .0) (a .depth) _ _ _ _ _ ((c .before .before .before .before .before .before .before .before .before .before .before .before .before .before .before .before .before .takeable) .ensures) ((c .before .before .before .before .before .before .before .before .before .before .before .before .before .take) .ensures .0) ((c .before .before .before .before .before .before .before .before .before .before .before .before .before .take) .ensures .1)
-    (rw ((c .before .number) .given .1) at ((c .before .before .before .before .before .nested) .ensures readers _ l n))
+    let a′ = c .before .before .before .before .before .before .before .before .before .before .before .before .before .before .before .before .before .before .before .before .before .args in
+    let p = c .before .before .before .before .before .before .before .before .before .before .before .before .before .before .before .before .before .before .before .before .before .pre in
+    let shared-slice-known = c .before .before .before .before .before .before .before .before .before .before .before .before .before .before .before .before .before .before .before .before .shared-slice-known in
+    let takeable = c .before .before .before .before .before .before .before .before .before .before .before .before .before .before .before .before .before .takeable in
+    let take = c .before .before .before .before .before .before .before .before .before .before .before .before .before .take in
+    let nested = c .before .before .before .before .before .nested in
+    let a = a′ in
+    let small = small-by-index (a .file .now) (λ j h. omega (arith, shared-slice-known .given j)) in
+    let n = list-left (a .grid) (a .file .now) (a .codes .now) _ readers l small (a .shared) (a .declared) (a .n) plan i (a .words .now) (a .at) (a .used) (p .1 .0) (a .depth) _ _
+    _ _ _ (takeable .ensures) (take .ensures .0) (take .ensures .1) in
+    list-refused (a .grid) (a .file .now) (a .codes .now) _ readers l small (a .shared) (a .declared) (a .n) plan i (a .words .now) (a .at) (a .used) (p .1 .0) (a .depth) _ _ _ _ _
+    (takeable .ensures) (take .ensures .0) (take .ensures .1)
+    (rw ((c .before .number) .given .1) at (nested .ensures readers _ l n))
 
 objects-from-same-length-3 : (t : ℕ) → objects-from-lts.Need-same-length-3 (
   takeable-reads.Asked,
@@ -1103,11 +1228,21 @@ objects-from-returns-3 : (t : ℕ) → objects-from-lts.Need-returns-3 (
 ) (objects-from-at t) objects-from.Post
 objects-from-returns-3 t c =
     λ readers plan l i.
-    let a = (c .before .before .before .before .before .before .before .before .before .before .before .before .before .before .before .before .before .before .before .before .before .before .args) in
-    let small = small-by-index (a .file .now) (λ j h. omega (arith, (c .before .before .before .before .before .before .before .before .before .before .before .before .before .before .before .before .before .before .before .before .before .shared-slice-known) .given j)) in
-    let n = list-left (a .grid) (a .file .now) (a .codes .now) _ readers l small (a .shared) (a .declared) (a .n) plan i (a .words .now) (a .at) (a .used) ((c .before .before .before .before .before .before .before .before .before .before .before .before .before .before .before .before .before .before .before .before .before .before .pre) .1 .0) (a .depth) _ _ _ _ _ ((c .before .before .before .before .before .before .before .before .before .before .before .before .before .before .before .before .before .before .takeable) .ensures) ((c .before .before .before .before .before .before .before .before .before .before .before .before .before .before .take) .ensures .0) ((c .before .before .before .before .before .before .before .before .before .before .before .before .before .before .take) .ensures .1) in
-    rw ((c .sum) .ensures) (list-done (a .grid) (a .file .now) (a .codes .now) _ readers l small (a .shared) (a .declared) (a .n) plan i (a .words .now) (a .at) (a .used) ((c .before .before .before .before .before .before .before .before .before .before .before .before .before .before .before .before .before .before .before .before .before .before .pre) .1 .0) (a .depth) _ _ _ _ _ ((c .before .before .before .before .before .before .before .before .before .before .before .before .before .before .before .before .before .before .takeable) .ensures) ((c .before .before .before .before .before .before .before .before .before .before .before .before .before .before .take) .ensures .0) ((c .before .before .before .before .before .before .before .before .before .before .before .before .before .before .take) .ensures .1)
-    (rw ((c .before .before .reached) .given .1) at ((c .before .before .before .before .before .before .nested) .ensures readers _ l n)))
+    let a′ = c .before .before .before .before .before .before .before .before .before .before .before .before .before .before .before .before .before .before .before .before .before .before .args in
+    let p = c .before .before .before .before .before .before .before .before .before .before .before .before .before .before .before .before .before .before .before .before .before .before .pre in
+    let shared-slice-known = c .before .before .before .before .before .before .before .before .before .before .before .before .before .before .before .before .before .before .before .before .before .shared-slice-known in
+    let takeable = c .before .before .before .before .before .before .before .before .before .before .before .before .before .before .before .before .before .before .takeable in
+    let take = c .before .before .before .before .before .before .before .before .before .before .before .before .before .before .take in
+    let nested = c .before .before .before .before .before .before .nested in
+    let reached = c .before .before .reached in
+    let a = a′ in
+    let small = small-by-index (a .file .now) (λ j h. omega (arith, shared-slice-known .given j)) in
+    let n = list-left (a .grid) (a .file .now) (a .codes .now) _ readers l small (a .shared) (a .declared) (a .n) plan i (a .words .now) (a .at) (a .used) (p .1 .0) (a .depth) _ _
+    _ _ _ (takeable .ensures) (take .ensures .0) (take .ensures .1) in
+    rw ((c .sum) .ensures)
+    (list-done (a .grid) (a .file .now) (a .codes .now) _ readers l small (a .shared) (a .declared) (a .n) plan i (a .words .now) (a .at) (a .used) (p .1 .0) (a .depth) _ _ _ _ _
+    (takeable .ensures) (take .ensures .0) (take .ensures .1)
+    (rw (reached .given .1) at (nested .ensures readers _ l n)))
 
 raw-add-first : (t : ℕ) → raw-lts.Need-add-first (
   below-below t,
@@ -1216,11 +1351,22 @@ raw-returns-2 : (t : ℕ) → raw-lts.Need-returns-2 (
 ) (raw-at t) raw.Post
 raw-returns-2 t c =
     λ readers t l i o.
-    let a = (c .before .before .before .before .before .before .before .before .before .before .before .before .before .before .before .before .args) in
-    let small = small-by-index (a .file .now) (λ j h. omega (arith, (c .before .before .before .before .before .before .before .before .before .before .before .before .before .before .before .shared-slice-known) .given j)) in
-    let e = (c .before .before .close) .ensures in
-    let x = counts-walked _ (rw ((c .before .before .before .before .before .before .count) .given .1) at ((c .before .before .before .before .before .before .before .before .before .before .below) .ensures readers _ l (o .goes))) in
-    rw (e .0, e .1) (raw-ends (a .grid) (a .file .now) (a .h) (a .at) t readers (a .shared) (a .depth) _ _ _ small ((c .before .before .before .before .before .before .before .before .before .before .before .before .before .before .before .before .pre) .1 .0) (i .lawful) o refl (x .1) ((c .before .before .before .before .row-kind) .ensures ∙ row-kind i) (x .0))
+    let a′ = c .before .before .before .before .before .before .before .before .before .before .before .before .before .before .before .before .args in
+    let p = c .before .before .before .before .before .before .before .before .before .before .before .before .before .before .before .before .pre in
+    let shared-slice-known = c .before .before .before .before .before .before .before .before .before .before .before .before .before .before .before .shared-slice-known in
+    let below = c .before .before .before .before .before .before .before .before .before .before .below in
+    let count = c .before .before .before .before .before .before .count in
+    let row-kind′ = c .before .before .before .before .row-kind in
+    let close′ = c .before .before .close in
+    let a = a′ in
+    let small = small-by-index (a .file .now) (λ j h. omega (arith, shared-slice-known .given j)) in
+    let e = close′ .ensures in
+    let x = counts-walked _ (rw (count .given .1) at (below .ensures readers _ l (o .goes))) in
+    rw (
+      e .0,
+      e .1,
+    ) (raw-ends (a .grid) (a .file .now) (a .h) (a .at) t readers (a .shared) (a .depth) _ _ _ small (p .1 .0) (i .lawful) o refl (x .1) (row-kind′ .ensures ∙ row-kind i)
+    (x .0))
 
 raws-from-read-requires : (t : ℕ) → raws-from-lts.Need-read-requires (
   read-reads.Asked,
@@ -1253,9 +1399,12 @@ raws-from-nested-requires : (t : ℕ) → raws-from-lts.Need-nested-requires (
   nested.Post,
 ) (raws-from-at t) raws-from.Post
 raws-from-nested-requires t c κs =
-    let a = (c .before .before .before .before .before .before .before .before .before .before .args) in
-    let e = rw ((c .before .enum-told) .given .1) at ((c .before .before .before .before .before .read) .ensures) in
-    (omega (arith, (c .before .before .before .before .before .before .before .before .before .before .pre) .0), (subst (λ w. Begin (a .file .now) w (a .grid) (a .at) (a .used)) (sym e) ((c .before .before .before .before .before .before .before .before .before .before .pre) .1 .0), (c .before .before .before .before .before .before .before .before .before .before .pre) .1 .1, (c .before .before .before .before .before .before .before .before .before .before .pre) .1 .2))
+    let a′ = c .before .before .before .before .before .before .before .before .before .before .args in
+    let p = c .before .before .before .before .before .before .before .before .before .before .pre in
+    let read = c .before .before .before .before .before .read in
+    let a = a′ in
+    let e = rw ((c .before .enum-told) .given .1) at (read .ensures) in
+    (omega (arith, p .0), (subst (λ w. Begin (a .file .now) w (a .grid) (a .at) (a .used)) (sym e) (p .1 .0), p .1 .1, p .1 .2))
 
 raws-from-same-length : (t : ℕ) → raws-from-lts.Need-same-length (
   read-reads.Asked,

@@ -29,7 +29,7 @@ starting : (c : tie.After-start) (rd : Readers) (readers : List Target) (x : Slo
     → Listed (c .before .before .before .before .args .file .now) (c .before .before .before .before .args .codes .now) rd readers
     → SlotIs (c .before .before .before .before .args .file .now) (c .before .before .before .before .args .codes .now) (c .before .before .before .before .args .slot) x
     → c .before .before .before .before .args .at ≤ length (c .before .before .before .before .args .file .now)
-    → Starts (c .before .before .before .before .args .file .now) (c .before .before .before .before .args .codes .now) readers (c .before .before .before .before .args .grid .room) (c .before .before .before .before .args .depth) x (c .before .before .before .before .args .at) (c .before .before .before .before .args .used) (c .start .result)
+    → (let a = c .before .before .before .before .args in Starts (a .file .now) (a .codes .now) readers (a .grid .room) (a .depth) x (a .at) (a .used) (c .start .result))
 starting c rd readers x h l s p =
     let shared-slice-known = c .before .before .before .shared-slice-known in
     let a = c .before .before .before .before .args in
