@@ -4,8 +4,8 @@
    else that it is given. The entries keep nothing from call to call and have no data of their own, so threads may call them
    at once, each with buffers that no other writes to. They allocate nothing, and call memcpy and memset and nothing else.
 
-   The stack that an entry takes at most, in KB of 1,024 bytes, measured over files of the greatest depth: xnb_load 94,
-   xnb_load_rows 66, xnb_load_columns 66, xnb_rewrite 66, xnb_export_xml 90, xnb_load_driver 324, xnb_report_add 68; every
+   The stack that an entry takes at most, in KB of 1,024 bytes, measured over files of the greatest depth: xnb_load 130,
+   xnb_load_rows 102, xnb_load_columns 102, xnb_rewrite 102, xnb_export_xml 126, xnb_load_driver 358, xnb_report_add 103; every
    other entry 1.
 
    A packed answer is the refusal's number (0 if there is none) times 2 to the 32, plus the refusal's place, or the number

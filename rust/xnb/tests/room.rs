@@ -6,7 +6,7 @@ use xnb::raw::{load_driver, load_table};
 use xnb::{Shape, MOST_ROWS, WORDS_PER_ROW};
 
 /// What crates/builder/xnb.h says beside the stack of a plain load, and some for the thread itself.
-const STACK: usize = 352 * 1024;
+const STACK: usize = 386 * 1024;
 
 /// Loads in a thread with so much stack; too little ends the whole test.
 #[test]
