@@ -183,7 +183,9 @@ fn depths_and_rows() -> Vec<Limit> {
     for depth in [2, 31, 32] {
         for before in [0, 1, 40] {
             let file = alone(&[list_of("System.Object")], among(depth, before, null()));
-            limits.push(limit(format!("depth {depth} behind {before}"), 0, file));
+            let mut limit = limit(format!("depth {depth} behind {before}"), 0, file);
+            limit.case.words = WORDS_PER_ROW * 2048;
+            limits.push(limit);
         }
     }
     let deep = alone(&[list_of("System.Object")], among(33, 0, faulty(null())));
