@@ -281,8 +281,8 @@ pub fn take(
     at: usize,
     used: u32,
 ) -> Front
-    ensures { λ r. ⌜ (r .count ≤ n) × Took grid (now (file .entry)) (now (codes .entry)) (now (targets .entry)) count declared used (now (words .entry)) at
-        (r .count) (r .next) (r .padding) (now (words .exit)) ⌝ }
+    ensures { λ r. ⌜ (r .count ≤ n) × Took grid (now (file .entry)) (now (codes .entry)) (now (targets .entry)) count declared used (now (words .entry))
+        at (r .count) (r .next) (r .padding) (now (words .exit)) ⌝ }
 {
     let wanted = wanted_code(codes, declared);
     let most = fitting(grid.room, used, n);
