@@ -1,4 +1,6 @@
 // Skipping a row and all below it (02, Req 09).
+#![tactic(auto)]
+
 ghost use Rattle.std.specs.Prelude.{◌≡◌};
 ghost use Rattle.branches.specs.Next.{next_of, rows_next};
 

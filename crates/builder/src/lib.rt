@@ -1,4 +1,6 @@
 // The entries for an asset builder in another language: each takes slices and numbers, and answers one number.
+#![tactic(auto)]
+
 mod bare;
 pub mod by_columns;
 mod driver_entry;

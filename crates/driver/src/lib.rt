@@ -1,4 +1,6 @@
 // The driver's loader (02, Req 07): the plain loader, then 41 to 47 in their order.
+#![tactic(auto)]
+
 ghost use Rattle.std.specs.Prelude.{◌≡◌, length};
 ghost use Rattle.reading.specs.File.{table_of};
 ghost use Rattle.names.specs.Entries.{enums_of};
@@ -14,7 +16,7 @@ use load::Loading;
 use table::Grid;
 
 // A rule that is broken, and where; or none.
-#[derive(Drop)]
+#[derive(Clone, Copy)]
 enum Broken {
     None,
     Rule(u32, usize),

@@ -1,5 +1,7 @@
 // What is demanded of the driver's loader (02, Req 07), as contracts: each function calls the code, and is here for what it ensures
 // (specs/Driver.antt, from top to bottom), and the answer of the code itself, which fixes a refusal.
+#![tactic(auto)]
+
 ghost use Rattle.std.specs.Prelude.{◌≡◌, length};
 ghost use Rattle.load.specs.Under.{load_under};
 ghost use Rattle.load.specs.Loads.{answer_of};
@@ -17,7 +19,7 @@ pub fn load_driver_exact(file: &[u8], enums: &[u8], words: &mut [u32]) -> Loadin
 }
 
 // The answers of the plain loader and of the driver's.
-#[derive(Drop)]
+#[derive(Clone, Copy)]
 pub struct LoadedBoth {
     pub plain: Loading,
     pub driver: Loading,

@@ -1,5 +1,7 @@
 // What is demanded of the entries that load and rewrite, as contracts: each function calls an entry, and is here for what it ensures (specs/Told.antt,
 // and specs/Refusals.antt for which refusal it is).
+#![tactic(auto)]
+
 ghost use Rattle.std.specs.Prelude.{[], ◌*◌, length};
 ghost use Rattle.layout.specs.Rows.{width};
 ghost use Rattle.layout.specs.Table.{by_rows, by_columns};

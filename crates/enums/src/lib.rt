@@ -1,4 +1,6 @@
 // Lists of enum types that a caller lends: for each a name length byte, the name, a size byte.
+#![tactic(auto)]
+
 ghost use Rattle.std.specs.Prelude.{◌≡◌};
 ghost use Rattle.names.specs.Entries.{is_size};
 ghost use Rattle.enums.specs.Judge.{is_enum_type, enums_at};
@@ -11,7 +13,7 @@ use seen_names::note;
 use widen::wide;
 
 // Whether a list is lawful, or its refusal: the number 32 and the number, from 0, of the first entry that is not.
-#[derive(Drop)]
+#[derive(Clone, Copy)]
 pub enum Judged {
     Lawful,
     Refused(u32, usize),

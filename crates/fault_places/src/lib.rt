@@ -1,9 +1,11 @@
 // Nothing is wrong, or the place of what is.
+#![tactic(auto)]
+
 ghost use Rattle.std.specs.Prelude.{◌≡◌};
 ghost use Rattle.fault_places.specs.Places.{lower_of};
 
 // Nothing is wrong, or the place of what is.
-#[derive(Drop)]
+#[derive(Clone, Copy)]
 pub enum Place {
     Fine,
     At(usize),

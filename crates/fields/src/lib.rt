@@ -1,4 +1,6 @@
 // Fields that go by what stands before them: data bytes, and numbers that keep a rule (02, Req 05).
+#![tactic(auto)]
+
 ghost use Rattle.std.specs.Prelude.{◌≡◌, ◌≤◌};
 ghost use Rattle.answers.specs.Told.{told};
 ghost use Rattle.layout.specs.Slot.{at_most, multiple_of, blob};

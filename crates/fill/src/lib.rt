@@ -1,4 +1,6 @@
 // Zeros into a lent table, and bytes of one slice into another.
+#![tactic(auto)]
+
 ghost use Rattle.std.specs.Prelude.{◌≡◌, ◌+◌, ◌≤◌, min, length};
 ghost use Rattle.fill.specs.Fill.{cleared, wiped, pasted, inside, copied};
 

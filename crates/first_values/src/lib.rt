@@ -1,4 +1,6 @@
 // The first objects of a list, as far as each is seen at one look: null, a value of fixed size, or a short text.
+#![tactic(auto)]
+
 ghost use Rattle.std.specs.Prelude.{◌≡◌, List, ℕ, ◌+◌, ◌≤◌, ◌<◌, true, get_or};
 ghost use Rattle.reading.specs.Answer.{read};
 ghost use Rattle.reading.specs.Seven.{seven_at};
@@ -15,7 +17,7 @@ use table::Grid;
 use walked::Head;
 
 // A type id: the number, where it ends and its padding. The end is 0 where it was not read.
-#[derive(Drop)]
+#[derive(Clone, Copy)]
 pub struct Id {
     pub id: u32,
     pub next: usize,
@@ -23,7 +25,7 @@ pub struct Id {
 }
 
 // An object that was seen: where it ends, its kind, its type id and the padding of that. The end is 0 where it was not seen.
-#[derive(Drop)]
+#[derive(Clone, Copy)]
 pub struct Seen {
     pub end: usize,
     pub kind: u32,
@@ -32,7 +34,7 @@ pub struct Seen {
 }
 
 // How many objects were taken, where the next one begins, and the padding of their type ids.
-#[derive(Drop)]
+#[derive(Clone, Copy)]
 pub struct Front {
     pub count: u32,
     pub next: usize,

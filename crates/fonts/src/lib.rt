@@ -1,4 +1,6 @@
 // The font rule (01, refusal 22), judged by the file and the rows of the font's children in the words.
+#![tactic(auto)]
+
 ghost use Rattle.std.specs.Prelude.{◌≡◌};
 ghost use Rattle.fonts.specs.FontWords.{beyond, row_after, some, equal, code_at, rising_rows, all_there, all_equal, font_words};
 

@@ -1,4 +1,6 @@
 // What 19 says of a file that is loaded, as the contract of a function that calls the code (specs/Full.antt).
+#![tactic(auto)]
+
 ghost use Rattle.std.specs.Prelude.{◌≡◌, length};
 ghost use Rattle.load.specs.Under.{load_under};
 ghost use Rattle.load.specs.Loads.{answer_of};

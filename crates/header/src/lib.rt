@@ -1,4 +1,6 @@
 // The ten bytes at the start of a file (01, "File header").
+#![tactic(auto)]
+
 ghost use Rattle.std.specs.Prelude.{◌≡◌, ◌≤◌, length, take, drop};
 ghost use Rattle.layout.specs.Number.{value_of};
 ghost use Rattle.reading.specs.File.{is_platform};

@@ -9,7 +9,7 @@ use leaves::run::Run;
 use meshes::Field;
 
 // n elements that stand alike; n pairs of key and value; the fields of a font; the fields of a page; the fields of a mesh type, by its kind.
-#[derive(Drop)]
+#[derive(Clone, Copy)]
 pub enum Nest {
     Each(Slot, u32),
     Pairs(Slot, Slot, u32),
@@ -20,7 +20,7 @@ pub enum Nest {
 
 // How far a walk over a nest is: the number of the value that stands next, and how many values there are, as far as is known:
 // in a mesh up to the value that stands next, which the third number tells.
-#[derive(Drop)]
+#[derive(Clone, Copy)]
 pub struct Stage {
     pub next: u32,
     pub count: u64,
@@ -28,7 +28,7 @@ pub struct Stage {
 }
 
 // Nothing, and the padding of the value's count, which a text alone has; values that need no reader list; or values that do.
-#[derive(Drop)]
+#[derive(Clone, Copy)]
 pub enum Below {
     Nothing(u32),
     Simple(Run),

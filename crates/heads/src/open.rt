@@ -13,7 +13,7 @@ use answers::Number;
 use leaves::run::Run;
 use numbers::seven::Padded;
 
-#[derive(Drop)]
+#[derive(Clone, Copy)]
 pub enum Opened {
     Refused(u32, usize),
     Head(usize, Below),

@@ -5,7 +5,7 @@ ghost use Rattle.heads.specs.Placed.{bytes_of, row_kind, plain_of, raw_of, slot_
 
 use leaves::plain::Plain;
 
-#[derive(Drop)]
+#[derive(Clone, Copy)]
 pub enum Slot {
     Simple(Plain),
     Raw(usize),

@@ -1,4 +1,6 @@
 // 01, "Texture2D": how many levels an image may have, and the size of each.
+#![tactic(auto)]
+
 ghost use Rattle.std.specs.Prelude.{◌≡◌, ◌+◌, ◌/◌, ◌^◌, ◌<◌, ◌≤◌, max, get_or};
 ghost use Rattle.layout.specs.Image.{pixel_bytes, block_bytes, level_bytes, digits};
 ghost use Rattle.images.specs.Level.{level_size_of};

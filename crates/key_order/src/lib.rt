@@ -1,5 +1,7 @@
 // Keys of a dictionary in the order of their texts. `keys` has the row number of each key, and a key's number is its place there.
 // Nothing is promised of what the sort leaves but its length: `covered` and `rising` test it.
+#![tactic(auto)]
+
 mod spans;
 
 ghost use Rattle.std.specs.Prelude.{◌≡◌, true, ◌≤◌, length, get_or};

@@ -8,7 +8,7 @@ ghost use Rattle.profile.specs.Stand.{counted_text};
 use answers::Number;
 
 // A part of the file.
-#[derive(Drop)]
+#[derive(Clone, Copy)]
 pub struct Span {
     pub start: usize,
     pub end: usize,

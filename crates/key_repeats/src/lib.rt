@@ -1,5 +1,7 @@
 // 45 over the rows of a loaded file (02, Req 07): two String keys of equal bytes in one dictionary, at the later key.
 // Dictionaries nest, so the answer is the lowest place over all of them.
+#![tactic(auto)]
+
 ghost use Rattle.std.specs.Prelude.{◌≡◌, true, false, ◌<◌, ◌≤◌, ◌+◌, length, get_or};
 ghost use Rattle.fault_places.specs.Places.{Lowest};
 ghost use Rattle.key_order.specs.Texts.{key_text};

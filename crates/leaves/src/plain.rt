@@ -12,7 +12,7 @@ use walked::{Head, Walk};
 // How such a value stands: raw of a kind of fixed size, with the size; a raw enum of a size; a raw character; an image level of a size;
 // a reference that wants a kind; data bytes, so many; a bone reference under a bone count; a code up to the last one;
 // the size of index data under its flag.
-#[derive(Drop)]
+#[derive(Clone, Copy)]
 pub enum Plain {
     Fixed(u32, usize),
     Enum(usize),

@@ -9,7 +9,7 @@ use table::Grid;
 use walked::{Reached, Walk};
 
 // The same value n times; two in turn, n times; or the n levels of an image.
-#[derive(Drop)]
+#[derive(Clone, Copy)]
 pub enum Run {
     Same(Plain, u32),
     Turns(Plain, Plain, u32),

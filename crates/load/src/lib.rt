@@ -1,4 +1,6 @@
 // Loading a file into a lent row table.
+#![tactic(auto)]
+
 mod walk;
 
 ghost use Rattle.std.specs.Prelude.{◌≡◌, true, ◌*◌, ◌≤◌, length, take};
@@ -29,7 +31,7 @@ use table::Grid;
 
 // A refusal's number and place; or the number of rows used, the number of readers, the shared count,
 // and how many bytes the seven-bit numbers of the file have beyond their shortest forms.
-#[derive(Drop)]
+#[derive(Clone, Copy)]
 pub enum Loading {
     Refused(u32, usize),
     Loaded {

@@ -1,4 +1,6 @@
 // Loading a file in a part of a lent row table, so that a short file costs no more than its length.
+#![tactic(auto)]
+
 ghost use Rattle.std.specs.Prelude.{◌≡◌, ◌≤◌, min, length, replicate};
 ghost use Rattle.reading.specs.File.{table_of};
 ghost use Rattle.load.specs.Under.{load_under};

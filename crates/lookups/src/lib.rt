@@ -1,4 +1,6 @@
 // Looking up the values of rows (01, "Looking up").
+#![tactic(auto)]
+
 ghost use Rattle.std.specs.Prelude.{◌≡◌, ◌+◌, ◌-◌, ◌≤◌, ◌<◌, ◌^◌, length};
 ghost use Rattle.answers.specs.Told.{told};
 ghost use Rattle.lookups.specs.Parts.{part_of, rows_part, Lies, spanned};
@@ -11,7 +13,7 @@ use ids::RowNumber;
 use table::Grid;
 
 // A refusal's number and the row number; or the first byte of a part of the file, and its length.
-#[derive(Drop)]
+#[derive(Clone, Copy)]
 pub enum Span {
     Refused(u32, u32),
     Found(usize, usize),
@@ -140,7 +142,7 @@ pub fn text_bytes_of<'a>(file: &'a [u8], words: &[u32], grid: Grid, row: RowNumb
 }
 
 // A refusal's number and the row number; or a signed number.
-#[derive(Drop)]
+#[derive(Clone, Copy)]
 pub enum Integer {
     Refused(u32, u32),
     Number(i64),
@@ -229,7 +231,7 @@ pub fn signed(file: &[u8], words: &[u32], row: RowNumber) -> Integer
 }
 
 // A refusal's number and the row number; or a time.
-#[derive(Drop)]
+#[derive(Clone, Copy)]
 pub enum Moment {
     Refused(u32, u32),
     At(ticks::Time),

@@ -1,4 +1,6 @@
 // Converting a pack from one form to the other (Req 10): `marked` is the form of the new pack, and the pack given has the other.
+#![tactic(auto)]
+
 ghost use Rattle.std.specs.Prelude.{◌≡◌, ◌≤◌, length};
 ghost use Rattle.pack_layout.specs.Pack.{mark_of};
 ghost use Rattle.reading.specs.Output.{output_of};
@@ -119,7 +121,7 @@ fn put_files(pack: &[u8], out: &mut [u8], marked: bool, n: usize)
 }
 
 // A refusal's number and place, or the length of the new pack.
-#[derive(Drop)]
+#[derive(Clone, Copy)]
 pub enum Converting {
     Refused(u32, usize),
     Converted { length: usize },

@@ -1,4 +1,6 @@
 // The fields of index buffers, vertex declarations, vertex buffers and models, one after the other, as 000 lays them out (02, Req 05).
+#![tactic(auto)]
+
 ghost use Rattle.std.specs.Prelude.{◌≡◌};
 ghost use Rattle.answers.specs.Told.{told};
 ghost use Rattle.meshes.specs.Stages.{stage_of, first_field, field_of, onward_of, behind_of, told_at, word_of};
@@ -86,7 +88,7 @@ pub const END: u32 = 35;
 
 // The field that stands next; a number that an earlier field told (a flag, a size, a stride or the bone count);
 // and how many blocks are left behind this one, and blocks of the block that stands in it.
-#[derive(Drop)]
+#[derive(Clone, Copy)]
 pub struct Stage {
     pub step: u32,
     pub number: u32,
@@ -95,7 +97,7 @@ pub struct Stage {
 }
 
 // How a field stands: without need of the reader list, as an object declared String or Object, or as a raw vertex declaration.
-#[derive(Drop)]
+#[derive(Clone, Copy)]
 pub enum Field {
     Plain(Plain),
     Text,

@@ -1,4 +1,6 @@
 // What 11 and 33 to 38 say of a file that is loaded, as the contract of a function that calls the code (specs/Names.antt).
+#![tactic(auto)]
+
 ghost use Rattle.std.specs.Prelude.{◌≡◌, length};
 ghost use Rattle.load.specs.Under.{load_under};
 ghost use Rattle.load.specs.Loads.{answer_of};

@@ -9,7 +9,7 @@ ghost use Rattle.names.specs.Entries.{enums_of};
 use crate::{bytes, tables, texts};
 
 // Where a name ends, what a byte that cannot follow it is, and how many codes are used then; or a fault's number and place.
-#[derive(Drop)]
+#[derive(Clone, Copy)]
 enum Parsed {
     Name { wrong: u32, end: usize, used: usize },
     Broken { number: u32, place: usize },
@@ -207,7 +207,7 @@ fn parse(
 }
 
 // What a reader's name comes to: how many codes are used, a refusal's number and place, or no room for the codes of its heads or for their places.
-#[derive(Drop)]
+#[derive(Clone, Copy)]
 pub enum Named {
     Codes(usize),
     Broken(u32, usize),

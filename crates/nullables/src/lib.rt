@@ -1,4 +1,6 @@
 // Lists of nullables whose values are of one kind and size, all at once.
+#![tactic(auto)]
+
 ghost use Rattle.std.specs.Prelude.{◌≡◌, ◌+◌, ◌*◌, ◌≤◌, ◌<◌};
 ghost use Rattle.table.specs.Runs.{put_run};
 ghost use Rattle.nullables.specs.Placed.{AllFit, EndsAre, ListedAre, Ruled, kind_in, size_in, put_all, row_of};
@@ -11,14 +13,14 @@ use table::{Grid, RowWords};
 use walked::Reached;
 
 // What the nullables of a list reach, if all are seen to be there with room for their rows; else nothing is read.
-#[derive(Drop)]
+#[derive(Clone, Copy)]
 pub enum Listed {
     All(Reached),
     Unseen,
 }
 
 // Where nullables end, and the number of the row behind theirs; or that not all are seen to be there.
-#[derive(Drop)]
+#[derive(Clone, Copy)]
 pub enum Ends {
     Behind(usize, u64),
     Unknown,

@@ -1,4 +1,6 @@
 // 42 over a loaded file (02, Req 07): a seven-bit number that is not shortest, at the number; and where the readers of a file stand.
+#![tactic(auto)]
+
 ghost use Rattle.std.specs.Prelude.{◌≡◌, [], ◌∷◌, ◌<◌};
 ghost use Rattle.reading.specs.Seven.{seven_at};
 ghost use Rattle.numbers.specs.Padded.{past};
@@ -13,7 +15,7 @@ use table::Grid;
 use used_rows::word_in;
 
 // A reader: the first byte of its name, and where it ends.
-#[derive(Drop)]
+#[derive(Clone, Copy)]
 pub struct Entry {
     pub name: usize,
     pub next: usize,
@@ -118,7 +120,7 @@ fn rows_numbers(file: &[u8], words: &[u32], grid: Grid, used: u32) -> Place
 }
 
 // Where the readers end, or the first length of a name that is not shortest.
-#[derive(Drop)]
+#[derive(Clone, Copy)]
 enum Passed {
     End(usize),
     At(usize),

@@ -9,7 +9,7 @@ use answers::Number;
 
 // What a step says: the number ends, with its value, the next place and its padding; the value so far is handed on,
 // with how many bytes its shortest form has; or a refusal and its place.
-#[derive(Drop)]
+#[derive(Clone, Copy)]
 pub enum Step {
     Ends(u64, usize, u32),
     HandsOn(u64, u32),
@@ -17,7 +17,7 @@ pub enum Step {
 }
 
 // A seven-bit number with its value, the next place and its padding: how many bytes it has beyond its shortest form; or a refusal's number and place.
-#[derive(Drop)]
+#[derive(Clone, Copy)]
 pub enum Padded {
     Read(u64, usize, u32),
     Refused(u32, usize),

@@ -5,7 +5,7 @@ ghost use Rattle.layout.specs.Shortest.{shortest};
 ghost use Rattle.numbers.specs.Shortest.{placed_at, written_at};
 
 // The place behind the number written, or no room for it.
-#[derive(Drop)]
+#[derive(Clone, Copy)]
 pub enum Placed {
     Next(usize),
     NoRoom,

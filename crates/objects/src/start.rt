@@ -11,7 +11,7 @@ use leaves::plain::Plain;
 use numbers::seven::Padded;
 
 // Null; the type of the reader that a type id names; or a refusal's number.
-#[derive(Drop)]
+#[derive(Clone, Copy)]
 pub enum Identified {
     Null,
     Reader(usize),
@@ -20,7 +20,7 @@ pub enum Identified {
 
 // A refusal; a value without children that needs no reader list; null, where it ends and the padding of its type id;
 // or a raw value: its type, its first byte, its type id and the padding of that.
-#[derive(Drop)]
+#[derive(Clone, Copy)]
 pub enum Started {
     Refused(u32, usize),
     Plain(Plain),

@@ -1,4 +1,6 @@
 // Counting a file of a pack into the words of a report (02, Req 14).
+#![tactic(auto)]
+
 ghost use Rattle.std.specs.Prelude.{◌≡◌, ◌-◌};
 ghost use Rattle.reading.specs.Seven.{seven_at};
 ghost use Rattle.numbers.specs.Padded.{number_of, past};

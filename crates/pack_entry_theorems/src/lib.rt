@@ -1,4 +1,6 @@
 // What is demanded of the entries over packs, as contracts: each function calls an entry, and is here for what it ensures (specs/Numbers.antt).
+#![tactic(auto)]
+
 ghost use Rattle.std.specs.Prelude.{true, false, length};
 ghost use Rattle.pack_entry_theorems.specs.Numbers.{ReadNumbers, ConvertNumbers, SalvageNumbers, FindNumbers};
 

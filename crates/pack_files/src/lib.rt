@@ -1,4 +1,6 @@
 // Counting a file of a pack, under a list of enum types (02, Req 14).
+#![tactic(auto)]
+
 ghost use Rattle.std.specs.Prelude.{◌≡◌, take};
 ghost use Rattle.layout.specs.Text.{ascii};
 ghost use Rattle.reading.specs.Same.{same};

@@ -1,4 +1,6 @@
 // Loading a file of a pack, which a path names.
+#![tactic(auto)]
+
 ghost use Rattle.std.specs.Prelude.{◌≡◌, length};
 ghost use Rattle.pack_load.specs.Opened.{opened_of, rows_of};
 
@@ -7,7 +9,7 @@ use pack_lookup::Found;
 
 // Nothing of that path; or a refusal's number and place, counted from the start of the file's data;
 // or the number of rows used, the number of readers, the shared count and the padding of the data's seven-bit numbers.
-#[derive(Drop)]
+#[derive(Clone, Copy)]
 pub enum Opened {
     Absent,
     Refused(u32, usize),

@@ -1,4 +1,6 @@
 // Finding a file of a pack by its path, in a table of any words.
+#![tactic(auto)]
+
 ghost use Rattle.std.specs.Prelude.{◌≡◌, ◌+◌, ◌≤◌, length};
 ghost use Rattle.pack_layout.specs.Lookup.{lower, lowered};
 ghost use Rattle.reading.specs.Same.{same};
@@ -109,7 +111,7 @@ fn entry_matches(pack: &[u8], table: &[u64], path: &[u8], i: usize) -> bool
 }
 
 // Nothing, or where a file's data starts and how many bytes it has.
-#[derive(Drop)]
+#[derive(Clone, Copy)]
 pub enum Found {
     Absent,
     At { first: usize, count: usize },

@@ -1,4 +1,6 @@
 // A file record of a pack: its mark where the form has one, its path, its size and its data.
+#![tactic(auto)]
+
 ghost use Rattle.std.specs.Prelude.{◌≡◌, ◌+◌, ◌≤◌, length};
 ghost use Rattle.pack_layout.specs.Pack.{mark_of};
 ghost use Rattle.answers.specs.Told.{told};
@@ -28,7 +30,7 @@ fn start_at(pack: &[u8], at: usize, marked: bool) -> Number
 }
 
 // A refusal's number and place, or where a path's bytes start and how many they are.
-#[derive(Drop)]
+#[derive(Clone, Copy)]
 pub enum Path {
     Refused(u32, usize),
     Read { start: usize, size: usize },
@@ -61,7 +63,7 @@ fn path_at(pack: &[u8], at: usize) -> Path
 }
 
 // A refusal's number and place, or an entry of the table: a path of `size` bytes from `start` on, and data of `count` bytes from `first` on.
-#[derive(Drop)]
+#[derive(Clone, Copy)]
 pub enum Record {
     Refused(u32, usize),
     Read {

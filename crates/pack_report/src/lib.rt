@@ -1,4 +1,6 @@
 // Adding a pack to a report (02, Req 14).
+#![tactic(auto)]
+
 ghost use Rattle.std.specs.Prelude.{◌≡◌, ◌≤◌, length, get_or, replicate};
 ghost use Rattle.load_part.specs.Part.{opened};
 ghost use Rattle.pack_figures.specs.Report.{left, table_left};
@@ -59,7 +61,7 @@ fn count_files(
 }
 
 // A refusal's number and place; or the pack is added.
-#[derive(Drop)]
+#[derive(Clone, Copy)]
 pub enum Adding {
     Refused(u32, usize),
     Added,

@@ -1,5 +1,7 @@
 // What is demanded of a report (02, Req 14), as contracts: each function calls the code, and is here for what it ensures (specs/Runs.antt),
 // and the answer of the code itself, which fixes a refusal.
+#![tactic(auto)]
+
 ghost use Rattle.std.specs.Prelude.{◌≡◌, length};
 ghost use Rattle.pack_figures.specs.Report.{fits};
 ghost use Rattle.pack_report.specs.Add.{added_as, add_under};

@@ -1,4 +1,6 @@
 // Adding two reports word by word (02, Req 14).
+#![tactic(auto)]
+
 ghost use Rattle.std.specs.Prelude.{◌≡◌, true};
 ghost use Rattle.pack_figures.specs.Report.{sums, fits, sum_of, left};
 

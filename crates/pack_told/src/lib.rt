@@ -1,4 +1,6 @@
 // What the entries over packs tell: each function answers a refusal's number or 0, and writes 64-bit numbers.
+#![tactic(auto)]
+
 ghost use Rattle.std.specs.Prelude.{◌≡◌, length};
 ghost use Rattle.pack_layout.specs.Pack.{mark_of};
 ghost use Rattle.reading.specs.Output.{output_of};

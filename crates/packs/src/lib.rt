@@ -1,4 +1,6 @@
 // Reading a pack of files into a lent table (Req 01).
+#![tactic(auto)]
+
 ghost use Rattle.std.specs.Prelude.{◌≡◌, true, [], ◌∷◌, ◌++◌, ◌+◌, ◌-◌, ◌≤◌, length, take};
 ghost use Rattle.text.specs.Passed.{Ascii};
 ghost use Rattle.pack_layout.specs.Table.{entry, flat};
@@ -104,7 +106,7 @@ fn short_record(pack: &[u8], at: usize, marked: bool) -> usize
 }
 
 // A refusal's number and place, or the number of files.
-#[derive(Drop)]
+#[derive(Clone, Copy)]
 pub enum Reading {
     Refused(u32, usize),
     Read { files: usize },

@@ -1,4 +1,6 @@
 // The rules of pages over the rows of a loaded file (02, Req 07): 46, a first object that is no Page, and 47, a page whose next has resource id 0.
+#![tactic(auto)]
+
 ghost use Rattle.std.specs.Prelude.{suc, ◌<◌, drop};
 ghost use Rattle.profile.specs.Offences.{no_page, nextless};
 ghost use Rattle.used_rows.specs.Held.{Skips, Finds};

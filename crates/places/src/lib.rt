@@ -1,4 +1,6 @@
 // Where the seven-bit numbers of a file start, by its rows, and their padding: see specs/.
+#![tactic(auto)]
+
 ghost use Rattle.std.specs.Prelude.{◌≡◌};
 ghost use Rattle.layout.specs.Shortest.{numbered as starts_with_id};
 

@@ -1,4 +1,5 @@
 // What programs print.
+#![tactic(auto)]
 
 // Prints a refusal's line to standard output (01: "A refusal prints one line, as `refused 7 at 6`").
 pub fn print_refusal(number: u32, place: usize) {

@@ -1,4 +1,6 @@
 // Judges the reader names in four files: for each file its name, then for each line 0, or the refusal's number and its place in the line.
+#![tactic(auto)]
+
 ghost use Rattle.std.specs.Prelude.{◌≡◌, ◌≤◌, length};
 ghost use Rattle.io.specs.Counts.{IsPrefixLen};
 ghost use Rattle.reader_names.specs.Lines.{refusal, line_size, Judges};

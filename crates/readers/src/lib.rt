@@ -1,4 +1,6 @@
 // The reader list of a file: the type of each reader, as a place in an array of codes, and the first byte of its name.
+#![tactic(auto)]
+
 ghost use Rattle.std.specs.Prelude.{◌≡◌, ◌+◌, ◌≤◌, ◌<◌, length};
 ghost use Rattle.answers.specs.Told.{told};
 ghost use Rattle.reading.specs.Seven.{seven_at};
@@ -12,7 +14,7 @@ use numbers::seven::Padded;
 use targets::Resolved;
 
 // The types and names of the first `count` readers.
-#[derive(Drop)]
+#[derive(Clone, Copy)]
 pub struct Readers {
     pub count: u32,
     pub targets: [u16; 64],
@@ -23,7 +25,7 @@ pub struct Readers {
 pub const START: usize = 10;
 
 // One reader: a refusal's number and place, or the first byte of its name, how many codes are used, and the next place.
-#[derive(Drop)]
+#[derive(Clone, Copy)]
 pub enum One {
     Refused(u32, usize),
     Read(usize, usize, usize),
@@ -123,7 +125,7 @@ fn reader_at(file: &[u8], enums: &[u8], codes: &mut [u32], used: usize, at: usiz
 }
 
 // So many readers were read, with the padding of their names' lengths, and end at a place; or a refusal's number and place.
-#[derive(Drop)]
+#[derive(Clone, Copy)]
 pub enum Many {
     Refused(u32, usize),
     Ended(u32, usize),
@@ -167,7 +169,7 @@ fn readers_at(
 
 // How many readers there are, the shared count, the padding of both counts and of the names' lengths, and the next place;
 // or a refusal's number and place; or no room for the codes that so many readers may need.
-#[derive(Drop)]
+#[derive(Clone, Copy)]
 pub enum Lists {
     Refused(u32, usize),
     Read(u32, u32, u32, usize),

@@ -1,5 +1,7 @@
 // The last pass over the rows (01, "17 last, in row order"): it judges whether each shared reference names a resource
 // of the type that it wants, and clears the kind that the reference's row has in the place of its number of children.
+#![tactic(auto)]
+
 ghost use Rattle.std.specs.Prelude.{◌≡◌, false, ◌+◌, ◌*◌, ◌-◌, ◌≤◌, length, get_or, drop, set};
 ghost use Rattle.layout.specs.Rows.{width};
 ghost use Rattle.reading.specs.Drafts.{resource};
@@ -11,7 +13,7 @@ use ids::{Position, ResourceId, RowNumber};
 use table::{Grid, WIDTH, word_of};
 
 // Every reference names a resource that suits it, or the first byte of the first that does not.
-#[derive(Drop)]
+#[derive(Clone, Copy)]
 pub enum Settled {
     Fine,
     Wrong(u32),

@@ -1,4 +1,6 @@
 // Rewriting a file with each seven-bit number in its shortest form (01, "Seven-bit numbers").
+#![tactic(auto)]
+
 ghost use Rattle.std.specs.Prelude.{◌≡◌, ◌+◌, ◌≤◌, ◌^◌, leb, length};
 ghost use Rattle.reading.specs.Seven.{seven_at};
 ghost use Rattle.places.specs.Places.{count_places};
@@ -15,14 +17,14 @@ use numbers::seven::Padded;
 use numbers::shortest::Placed;
 
 // A refusal's number and place, or the length of the rewritten file.
-#[derive(Drop)]
+#[derive(Clone, Copy)]
 pub enum Rewriting {
     Refused(u32, usize),
     Rewritten { length: usize },
 }
 
 // How far the file is taken, and how far the output is written.
-#[derive(Drop)]
+#[derive(Clone, Copy)]
 struct Cursor {
     from: usize,
     to: usize,
@@ -39,7 +41,7 @@ fn saved(c: Cursor, padding: usize) -> bool
 }
 
 // A seven-bit number: its value, how many bytes it has beyond its shortest form, and where it ends.
-#[derive(Drop)]
+#[derive(Clone, Copy)]
 struct Measured {
     value: u32,
     padding: u32,
@@ -162,7 +164,7 @@ fn pass_rows(
 }
 
 // How far the file is taken and the output is written behind the readers, and where they end.
-#[derive(Drop)]
+#[derive(Clone, Copy)]
 struct Behind {
     from: usize,
     to: usize,

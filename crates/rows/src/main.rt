@@ -1,4 +1,6 @@
 // Loads the file on standard input, and prints its rows or its refusal.
+#![tactic(auto)]
+
 use ids::RowNumber;
 use load::Loading;
 use table::{Grid, WIDTH};

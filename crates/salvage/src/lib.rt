@@ -1,4 +1,6 @@
 // Salvaging a damaged marked pack (Req 11): the records that it still holds, and the stretches that are skipped.
+#![tactic(auto)]
+
 ghost use Rattle.std.specs.Prelude.{◌≡◌, true, ◌+◌, ◌≤◌, length};
 ghost use Rattle.pack_salvage.specs.Salvage.{salvage_for, output_for, list_for};
 ghost use Rattle.salvage.specs.Salvaging.{NoLead, NextRecord, gap_of, size_of, GapFits, gap_put, count_put, Fits, answer_of};
@@ -53,7 +55,7 @@ fn next_lead(pack: &[u8], from: usize) -> usize
 }
 
 // A part of a pack.
-#[derive(Drop)]
+#[derive(Clone, Copy)]
 struct Span {
     start: usize,
     end: usize,
@@ -98,7 +100,7 @@ fn gap(from: usize, to: usize) -> usize
 }
 
 // How many records are kept, how many bytes the new pack has, and how many stretches are skipped.
-#[derive(Drop)]
+#[derive(Clone, Copy)]
 struct Size {
     records: usize,
     bytes: usize,
@@ -187,7 +189,7 @@ fn put_pieces(pack: &[u8], out: &mut [u8], list: &mut [u64], records: usize)
 }
 
 // A refusal's number and place, or the length of the new pack and the number of stretches skipped.
-#[derive(Drop)]
+#[derive(Clone, Copy)]
 pub enum Salvaging {
     Refused(u32, usize),
     Salvaged { length: usize, stretches: usize },

@@ -1,4 +1,6 @@
 // Marks of names: a name has one cell of a table and some bits there, so a name whose bits are not all set was not noted.
+#![tactic(auto)]
+
 ghost use Rattle.std.specs.Prelude.{◌≡◌, ◌+◌, ◌≤◌, ◌^◌, ◌%◌, length};
 ghost use Rattle.seen_names.specs.Sum.{four_at, step_of, spread_of, sum_of};
 ghost use Rattle.seen_names.specs.Seen.{bits_of, is_noted, noted};

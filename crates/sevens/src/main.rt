@@ -1,5 +1,7 @@
 // Shows the steps of each seven-bit number that standard input holds: each step with its byte, the value so far and how it ended;
 // where the number ends, with its padding: how many bytes it has beyond its shortest form.
+#![tactic(auto)]
+
 use answers::Number;
 use numbers::seven::{Padded, Step};
 

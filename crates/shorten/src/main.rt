@@ -1,4 +1,6 @@
 // Writes the file on standard input with its seven-bit numbers in their shortest forms; a refusal goes to standard error alone.
+#![tactic(auto)]
+
 use rewrite::Rewriting;
 use table::WIDTH;
 

@@ -1,11 +1,13 @@
 // What the steps of the walk over values answer. The laws behind its proofs are here too (specs).
+#![tactic(auto)]
+
 use heads::nest::Nest;
 use ids::TypeId;
 use walked::Reached;
 
 // A value that needs no reader list, walked; or a raw value whose children need it:
 // the place of its type, its first byte, its children, the padding of its type id, the type id, and where its head ends.
-#[derive(Drop)]
+#[derive(Clone, Copy)]
 pub enum Stepped {
     Done(Reached),
     Refused(u32, usize),
@@ -20,7 +22,7 @@ pub enum Stepped {
 }
 
 // Values one after the other, walked: how many they are and what the walk reaches; or a refusal's number and place.
-#[derive(Drop)]
+#[derive(Clone, Copy)]
 pub enum Children {
     Done { count: u32, reached: Reached },
     Refused(u32, usize),

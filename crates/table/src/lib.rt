@@ -1,4 +1,6 @@
 // The words of a row table (01, "The row table"; 02, Req 08): where a word of a row is, reading it, putting rows, and zeros behind them.
+#![tactic(auto)]
+
 ghost use Rattle.std.specs.Prelude.{◌≡◌, ◌+◌, ◌-◌, ◌*◌, ◌<◌, ◌≤◌, length, if◌then◌else◌, slice_index};
 ghost use Rattle.layout.specs.Rows.{width};
 ghost use Rattle.layout.specs.Table.{room_of};
@@ -29,14 +31,14 @@ pub const DETAIL: u32 = 5;
 pub const BRANCH: u32 = 6;
 
 // The shape of a table: how many rows it has room for, and whether it is in columns.
-#[derive(Drop)]
+#[derive(Clone, Copy)]
 pub struct Grid {
     pub room: u32,
     pub columns: bool,
 }
 
 // The words of a row.
-#[derive(Drop)]
+#[derive(Clone, Copy)]
 pub struct RowWords {
     pub kind: u32,
     pub first: u32,

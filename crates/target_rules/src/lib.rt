@@ -1,4 +1,6 @@
 // 44 over a loaded file (02, Req 07): two readers with equal targets, at the name of the later.
+#![tactic(auto)]
+
 ghost use Rattle.std.specs.Prelude.{◌≡◌, ◌<◌, length, get_or};
 ghost use Rattle.names.specs.Entries.{enums_of};
 ghost use Rattle.target_rules.specs.Doubled.{AmongEarlier, FirstDouble, DoubledReader, DoubledIn};

@@ -1,4 +1,6 @@
 // The types of reader names. In code a type is a place in an array of codes: its own code stands there, and its arguments' codes after it.
+#![tactic(auto)]
+
 ghost use Rattle.std.specs.Prelude.{◌≡◌, cond, ◌<◌, ◌≤◌, length, drop};
 ghost use Rattle.layout.specs.Kind.{alike};
 ghost use Rattle.layout.specs.Number.{between};
@@ -185,7 +187,7 @@ fn argument_ok(nullable: bool, b: u32) -> bool
 }
 
 // What is complained of among the heads of a name: nothing, or the leftmost one's place.
-#[derive(Drop)]
+#[derive(Clone, Copy)]
 pub enum Judged {
     Fine,
     Wrong(usize),
@@ -279,7 +281,7 @@ fn settle(codes: &mut [u32], used: usize, end: usize) -> usize
 
 // What a reader's name comes to: how many codes are used, a refusal's number and place, the place of refusal 11,
 // or no room for the codes of its heads or for their places.
-#[derive(Drop)]
+#[derive(Clone, Copy)]
 pub enum Resolved {
     Target(usize),
     Broken(u32, usize),

@@ -1,4 +1,6 @@
 // UTF-8 by RFC 3629: one character at a place, and whether a whole text is lawful.
+#![tactic(auto)]
+
 ghost use Rattle.std.specs.Prelude.{◌≡◌, true, false, ℕ, ◌+◌, ◌-◌, ◌*◌, ◌^◌, ◌≤◌, ◌<◌, length, get_or, drop};
 ghost use Rattle.reading.specs.Utf8.{least, most, follow, char_size, char_at, utf8s};
 ghost use Rattle.answers.specs.Told.{told};

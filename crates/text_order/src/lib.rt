@@ -1,4 +1,6 @@
 // The order of texts, byte by byte.
+#![tactic(auto)]
+
 ghost use Rattle.std.specs.Prelude.{◌≡◌, true};
 ghost use Rattle.text_order.specs.Ordered.{order_of};
 ghost use Rattle.text_order.specs.Blocks.{Passes, PassesSome};
@@ -7,7 +9,7 @@ use answers::Number;
 use numbers::little::{has_bytes, little8};
 
 // How two texts stand to each other.
-#[derive(Drop)]
+#[derive(Clone, Copy)]
 pub enum Order {
     Below,
     Same,

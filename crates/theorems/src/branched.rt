@@ -6,7 +6,7 @@ use ids::RowNumber;
 use load::Loading;
 
 // The answer of a load, and the row behind a row and all below it.
-#[derive(Drop)]
+#[derive(Clone, Copy)]
 pub struct Skipped {
     pub loading: Loading,
     pub next: u32,

@@ -10,14 +10,14 @@ use load::Loading;
 use lookups::{Integer, Moment, Span};
 
 // The answers of a load by rows and of one in columns.
-#[derive(Drop)]
+#[derive(Clone, Copy)]
 pub struct LoadedBoth {
     pub rows: Loading,
     pub columns: Loading,
 }
 
 // The answers of all lookups of a row.
-#[derive(Drop)]
+#[derive(Clone, Copy)]
 pub struct Lookups {
     pub part: Span,
     pub text: Span,
@@ -27,7 +27,7 @@ pub struct Lookups {
 }
 
 // Those by rows and those in columns.
-#[derive(Drop)]
+#[derive(Clone, Copy)]
 pub struct Looked {
     pub rows: Lookups,
     pub columns: Lookups,

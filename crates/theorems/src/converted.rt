@@ -25,7 +25,7 @@ fn there_and_back(pack: &[u8], out: &mut [u8], second: &mut [u8], marked: bool) 
 }
 
 // Where the data of a path stands in a pack, and where in the converted one.
-#[derive(Drop)]
+#[derive(Clone, Copy)]
 pub struct FoundBoth {
     given: Found,
     new: Found,

@@ -2,6 +2,8 @@
 // (specs/Loading.antt and specs/Rewriting.antt, from top to bottom; of padding, padded.rt and specs/Padding.antt;
 // of columns, columned.rt and specs/Columns.antt, spanned.rt and specs/Bytes.antt; of a row and all below it, branched.rt and specs/Branches.antt;
 // of packs, packed.rt and specs/Packs.antt, converted.rt and specs/Marks.antt, salvaged.rt and specs/Salvage.antt).
+#![tactic(auto)]
+
 mod branched;
 mod columned;
 mod converted;

@@ -6,7 +6,7 @@ use load::Loading;
 use rewrite::Rewriting;
 
 // The answers of a load and of a rewrite.
-#[derive(Drop)]
+#[derive(Clone, Copy)]
 pub struct Saved {
     pub loaded: Loading,
     pub rewritten: Rewriting,

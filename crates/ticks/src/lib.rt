@@ -1,9 +1,11 @@
 // 01, "Looking up": "A time in ticks is split into whole seconds, rounded down, and 0 to 9,999,999 ticks."
+#![tactic(auto)]
+
 ghost use Rattle.std.specs.Prelude.{◌≡◌};
 ghost use Rattle.ticks.specs.Split.{split_of};
 
 // Whole seconds, and the ticks of 100 ns that are left.
-#[derive(Drop)]
+#[derive(Clone, Copy)]
 pub struct Time {
     pub seconds: i64,
     pub ticks: u32,

@@ -1,5 +1,7 @@
 // What is demanded of files that differ in typed text alone, as contracts: each function calls the code over both files, and is here for what it ensures
 // (specs/Texts.antt and specs/Alike.antt).
+#![tactic(auto)]
+
 ghost use Rattle.std.specs.Prelude.{◌≡◌, length};
 ghost use Rattle.table.specs.Grids.{grid_of};
 ghost use Rattle.two_runs.specs.Alike.{LoadIs, RewriteIs, NumberIs, LookupsAre};
@@ -11,28 +13,28 @@ use lookups::{Integer, Moment, Span};
 use rewrite::Rewriting;
 
 // The answers of two loads.
-#[derive(Drop)]
+#[derive(Clone, Copy)]
 pub struct TwoLoads {
     pub first: Loading,
     pub second: Loading,
 }
 
 // The answers of two rewrites.
-#[derive(Drop)]
+#[derive(Clone, Copy)]
 pub struct TwoRewrites {
     pub first: Rewriting,
     pub second: Rewriting,
 }
 
 // The numbers of two loads by an asset builder.
-#[derive(Drop)]
+#[derive(Clone, Copy)]
 pub struct TwoNumbers {
     pub first: u64,
     pub second: u64,
 }
 
 // The answers of the lookups of a row.
-#[derive(Drop)]
+#[derive(Clone, Copy)]
 pub struct Lookups {
     pub part: Span,
     pub text: Span,
@@ -42,7 +44,7 @@ pub struct Lookups {
 }
 
 // Those in two files.
-#[derive(Drop)]
+#[derive(Clone, Copy)]
 pub struct TwoLookups {
     pub first: Lookups,
     pub second: Lookups,

@@ -1,4 +1,6 @@
 // 01, "Values and kinds": values of fixed size.
+#![tactic(auto)]
+
 ghost use Rattle.std.specs.Prelude.{◌≡◌, ◌≤◌, length, get_or, take, drop};
 ghost use Rattle.layout.specs.Fixed.{sizes};
 ghost use Rattle.reading.specs.Fixed.{is_boolean, is_date_time, is_decimal, rule, fixed_at, sized};

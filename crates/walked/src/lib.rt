@@ -1,4 +1,6 @@
 // What a walk over values answers, and the row of a value.
+#![tactic(auto)]
+
 ghost use Rattle.std.specs.Prelude.{◌≡◌, ◌-◌};
 ghost use Rattle.table.specs.Word.{in_word};
 ghost use Rattle.table.specs.Put.{row_of};
@@ -11,7 +13,7 @@ use table::{Grid, RowWords};
 
 // What is known of a value before its bytes are read: its row's number, its first byte, its parent's row number plus 1, its type id or resource id,
 // and how many bytes that id has beyond its shortest form.
-#[derive(Drop)]
+#[derive(Clone, Copy)]
 pub struct Head {
     pub row: RowNumber,
     pub first: usize,
@@ -21,7 +23,7 @@ pub struct Head {
 }
 
 // What a walk reaches: how many bytes the seven-bit numbers of the new rows have beyond their shortest forms, the next byte, and the rows used so far.
-#[derive(Drop)]
+#[derive(Clone, Copy)]
 pub struct Reached {
     pub padding: u32,
     pub next: usize,
@@ -29,7 +31,7 @@ pub struct Reached {
 }
 
 // A value, or values one after the other: what the walk reaches, or a refusal's number and place.
-#[derive(Drop)]
+#[derive(Clone, Copy)]
 pub enum Walk {
     Done(Reached),
     Refused(u32, usize),

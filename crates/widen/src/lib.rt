@@ -1,4 +1,6 @@
 // A byte as a wider number.
+#![tactic(auto)]
+
 ghost use Rattle.std.specs.Prelude.{◌≡◌, ◌≤◌};
 
 pub fn wide(x: u8) -> u64

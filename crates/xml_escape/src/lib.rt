@@ -1,4 +1,6 @@
 // Runs of bytes that stand in the XML as they are (Req 13).
+#![tactic(auto)]
+
 ghost use Rattle.std.specs.Prelude.{◌≡◌, true, false, cond, ◌+◌, ◌≤◌, min, length};
 ghost use Rattle.xml_escape.specs.Quiet.{Quiet, AllQuiet, Ran, RunEnd};
 

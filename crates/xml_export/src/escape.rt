@@ -113,7 +113,7 @@ fn block_size(text: &[u8], i: usize) -> usize
 }
 
 // That a character of a text is not written, or how many bytes the text has in the XML.
-#[derive(Drop)]
+#[derive(Clone, Copy)]
 pub enum Sizing {
     Unwritten,
     Size(usize),

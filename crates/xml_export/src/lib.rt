@@ -1,4 +1,6 @@
 // Exporting a file as XML (Req 13): load, judge the primary, judge the texts by their rows, and write.
+#![tactic(auto)]
+
 mod escape;
 
 ghost use Rattle.std.specs.Prelude.{◌≡◌, true, ℕ, ◌+◌, ◌-◌, ◌≤◌, length};
@@ -20,7 +22,7 @@ use lookups::Span;
 use readers::Lists;
 
 // What a row has: no text; a text with a character that is not written; or a text of so many bytes in the XML.
-#[derive(Drop)]
+#[derive(Clone, Copy)]
 pub enum RowSize {
     Null,
     Unwritten,
@@ -44,7 +46,7 @@ fn row_size(file: &[u8], words: &[u32], row: u32) -> RowSize
 }
 
 // The refusal of a text, at its row number; or how many bytes the XML has.
-#[derive(Drop)]
+#[derive(Clone, Copy)]
 pub enum Gathering {
     Bad(u32, u32),
     Size(usize),
@@ -202,7 +204,7 @@ fn is_list(file: &[u8], enums: &[u8], words: &[u32], rows: u32, shared: u32) -> 
 }
 
 // A refusal's number and place, or the length of the XML.
-#[derive(Drop)]
+#[derive(Clone, Copy)]
 pub enum Exporting {
     Refused(u32, usize),
     Exported { length: usize },

@@ -100,7 +100,7 @@ pub(crate) fn end_at(xml: &[u8], at: usize) -> usize
 }
 
 // Where bytes fail, or where they end.
-#[derive(Drop)]
+#[derive(Clone, Copy)]
 pub enum Matched {
     Fails(usize),
     Takes(usize),
@@ -238,7 +238,7 @@ fn plain_at(xml: &[u8], at: usize) -> Matched
 }
 
 // Where a character fails; or an entity's character, or one that stands as it is, and where it ends.
-#[derive(Drop)]
+#[derive(Clone, Copy)]
 pub enum Piece {
     Fails(usize),
     Entity(u8, usize),

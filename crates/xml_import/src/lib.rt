@@ -1,4 +1,6 @@
 // Importing XML as a file (Req 13): the texts of the XML's items, in a file with an Array of String.
+#![tactic(auto)]
+
 mod character;
 mod known;
 mod standing;
@@ -13,7 +15,7 @@ ghost use Rattle.xml_import.specs.Puts.{front_put, TextOf, LastIf, Ready, Verbat
 use character::Piece;
 
 // Where the text of an item fails, or how many bytes it has and where the item ends.
-#[derive(Drop)]
+#[derive(Clone, Copy)]
 pub enum Texted {
     Fails(usize),
     Ends(usize, usize),
@@ -171,7 +173,7 @@ fn length_size(n: usize) -> usize
 }
 
 // Where the XML is not of the form; or how many texts it has, and how many bytes their file.
-#[derive(Drop)]
+#[derive(Clone, Copy)]
 pub enum Measured {
     Other(usize),
     Texts(usize, usize),
@@ -325,7 +327,7 @@ fn put_strings(xml: &[u8], out: &mut [u8], count: usize, size: usize)
 }
 
 // A refusal's number and place, or the length of the file.
-#[derive(Drop)]
+#[derive(Clone, Copy)]
 pub enum Importing {
     Refused(u32, usize),
     Imported { length: usize },

@@ -1,5 +1,7 @@
 // What is demanded of text lists as XML (Req 13), as contracts: each function calls the code, and is here for what it ensures
 // (specs/Import.antt, specs/Export.antt and specs/Trips.antt, from top to bottom). Of an export, the answer of the code itself fixes a load's refusals.
+#![tactic(auto)]
+
 ghost use Rattle.std.specs.Prelude.{◌≡◌, length};
 ghost use Rattle.load.specs.Under.{load_under};
 ghost use Rattle.load.specs.Loads as loading;
@@ -30,7 +32,7 @@ pub fn export_exact(file: &[u8], enums: &[u8], words: &mut [u32], out: &mut [u8]
 }
 
 // The answers of a load and of an export.
-#[derive(Drop)]
+#[derive(Clone, Copy)]
 pub struct Judged {
     pub loaded: Loading,
     pub exported: Exporting,
