@@ -1,0 +1,23 @@
+-- `text::ascii_block` meets its contract: before each turn the bytes so far are ASCII unless `other` says that one is not. Assumes nothing.
+use borrow.Author.Rules.{rules}
+use mathlib.Core.Path.{◌≡◌}
+use mathlib.Core.Bool.{false, false≢true}
+use Prim.Native.Nat.{◌-◌, ◌≤◌}
+use native.Mathlib.Omega.{arith}
+use Rattle.text.specs.Passed.{Ascii}
+use Rattle.text.proofs.Laws.{block_step}
+use Rattle.text.proofs.ascii_block.Goals as goal
+
+pub loop-j-init : goal.loop-j-init
+loop-j-init c = (omega arith, λ h k l. absurd (omega arith))
+
+pub loop-j-preserved : goal.loop-j-preserved
+loop-j-preserved c =
+    let a = c.args in
+    (search rules, block_step a.s.now a.i c.loop-j.j c.loop-j.other c.loop-j.invariant.1)
+
+pub returns-then-other : goal.returns-then-other
+returns-then-other c = λ e. absurd (false≢true e)
+
+pub returns : goal.returns
+returns c = λ e k l. c.loop-j.invariant.1 c.if-other.false k (omega (arith, c.loop-j-test.false))
