@@ -1,0 +1,14 @@
+-- `pack_lookup::same_blocks` meets its contract: before each turn the last bytes agree, and those up to `i`. Assumes nothing.
+use mathlib.Core.Path.{◌≡◌, refl}
+use Prim.Native.Nat.{◌-◌}
+use native.Mathlib.Omega.{arith}
+use lib.ListN.{length}
+use Rattle.pack_lookup.proofs.Laws.{Agree, other_block, same_start, same_next, same_end}
+use borrow.Author.Rules.{rules}
+use Rattle.pack_lookup.proofs.same_blocks.Given as goal
+
+abbrev pub invariant-loop-i : goal.invariant-loop-i
+invariant-loop-i l = (l.last ≡ length l.a - l.n) × Agree l.a l.b l.last l.i
+
+abbrev pub decreases-loop-i : goal.decreases-loop-i
+decreases-loop-i l = l.last - l.i
