@@ -6,8 +6,7 @@ use lib.Dec.{leb}
 use lib.ListN.{length}
 use borrow.Author.Rules.{rules}
 use borrow.Author.Tests.{leb-true, leb-false, le-leb, lt-leb}
-use Rattle.numbers.proofs.seven.missing.Statement.{statement}
-use Rattle.numbers.proofs.seven.missing.Tie as tie
+use Rattle.numbers.proofs.seven.missing.Goals as goal
 
 -- what is left behind a place is compared without a sum
 behind : (n at k : ℕ) → at < n → leb (n - at) k ≡ leb n (at + k)
@@ -16,18 +15,12 @@ behind n at k h = go (leb n (at + k)) refl where
   go true q = le-leb (n - at) k (omega (arith, leb-true n (at + k) q))
   go false q = lt-leb (n - at) k (omega (arith, leb-false n (at + k) q))
 
-returns : tie.Need-returns
-returns c =
-    let a = c.before.args in
+pub returns-then-s-start : goal.returns-then-s-start
+returns-then-s-start c =
+    let a = c.args in
     sym (le-leb (length a.s.now) (a.start + a.k) (omega arith))
 
-sub-result : tie.Need-overflow-sub-result
-sub-result c = search rules
-
-returns-2 : tie.Need-returns-2
-returns-2 c =
-    let a = c.before.args in
-    behind (length a.s.now) a.start a.k c.if1.false
-
-pub missing-spec : {M : Type 1} → statement M
-missing-spec = tie.close (tie.spec returns sub-result returns-2)
+pub returns : goal.returns
+returns c =
+    let a = c.args in
+    behind (length a.s.now) a.start a.k c.if-s-start.false

@@ -1,0 +1,7 @@
+use Rattle.layout.specs.Number.{little}
+use borrow.Author.Rules.{rules}
+use Rattle.numbers.proofs.little.put4.Goals as goal
+
+pub returns : goal.returns
+unfolding little
+returns c = c.copy.ensures.out_after
