@@ -1,6 +1,5 @@
 use Rattle.std.proofs.Common.{ℕ, ◌*◌, ◌^◌, ◌<◌, ◌≤◌, refl, mul-le-mul, arith}
-use Rattle.table.proofs.product.Statement.{statement}
-use Rattle.table.proofs.product.Tie as tie
+use Rattle.table.proofs.product.Goals as goal
 
 product_small : (a b : ℕ) → a < 2 ^ 32 → b < 2 ^ 32 → a * b ≤ 18446744065119617025
 product_small a b h k =
@@ -8,11 +7,8 @@ product_small a b h k =
     let y : b ≤ 4294967295 = omega arith in
     mul-le-mul x y
 
-mul-result : tie.Need-overflow-mul-result
-mul-result c = record { fits = let h = product_small c.args.a c.args.b (omega arith) (omega arith) in omega (arith, h) }
+pub overflow_mul-result : goal.overflow_mul-result
+overflow_mul-result c = record { fits = let h = product_small c.args.a c.args.b (omega arith) (omega arith) in omega (arith, h) }
 
-returns : tie.Need-returns
+pub returns : goal.returns
 returns c = (refl, product_small c.args.a c.args.b (omega arith) (omega arith))
-
-pub product-spec : {M : Type 1} → statement M
-product-spec = tie.close (tie.spec mul-result returns)
