@@ -1,0 +1,17 @@
+use borrow.Author.Rules.{rules}
+use mathlib.Core.Path.{◌≡◌, sym, ◌∙◌}
+use Prim.Native.Nat.{◌+◌, ◌-◌, ◌≤◌}
+use native.Mathlib.Omega.{arith}
+use lib.ListN.{length, drop}
+use borrow.Author.Tests.{not-false}
+use Rattle.names.specs.Parse.{span}
+use Rattle.names.specs.Sound.{span_le}
+use Rattle.names.specs.Contract.{class}
+use Rattle.names.proofs.Laws.{span-start, span_block, span_rest}
+use Rattle.names.proofs.bytes.long_run.Given as goal
+
+abbrev pub invariant-loop-i : goal.invariant-loop-i
+invariant-loop-i l = (l.i ≤ length l.s) × (span (class l.tail) l.s ≡ l.i + span (class l.tail) (drop l.i l.s))
+
+abbrev pub decreases-loop-i : goal.decreases-loop-i
+decreases-loop-i l = length l.s - l.i

@@ -1,0 +1,6 @@
+use Rattle.names.proofs.Laws.{stands_is}
+use borrow.Author.Rules.{rules}
+use Rattle.names.proofs.texts.stands.Goals as goal
+
+pub returns : goal.returns
+returns c = stands_is _ _ _ c.matched.ensures
