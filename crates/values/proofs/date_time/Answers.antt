@@ -1,0 +1,35 @@
+-- `values::date_time` meets its contract. Assumes nothing.
+use mathlib.Core.Path.{ap}
+use Prim.Native.Nat.{◌%◌, ◌^◌}
+use lib.ListN.{length}
+use borrow.Author.Tests.{eq-eqb, ne_eqb, le-leb, lt-leb}
+use Rattle.answers.specs.Told.{told}
+use Rattle.reading.specs.Fixed.{is_date_time}
+use Rattle.values.proofs.Laws.{no_refusal, eight_value}
+use borrow.Author.Rules.{rules}
+use Rattle.values.proofs.date_time.Goals as goal
+
+pub returns-then-own-ne8 : goal.returns-then-own-ne8
+unfolding is_date_time
+returns-then-own-ne8 c = rw (ne_eqb (length c.args.own.now) 8 c.if-own-ne8.true)
+
+pub returns-then-n-gt3155378975999999999 : goal.returns-then-n-gt3155378975999999999
+unfolding is_date_time
+returns-then-n-gt3155378975999999999 c =
+    let own = c.args.own.now in
+    let eight = c.if-own-ne8.false in
+    let v = eight_value own eight c.little8.ensures (ap told c.in-Read.is) in
+    rw (eq-eqb (length own) 8 eight, ← v, lt-leb (c.in-Read.n % 2 ^ 62) 3155378975999999999 c.if-n-gt3155378975999999999.true)
+
+pub returns-in-Refused : goal.returns-in-Refused
+returns-in-Refused c =
+    let own = c.args.own.now in
+    absurd (no_refusal own c.if-own-ne8.false c.little8.ensures (ap told c.in-Refused.is))
+
+pub returns-else-n-gt3155378975999999999 : goal.returns-else-n-gt3155378975999999999
+unfolding is_date_time
+returns-else-n-gt3155378975999999999 c =
+    let own = c.args.own.now in
+    let eight = c.if-own-ne8.false in
+    let v = eight_value own eight c.little8.ensures (ap told c.in-Read.is) in
+    rw (eq-eqb (length own) 8 eight, ← v, le-leb (c.in-Read.n % 2 ^ 62) 3155378975999999999 c.if-n-gt3155378975999999999.false)
