@@ -1,0 +1,10 @@
+use Prim.Native.Nat.{suc, ◌-◌}
+use native.Mathlib.Numerals.{add-one}
+use borrow.Author.Rules.{rules}
+use Rattle.page_rules.specs.Pages.{skips-three}
+use Rattle.page_rules.proofs.next_of_page.Goals as goal
+
+pub returns : goal.returns
+returns c =
+    let a = c.args in
+    skips-three a.grid a.words.now a.used (suc a.page) (rw add-one at c.next_row-area.ensures) c.next_row-image.ensures c.next_row.ensures
