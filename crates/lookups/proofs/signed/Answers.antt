@@ -1,0 +1,10 @@
+use mathlib.Core.Path.{ap, ◌∙◌}
+use Rattle.table.specs.declared.Grid.{Grid}
+use Rattle.lookups.specs.Signs.{signed_of}
+use borrow.Author.Rules.{rules}
+use Rattle.lookups.proofs.signed.Goals as goal
+
+pub returns : goal.returns
+returns c =
+    let a = c.args in
+    c.signed_of.ensures ∙ ap (λ (g : Grid). signed_of g a.file.now a.words.now a.row.0) c.rows_grid.ensures
