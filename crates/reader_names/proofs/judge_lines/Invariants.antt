@@ -1,0 +1,14 @@
+use borrow.Author.Rules.{rules}
+use mathlib.Core.Path.{◌≡◌}
+use Prim.Native.Nat.{◌+◌, ◌-◌, ◌≤◌}
+use native.Mathlib.Omega.{arith}
+use lib.ListN.{length, drop}
+use Rattle.reader_names.specs.Lines.{line_size}
+use Rattle.reader_names.proofs.Laws.{Left, start_is, end_is, step_is, line_is, counts_is}
+use Rattle.reader_names.proofs.judge_lines.Given as goal
+
+abbrev pub invariant-loop-at : goal.invariant-loop-at
+invariant-loop-at l = ((l.at ≤ length l.s + 1) × (l.count ≤ l.at) × (length l.numbers ≡ length l.initial.numbers)) × Left l.s l.initial.numbers l.numbers l.at l.count
+
+abbrev pub decreases-loop-at : goal.decreases-loop-at
+decreases-loop-at l = length l.s + 1 - l.at
