@@ -1,0 +1,7 @@
+use Rattle.fonts.specs.FontWords.{word_at, equal}
+use Rattle.std.proofs.Common.{rules}
+use Rattle.fonts.proofs.equal_counts.Goals as goal
+
+pub returns : goal.returns
+unfolding equal word_at
+returns c = cc (c.word_of-2.ensures, c.word_of.ensures)

@@ -1,0 +1,7 @@
+use Rattle.fonts.specs.FontWords.{word_at, some}
+use Rattle.std.proofs.Common.{rules}
+use Rattle.fonts.proofs.filled.Goals as goal
+
+pub returns : goal.returns
+unfolding some word_at
+returns c = cc c.word_of.ensures
