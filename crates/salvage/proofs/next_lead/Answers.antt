@@ -1,0 +1,18 @@
+use Prim.Native.Nat.{◌-◌}
+use lib.ListN.{length}
+use Rattle.salvage.specs.Salvaging.{NoLead}
+use Rattle.salvage.proofs.Leads.{one_more}
+use borrow.Author.Rules.{rules}
+use Rattle.salvage.proofs.next_lead.Goals as goal
+
+pub loop-at-init : goal.loop-at-init
+loop-at-init c = c.past_clear-at.ensures
+
+pub returns-then-pack-at : goal.returns-then-pack-at
+returns-then-pack-at c = c.loop-at.invariant
+
+pub loop-at-preserved : goal.loop-at-preserved
+loop-at-preserved c = one_more _ c.loop-at.invariant c.loop-at-test.true c.if-pack-at.false
+
+pub returns : goal.returns
+returns c = c.loop-at.invariant
