@@ -54,7 +54,8 @@ module _ (n : ℕ) where
   rows_stand [] rest = refl
   rows_stand (r ∷ rs) rest =
       let e : (words r ++ flat rs) ++ rest ≡ words r ++ (flat rs ++ rest) = append_assoc (words r) (flat rs) rest in
-      rw (e, first_row r (flat rs ++ rest), rows_next r (flat rs ++ rest) 0 (length rs), rows_stand rs rest)
+      ap (λ (l : List ℕ). rows_at (rows_grid n) l 0 (suc (length rs))) e
+      ∙ rw (first_row r (flat rs ++ rest), rows_next r (flat rs ++ rest) 0 (length rs), rows_stand rs rest)
 
 -- ---- Which word a count raises
 
