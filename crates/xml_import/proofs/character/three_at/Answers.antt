@@ -1,0 +1,13 @@
+use mathlib.Core.List.{[]}
+use Rattle.xml_import.proofs.Bytes.{then_fails, then_inside, then_goes}
+use borrow.Author.Rules.{rules}
+use Rattle.xml_import.proofs.character.three_at.Goals as goal
+
+pub two_at-requires : goal.two_at-requires
+two_at-requires c = then_inside _ [] _ _ c.byte_at.ensures c.in-Takes.is
+
+pub returns-in-Fails : goal.returns-in-Fails
+returns-in-Fails c = then_fails _ _ _ _ c.byte_at.ensures c.in-Fails.is
+
+pub returns-in-Takes : goal.returns-in-Takes
+returns-in-Takes c = then_goes _ _ _ _ _ c.byte_at.ensures c.in-Takes.is c.two_at.ensures

@@ -1,0 +1,109 @@
+-- `filled_at` meets its contract: before each turn the text is taken up to i. Assumes nothing.
+use borrow.Author.Rules.{rules}
+use Prim.Native.Nat.{◌-◌}
+use native.Mathlib.Omega.{arith}
+use lib.ListN.{length}
+use Rattle.xml_import.proofs.Texts.{Reading, ends, end-inside, wrong, entity_on, plain_on, stops}
+use Rattle.xml_import.proofs.Runs.{run_on, opened}
+use Rattle.xml_import.proofs.Taken.{amp_wrong, amp_entity, amp_plain}
+use Rattle.xml_import.proofs.filled_at.Goals as goal
+
+pub opening-i-requires : goal.opening-i-requires
+opening-i-requires c = c.requires
+
+pub overflow_sub-size : goal.overflow_sub-size
+overflow_sub-size c = c.opening-i.ensures.forward
+
+pub loop-i-init : goal.loop-i-init
+loop-i-init c = opened c.requires c.opening-i.ensures
+
+pub entity_at-requires : goal.entity_at-requires
+entity_at-requires c = (c.loop-i-test.true, c.if-xml-i-eq38.true)
+
+pub returns-in-Fails : goal.returns-in-Fails
+returns-in-Fails c = amp_wrong c.loop-i.invariant c.loop-i-test.true c.if-xml-i-eq38.true c.entity_at.ensures c.in-Fails.is
+
+pub overflow_add-size : goal.overflow_add-size
+overflow_add-size c =
+    let v = amp_entity c.loop-i.invariant c.loop-i-test.true c.if-xml-i-eq38.true c.entity_at.ensures c.in-Entity.is in omega (arith, v.0.bound, v.2)
+
+pub loop-i-smaller-in-Entity : goal.loop-i-smaller-in-Entity
+loop-i-smaller-in-Entity c = let v = amp_entity c.loop-i.invariant c.loop-i-test.true c.if-xml-i-eq38.true c.entity_at.ensures c.in-Entity.is in omega (arith, v.1, v.2)
+
+pub loop-i-preserved-in-Entity : goal.loop-i-preserved-in-Entity
+loop-i-preserved-in-Entity c = (amp_entity c.loop-i.invariant c.loop-i-test.true c.if-xml-i-eq38.true c.entity_at.ensures c.in-Entity.is).0
+
+pub overflow_sub-size-in-Plain : goal.overflow_sub-size-in-Plain
+overflow_sub-size-in-Plain c = let v = amp_plain c.loop-i.invariant c.loop-i-test.true c.if-xml-i-eq38.true c.entity_at.ensures c.in-Plain.is in omega (arith, v.1)
+
+pub overflow_add-size-in-Plain : goal.overflow_add-size-in-Plain
+overflow_add-size-in-Plain c =
+    let v = amp_plain c.loop-i.invariant c.loop-i-test.true c.if-xml-i-eq38.true c.entity_at.ensures c.in-Plain.is in omega (arith, v.0.bound, v.2)
+
+pub loop-i-smaller-in-Plain : goal.loop-i-smaller-in-Plain
+loop-i-smaller-in-Plain c = let v = amp_plain c.loop-i.invariant c.loop-i-test.true c.if-xml-i-eq38.true c.entity_at.ensures c.in-Plain.is in omega (arith, v.1, v.2)
+
+pub loop-i-preserved-in-Plain : goal.loop-i-preserved-in-Plain
+loop-i-preserved-in-Plain c = (amp_plain c.loop-i.invariant c.loop-i-test.true c.if-xml-i-eq38.true c.entity_at.ensures c.in-Plain.is).0
+
+pub standing-run-requires : goal.standing-run-requires
+standing-run-requires c = c.loop-i-test.true
+
+pub overflow_sub-size-then-i-run : goal.overflow_sub-size-then-i-run
+overflow_sub-size-then-i-run c = omega (arith, c.if-i-run.true)
+
+pub overflow_add-size-then-i-run : goal.overflow_add-size-then-i-run
+overflow_add-size-then-i-run c = let v = run_on c.loop-i.invariant c.standing-run.ensures in omega (arith, v.bound, c.standing-run.ensures.inside)
+
+pub loop-i-smaller-then-i-run : goal.loop-i-smaller-then-i-run
+loop-i-smaller-then-i-run c = omega (arith, c.if-i-run.true, c.standing-run.ensures.inside)
+
+pub loop-i-preserved-then-i-run : goal.loop-i-preserved-then-i-run
+loop-i-preserved-then-i-run c = run_on c.loop-i.invariant c.standing-run.ensures
+
+pub end_at-n-requires : goal.end_at-n-requires
+end_at-n-requires c = c.loop-i-test.true
+
+pub overflow_add-result : goal.overflow_add-result
+overflow_add-result c = omega (arith, end-inside c.loop-i.invariant c.end_at-n.ensures)
+
+pub returns-then-n-eq7 : goal.returns-then-n-eq7
+returns-then-n-eq7 c = ends c.loop-i.invariant c.end_at-n.ensures c.if-n-eq7.true
+
+pub character_at-requires : goal.character_at-requires
+character_at-requires c = c.loop-i-test.true
+
+pub overflow_add-i : goal.overflow_add-i
+overflow_add-i c = omega (arith, end-inside c.loop-i.invariant c.end_at-n.ensures)
+
+pub returns-in-Fails-character_at : goal.returns-in-Fails-character_at
+returns-in-Fails-character_at c = wrong c.loop-i.invariant c.end_at-n.ensures c.if-n-eq7.false c.character_at.ensures c.in-Fails-character_at.is c.larger.ensures
+
+pub overflow_add-size-in-Entity-character_at : goal.overflow_add-size-in-Entity-character_at
+overflow_add-size-in-Entity-character_at c =
+    let v = entity_on c.loop-i.invariant c.end_at-n.ensures c.if-n-eq7.false c.character_at.ensures c.in-Entity-character_at.is in omega (arith, v.0.bound, v.2)
+
+pub loop-i-smaller-in-Entity-character_at : goal.loop-i-smaller-in-Entity-character_at
+loop-i-smaller-in-Entity-character_at c =
+    let v = entity_on c.loop-i.invariant c.end_at-n.ensures c.if-n-eq7.false c.character_at.ensures c.in-Entity-character_at.is in omega (arith, v.1, v.2)
+
+pub loop-i-preserved-in-Entity-character_at : goal.loop-i-preserved-in-Entity-character_at
+loop-i-preserved-in-Entity-character_at c = (entity_on c.loop-i.invariant c.end_at-n.ensures c.if-n-eq7.false c.character_at.ensures c.in-Entity-character_at.is).0
+
+pub overflow_sub-size-in-Plain-character_at : goal.overflow_sub-size-in-Plain-character_at
+overflow_sub-size-in-Plain-character_at c =
+    let v = plain_on c.loop-i.invariant c.end_at-n.ensures c.if-n-eq7.false c.character_at.ensures c.in-Plain-character_at.is in omega (arith, v.1)
+
+pub overflow_add-size-in-Plain-character_at : goal.overflow_add-size-in-Plain-character_at
+overflow_add-size-in-Plain-character_at c =
+    let v = plain_on c.loop-i.invariant c.end_at-n.ensures c.if-n-eq7.false c.character_at.ensures c.in-Plain-character_at.is in omega (arith, v.0.bound, v.2)
+
+pub loop-i-smaller : goal.loop-i-smaller
+loop-i-smaller c =
+    let v = plain_on c.loop-i.invariant c.end_at-n.ensures c.if-n-eq7.false c.character_at.ensures c.in-Plain-character_at.is in omega (arith, v.1, v.2)
+
+pub loop-i-preserved : goal.loop-i-preserved
+loop-i-preserved c = (plain_on c.loop-i.invariant c.end_at-n.ensures c.if-n-eq7.false c.character_at.ensures c.in-Plain-character_at.is).0
+
+pub returns : goal.returns
+returns c = stops c.loop-i.invariant c.loop-i-test.false

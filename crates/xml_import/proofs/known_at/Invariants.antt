@@ -1,0 +1,13 @@
+use borrow.Author.Rules.{rules}
+use Prim.Native.Nat.{◌-◌}
+use native.Mathlib.Omega.{arith}
+use lib.ListN.{length}
+use Rattle.xml_import.proofs.Texts.{Reading, start, stops}
+use Rattle.xml_import.proofs.Taken.{amp_wrong, amp_entity, amp_plain, known_start, known_ends, known_run}
+use Rattle.xml_import.proofs.known_at.Given as goal
+
+abbrev pub invariant-loop-i : goal.invariant-loop-i
+invariant-loop-i l = Reading l.xml l.at l.i l.size
+
+abbrev pub decreases-loop-i : goal.decreases-loop-i
+decreases-loop-i l = length l.xml - l.i

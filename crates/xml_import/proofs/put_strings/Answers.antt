@@ -1,0 +1,49 @@
+use borrow.Author.Rules.{rules}
+use Prim.Native.Nat.{◌-◌}
+use native.Mathlib.Omega.{arith}
+use borrow.Author.Tests.{eqb-true}
+use Rattle.xml_import.proofs.Strings.{Stringing, start, place_inside, next_item, known_next, last_next, no_failure, turn, ended}
+use Rattle.xml_import.proofs.put_strings.Goals as goal
+
+pub loop-k-init : goal.loop-k-init
+loop-k-init c = start c.requires
+
+pub overflow_add-at : goal.overflow_add-at
+overflow_add-at c = omega (arith, (next_item c.loop-k.invariant c.loop-k-test.true).at_text)
+
+pub overflow_sub-size : goal.overflow_sub-size
+overflow_sub-size c = place_inside c.loop-k.invariant
+
+pub item_at-requires : goal.item_at-requires
+item_at-requires c =
+    ((next_item c.loop-k.invariant c.loop-k-test.true).at_text, known_next c.loop-k.invariant c.loop-k-test.true, last_next c.loop-k.invariant c.loop-k-test.true)
+
+pub shape_of-out-in-Fails : goal.shape_of-out-in-Fails
+shape_of-out-in-Fails c = absurd (no_failure c.loop-k.invariant c.loop-k-test.true c.item_at.ensures c.in-Fails.is)
+
+pub returns-in-Fails : goal.returns-in-Fails
+returns-in-Fails c = absurd (no_failure c.loop-k.invariant c.loop-k-test.true c.item_at.ensures c.in-Fails.is)
+
+pub overflow_sub-plain : goal.overflow_sub-plain
+overflow_sub-plain c = (turn c.loop-k.invariant c.loop-k-test.true c.item_at.ensures c.in-Ends.is).after
+
+pub overflow_add-plain : goal.overflow_add-plain
+overflow_add-plain c =
+    let v = turn c.loop-k.invariant c.loop-k-test.true c.item_at.ensures c.in-Ends.is in
+    omega (arith, v.fits_word, v.inside_next)
+
+pub put_string-to-requires : goal.put_string-to-requires
+put_string-to-requires c =
+    let v = turn c.loop-k.invariant c.loop-k-test.true c.item_at.ensures c.in-Ends.is in
+    (v.ready, v.small, v.room, λ e. v.whole_if (eqb-true _ _ e))
+
+pub loop-k-preserved : goal.loop-k-preserved
+loop-k-preserved c =
+    let v = turn c.loop-k.invariant c.loop-k-test.true c.item_at.ensures c.in-Ends.is in
+    v.turns (search rules) c.put_string-to.ensures
+
+pub shape_of-out : goal.shape_of-out
+shape_of-out c = c.loop-k.invariant.same_size
+
+pub returns : goal.returns
+returns c = ended c.loop-k.invariant c.loop-k-test.false

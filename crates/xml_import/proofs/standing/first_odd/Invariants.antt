@@ -1,0 +1,14 @@
+-- `standing::first_odd` meets its contract: the first of j bytes is found. Assumes nothing.
+use borrow.Author.Rules.{rules}
+use mathlib.Core.Bool.{Bool}
+use Prim.Native.Nat.{ℕ, ◌-◌}
+use native.Mathlib.Omega.{arith}
+use Rattle.xml_escape.specs.Quiet.{Quiet}
+use Rattle.xml_escape.specs.Runs.{Nearest, nearest_none, nearest_more}
+use Rattle.xml_import.proofs.standing.first_odd.Given as goal
+
+abbrev pub invariant-loop-j : goal.invariant-loop-j
+invariant-loop-j l = Nearest (Quiet 0x7F) (λ b. Unit {0}) l.xml l.i 32 l.j l.first
+
+abbrev pub decreases-loop-j : goal.decreases-loop-j
+decreases-loop-j l = 32 - l.j
