@@ -49,11 +49,11 @@ module _ (g : Grid) (w : List ℕ) (long : width * g.room ≤ length w) where
   -- the kinds of the roots among the drafts
   roots_from_lem : {v : List ℕ} {i : ℕ} {done : List (List ℕ)} (ds : List Draft) → Stand v i done ds → roots_from g v (length ds) i ≡ root_kinds ds
   unfolding roots_from root_kinds drafts words
-  roots_from_lem [] s = refl
-  roots_from_lem {v} {i} {done} (d ∷ ds) s =
+  roots_from_lem {v = v} {i = i} {done = done} [] s = refl
+  roots_from_lem {v = v} {i = i} {done = done} (d ∷ ds) s =
       let x = words (marked d) in
       rw (
-        roots_from_lem ds (step done x ds s.there refl s.place s.wide s.fits),
+        roots_from_lem {v = v} {i = i + 1} {done = done ++ (x ∷ [])} ds (step done x ds s.there refl s.place s.wide s.fits),
         s.there,
         s.place,
         word_at g w long done x (drafts ds) (all_wide s) (all_fit s) 4 (omega arith),
@@ -73,9 +73,9 @@ module _ (g : Grid) (w : List ℕ) (long : width * g.room ≤ length w) where
     rows_settled_lem : {v : List ℕ} {i : ℕ} {done : List (List ℕ)} (ds : List Draft) → Marked ds → Stand v i done ds
         → Settles shared ds (rows_settled g shared (length ds) i v).1 (stored g w (done ++ map words (bare ds))) (rows_settled g shared (length ds) i v).0
     unfolding rows_settled settled_of drafts Marked words
-    rows_settled_lem {done = done} [] m s = record { answers = refl; leaves = s.there }
-    rows_settled_lem {v} {i} {done} (d ∷ ds) m s =
-        let next = rows_settled_lem ds m.1 (step {v = stored g w (done ++ (words d.row ∷ drafts ds))} {i = length done} done (words d.row) ds refl refl refl s.wide s.fits) in
+    rows_settled_lem {v = v} {i = i} {done = done} [] m s = record { answers = refl; leaves = s.there }
+    rows_settled_lem {v = v} {i = i} {done = done} (d ∷ ds) m s =
+        let next = rows_settled_lem {v = stored g w (done ++ (words d.row ∷ drafts ds))} {i = length done + 1} {done = done ++ (words d.row ∷ [])} ds m.1 (step {v = stored g w (done ++ (words d.row ∷ drafts ds))} {i = length done} done (words d.row) ds refl refl refl s.wide s.fits) in
         rw (s.there, s.place, row_settled_lem g w long shared done d.row (drafts ds) d.wants m.0 (all_wide s) (all_fit s))
         (on_settled d ds (suits shared d.wants d.row.detail) refl _ _ _ (λ u. rows_settled g shared (length ds) (length done + 1) u)
         (rw (append_assoc done (words d.row ∷ []) (map words (bare ds))) at next))

@@ -1,0 +1,18 @@
+-- `resources::any_of_eight` meets its contract: before each turn no row so far is a reference unless `found` says that one is. Assumes nothing.
+use mathlib.Core.Path.{◌≡◌}
+use mathlib.Core.Bool.{false}
+use Prim.Native.Nat.{◌+◌, ◌-◌, ◌≤◌}
+use native.Mathlib.Omega.{arith}
+use lib.ListN.{length}
+use Rattle.layout.specs.Table.{shape_of}
+use Rattle.table.specs.Stores.{cell-inside}
+use Rattle.resources.specs.Total.{NoneAmong}
+use Rattle.resources.proofs.Unmarked.{none_more}
+use borrow.Author.Rules.{rules}
+use Rattle.resources.proofs.any_of_eight.Given as goal
+
+abbrev pub invariant-loop-j : goal.invariant-loop-j
+invariant-loop-j l = (l.j ≤ 8) × (l.found ≡ false → NoneAmong l.grid l.words l.from l.j)
+
+abbrev pub decreases-loop-j : goal.decreases-loop-j
+decreases-loop-j l = 8 - l.j

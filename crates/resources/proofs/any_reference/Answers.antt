@@ -1,0 +1,20 @@
+-- `resources::any_reference` meets its contract: before each turn the rows from `i` on say whether there is one. Assumes nothing.
+use mathlib.Core.Path.{◌≡◌, sym, ◌∙◌}
+use Prim.Native.Nat.{◌-◌}
+use native.Mathlib.Omega.{arith}
+use Rattle.resources.specs.Total.{any_reference}
+use Rattle.resources.proofs.Unmarked.{any_found, any_turn, any_end}
+use borrow.Author.Rules.{rules}
+use Rattle.resources.proofs.any_reference.Goals as goal
+
+pub loop-i-init : goal.loop-i-init
+loop-i-init c = c.past_many-i.ensures
+
+pub returns-then-word_of-eq36 : goal.returns-then-word_of-eq36
+returns-then-word_of-eq36 c = sym (any_found _ _ _ c.loop-i.i c.loop-i-test.true c.word_of.ensures c.if-word_of-eq36.true) ∙ c.loop-i.invariant
+
+pub loop-i-preserved : goal.loop-i-preserved
+loop-i-preserved c = sym (any_turn _ _ _ c.loop-i.i c.loop-i-test.true c.word_of.ensures c.if-word_of-eq36.false) ∙ c.loop-i.invariant
+
+pub returns : goal.returns
+returns c = sym (any_end _ _ _ c.loop-i.i c.loop-i-test.false) ∙ c.loop-i.invariant

@@ -1,0 +1,14 @@
+-- `resources::any_reference` meets its contract: before each turn the rows from `i` on say whether there is one. Assumes nothing.
+use mathlib.Core.Path.{◌≡◌, sym, ◌∙◌}
+use Prim.Native.Nat.{◌-◌}
+use native.Mathlib.Omega.{arith}
+use Rattle.resources.specs.Total.{any_reference}
+use Rattle.resources.proofs.Unmarked.{any_found, any_turn, any_end}
+use borrow.Author.Rules.{rules}
+use Rattle.resources.proofs.any_reference.Given as goal
+
+abbrev pub invariant-loop-i : goal.invariant-loop-i
+invariant-loop-i l = any_reference l.grid l.words (l.used - l.i) l.i ≡ any_reference l.grid l.words l.used 0
+
+abbrev pub decreases-loop-i : goal.decreases-loop-i
+decreases-loop-i l = l.used - l.i

@@ -1,0 +1,27 @@
+-- `resources::judge_row` meets its contract, by whether the row's kind is 36 and its resource suits it. Assumes nothing.
+use mathlib.Core.Path.{refl, sym, ◌∙◌}
+use borrow.Author.Tests.{eq-eqb, ne_eqb}
+use Rattle.resources.specs.Total.{row_settled}
+use borrow.Author.Rules.{rules}
+use Rattle.resources.proofs.judge_row.Goals as goal
+
+named : {A B : Type 0} → A × B → record {value : A; words_after : B}
+named p = record { value = p.0; words_after = p.1 }
+
+pub returns-then-word_of-ne36 : goal.returns-then-word_of-ne36
+unfolding row_settled
+returns-then-word_of-ne36 c = named (rw (← c.word_of.ensures, ne_eqb _ 36 c.if-word_of-ne36.true) (refl, refl))
+
+pub returns-then-suits_id : goal.returns-then-suits_id
+unfolding row_settled
+returns-then-suits_id c =
+    let t = sym c.suits_id.ensures ∙ c.if-suits_id.true in
+    let t' = rw (c.word_of-wanted.ensures, c.word_of-id.ensures) at t in
+    named (rw (← c.word_of.ensures, eq-eqb _ 36 c.if-word_of-ne36.false, t') (refl, rw c.cell.ensures at c.put_word.ensures))
+
+pub returns : goal.returns
+unfolding row_settled
+returns c =
+    let t = sym c.suits_id.ensures ∙ c.if-suits_id.false in
+    let t' = rw (c.word_of-wanted.ensures, c.word_of-id.ensures) at t in
+    named (rw (← c.word_of.ensures, eq-eqb _ 36 c.if-word_of-ne36.false, t', c.word_of-2.ensures) (refl, refl))

@@ -1,0 +1,12 @@
+-- `resources::root_kinds` meets its contract: before each turn the array holds the kinds of the roots among the first `i` rows, as far as there is room. Assumes nothing.
+use mathlib.Core.Path.{refl}
+use Prim.Native.Nat.{◌-◌}
+use Rattle.resources.proofs.Padded.{Found, found_none, found_more, found_all}
+use borrow.Author.Rules.{rules}
+use Rattle.resources.proofs.root_kinds.Given as goal
+
+abbrev pub invariant-loop-i : goal.invariant-loop-i
+invariant-loop-i l = Found l.grid l.words l.used l.kinds l.n l.i
+
+abbrev pub decreases-loop-i : goal.decreases-loop-i
+decreases-loop-i l = l.used - l.i
