@@ -2,7 +2,7 @@
 use Rattle.std.specs.Prelude.{◌≡◌, Bool, true, false, cond, List, [], ◌∷◌, eqb, length, get_or, replicate, drop}
 use Rattle.std.proofs.Math.Path.{refl}
 use Rattle.std.proofs.Common.{sym, ap, ◌∙◌, add-one, drop_of_length-le, drop-cons, eqb-true}
-use Prim.Native.Nat.{ℕ, zero, suc, ◌+◌, ◌*◌, ◌-◌, ◌%◌, ◌≤◌, ◌<◌}
+use Prim.Native.Nat.{ℕ, zero, suc, ◌+◌, ◌*◌, ◌-◌, ◌/◌, ◌%◌, ◌≤◌, ◌<◌, max}
 use native.Mathlib.Omega.{arith}
 use Rattle.std.proofs.lemmas.List.{length-replicate, get_or-replicate}
 use Rattle.layout.specs.Image.{levels}
@@ -93,7 +93,7 @@ length_pairs (suc n) x y = omega (arith, length_pairs n x y)
 pub length-levels : (f w h n : ℕ) → length (leaves (levels f w h n)) ≡ n
 unfolding levels leaves
 length-levels f w h zero = refl
-length-levels f w h (suc n) = ap suc (length-levels f _ _ n)
+length-levels f w h (suc n) = ap suc (length-levels f (max 1 (w / 2)) (max 1 (h / 2)) n)
 
 pub pair_even : (n i : ℕ) (x y d : Slot) → i < 2 * n → i % 2 ≡ 0 → get_or (pairs n x y) i d ≡ x
 unfolding pairs

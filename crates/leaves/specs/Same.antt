@@ -108,18 +108,36 @@ module _ (g : Grid) (file : List ℕ) (shared depth parent : ℕ) where
   one_answer (Fixed k z) kind size at used u v = rw (u.0, u.1) v.0
   one_answer (Enum z) kind size at used u v = rw (u.0, u.1) v.0
   one_answer Char kind size at used u v = rw (sym u.1) (v.1 (sym u.0))
+  one_answer (Level _) kind size at used u v = elim u [ ]
+  one_answer (Reference _) kind size at used u v = elim u [ ]
+  one_answer (Blob _) kind size at used u v = elim u [ ]
+  one_answer (Bone _) kind size at used u v = elim u [ ]
+  one_answer (Code _) kind size at used u v = elim u [ ]
+  one_answer (DataSize _) kind size at used u v = elim u [ ]
 
   one_pad : (p : Plain) (kind size at : ℕ) → Uniform p kind size → plain_pad file p 0 at ≡ 0
   unfolding plain_pad
   one_pad (Fixed k z) kind size at u = refl
   one_pad (Enum z) kind size at u = refl
   one_pad Char kind size at u = refl
+  one_pad (Level _) kind size at u = elim u [ ]
+  one_pad (Reference _) kind size at u = elim u [ ]
+  one_pad (Blob _) kind size at u = elim u [ ]
+  one_pad (Bone _) kind size at u = elim u [ ]
+  one_pad (Code _) kind size at u = elim u [ ]
+  one_pad (DataSize _) kind size at u = elim u [ ]
 
   one_words : (w : List ℕ) (p : Plain) (kind size at used : ℕ) (x : Answer ℕ) → Uniform p kind size
       → plain_words g w p (head_of used at parent 0 0) x ≡ leaf_words g w (head_of used at parent 0 0) kind 0 x
   one_words w (Fixed k z) kind size at used x u = rw u.0
   one_words w (Enum z) kind size at used x u = rw u.0
   one_words w Char kind size at used x u = rw u.0
+  one_words w (Level _) kind size at used x u = elim u [ ]
+  one_words w (Reference _) kind size at used x u = elim u [ ]
+  one_words w (Blob _) kind size at used x u = elim u [ ]
+  one_words w (Bone _) kind size at used x u = elim u [ ]
+  one_words w (Code _) kind size at used x u = elim u [ ]
+  one_words w (DataSize _) kind size at used x u = elim u [ ]
 
   module _ (p : Plain) (kind size at used : ℕ) (w : List ℕ) (u : Uniform p kind size) (kept : ValueKept file kind size at) (there : used < g.room) (few : g.room < 2 ^ 32) (deep : 0 < depth) where
     v : plain_value file g.room shared p at used depth ≡ plain_at file shared p at

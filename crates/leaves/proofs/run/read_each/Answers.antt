@@ -1,0 +1,37 @@
+use mathlib.Core.Path.{◌≡◌, refl, sym, ◌∙◌}
+use Prim.Native.Nat.{◌-◌}
+use native.Mathlib.Omega.{arith}
+use borrow.Author.Rules.{rules}
+use lib.ListN.{length}
+use Rattle.leaves.specs.Run.{run_slots, run_from, run_of, run-turn, run_end}
+use Rattle.leaves.proofs.run.read_each.Goals as goal
+
+named : {A B : Type 0} → A × B → record {value : A; words_after : B}
+named p = record { value = p.0; words_after = p.1 }
+
+pub loop-i-init : goal.loop-i-init
+loop-i-init c =
+    let z : c.turns-n.result - 0 ≡ length (run_slots c.args.run) = omega (arith, c.turns-n.ensures) in
+    (c.turns-n.ensures, refl, rw z)
+
+pub turn-slot-requires : goal.turn-slot-requires
+turn-slot-requires c = omega (arith, c.loop-i.invariant.0, c.loop-i-test.true)
+
+pub returns-in-Refused : goal.returns-in-Refused
+returns-in-Refused c =
+    let a = c.args in
+    let e = run-turn a.grid a.file.now a.shared a.run a.depth a.parent _ _ _ _ _ _ _ _ _ c.loop-i-test.true c.turn-slot.ensures
+    (sym c.in-Refused.is ∙ c.read_plain.ensures.value) c.read_plain.ensures.words_after in
+    named (rw (sym c.loop-i.invariant.2 ∙ e) (refl, refl))
+
+pub loop-i-preserved : goal.loop-i-preserved
+loop-i-preserved c =
+    let a = c.args in
+    let e = run-turn a.grid a.file.now a.shared a.run a.depth a.parent _ _ _ _ _ _ _ _ _ c.loop-i-test.true c.turn-slot.ensures
+    (sym c.in-Done.is ∙ c.read_plain.ensures.value) c.read_plain.ensures.words_after in
+    (c.loop-i.invariant.0, search rules, rw c.sum-padding.ensures (sym e ∙ c.loop-i.invariant.2))
+
+pub returns : goal.returns
+returns c =
+    let a = c.args in
+    named (rw (sym c.loop-i.invariant.2 ∙ run_end a.grid a.file.now a.shared a.run a.depth a.parent _ _ _ _ _ _ c.loop-i-test.false) (refl, refl))

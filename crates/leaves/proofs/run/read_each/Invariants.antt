@@ -1,0 +1,16 @@
+use mathlib.Core.Path.{◌≡◌, refl, sym, ◌∙◌}
+use Prim.Native.Nat.{◌-◌}
+use native.Mathlib.Omega.{arith}
+use borrow.Author.Rules.{rules}
+use lib.ListN.{length}
+use Rattle.leaves.specs.Run.{run_slots, run_from, run_of, run-turn, run_end}
+use Rattle.leaves.proofs.run.read_each.Given as goal
+
+abbrev pub invariant-loop-i : goal.invariant-loop-i
+invariant-loop-i l =
+    (l.n ≡ length (run_slots l.run))
+    × (length l.words ≡ length l.initial.words)
+    × (run_from l.grid l.file l.shared l.run l.depth l.parent (l.n - l.i) l.i l.next l.row l.padding l.words ≡ run_of l.grid l.file l.shared l.run l.depth l.parent l.at l.used l.initial.words)
+
+abbrev pub decreases-loop-i : goal.decreases-loop-i
+decreases-loop-i l = l.n - l.i
