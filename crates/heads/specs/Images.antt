@@ -5,7 +5,7 @@ use Rattle.std.proofs.Common.{sym, ◌∙◌, inl, inr, arith}
 use Rattle.std.proofs.Math.Nat.{pow-succ'}
 use borrow.Author.Tests.{le-leb, lt-leb, leb-true, lt-ltb}
 use Rattle.laws.specs.Small.{differ}
-use Rattle.layout.specs.Target.{Target, fixed, char, string, texture_2d, enum}
+use Rattle.layout.specs.Target.{Target, fixed, char, string, object, texture, texture_2d, sprite_font, page, mesh, enum, nullable, array, list, dictionary}
 use Rattle.layout.specs.EnumList.{EnumSize}
 use Rattle.layout.specs.Image.{levels, digits}
 use Rattle.layout.specs.Fixed.{sizes}
@@ -200,6 +200,16 @@ module _ (file : List ℕ) (at : ℕ) where
   char-leaf (enum name z) (of_enum s) e = absurd (omega (arith, enum_kind_lem z s))
   char-leaf char of_char e = own_mute file (char_at file) at
   char-leaf string of_string e = absurd (omega arith)
+  char-leaf object l e = elim l [ ]
+  char-leaf texture l e = elim l [ ]
+  char-leaf texture_2d l e = elim l [ ]
+  char-leaf sprite_font l e = elim l [ ]
+  char-leaf page l e = elim l [ ]
+  char-leaf (mesh _) l e = elim l [ ]
+  char-leaf (nullable _) l e = elim l [ ]
+  char-leaf (array _) l e = elim l [ ]
+  char-leaf (list _) l e = elim l [ ]
+  char-leaf (dictionary _ _) l e = elim l [ ]
 
   pub text-leaf : (t : Target) → Leafy t → code_kind t ≡ 13 → mute (own_size (text_at file at)) ≡ mute (head_at file t at)
   unfolding head_at code_kind sizes
@@ -207,6 +217,16 @@ module _ (file : List ℕ) (at : ℕ) where
   text-leaf (enum name z) (of_enum s) e = absurd (omega (arith, enum_kind_lem z s))
   text-leaf char of_char e = absurd (omega arith)
   text-leaf string of_string e = own_size-mute (text_at file at)
+  text-leaf object l e = elim l [ ]
+  text-leaf texture l e = elim l [ ]
+  text-leaf texture_2d l e = elim l [ ]
+  text-leaf sprite_font l e = elim l [ ]
+  text-leaf page l e = elim l [ ]
+  text-leaf (mesh _) l e = elim l [ ]
+  text-leaf (nullable _) l e = elim l [ ]
+  text-leaf (array _) l e = elim l [ ]
+  text-leaf (list _) l e = elim l [ ]
+  text-leaf (dictionary _ _) l e = elim l [ ]
 
   kind_leaf : (t : Target) → Leafy t → (code_kind t ≢ 12) → (code_kind t ≢ 13) → mute (sized (fixed_at file (code_kind t) (bytes_of (code_kind t)) at)) ≡ mute (head_at file t at)
   unfolding head_at code_kind
@@ -214,6 +234,16 @@ module _ (file : List ℕ) (at : ℕ) where
   kind_leaf (enum name z) (of_enum s) c d = enum_leaf name z s
   kind_leaf char of_char c d = absurd (c refl)
   kind_leaf string of_string c d = absurd (d refl)
+  kind_leaf object l c d = elim l [ ]
+  kind_leaf texture l c d = elim l [ ]
+  kind_leaf texture_2d l c d = elim l [ ]
+  kind_leaf sprite_font l c d = elim l [ ]
+  kind_leaf page l c d = elim l [ ]
+  kind_leaf (mesh _) l c d = elim l [ ]
+  kind_leaf (nullable _) l c d = elim l [ ]
+  kind_leaf (array _) l c d = elim l [ ]
+  kind_leaf (list _) l c d = elim l [ ]
+  kind_leaf (dictionary _ _) l c d = elim l [ ]
 
   pub fixed-leaf : (t : Target) (k z : ℕ) → Leafy t → code_kind t ≡ k → z ≡ bytes_of k → (k ≢ 12) → (k ≢ 13) → mute (sized (fixed_at file k z at)) ≡ mute (head_at file t at)
   fixed-leaf t k z l e s c d = rw (s, ← e) (kind_leaf t l (λ q. c (sym e ∙ q)) (λ q. d (sym e ∙ q)))

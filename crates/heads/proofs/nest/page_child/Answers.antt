@@ -1,0 +1,20 @@
+use Rattle.std.proofs.Common.{ne_eqb}
+use Rattle.heads.specs.Plans.{page_child}
+use Rattle.heads.proofs.nest.page_child.Goals as goal
+
+pub returns-in-0 : goal.returns-in-0
+unfolding page_child
+returns-in-0 c = rw c.in-0.is
+
+pub returns-in-1 : goal.returns-in-1
+unfolding page_child
+returns-in-1 c = rw c.in-1.is
+
+pub returns-in-2 : goal.returns-in-2
+unfolding page_child
+returns-in-2 c = rw c.in-2.is
+
+pub returns-in_default : goal.returns-in_default
+unfolding page_child
+returns-in_default c =
+    simp (ne_eqb _ _ c.in_default.in_default-own.rest.0.0.1, ne_eqb _ _ c.in_default.in_default-own.rest.0.1, ne_eqb _ _ c.in_default.in_default-own.rest.1)
