@@ -188,6 +188,7 @@ fn value(
 
 // A raw value of the type at `place`, whose head ends at `next` and whose children need the reader list and have the depth left.
 #[cycle(below_list_from_nested_objects_from_raw_raws_from)]
+#[cycle(values)]
 fn raw(
     file: &[u8],
     codes: &[u32],
@@ -258,6 +259,7 @@ fn takeable(codes: &[u32], declared: usize, n: u32, depth: u32) -> u32
 // What stands below a raw value: a long list as such, all else as its nest says.
 // The parent is the row before the first of these.
 #[cycle(below_list_from_nested_objects_from_raw_raws_from)]
+#[cycle(values)]
 fn below(
     file: &[u8],
     codes: &[u32],
@@ -318,6 +320,7 @@ pub(crate) fn list_from(
 
 // n raw values of the type at `a`: all at once, if they are nullables that are seen to be there; else one after the other.
 #[cycle(below_list_from_nested_objects_from_raw_raws_from)]
+#[cycle(values)]
 fn raws_from(
     file: &[u8],
     codes: &[u32],
@@ -356,6 +359,7 @@ fn raws_from(
 
 // n objects declared as the type at `declared`: the first of them at once, as far as each is seen at one look, then the others.
 #[cycle(below_list_from_nested_objects_from_raw_raws_from)]
+#[cycle(values)]
 fn objects_from(
     file: &[u8],
     codes: &[u32],
