@@ -187,7 +187,6 @@ fn value(
 }
 
 // A raw value of the type at `place`, whose head ends at `next` and whose children need the reader list and have the depth left.
-#[cycle(below_list_from_nested_objects_from_raw_raws_from)]
 #[cycle(values)]
 fn raw(
     file: &[u8],
@@ -258,7 +257,6 @@ fn takeable(codes: &[u32], declared: usize, n: u32, depth: u32) -> u32
 
 // What stands below a raw value: a long list as such, all else as its nest says.
 // The parent is the row before the first of these.
-#[cycle(below_list_from_nested_objects_from_raw_raws_from)]
 #[cycle(values)]
 fn below(
     file: &[u8],
@@ -288,7 +286,7 @@ fn below(
 }
 
 // A list of n elements. Their parent is the row before the first of theirs, or none if that is row 0.
-#[cycle(below_list_from_nested_objects_from_raw_raws_from)]
+#[cycle(values)]
 pub(crate) fn list_from(
     file: &[u8],
     codes: &[u32],
@@ -319,7 +317,6 @@ pub(crate) fn list_from(
 }
 
 // n raw values of the type at `a`: all at once, if they are nullables that are seen to be there; else one after the other.
-#[cycle(below_list_from_nested_objects_from_raw_raws_from)]
 #[cycle(values)]
 fn raws_from(
     file: &[u8],
@@ -358,7 +355,6 @@ fn raws_from(
 }
 
 // n objects declared as the type at `declared`: the first of them at once, as far as each is seen at one look, then the others.
-#[cycle(below_list_from_nested_objects_from_raw_raws_from)]
 #[cycle(values)]
 fn objects_from(
     file: &[u8],
@@ -429,7 +425,7 @@ fn objects_from(
 }
 
 // Objects and raw values one after the other, as a nest says, with rows from `used` on, under a parent.
-#[cycle(below_list_from_nested_objects_from_raw_raws_from)]
+#[cycle(values)]
 pub(crate) fn nested(
     file: &[u8],
     codes: &[u32],
