@@ -13,8 +13,7 @@ ghost use Rattle.builder.specs.Told.{load_told, span_told, signed_told, time_tol
 use ids::RowNumber;
 
 // Loads a file into the words in columns, under a list of enum types.
-#[unsafe(no_mangle)]
-pub extern "C" fn xnb_load_columns(
+pub fn xnb_load_columns(
     file: &[u8],
     enums: &[u8],
     words: &mut [u32],
@@ -31,16 +30,14 @@ pub extern "C" fn xnb_load_columns(
 }
 
 // The number of the row behind a row and all below it, 0 where there is none in the room.
-#[unsafe(no_mangle)]
-pub extern "C" fn xnb_columns_next(words: &[u32], row: u32) -> u32
+pub fn xnb_columns_next(words: &[u32], row: u32) -> u32
     ensures { result ≡ columns_next words.now row }
 {
     branches::next_of(words, table::columns_grid(words.len()), RowNumber(row))
 }
 
 // The part of the file that a row names.
-#[unsafe(no_mangle)]
-pub extern "C" fn xnb_columns_part(
+pub fn xnb_columns_part(
     file: &[u8],
     words: &[u32],
     row: u32,
@@ -58,8 +55,7 @@ pub extern "C" fn xnb_columns_part(
 }
 
 // The bytes of a text.
-#[unsafe(no_mangle)]
-pub extern "C" fn xnb_columns_text(
+pub fn xnb_columns_text(
     file: &[u8],
     words: &[u32],
     row: u32,
@@ -77,8 +73,7 @@ pub extern "C" fn xnb_columns_text(
 }
 
 // The signed number of a row.
-#[unsafe(no_mangle)]
-pub extern "C" fn xnb_columns_signed(file: &[u8], words: &[u32], row: u32, value: &mut i64) -> u32
+pub fn xnb_columns_signed(file: &[u8], words: &[u32], row: u32, value: &mut i64) -> u32
     ensures { (result, value.new) ≡ signed_told (columns_signed file.now words.now row) }
 {
     let grid = table::columns_grid(words.len());
@@ -86,8 +81,7 @@ pub extern "C" fn xnb_columns_signed(file: &[u8], words: &[u32], row: u32, value
 }
 
 // The time of a row in seconds and ticks.
-#[unsafe(no_mangle)]
-pub extern "C" fn xnb_columns_time(
+pub fn xnb_columns_time(
     file: &[u8],
     words: &[u32],
     row: u32,

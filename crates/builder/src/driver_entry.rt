@@ -5,8 +5,7 @@ ghost use Rattle.driver.specs.Under.{driver_under};
 ghost use Rattle.builder.specs.Told.{load_told};
 
 // Loads a file of the driver's own screen into the words, under a list of enum types.
-#[unsafe(no_mangle)]
-pub extern "C" fn xnb_load_driver(
+pub fn xnb_load_driver(
     file: &[u8],
     enums: &[u8],
     words: &mut [u32],

@@ -3,11 +3,11 @@
 
 mod bare;
 pub mod by_columns;
-mod driver_entry;
+pub mod driver_entry;
 pub mod pack;
-mod report;
-mod version;
-mod xml;
+pub mod report;
+pub mod version;
+pub mod xml;
 
 ghost use Rattle.std.specs.Prelude.{◌≡◌, List, [], ℕ, ◌*◌, length};
 ghost use Rattle.layout.specs.Rows.{width};
@@ -37,8 +37,7 @@ fn refused(number: u32, place: usize) -> u64
 }
 
 // Loads a file with room for 1,024 rows and no enum types listed: the refusal's number times 2 to the 32 plus its place, or the number of rows.
-#[unsafe(no_mangle)]
-pub extern "C" fn xnb_load(file: &[u8]) -> u64
+pub fn xnb_load(file: &[u8]) -> u64
     ensures { result ≡ packed (load_under [] file.now (1024 * width)) }
 {
     let few = bare::load_few(file);
@@ -99,8 +98,7 @@ pub(crate) fn load_told(
 }
 
 // Loads a file into the words, under a list of enum types.
-#[unsafe(no_mangle)]
-pub extern "C" fn xnb_load_rows(
+pub fn xnb_load_rows(
     file: &[u8],
     enums: &[u8],
     words: &mut [u32],
@@ -117,8 +115,7 @@ pub extern "C" fn xnb_load_rows(
 }
 
 // Rewrites a file into the output, under a list of enum types: a refusal is packed as above, else the answer is the length of the rewritten file.
-#[unsafe(no_mangle)]
-pub extern "C" fn xnb_rewrite(file: &[u8], enums: &[u8], words: &mut [u32], out: &mut [u8]) -> u64
+pub fn xnb_rewrite(file: &[u8], enums: &[u8], words: &mut [u32], out: &mut [u8]) -> u64
     ensures value { result ≡ rewrite_packed (rewritten enums.now file.now words.old out.old) }
     ensures out_after { out.new ≡ output_left enums.now file.now words.old out.old }
     ensures words_after { words.new ≡ words_left enums.now file.now words.old out.old }
@@ -148,36 +145,21 @@ pub(crate) fn tell_span(span: Span, first: &mut usize, len: &mut usize) -> u32
 }
 
 // The part of the file that a row names.
-#[unsafe(no_mangle)]
-pub extern "C" fn xnb_part(
-    file: &[u8],
-    words: &[u32],
-    row: u32,
-    first: &mut usize,
-    len: &mut usize,
-) -> u32
+pub fn xnb_part(file: &[u8], words: &[u32], row: u32, first: &mut usize, len: &mut usize) -> u32
     ensures { (result, first.new, len.new) ≡ span_told (rows_part file.now words.now row) }
 {
     tell_span(lookups::part(file, words, RowNumber(row)), first, len)
 }
 
 // The number of the row behind a row and all below it, 0 where there is none in the room.
-#[unsafe(no_mangle)]
-pub extern "C" fn xnb_next(words: &[u32], row: u32) -> u32
+pub fn xnb_next(words: &[u32], row: u32) -> u32
     ensures { result ≡ rows_next words.now row }
 {
     branches::next(words, RowNumber(row))
 }
 
 // The bytes of a text.
-#[unsafe(no_mangle)]
-pub extern "C" fn xnb_text(
-    file: &[u8],
-    words: &[u32],
-    row: u32,
-    first: &mut usize,
-    len: &mut usize,
-) -> u32
+pub fn xnb_text(file: &[u8], words: &[u32], row: u32, first: &mut usize, len: &mut usize) -> u32
     ensures { (result, first.new, len.new) ≡ span_told (rows_text file.now words.now row) }
 {
     tell_span(lookups::text(file, words, RowNumber(row)), first, len)
@@ -220,22 +202,14 @@ pub(crate) fn tell_time(looked: Moment, seconds: &mut i64, ticks: &mut u32) -> u
 }
 
 // The signed number of a row.
-#[unsafe(no_mangle)]
-pub extern "C" fn xnb_signed(file: &[u8], words: &[u32], row: u32, value: &mut i64) -> u32
+pub fn xnb_signed(file: &[u8], words: &[u32], row: u32, value: &mut i64) -> u32
     ensures { (result, value.new) ≡ signed_told (rows_signed file.now words.now row) }
 {
     tell_signed(lookups::signed(file, words, RowNumber(row)), value)
 }
 
 // The time of a row in seconds and ticks.
-#[unsafe(no_mangle)]
-pub extern "C" fn xnb_time(
-    file: &[u8],
-    words: &[u32],
-    row: u32,
-    seconds: &mut i64,
-    ticks: &mut u32,
-) -> u32
+pub fn xnb_time(file: &[u8], words: &[u32], row: u32, seconds: &mut i64, ticks: &mut u32) -> u32
     ensures { (result, seconds.new, ticks.new) ≡ time_told (rows_time file.now words.now row) }
 {
     tell_time(lookups::time(file, words, RowNumber(row)), seconds, ticks)

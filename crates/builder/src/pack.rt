@@ -9,8 +9,7 @@ ghost use Rattle.pack_salvage.specs.Salvage.{salvage_for, output_for, list_for};
 ghost use Rattle.pack_told.specs.Told.{pack_told, written_told, salvage_told, found_told};
 
 // Reads a pack into the table.
-#[unsafe(no_mangle)]
-pub extern "C" fn xnb_pack_read(pack: &[u8], table: &mut [u64], at: &mut u64) -> u32
+pub fn xnb_pack_read(pack: &[u8], table: &mut [u64], at: &mut u64) -> u32
     ensures at_after { (result, at.new) ≡ pack_told (pack_of plain pack.now (length table.old)) }
     ensures table_after { table.new ≡ table_for plain pack.now (length table.old) }
 {
@@ -18,8 +17,7 @@ pub extern "C" fn xnb_pack_read(pack: &[u8], table: &mut [u64], at: &mut u64) ->
 }
 
 // Reads a marked pack into the table.
-#[unsafe(no_mangle)]
-pub extern "C" fn xnb_marked_read(pack: &[u8], table: &mut [u64], at: &mut u64) -> u32
+pub fn xnb_marked_read(pack: &[u8], table: &mut [u64], at: &mut u64) -> u32
     ensures at_after { (result, at.new) ≡ pack_told (pack_of marked pack.now (length table.old)) }
     ensures table_after { table.new ≡ table_for marked pack.now (length table.old) }
 {
@@ -27,8 +25,7 @@ pub extern "C" fn xnb_marked_read(pack: &[u8], table: &mut [u64], at: &mut u64) 
 }
 
 // Writes a pack with a mark before each file record.
-#[unsafe(no_mangle)]
-pub extern "C" fn xnb_pack_mark(pack: &[u8], out: &mut [u8], at: &mut u64) -> u32
+pub fn xnb_pack_mark(pack: &[u8], out: &mut [u8], at: &mut u64) -> u32
     ensures at_after { (result, at.new) ≡ written_told (convert_of plain marked pack.now (length out.old)) }
     ensures out_after { out.new ≡ output_of (convert_of plain marked pack.now (length out.old)) out.old }
 {
@@ -36,8 +33,7 @@ pub extern "C" fn xnb_pack_mark(pack: &[u8], out: &mut [u8], at: &mut u64) -> u3
 }
 
 // Writes a marked pack without its marks.
-#[unsafe(no_mangle)]
-pub extern "C" fn xnb_pack_unmark(pack: &[u8], out: &mut [u8], at: &mut u64) -> u32
+pub fn xnb_pack_unmark(pack: &[u8], out: &mut [u8], at: &mut u64) -> u32
     ensures at_after { (result, at.new) ≡ written_told (convert_of marked plain pack.now (length out.old)) }
     ensures out_after { out.new ≡ output_of (convert_of marked plain pack.now (length out.old)) out.old }
 {
@@ -45,8 +41,7 @@ pub extern "C" fn xnb_pack_unmark(pack: &[u8], out: &mut [u8], at: &mut u64) -> 
 }
 
 // Writes a marked pack of the records that a damaged one still holds, and the list of the skipped stretches, with the length of each.
-#[unsafe(no_mangle)]
-pub extern "C" fn xnb_pack_salvage(
+pub fn xnb_pack_salvage(
     pack: &[u8],
     out: &mut [u8],
     list: &mut [u64],
@@ -61,8 +56,7 @@ pub extern "C" fn xnb_pack_salvage(
 }
 
 // Finds the data of the first file of a path, and writes where it starts and how many bytes it has: the answer is 1, or 0 where there is none.
-#[unsafe(no_mangle)]
-pub extern "C" fn xnb_pack_find(
+pub fn xnb_pack_find(
     pack: &[u8],
     table: &[u64],
     path: &[u8],

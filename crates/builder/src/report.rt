@@ -7,8 +7,7 @@ ghost use Rattle.builder.specs.Reports.{add_told, sum_told};
 use pack_report::Adding;
 
 // Adds a pack to a report under a list of enum types, and writes a refusal's place, or 0.
-#[unsafe(no_mangle)]
-pub extern "C" fn xnb_report_add(
+pub fn xnb_report_add(
     pack: &[u8],
     enums: &[u8],
     table: &mut [u64],
@@ -39,8 +38,7 @@ pub extern "C" fn xnb_report_add(
 }
 
 // Adds another report; 71 where a figure would pass 2 to the 64 less 1.
-#[unsafe(no_mangle)]
-pub extern "C" fn xnb_report_sum(into: &mut [u64; 132], other: &[u64; 132]) -> u32
+pub fn xnb_report_sum(into: &mut [u64; 132], other: &[u64; 132]) -> u32
     ensures value { result ≡ sum_told (sum_of into.old other.now) }
     ensures into_after { into.new ≡ left (sum_of into.old other.now) into.old }
 {

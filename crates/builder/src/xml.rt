@@ -10,13 +10,7 @@ use xml_export::Exporting;
 use xml_import::Importing;
 
 // Writes the texts of a file as XML into the output, under a list of enum types: a refusal is packed, else the answer is the length of the XML.
-#[unsafe(no_mangle)]
-pub extern "C" fn xnb_export_xml(
-    file: &[u8],
-    enums: &[u8],
-    words: &mut [u32],
-    out: &mut [u8],
-) -> u64
+pub fn xnb_export_xml(file: &[u8], enums: &[u8], words: &mut [u32], out: &mut [u8]) -> u64
     ensures value { result ≡ rewrite_packed (exported enums.now file.now words.old out.old) }
     ensures out_after { out.new ≡ output_left enums.now file.now words.old out.old }
     ensures words_after { words.new ≡ words_left enums.now file.now words.old out.old }
@@ -28,8 +22,7 @@ pub extern "C" fn xnb_export_xml(
 }
 
 // Writes the shortest file with the texts of XML into the output, and the file's length, or a refusal's place: the answer is the refusal's number, or 0.
-#[unsafe(no_mangle)]
-pub extern "C" fn xnb_import_xml(xml: &[u8], out: &mut [u8], at: &mut u64) -> u32
+pub fn xnb_import_xml(xml: &[u8], out: &mut [u8], at: &mut u64) -> u32
     ensures at_after { (result, at.new) ≡ written_told (import_of xml.now (length out.old)) }
     ensures out_after { out.new ≡ output_of (import_of xml.now (length out.old)) out.old }
 {
