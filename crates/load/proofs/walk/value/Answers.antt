@@ -1,0 +1,100 @@
+use mathlib.Core.Path.{sym}
+use Prim.Native.Nat.{ℕ, ◌-◌, ◌≤◌}
+use native.Mathlib.Omega.{arith}
+use mathlib.Core.List.{List}
+use lib.ListN.{length}
+use Rattle.layout.specs.Target.{Target}
+use Rattle.layout.specs.Slot.{Slot}
+use Rattle.readers.specs.declared.Readers.{Readers}
+use Rattle.readers.specs.Listed.{Listed}
+use Rattle.heads.specs.Placed.{SlotIs}
+use Rattle.objects.specs.Beginnings.{Has, position_at, Starts}
+use Rattle.objects.specs.Meaning.{starts_as}
+use Rattle.reading.specs.Drafts.{nothing}
+use Rattle.reading.specs.Answer.{read}
+use Rattle.reading.specs.Reads.{small_by_index}
+use Rattle.walked.specs.Contract.{seen, Free}
+use Rattle.walked.specs.Loop.{refusing}
+use Rattle.walked.specs.Leaf.{leaf_walked}
+use Rattle.leaves.specs.Plain.{head_of, plain_walked, fixed_walked}
+use Rattle.steps.specs.Steps.{null_pads, value-told, raw_steps}
+use Rattle.leaves.specs.Like.{like_walk}
+use borrow.Author.Rules.{rules}
+use Rattle.load.proofs.walk.value.Goals.{After-start}
+use Rattle.load.proofs.walk.value.Goals as goal
+
+-- what the value begins with
+starting : (c : After-start) (rd : Readers) (readers : List Target) (x : Slot)
+    → Has rd c.args.count (position_at c.args.file.now c.args.at) c.args.target
+    → Listed c.args.file.now c.args.codes.now rd readers
+    → SlotIs c.args.file.now c.args.codes.now c.args.slot x
+    → c.args.at ≤ length c.args.file.now
+    → (let a = c.args in Starts a.file.now a.codes.now readers a.grid.room a.depth x a.at a.used c.start.result)
+starting c rd readers x h l s p =
+    let a = c.args in
+    let small = small_by_index a.file.now (λ i h. omega (arith, c.type_inv.file i)) in
+    rw c.start.ensures (starts_as a.file.now a.codes.now a.count a.target rd readers l small a.grid.room a.slot a.at a.used a.depth x h s p)
+
+pub overflow_sub-depth : goal.overflow_sub-depth
+overflow_sub-depth c =
+    let s = rw c.in-Raw.is at (starting (goal.at.overflow_sub-depth c).After-start c.requires.1.rd c.requires.1.readers c.requires.2.x c.requires.1.has c.requires.1.listed c.requires.2.is c.requires.0.place) in
+    omega (arith, s.deep)
+
+pub raw_step-requires : goal.raw_step-requires
+raw_step-requires c =
+    let s = rw c.in-Raw.is at (starting (goal.at.raw_step-requires c).After-start c.requires.1.rd c.requires.1.readers c.requires.2.x c.requires.1.has c.requires.1.listed c.requires.2.is c.requires.0.place) in
+    record { long = c.requires.0.long; few = c.requires.0.few; free = s.free; begun = s.ahead; place = s.inside; short = c.requires.0.short; ided = s.ided }
+
+pub returns-in-Refused : goal.returns-in-Refused
+returns-in-Refused c =
+    λ rd readers x h l s.
+    let b = rw c.in-Refused.is at (starting (goal.at.returns-in-Refused c).After-start rd readers x h l s c.requires.0.place) in
+    refusing (b c.args.shared c.args.parent)
+
+pub returns-in-Fixed : goal.returns-in-Fixed
+returns-in-Fixed c =
+    λ rd readers x h l s.
+    let a = c.args in
+    let p = c.requires.0 in
+    let small = small_by_index a.file.now (λ i h. omega (arith, c.type_inv.file i)) in
+    let b = rw (
+      c.in-Plain.is,
+      c.in-Fixed.is,
+    ) at (starting (goal.at.returns-in-Fixed c).After-start rd readers x h l s p.place) in
+    let w = fixed_walked a.file.now a.grid a.shared _ _ a.at a.used a.words.now small p b.1 readers a.depth a.parent in
+    let v = rw (sym (like_walk a.file.now readers a.shared a.grid.room a.depth b.0 a.at a.used a.parent)) at w in
+    rw (c.walked_step.ensures, c.read_fixed.ensures.value, c.read_fixed.ensures.words_after) (value-told a.grid a.file.now a.codes.now readers a.shared a.depth x a.at a.used a.parent _ v)
+
+pub returns-in_default : goal.returns-in_default
+returns-in_default c =
+    λ rd readers x h l s.
+    let a = c.args in
+    let p = c.requires.0 in
+    let small = small_by_index a.file.now (λ i h. omega (arith, c.type_inv.file i)) in
+    let b = rw c.in-Plain.is at (starting (goal.at.returns-in_default c).After-start rd readers x h l s p.place) in
+    let w = plain_walked a.file.now a.grid a.shared c.in-Plain.plain a.at a.used a.words.now small p b.1 readers a.depth a.parent in
+    let v = rw (sym (like_walk a.file.now readers a.shared a.grid.room a.depth b.0 a.at a.used a.parent)) at w in
+    rw (c.walked_step-in_default.ensures, c.read_plain.ensures.value, c.read_plain.ensures.words_after) (value-told a.grid a.file.now a.codes.now readers a.shared a.depth x a.at a.used a.parent _ v)
+
+pub returns-in-Null : goal.returns-in-Null
+unfolding seen
+returns-in-Null c =
+    λ rd readers x h l s.
+    let a = c.args in
+    let p = c.requires.0 in
+    let small = small_by_index a.file.now (λ i h. omega (arith, c.type_inv.file i)) in
+    let b = rw c.in-Null.is at (starting (goal.at.returns-in-Null c).After-start rd readers x h l s p.place) in
+    let free : Free a.grid a.words.now a.used = record { long = p.long; there = b.free; few = omega (arith, b.free, p.few) } in
+    rw (c.walked_step-in-Null.ensures, c.leaf.ensures.value, c.leaf.ensures.words_after, b.is a.shared a.parent)
+    (leaf_walked {A = ℕ} a.grid a.file.now a.words.now (head_of a.used a.at a.parent 0 c.in-Null.padding) 0 nothing (read 0 _) free (
+      b.ahead,
+      omega (arith, b.inside, p.short),
+    ) (null_pads a.file.now small a.used a.at a.parent b.pads))
+
+pub returns-in-Raw : goal.returns-in-Raw
+returns-in-Raw c =
+    λ rd readers x h l s.
+    let a = c.args in
+    let b = rw c.in-Raw.is at (starting (goal.at.returns-in-Raw c).After-start rd readers x h l s c.requires.0.place) in
+    raw_steps a.grid a.file.now a.codes.now readers a.shared a.depth (a.depth - 1) x a.at a.used a.parent _ _ _ _ a.words.now
+    c.raw_step.new.words c.raw_step.result (omega (arith, b.deep)) b (c.raw_step.ensures readers b.type b.stands)
