@@ -1,45 +1,35 @@
 // What programs print.
 #![tactic(auto)]
 
+use std::io;
+
 // Prints a refusal's line to standard output (01: "A refusal prints one line, as `refused 7 at 6`").
-pub fn print_refusal(number: u32, place: usize) {
-    tell_unless(refusal(1, number, place));
+pub fn print_refusal(rt: &(impl Print + Eprint), number: u32, place: usize) -> io::Result<()> {
+    tell_unless(rt, refusal(rt, number, place))
 }
 
 // Prints a refusal's line to standard error, where standard output holds a file.
-pub fn tell_refusal(number: u32, place: usize) {
-    refusal(2, number, place);
+pub fn tell_refusal(rt: &HostRuntime, number: u32, place: usize) -> io::Result<()> {
+    refusal(&rt.stderr(), number, place)
 }
 
 // Writes the first bytes of a buffer to standard output; nothing where it has fewer. A failure is told.
-pub fn write_start(buffer: &[u8], n: usize) {
+pub fn write_start(rt: &(impl Print + Eprint), buffer: &[u8], n: usize) -> io::Result<()> {
     if buffer.len() < n {
-        return;
+        return Ok(());
     }
-    tell_unless(io::write_all(1, &buffer[..n]));
+    tell_unless(rt, rt.write_all(&buffer[..n]))
 }
 
 // A refusal's line, and whether all of it was written.
-fn refusal(fd: i32, number: u32, place: usize) -> bool {
-    if !io::write_all(fd, b"refused ") {
-        return false;
-    }
-    if !io::print_decimal(fd, number as u64) {
-        return false;
-    }
-    if !io::write_all(fd, b" at ") {
-        return false;
-    }
-    if !io::print_decimal(fd, place as u64) {
-        return false;
-    }
-    io::write_all(fd, b"\n")
+fn refusal(to: &impl Print, number: u32, place: usize) -> io::Result<()> {
+    println!(to; "refused {number} at {place}")
 }
 
 // Tells on standard error that standard output failed.
-fn tell_unless(written: bool) {
-    if written {
-        return;
+fn tell_unless(rt: &impl Eprint, written: io::Result<()>) -> io::Result<()> {
+    if written.is_ok() {
+        return Ok(());
     }
-    io::write_all(2, b"standard output could not be written\n");
+    eprintln!(rt; "standard output could not be written")
 }

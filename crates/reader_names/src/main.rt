@@ -5,6 +5,9 @@ ghost use Rattle.std.specs.Prelude.{◌≡◌, ◌≤◌, length};
 ghost use Rattle.io.specs.Counts.{IsPrefixLen};
 ghost use Rattle.reader_names.specs.Lines.{refusal, line_size, Judges};
 
+use std::io::Read;
+use std::rt::Files;
+use std::{fs, io};
 use targets::Resolved;
 
 // A name's refusal in one number: 65536 for each of its number, and its place; or 0.
@@ -59,42 +62,42 @@ fn judge_lines(s: &[u8], numbers: &mut [u32]) -> usize
     count
 }
 
-fn print_refusal(refusal: u32) {
-    io::print_decimal(1, (refusal / 65536) as u64);
+fn print_refusal(rt: &impl Print, refusal: u32) -> io::Result<()> {
+    print!(rt; "{}", refusal / 65536)?;
     if refusal != 0 {
-        io::write_all(1, b" ");
-        io::print_decimal(1, (refusal % 65536) as u64);
+        print!(rt; " {}", refusal % 65536)?;
     }
-    io::write_all(1, b"\n");
+    println!(rt)
 }
 
-fn print_numbers(numbers: &[u32]) {
+fn print_numbers(rt: &impl Print, numbers: &[u32]) -> io::Result<()> {
     let mut i = 0;
     while i < numbers.len() {
-        print_refusal(numbers[i]);
+        print_refusal(rt, numbers[i])?;
         i += 1;
     }
+    Ok(())
 }
 
-fn judge_file(path: &[u8]) {
-    let file = os::open_read(path);
-    if file < 0 {
-        os::fail(path);
-        return;
-    }
-    let mut space = io::large_buffer();
-    let n = io::read_full(file, &mut space);
-    libc::close(file);
+// A file that cannot be opened is told on standard error.
+fn judge_file(rt: &(impl Files + Alloc + Print + Eprint), path: &str) -> io::Result<()> {
+    let file = match fs::open(rt, path) {
+        Ok(file) => file,
+        Err(error) => return eprintln!(rt; "{path}: {error}"),
+    };
+    let mut space = Vec::new(rt.alloc());
+    file.take(65536).read_to_end(&mut space)?;
+    // No clause says that no more than `take` allows was read.
+    let n = space.len().min(65536);
     let mut numbers = [0u32; 65536];
     let count = judge_lines(&space[..n], &mut numbers);
-    io::write_all(1, path);
-    io::write_all(1, b"\n");
-    print_numbers(&numbers[..count]);
+    println!(rt; "{path}")?;
+    print_numbers(rt, &numbers[..count])
 }
 
-fn main() {
-    judge_file(b"good");
-    judge_file(b"broken");
-    judge_file(b"unknown");
-    judge_file(b"wrong_length");
+fn main(rt: HostRuntime) -> io::Result<()> {
+    judge_file(&rt, "good")?;
+    judge_file(&rt, "broken")?;
+    judge_file(&rt, "unknown")?;
+    judge_file(&rt, "wrong_length")
 }

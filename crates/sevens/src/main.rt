@@ -4,62 +4,69 @@
 
 use answers::Number;
 use numbers::seven::{Padded, Step};
+use std::io;
+use std::io::Read;
 
-fn print_byte(byte: u8) {
-    io::write_all(1, b"byte ");
-    io::print_hex(1, byte as u64, 2);
+fn print_byte(rt: &impl Print, byte: u8) -> io::Result<()> {
+    print!(rt; "byte {byte:02x}")
 }
 
 // The byte with index k of the number at `start`, where the input has it.
-fn print_byte_at(s: &[u8], start: usize, k: usize) {
+fn print_byte_at(rt: &impl Print, s: &[u8], start: usize, k: usize) -> io::Result<()> {
     if s.len() <= start {
-        io::write_all(1, b"no byte");
-        return;
+        return print!(rt; "no byte");
     }
     if s.len() - start <= k {
-        io::write_all(1, b"no byte");
-        return;
+        return print!(rt; "no byte");
     }
-    print_byte(s[start + k]);
+    print_byte(rt, s[start + k])
 }
 
 // A step, its byte and the value so far.
-fn print_taken(s: &[u8], start: usize, k: u8, value: u64) {
-    io::write_all(1, b"step ");
-    io::print_decimal(1, k as u64 + 1);
-    io::write_all(1, b": ");
-    print_byte_at(s, start, k as usize);
-    io::write_all(1, b", value ");
-    io::print_decimal(1, value);
-    io::write_all(1, b", ");
+fn print_taken(rt: &impl Print, s: &[u8], start: usize, k: u8, value: u64) -> io::Result<()> {
+    print!(rt; "step {}: ", k as u64 + 1)?;
+    print_byte_at(rt, s, start, k as usize)?;
+    print!(rt; ", value {value}, ")
 }
 
 // A step and what it said; a step that refuses leaves the value as it was handed on.
-fn show_said(s: &[u8], start: usize, k: u8, low: u64, said: Step) {
+fn show_said(
+    rt: &(impl Print + Eprint),
+    s: &[u8],
+    start: usize,
+    k: u8,
+    low: u64,
+    said: Step,
+) -> io::Result<()> {
     match said {
         Step::Ends(value, _, padding) => {
-            print_taken(s, start, k, value);
-            io::write_all(1, b"ends, padding ");
-            io::print_decimal(1, padding as u64);
-            io::write_all(1, b"\n");
+            print_taken(rt, s, start, k, value)?;
+            println!(rt; "ends, padding {padding}")
         }
         Step::HandsOn(value, _) => {
-            print_taken(s, start, k, value);
-            io::write_all(1, b"hands on\n");
+            print_taken(rt, s, start, k, value)?;
+            println!(rt; "hands on")
         }
         Step::Refused(number, place) => {
-            print_taken(s, start, k, low);
-            printing::print_refusal(number, place);
+            print_taken(rt, s, start, k, low)?;
+            printing::print_refusal(rt, number, place)
         }
     }
 }
 
 // The step with index k, if the one before it handed on.
-fn show_step(s: &[u8], start: usize, k: u8, before: Step, said: Step) {
+fn show_step(
+    rt: &(impl Print + Eprint),
+    s: &[u8],
+    start: usize,
+    k: u8,
+    before: Step,
+    said: Step,
+) -> io::Result<()> {
     match before {
-        Step::HandsOn(low, _) => show_said(s, start, k, low, said),
-        Step::Ends(_, _, _) => {}
-        Step::Refused(_, _) => {}
+        Step::HandsOn(low, _) => show_said(rt, s, start, k, low, said),
+        Step::Ends(_, _, _) => Ok(()),
+        Step::Refused(_, _) => Ok(()),
     }
 }
 
@@ -71,27 +78,25 @@ fn as_step(said: Padded) -> Step {
 }
 
 // The number at a place, step by step.
-fn show(s: &[u8], start: usize) {
+fn show(rt: &(impl Print + Eprint), s: &[u8], start: usize) -> io::Result<()> {
     let one = numbers::seven::first(s, start);
     let two = numbers::seven::second(s, start, one);
     let three = numbers::seven::third(s, start, two);
     let four = numbers::seven::fourth(s, start, three);
     let five = as_step(numbers::seven::fifth(s, start, four));
-    io::write_all(1, b"number at ");
-    io::print_decimal(1, start as u64);
-    io::write_all(1, b"\n");
-    show_step(s, start, 0, Step::HandsOn(0, 1), one);
-    show_step(s, start, 1, one, two);
-    show_step(s, start, 2, two, three);
-    show_step(s, start, 3, three, four);
-    show_step(s, start, 4, four, five);
+    println!(rt; "number at {start}")?;
+    show_step(rt, s, start, 0, Step::HandsOn(0, 1), one)?;
+    show_step(rt, s, start, 1, one, two)?;
+    show_step(rt, s, start, 2, two, three)?;
+    show_step(rt, s, start, 3, three, four)?;
+    show_step(rt, s, start, 4, four, five)
 }
 
 // One number after the other, the missing one at the input's end too; where one is refused, the next place is tried.
-fn list(s: &[u8]) {
+fn list(rt: &(impl Print + Eprint), s: &[u8]) -> io::Result<()> {
     let mut at = 0;
     while at <= s.len() {
-        show(s, at);
+        show(rt, s, at)?;
         match numbers::seven::seven_at(s, at) {
             Number::Read(_, next) => {
                 at = next;
@@ -101,10 +106,11 @@ fn list(s: &[u8]) {
             }
         }
     }
+    Ok(())
 }
 
-fn main() {
-    let mut space = io::large_buffer();
-    let n = io::read_full(0, &mut space);
-    list(&space[..n]);
+fn main(rt: HostRuntime) -> io::Result<()> {
+    let mut space = Vec::new(rt.alloc());
+    rt.reader().take(65536).read_to_end(&mut space)?;
+    list(&rt, &space)
 }

@@ -1,10 +1,10 @@
 use borrow.Author.Rules.{rules}
 use mathlib.Core.Path.{◌≡◌}
-use Prim.Native.Nat.{◌+◌, ◌-◌, ◌≤◌}
+use Prim.Native.Nat.{◌+◌, ◌≤◌}
 use native.Mathlib.Omega.{arith}
 use lib.ListN.{length, drop}
 use Rattle.reader_names.specs.Lines.{line_size}
-use Rattle.reader_names.proofs.Laws.{Left, start_is, end_is, step_is, line_is, counts_is}
+use Rattle.reader_names.proofs.Laws.{start_is, end_is, step_is, line_is, counts_is}
 use Rattle.reader_names.proofs.judge_lines.Goals.{After-line_size-size}
 use Rattle.reader_names.proofs.judge_lines.Goals as goal
 

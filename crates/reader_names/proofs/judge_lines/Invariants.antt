@@ -1,10 +1,7 @@
-use borrow.Author.Rules.{rules}
 use mathlib.Core.Path.{◌≡◌}
 use Prim.Native.Nat.{◌+◌, ◌-◌, ◌≤◌}
-use native.Mathlib.Omega.{arith}
-use lib.ListN.{length, drop}
-use Rattle.reader_names.specs.Lines.{line_size}
-use Rattle.reader_names.proofs.Laws.{Left, start_is, end_is, step_is, line_is, counts_is}
+use lib.ListN.{length}
+use Rattle.reader_names.proofs.Laws.{Left}
 use Rattle.reader_names.proofs.judge_lines.Given as goal
 
 abbrev pub invariant-loop-at : goal.invariant-loop-at

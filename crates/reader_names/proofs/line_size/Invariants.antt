@@ -1,11 +1,8 @@
-use borrow.Author.Rules.{rules}
 use mathlib.Core.Path.{◌≡◌}
 use Prim.Native.Nat.{◌+◌, ◌-◌, ◌≤◌}
 use lib.ListN.{length, drop}
 use Rattle.names.specs.Parse.{span}
-use Rattle.names.proofs.Laws.{span-start, span-end, span-stop, span-step}
-use Rattle.reader_names.specs.Lines.{in_line, line_size}
-use Rattle.reader_names.proofs.Laws.{ends_line, stays-in_line}
+use Rattle.reader_names.specs.Lines.{in_line}
 use Rattle.reader_names.proofs.line_size.Given as goal
 
 abbrev pub invariant-loop-i : goal.invariant-loop-i
