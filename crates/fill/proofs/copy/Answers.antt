@@ -5,7 +5,7 @@ use borrow.Author.Rules.{rules}
 use Rattle.fill.proofs.Laws.{in_both, not_both}
 use Rattle.fill.proofs.copy.Goals as goal
 
-named : {A B : Type 0} → A × B → record {value : A; out_after : B}
+named : {A B : Type 0} → A × B → record { value : A; out_after : B }
 named p = record { value = p.0; out_after = p.1 }
 
 pub returns-then-out-to : goal.returns-then-out-to

@@ -20,8 +20,7 @@ overflow_add-row c = omega (arith, c.fitting-most.ensures.1 c.loop-taken.taken c
 pub loop-taken-preserved : goal.loop-taken-preserved
 unfolding Took
 loop-taken-preserved c =
-    let a = c.args in
-    (
+    let a = c.args in (
       omega (arith, c.loop-taken-test.true),
       search rules,
       subst (λ (k : ℕ). Took a.grid a.file.now a.codes.now a.targets.now a.count a.declared a.used a.words.now a.at k c.look-seen.result.end c.sum-sum.result c.put_row.new.words) (sym (add-one c.loop-taken.taken))

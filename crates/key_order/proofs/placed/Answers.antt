@@ -22,6 +22,6 @@ bounds-of-number c = omega (arith, c.if-number-n.true)
 pub loop-j-preserved : goal.loop-j-preserved
 loop-j-preserved c =
     elim c.if-number-n.branch [
-      then-number-n w ↦ (search rules, ap length w.of-is ∙ simp length-set c.loop-j.invariant.1)
-    | else-number-n w ↦ (search rules, ap length w.of-is ∙ c.loop-j.invariant.1)
+      | then-number-n w ↦ (search rules, ap length w.of-is ∙ simp length-set c.loop-j.invariant.1)
+      | else-number-n w ↦ (search rules, ap length w.of-is ∙ c.loop-j.invariant.1)
     ]

@@ -7,7 +7,7 @@ use Rattle.load.specs.Laws.{load_refused, load_loaded}
 use borrow.Author.Rules.{rules}
 use Rattle.load.proofs.load_in.Goals as goal
 
-named : {A B : Type 0} → A × B → record {value : A; words_after : B}
+named : {A B : Type 0} → A × B → record { value : A; words_after : B }
 named p = record { value = p.0; words_after = p.1 }
 
 pub load_under-requires : goal.load_under-requires

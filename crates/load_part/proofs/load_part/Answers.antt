@@ -4,7 +4,7 @@ use lib.ListN.{length}
 use Rattle.load_part.specs.Part.{first_not_full, first_full, again}
 use Rattle.load_part.proofs.load_part.Goals as goal
 
-named : {A B : Type 0} → A × B → record {value : A; words_after : B}
+named : {A B : Type 0} → A × B → record { value : A; words_after : B }
 named p = record { value = p.0; words_after = p.1 }
 
 pub returns-then-not_full : goal.returns-then-not_full

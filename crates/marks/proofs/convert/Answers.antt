@@ -6,7 +6,7 @@ use Rattle.marks.proofs.Answers.{not_converted, counted, measured, fits, no_room
 use borrow.Author.Rules.{rules}
 use Rattle.marks.proofs.convert.Goals as goal
 
-named : {A B : Type 0} → A × B → record {value : A; out_after : B}
+named : {A B : Type 0} → A × B → record { value : A; out_after : B }
 named p = record { value = p.0; out_after = p.1 }
 
 pub measure-size-requires : goal.measure-size-requires

@@ -15,8 +15,7 @@ returns-in-At c =
 
 pub loop-left-preserved : goal.loop-left-preserved
 loop-left-preserved c =
-    let a = c.args in
-    (
+    let a = c.args in (
       search rules,
       λ h n.
           let w = c.loop-left.invariant.1 h n in

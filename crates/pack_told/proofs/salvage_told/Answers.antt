@@ -7,7 +7,7 @@ use Rattle.pack_told.proofs.salvage_told.Goals as goal
 both : {A B : Type 0} → A → B → A × B
 both a b = (a, b)
 
-named : {A B C : Type 0} → A × (B × C) → record {stretches_after : A; out_after : B; list_after : C}
+named : {A B C : Type 0} → A × (B × C) → record { stretches_after : A; out_after : B; list_after : C }
 named p = record { stretches_after = p.0; out_after = p.1.0; list_after = p.1.1 }
 
 pub returns-in-Refused : goal.returns-in-Refused

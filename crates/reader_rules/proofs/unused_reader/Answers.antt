@@ -23,8 +23,7 @@ returns-then-not-uses c =
 
 pub loop-i-preserved : goal.loop-i-preserved
 loop-i-preserved c =
-    let a = c.args in
-    (
+    let a = c.args in (
       search rules,
       (λ h.
           let w = c.loop-i.invariant.1 h in

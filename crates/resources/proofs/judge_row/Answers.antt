@@ -5,7 +5,7 @@ use Rattle.resources.specs.Total.{row_settled}
 use borrow.Author.Rules.{rules}
 use Rattle.resources.proofs.judge_row.Goals as goal
 
-named : {A B : Type 0} → A × B → record {value : A; words_after : B}
+named : {A B : Type 0} → A × B → record { value : A; words_after : B }
 named p = record { value = p.0; words_after = p.1 }
 
 pub returns-then-word_of-ne36 : goal.returns-then-word_of-ne36

@@ -30,8 +30,7 @@ overflow_add-place-in-loop-left c =
 
 pub loop-left-preserved : goal.loop-left-preserved
 loop-left-preserved c =
-    let args = c.args in
-    (
+    let args = c.args in (
       search rules,
       λ s. let a = c.loop-left.invariant.1 s in
           let r = rest_places args.file.now s args.readers args.at c.loop-left.left c.loop-left.place c.measure-n.result c.requires.0 c.measure-n.ensures a.0 c.loop-left-test.true in (

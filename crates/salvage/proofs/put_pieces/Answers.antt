@@ -7,7 +7,7 @@ use Rattle.salvage.proofs.Puts.{Putting, same_long, gap_room, copy-ends, put-tur
 use borrow.Author.Rules.{rules}
 use Rattle.salvage.proofs.put_pieces.Goals as goal
 
-named : {A B : Type 0} → A × B → record {out_after : A; list_after : B}
+named : {A B : Type 0} → A × B → record { out_after : A; list_after : B }
 named p = record { out_after = p.0; list_after = p.1 }
 
 pub put_count-requires : goal.put_count-requires

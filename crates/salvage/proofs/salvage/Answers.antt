@@ -11,7 +11,7 @@ use Rattle.salvage.proofs.salvage.Goals as goal
 both : {A B : Type 0} → A → B → A × B
 both a b = (a, b)
 
-named : {A B C : Type 0} → A × (B × C) → record {value : A; out_after : B; list_after : C}
+named : {A B C : Type 0} → A × (B × C) → record { value : A; out_after : B; list_after : C }
 named p = record { value = p.0; out_after = p.1.0; list_after = p.1.1 }
 
 pub returns-then-pack-lt4 : goal.returns-then-pack-lt4

@@ -6,7 +6,7 @@ use lib.ListN.{length}
 use Rattle.seen_names.specs.Laws.{note_none, note_some}
 use Rattle.seen_names.proofs.note.Goals as goal
 
-named : {A B : Type 0} → A × B → record {value : A; seen_after : B}
+named : {A B : Type 0} → A × B → record { value : A; seen_after : B }
 named p = record { value = p.0; seen_after = p.1 }
 
 pub returns-then-cells-eq0 : goal.returns-then-cells-eq0

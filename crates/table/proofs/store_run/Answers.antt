@@ -21,8 +21,7 @@ store_cells-requires c =
 
 pub loop-i-preserved : goal.loop-i-preserved
 loop-i-preserved c =
-    let a = c.args in
-    (
+    let a = c.args in (
       omega (arith, c.loop-i-test.true),
       search rules,
       c.sum-at.ensures ∙ rw (c.loop-i.invariant.2, c.loop-i.invariant.3) (run_first a.first a.size c.loop-i.i),

@@ -23,8 +23,7 @@ returns-then-among_earlier c =
 
 pub loop-j-preserved : goal.loop-j-preserved
 loop-j-preserved c =
-    let a = c.args in
-    (
+    let a = c.args in (
       search rules,
       (λ h.
           let w = c.loop-j.invariant.1 h in

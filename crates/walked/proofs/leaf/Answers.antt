@@ -4,7 +4,7 @@ use Rattle.table.specs.Put.{put_row}
 use Rattle.walked.specs.Contract.{reaching}
 use Rattle.walked.proofs.leaf.Goals as goal
 
-named : {A B : Type 0} → A × B → record {value : A; words_after : B}
+named : {A B : Type 0} → A × B → record { value : A; words_after : B }
 named p = record { value = p.0; words_after = p.1 }
 
 pub returns-in-Refused : goal.returns-in-Refused

@@ -2,7 +2,7 @@ use Rattle.xml_import.proofs.Imports.{found, refused-answer, other_form, too_man
 use borrow.Author.Rules.{rules}
 use Rattle.xml_import.proofs.import.Goals as goal
 
-named : {A B : Type 0} → A × B → record {value : A; out_after : B}
+named : {A B : Type 0} → A × B → record { value : A; out_after : B }
 named p = record { value = p.0; out_after = p.1 }
 
 pub returns-then-count-gt65535 : goal.returns-then-count-gt65535

@@ -69,10 +69,10 @@ returns-in_default c =
     let n = c.in_default-1.rest in
     let k = c.kind_at-kind.result in
     let beyond : between 37 40 k ≡ false =
-        elim c.in_default.branch [
-          in_default-via-then-kind-lt37 w ↦ let low : k < 37 = omega arith in outside k {A = k < 37} {B = 41 ≤ k} (inl low) (λ x. x) (λ x. x)
-        | in_default-via-else-kind-lt37+else-kind-lt41 w ↦ let high : 41 ≤ k = omega arith in outside k {A = k < 37} {B = 41 ≤ k} (inr high) (λ x. x) (λ x. x)
-        ]
+    elim c.in_default.branch [
+      | in_default-via-then-kind-lt37 w ↦ let low : k < 37 = omega arith in outside k {A = k < 37} {B = 41 ≤ k} (inl low) (λ x. x) (λ x. x)
+      | in_default-via-else-kind-lt37+else-kind-lt41 w ↦ let high : 41 ≤ k = omega arith in outside k {A = k < 37} {B = 41 ≤ k} (inr high) (λ x. x) (λ x. x)
+    ]
     in
     rw (
       lt-leb _ _ c.if-codes-t.false,

@@ -7,7 +7,7 @@ use Rattle.leaves.proofs.plain.read_fixed.Goals as goal
 both : {A B : Type 0} → A → B → A × B
 both a b = (a, b)
 
-named : {A B : Type 0} → A × B → record {value : A; words_after : B}
+named : {A B : Type 0} → A × B → record { value : A; words_after : B }
 named p = record { value = p.0; words_after = p.1 }
 
 pub returns-then-depth-eq0 : goal.returns-then-depth-eq0

@@ -14,7 +14,7 @@ use Rattle.leaves.proofs.plain.reference.Goals as goal
 both : {A B : Type 0} → A → B → A × B
 both a b = (a, b)
 
-named : {A B : Type 0} → A × B → record {value : A; words_after : B}
+named : {A B : Type 0} → A × B → record { value : A; words_after : B }
 named p = record { value = p.0; words_after = p.1 }
 
 -- the resource id was read, with its padding

@@ -6,7 +6,7 @@ use lib.ListN.{length}
 use Rattle.leaves.specs.Run.{run_slots, run_from, run_of, run-turn, run_end}
 use Rattle.leaves.proofs.run.read_each.Goals as goal
 
-named : {A B : Type 0} → A × B → record {value : A; words_after : B}
+named : {A B : Type 0} → A × B → record { value : A; words_after : B }
 named p = record { value = p.0; words_after = p.1 }
 
 pub loop-i-init : goal.loop-i-init

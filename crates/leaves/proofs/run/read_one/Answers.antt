@@ -3,7 +3,7 @@ use Rattle.leaves.specs.Same.{one_run}
 use borrow.Author.Rules.{rules}
 use Rattle.leaves.proofs.run.read_one.Goals as goal
 
-named : {A B : Type 0} → A × B → record {value : A; words_after : B}
+named : {A B : Type 0} → A × B → record { value : A; words_after : B }
 named p = record { value = p.0; words_after = p.1 }
 
 pub returns-in-Refused : goal.returns-in-Refused

@@ -45,13 +45,13 @@ nested-walked t c readers plan l n =
     let y : (p : ℕ) × Got a.grid file c.loop-stage.words c.match-value.words c.loop-stage.row
     (walk file readers a.shared a.grid.room a.depth v.x c.loop-stage.next c.loop-stage.row a.parent) c.match-value.next c.match-value.row p × (c.match-value.sum ≡ in_word (c.loop-stage.sum + p)) =
     elim c.match-value.branch [
-      nested-in-Done w ↦ (_, got_as (got (rw w.in-Done.is at s) refl) w.words-is w.next-is w.row-is refl, w.sum-is ∙ w.sum-sum.ensures)
-    | nested-in-Nested+in-Done-raw w ↦ let q = rw w.in-Nested.is at s in (
-      _,
-      got_as (got (left_walked a.grid a.shared (a.depth - 1) a.parent (omega (arith, q.begins.deep)) q
-          (w.raw.ensures readers q.begins.type l q.begins.stands q.opened)) w.in-Done-raw.is) w.words-is w.next-is w.row-is refl,
-      w.sum-is ∙ w.sum-sum-in-Done-raw.ensures,
-    )
+      | nested-in-Done w ↦ (_, got_as (got (rw w.in-Done.is at s) refl) w.words-is w.next-is w.row-is refl, w.sum-is ∙ w.sum-sum.ensures)
+      | nested-in-Nested+in-Done-raw w ↦ let q = rw w.in-Nested.is at s in (
+        _,
+        got_as (got (left_walked a.grid a.shared (a.depth - 1) a.parent (omega (arith, q.begins.deep)) q
+            (w.raw.ensures readers q.begins.type l q.begins.stands q.opened)) w.in-Done-raw.is) w.words-is w.next-is w.row-is refl,
+        w.sum-is ∙ w.sum-sum-in-Done-raw.ensures,
+      )
     ] in
     rw y.2 (next_walked _ _ _ _ _ _ _ _ _ _ _ _ small c.requires.0 v y.1)
 

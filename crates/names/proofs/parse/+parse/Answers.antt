@@ -38,11 +38,10 @@ slice_bounds-word_of-end t c =
     sym (length-take-le _ c.args.name.now (omega (arith, span_le head_byte c.args.name.now, c.long_run-h.ensures)))
 
 pub word_of-requires : goal.word_of-requires
-word_of-requires t c =
-    (
-      omega (arith, c.if-n-eq3.false, opening-small c.args.name.now _ _ c.long_run-h.ensures c.opening_at-n.ensures),
-      omega (arith, span_le head_byte c.args.name.now, c.long_run-h.ensures, c.if-h-eq0.false, c.requires.0),
-    )
+word_of-requires t c = (
+  omega (arith, c.if-n-eq3.false, opening-small c.args.name.now _ _ c.long_run-h.ensures c.opening_at-n.ensures),
+  omega (arith, span_le head_byte c.args.name.now, c.long_run-h.ensures, c.if-h-eq0.false, c.requires.0),
+)
 
 pub overflow_add-next : goal.overflow_add-next
 overflow_add-next t c =

@@ -38,8 +38,7 @@ loop-k-smaller c = omega (arith, c.loop-k-test.true)
 
 pub loop-k-preserved : goal.loop-k-preserved
 loop-k-preserved c =
-    let a' = c.args in
-    (
+    let a' = c.args in (
       omega (arith, c.loop-k-test.true),
       all_more Unmarked a'.xml.now a'.at c.loop-k.k c.loop-k.invariant.1 (c.sign.ensures.0 c.if-sign.false),
       length-set c.loop-k.out (a'.to + c.loop-k.k) (get_or a'.xml.now (a'.at + c.loop-k.k) 0) ∙ c.loop-k.invariant.2,
