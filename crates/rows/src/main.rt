@@ -3,6 +3,7 @@
 
 use ids::RowNumber;
 use load::Loading;
+use std::io::Read;
 use table::{Grid, WIDTH};
 
 // The bytes behind the first `at` of the buffer, and where they end; nothing where they do not fit.
@@ -38,7 +39,13 @@ fn put_row(out: &mut [u8], at: usize, words: &[u32], grid: Grid, row: u32) -> us
 }
 
 // Each row on its line, behind the first `at` bytes of the buffer, and all of it written.
-fn print_rows(out: &mut [u8], at: usize, words: &[u32], rows: u32) {
+fn print_rows(
+    rt: &(impl Print + Eprint),
+    out: &mut [u8],
+    at: usize,
+    words: &[u32],
+    rows: u32,
+) -> std::io::Result<()> {
     let grid = table::rows_grid(words.len());
     let mut next = at;
     let mut row = 0;
@@ -46,7 +53,7 @@ fn print_rows(out: &mut [u8], at: usize, words: &[u32], rows: u32) {
         next = put_row(out, next, words, grid, row);
         row += 1;
     }
-    printing::write_start(out, next);
+    printing::write_start(rt, out, next)
 }
 
 // How many rows, readers and shared objects there are.
@@ -61,10 +68,10 @@ fn put_counts(out: &mut [u8], rows: u32, readers: u32, shared: u32) -> usize {
 }
 
 // Loads the file with room for 1,024 rows, and prints the answer.
-fn print_file(file: &[u8], out: &mut [u8]) {
+fn print_file(rt: &(impl Print + Eprint), file: &[u8], out: &mut [u8]) -> std::io::Result<()> {
     let mut words = [0u32; 1024 * WIDTH as usize];
     match load::load(file, b"", &mut words) {
-        Loading::Refused(number, place) => printing::print_refusal(number, place),
+        Loading::Refused(number, place) => printing::print_refusal(rt, number, place),
         Loading::Loaded {
             rows,
             readers,
@@ -72,19 +79,18 @@ fn print_file(file: &[u8], out: &mut [u8]) {
             padding: _,
         } => {
             let at = put_counts(out, rows, readers, shared);
-            print_rows(out, at, &words, rows);
+            print_rows(rt, out, at, &words, rows)
         }
     }
 }
 
-fn main() {
-    let mut space = io::large_buffer();
+fn main(rt: HostRuntime) -> std::io::Result<()> {
+    let mut space = Vec::new(rt.alloc());
     // A line has at most 88 bytes, so those of 1,024 rows fit.
     let mut out = [0u8; 98304];
-    let n = io::read_full(0, &mut space);
-    if 32768 < n {
-        printing::print_refusal(9, 0);
-        return;
+    rt.reader().take(65536).read_to_end(&mut space)?;
+    if 32768 < space.len() {
+        return printing::print_refusal(&rt, 9, 0);
     }
-    print_file(&space[..n], &mut out);
+    print_file(&rt, &space, &mut out)
 }

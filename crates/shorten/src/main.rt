@@ -2,24 +2,25 @@
 #![tactic(auto)]
 
 use rewrite::Rewriting;
+use std::io;
+use std::io::Read;
 use table::WIDTH;
 
 // Rewrites the file, with room for 1,024 rows.
-fn shorten(file: &[u8], out: &mut [u8]) {
+fn shorten(rt: &HostRuntime, file: &[u8], out: &mut [u8]) -> io::Result<()> {
     let mut words = [0u32; 1024 * WIDTH as usize];
     match rewrite::rewrite(file, b"", &mut words, out) {
-        Rewriting::Refused(number, place) => printing::tell_refusal(number, place),
-        Rewriting::Rewritten { length } => printing::write_start(out, length),
+        Rewriting::Refused(number, place) => printing::tell_refusal(rt, number, place),
+        Rewriting::Rewritten { length } => printing::write_start(rt, out, length),
     }
 }
 
-fn main() {
-    let mut space = io::large_buffer();
-    let mut out = io::large_buffer();
-    let n = io::read_full(0, &mut space);
-    if 32768 < n {
-        printing::tell_refusal(9, 0);
-        return;
+fn main(rt: HostRuntime) -> io::Result<()> {
+    let mut space = Vec::new(rt.alloc());
+    let mut out = [0u8; 65536];
+    rt.reader().take(65536).read_to_end(&mut space)?;
+    if 32768 < space.len() {
+        return printing::tell_refusal(&rt, 9, 0);
     }
-    shorten(&space[..n], &mut out);
+    shorten(&rt, &space, &mut out)
 }
