@@ -1,0 +1,13 @@
+use borrow.Author.Rules.{rules}
+use mathlib.Core.Path.{sym, subst, ◌∙◌}
+use Rattle.xml_export.specs.Contract.{Judged}
+use Rattle.xml_export.specs.Judging.{judged_shared, judged-reader}
+use Rattle.xml_export.proofs.is_list.Goals as goal
+
+pub returns-then-shared-ne0 : goal.returns-then-shared-ne0
+unfolding Judged
+returns-then-shared-ne0 c = λ w. judged_shared w c.if-shared-ne0.true
+
+pub returns : goal.returns
+unfolding Judged
+returns c = λ w. judged-reader w c.if-shared-ne0.false _ (rw (c.word_of-id.ensures, c.rows_grid-grid.ensures) at c.texts_reader.ensures)
