@@ -5,7 +5,7 @@
 #   make uninstall PREFIX=/usr  removes it again
 #   make dist                   writes a package for Debian and a command that needs no other file, into target/dist
 #
-# `rt staticlib builder` writes the archive, and must have run before.
+# `tools/archive` writes the archive, and must have run before.
 
 PREFIX ?= /usr/local
 DESTDIR ?=
@@ -36,7 +36,7 @@ FILES := $(BUILD)/libxnb.a $(BUILD)/$(SHARED) $(BUILD)/xnb.pc $(BUILD)/asset-bui
 all: $(FILES)
 
 $(ARCHIVE):
-	@echo "$(ARCHIVE) is not there: build it with \`rt staticlib builder\`." >&2; exit 1
+	@echo "$(ARCHIVE) is not there: build it with \`tools/archive\`." >&2; exit 1
 
 $(BUILD):
 	mkdir -p $@

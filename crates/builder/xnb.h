@@ -1,4 +1,4 @@
-/* The entries for an asset builder. Link libbuilder.a, which `rt staticlib builder` writes.
+/* The entries for an asset builder. Link libbuilder.a, which `tools/archive` writes.
 
    No pointer may be NULL. One with a length of 0 may point anywhere else. What an entry writes to may overlap nothing
    else that it is given. The entries keep nothing from call to call and have no data of their own, so threads may call them

@@ -1,12 +1,12 @@
 //! Links the proved loader, which must have been built before.
 //!
-//! Its archive is looked for in the folder that `XNB_LIB_DIR` names, or else where `rt staticlib builder` writes it in
+//! Its archive is looked for in the folder that `XNB_LIB_DIR` names, or else where `tools/archive` writes it in
 //! this repository.
 
 use std::path::{Path, PathBuf};
 use std::process::exit;
 
-/// The archive as `rt staticlib builder` calls it, and as `make install` does.
+/// The archive as `tools/archive` calls it, and as `make install` does.
 const NAMES: [&str; 2] = ["builder", "xnb"];
 
 fn main() {
@@ -33,11 +33,11 @@ fn missing(folder: &Path, asked: bool) -> String {
     if asked {
         return format!(
             "XNB_LIB_DIR names {folder}, which holds neither libbuilder.a nor libxnb.a.\n\
-            Name the folder of the archive that `rt staticlib builder` wrote, or that `make install` installed."
+            Name the folder of the archive that `tools/archive` wrote, or that `make install` installed."
         );
     }
     format!(
         "The proved loader's archive, libbuilder.a, is not in {folder}.\n\
-        Build it with `rt staticlib builder` (or run .ci/run), or name its folder in XNB_LIB_DIR."
+        Build it with `tools/archive` (or run .ci/run), or name its folder in XNB_LIB_DIR."
     )
 }

@@ -21,7 +21,9 @@ fn lines(text: &str) -> Vec<Line<'_>> {
         if let Some(comment) = line.strip_prefix("# ") {
             return Line::Comment(comment);
         }
-        let (name, uses) = line.split_once(':').expect("a crate and what it uses");
+        let (named, uses) = line.split_once(':').expect("a crate and what it uses");
+        // What is built of a crate may stand behind its name.
+        let name = named.split_whitespace().next().expect("a name");
         let uses = uses.split_whitespace().collect();
         Line::Crate { name, uses }
     })
@@ -68,12 +70,12 @@ const REACHED: [(&str, &str); 6] = [
     ("shorten", "libc"),
 ];
 
-/// The Rattle sources and the proofs below a folder, one after the other; must-fail edits are not among them.
+/// The Rattle sources and the proofs below a folder, one after the other; must-fail edits and what `rt` made are not among them.
 fn sources(folder: &Path, text: &mut String) {
     for entry in fs::read_dir(folder).expect("a folder of a crate") {
         let path = entry.expect("an entry").path();
         if path.is_dir() {
-            if !path.ends_with("must-fail") {
+            if !path.ends_with("must-fail") && !path.ends_with("out") {
                 sources(&path, text);
             }
         } else if path
@@ -86,20 +88,22 @@ fn sources(folder: &Path, text: &mut String) {
     }
 }
 
-/// The crates that a text names: `Rattle·name` in specifications, `name::` or `use name` in code.
+/// The crates that a text names: `Rattle.name` in specifications, `name::` or `use name` in code.
 fn named(text: &str) -> BTreeSet<&str> {
-    let joined = |c: char| c.is_ascii_alphanumeric() || "_:·".contains(c);
-    let in_words = text.split(|c| !joined(c)).filter_map(|word| {
-        let of_specifications = word.strip_prefix("Rattle·").map(|it| it.split('·').next());
-        let of_code = word.split_once("::").map(|(first, _)| first);
-        of_specifications.flatten().or(of_code)
-    });
+    let joined = |c: char| c.is_ascii_alphanumeric() || c == '_';
+    let of_specifications = text
+        .split("Rattle.")
+        .skip(1)
+        .filter_map(|rest| rest.split(|c| !joined(c)).next());
+    let of_code = text
+        .split(|c| !joined(c) && c != ':')
+        .filter_map(|word| word.split_once("::"))
+        .map(|(first, _)| first);
     let used = text
         .lines()
-        .filter_map(|line| line.trim().strip_prefix("use "));
-    in_words
-        .chain(used.map(|it| it.trim_end_matches(';')))
-        .collect()
+        .filter_map(|line| line.trim().strip_prefix("use "))
+        .map(|it| it.trim_end_matches(';'));
+    of_specifications.chain(of_code).chain(used).collect()
 }
 
 #[test]
@@ -172,15 +176,15 @@ const STATED: [&str; 5] = [
     "pack_salvage/specs/Stretches.antt",
 ];
 
-/// The module that an import names, as its file below `crates/`; the layouts and the types of code have none here.
+/// The module that an import names, as its file below `crates/`; the kit's, the layouts and the types of code have none here.
 fn imported(line: &str) -> Option<String> {
-    let path = line.strip_prefix("use Rattle·")?;
+    let path = line.strip_prefix("use Rattle.")?;
     let path = path.split([' ', '{']).next()?.trim_end_matches('.');
     let (from, module) = path.split_once(".specs.")?;
-    let from = from.split('·').next()?;
+    let of_kit = from == "std";
     let of_layout = ["layout", "pack_layout", "xml_layout"].contains(&from);
     let of_code = module.starts_with("declared.");
-    (!of_layout && !of_code).then(|| format!("{from}/specs/{module}.antt"))
+    (!of_kit && !of_layout && !of_code).then(|| format!("{from}/specs/{module}.antt"))
 }
 
 /// The lines of specifications and proofs below a folder that pass 300 characters, but for quoted texts.
@@ -188,7 +192,9 @@ fn long_lines(folder: &Path, found: &mut Vec<String>) {
     for entry in fs::read_dir(folder).expect("a folder of a crate") {
         let path = entry.expect("an entry").path();
         if path.is_dir() {
-            long_lines(&path, found);
+            if !path.ends_with("out") {
+                long_lines(&path, found);
+            }
         } else if path.extension().is_some_and(|it| it == "antt") {
             let text = fs::read_to_string(&path).expect("a proof");
             for (i, line) in text.lines().enumerate() {
@@ -221,7 +227,7 @@ fn no_line_of_a_proof_passes_300_characters() {
 fn demands_name_layouts_and_types_of_code_alone() {
     for module in DEMANDS.into_iter().chain(STATED) {
         let text = fs::read_to_string(root().join("crates").join(module)).expect(module);
-        assert!(text.contains("use Rattle·"), "{module} imports nothing");
+        assert!(text.contains("use Rattle."), "{module} imports nothing");
         for named in text.lines().filter_map(imported) {
             let named = named.as_str();
             assert!(

@@ -67,7 +67,7 @@
 //!
 //! # Linking
 //!
-//! The proved library is an archive, `libbuilder.a`, which `rt staticlib builder` writes. This crate's build looks for it
+//! The proved library is an archive, `libbuilder.a`, which `tools/archive` writes. This crate's build looks for it
 //! in the repository's `target/staticlib`, or in the folder that the environment variable `XNB_LIB_DIR` names.
 //!
 //! The feature `serde` makes values, rows and what is put together of them `Serialize`.

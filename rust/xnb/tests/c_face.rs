@@ -1,4 +1,4 @@
-//! The C header beside the entries of crates/builder, and the programs of docs/C.md, compiled and run.
+//! The C header beside the entries of crates/builder_c, and the programs of docs/C.md, compiled and run.
 
 use corpus::folder::{kept_files, kept_files_with_enums, root};
 use corpus::packs::folder::{kept_damaged_packs, kept_packs};
@@ -49,10 +49,10 @@ fn c_types(rattle: &str) -> Vec<String> {
     }
 }
 
-/// The entries that crates/builder has.
+/// The entries that crates/builder_c has.
 fn entries() -> BTreeMap<String, Types> {
     let mut entries = BTreeMap::new();
-    for file in fs::read_dir(root().join("crates/builder/src")).expect("the sources") {
+    for file in fs::read_dir(root().join("crates/builder_c/src")).expect("the sources") {
         let source = fs::read_to_string(file.expect("a source").path()).expect("a source");
         for entry in source.split("pub extern \"C\" fn ").skip(1) {
             let (name, rest) = entry.split_once('(').expect("parameters");

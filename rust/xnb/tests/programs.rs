@@ -6,18 +6,25 @@ use corpus::folder::{folder, kept_files, root, shortest};
 use second::{printed_rows, shortened, LONGEST_INPUT, NO_ENUMS, WORDS_PER_ROW};
 use std::fs::File;
 use std::io::{ErrorKind, Write};
+use std::path::PathBuf;
 use std::process::{Command, Stdio};
 
 const GENERATED_FILES: u64 = 500;
 
+/// Where `rt run` and `rt ci` leave a program.
+fn built(program: &str) -> PathBuf {
+    let of_crate = root().join("crates").join(program);
+    of_crate.join("out").join(program)
+}
+
 /// What a program writes to standard output and standard error for an input.
 fn run(program: &str, input: &[u8]) -> (Vec<u8>, Vec<u8>) {
-    let mut child = Command::new(root().join("target/bin").join(program))
+    let mut child = Command::new(built(program))
         .stdin(Stdio::piped())
         .stdout(Stdio::piped())
         .stderr(Stdio::piped())
         .spawn()
-        .expect("a program of target/bin starts; .ci/run builds it");
+        .expect("a proved program starts; `rt run` in its folder, or .ci/run, builds it");
     let mut stdin = child.stdin.take().expect("it has an input");
     let output = std::thread::scope(|scope| {
         // A program that has read enough may end before it has taken all.
@@ -170,12 +177,12 @@ fn an_output_that_cannot_be_written_is_reported() {
     let sample = root().join("corpus/kinds/ok-kind-13-string.xnb");
     for program in ["rows", "shorten"] {
         let full = File::options().write(true).open("/dev/full");
-        let output = Command::new(root().join("target/bin").join(program))
+        let output = Command::new(built(program))
             .stdin(File::open(&sample).expect("a sample"))
             .stdout(full.expect("a device that is full"))
             .stderr(Stdio::piped())
             .output()
-            .expect("a program of target/bin starts");
+            .expect("a proved program starts");
         let reported = b"standard output could not be written\n";
         assert_eq!(output.stderr, reported, "{program}");
     }

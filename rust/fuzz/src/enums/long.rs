@@ -78,7 +78,7 @@ fn some_names(random: &mut Random, count: usize) -> Vec<String> {
     }
 }
 
-/// Different names of eight bytes whose sums are all the same (crates/seen_names, `sumOf`), and so all their marks.
+/// Different names of eight bytes whose sums are all the same (crates/seen_names, `sum_of`), and so all their marks.
 pub fn alike(count: usize) -> Vec<String> {
     const FACTOR: u32 = 2_654_435_769;
     let text = |word: u32| String::from_utf8(word.to_le_bytes().to_vec()).ok();
