@@ -1,0 +1,8 @@
+use mathlib.Core.Path.{refl}
+use Rattle.builder.specs.Packed.{code}
+use borrow.Author.Rules.{rules}
+use Rattle.builder.proofs.refused.Goals as goal
+
+pub returns : goal.returns
+unfolding code
+returns c = refl

@@ -1,0 +1,17 @@
+use mathlib.Core.Path.{sym, ◌∙◌}
+use Rattle.builder.proofs.XmlTold.{not_exported, all_exported}
+use borrow.Author.Rules.{rules}
+use Rattle.builder.proofs.xml.xnb_export_xml.Goals as goal
+
+both : {A B : Type 0} → A → B → A × B
+both a b = (a, b)
+
+named : {A B C : Type 0} → A × (B × C) → record {value : A; out_after : B; words_after : C}
+named p = record { value = p.0; out_after = p.1.0; words_after = p.1.1 }
+
+pub returns-in-Refused : goal.returns-in-Refused
+returns-in-Refused c =
+    named ((not_exported _ (sym c.in-Refused.is ∙ c.export.ensures.value) c.refused.ensures, (both c.export.ensures.out_after c.export.ensures.words_after)))
+
+pub returns-in-Exported : goal.returns-in-Exported
+returns-in-Exported c = named ((all_exported _ (sym c.in-Exported.is ∙ c.export.ensures.value), (both c.export.ensures.out_after c.export.ensures.words_after)))

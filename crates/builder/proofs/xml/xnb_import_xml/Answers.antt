@@ -1,0 +1,16 @@
+use mathlib.Core.Path.{sym, ◌∙◌}
+use lib.ListN.{length}
+use Rattle.xml_reading.specs.Answers.{import_of}
+use Rattle.builder.proofs.XmlTold.{not_imported, all_imported}
+use borrow.Author.Rules.{rules}
+use Rattle.builder.proofs.xml.xnb_import_xml.Goals as goal
+
+pub returns-in-Refused : goal.returns-in-Refused
+returns-in-Refused c =
+    let a = c.args in
+    record { at_after = not_imported (import_of a.xml.now (length a.out.now)) (sym c.in-Refused.is ∙ c.import.ensures.value); out_after = c.import.ensures.out_after }
+
+pub returns-in-Imported : goal.returns-in-Imported
+returns-in-Imported c =
+    let a = c.args in
+    record { at_after = all_imported (import_of a.xml.now (length a.out.now)) (sym c.in-Imported.is ∙ c.import.ensures.value); out_after = c.import.ensures.out_after }
