@@ -6,7 +6,7 @@ use Rattle.reading.specs.Reads.{small_by_index}
 use Rattle.driver.specs.Facts.{hand_on, settled}
 use Rattle.driver.proofs.load_driver.Goals as goal
 
-named : {A B : Type 0} → A × B → record {value : A; words_after : B}
+named : {A B : Type 0} → A × B → record { value : A; words_after : B }
 named p = record { value = p.0; words_after = p.1 }
 
 pub returns-in-Refused : goal.returns-in-Refused

@@ -6,7 +6,7 @@ use Rattle.pack_counts.specs.Raise.{counted-alike}
 use Rattle.pack_files.specs.Xnb.{refused_so, loaded_so}
 use Rattle.pack_files.proofs.count_xnb.Goals as goal
 
-named : {A B : Type 0} → A × B → record {figures_after : A; words_unchanged : B}
+named : {A B : Type 0} → A × B → record { figures_after : A; words_unchanged : B }
 named p = record { figures_after = p.0; words_unchanged = p.1 }
 
 pub returns-in-Refused : goal.returns-in-Refused

@@ -21,8 +21,12 @@ returns c =
     let small = small_by_index file (λ i h. omega (arith, c.type_inv.file i)) in
     let small' = small_by_index other (λ i h. omega (arith, c.type_inv.other i)) in
     let bytes : Bytes enums = λ i h. omega (arith, c.type_inv.enums i) in
-    record { loads_alike = λ room r. (
+    record {
+      loads_alike = λ room r. (
         c.load_in-first.ensures.value ∙ same_answer enums file other n m bytes small small' r room ∙ sym c.load_in-second.ensures.value,
         same_rows a.columns enums file other n m bytes small small' r room c.load_in-first.ensures.words_after c.load_in-second.ensures.words_after,
         same_words a.columns enums file other n m bytes small r c.load_in-first.ensures.words_after c.load_in-second.ensures.words_after,
-      ); load_is = (both c.load_in-first.ensures.value c.load_in-first.ensures.words_after); load_is_2 = (both c.load_in-second.ensures.value c.load_in-second.ensures.words_after) }
+      );
+      load_is = (both c.load_in-first.ensures.value c.load_in-first.ensures.words_after);
+      load_is_2 = (both c.load_in-second.ensures.value c.load_in-second.ensures.words_after);
+    }

@@ -4,7 +4,7 @@ use Rattle.builder.proofs.by_columns.xnb_load_columns.Goals as goal
 both : {A B : Type 0} → A → B → A × B
 both a b = (a, b)
 
-named : {A B : Type 0} → A × B → record {padding_after : A; words_after : B}
+named : {A B : Type 0} → A × B → record { padding_after : A; words_after : B }
 named p = record { padding_after = p.0; words_after = p.1 }
 
 pub returns : goal.returns

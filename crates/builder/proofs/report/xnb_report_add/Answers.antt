@@ -8,7 +8,7 @@ use Rattle.builder.proofs.report.xnb_report_add.Goals as goal
 three : {A B C : Type 0} → A → B → C → A × (B × C)
 three a b c = (a, (b, c))
 
-named : {A B C D : Type 0} → A × (B × (C × D)) → record {at_after : A; report_after : B; table_after : C; words_after : D}
+named : {A B C D : Type 0} → A × (B × (C × D)) → record { at_after : A; report_after : B; table_after : C; words_after : D }
 named p = record { at_after = p.0; report_after = p.1.0; table_after = p.1.1.0; words_after = p.1.1.1 }
 
 pub returns-in-Refused : goal.returns-in-Refused

@@ -6,7 +6,7 @@ use Rattle.builder.proofs.xml.xnb_export_xml.Goals as goal
 both : {A B : Type 0} → A → B → A × B
 both a b = (a, b)
 
-named : {A B C : Type 0} → A × (B × C) → record {value : A; out_after : B; words_after : C}
+named : {A B C : Type 0} → A × (B × C) → record { value : A; out_after : B; words_after : C }
 named p = record { value = p.0; out_after = p.1.0; words_after = p.1.1 }
 
 pub returns-in-Refused : goal.returns-in-Refused
