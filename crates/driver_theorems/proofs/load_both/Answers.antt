@@ -6,4 +6,10 @@ use Rattle.driver_theorems.proofs.load_both.Goals as goal
 pub returns : goal.returns
 returns c =
     let a = c.args in
-    record { beside = beside a.enums.now a.file.now (length a.plain.now) (length a.words.now) c.load-by_plain.ensures.value c.load-by_plain.ensures.words_after c.load_driver-by_driver.ensures.value c.load_driver-by_driver.ensures.words_after; plain_value = c.load-by_plain.ensures.value; driver_value = c.load_driver-by_driver.ensures.value }
+    let plain = c.load-by_plain.ensures in
+    let driver = c.load_driver-by_driver.ensures in
+    record {
+      beside = beside a.enums.now a.file.now (length a.plain.now) (length a.words.now) plain.value plain.words_after driver.value driver.words_after;
+      plain_value = plain.value;
+      driver_value = driver.value;
+    }

@@ -15,4 +15,8 @@ returns c =
     let small = small_by_index file (λ i h. omega (arith, c.type_inv.file i)) in
     let n = length a.words.now in
     let out = a.out.now in
-    record { tells_rewrite = rewrite_told enums file n out bytes small c.xnb_rewrite.ensures.value c.xnb_rewrite.ensures.out_after c.xnb_rewrite.ensures.words_after; tells_rewrite_refusal = rewrite_refusal-told enums file n out bytes small c.xnb_rewrite.ensures.value c.xnb_rewrite.ensures.out_after c.xnb_rewrite.ensures.words_after }
+    let e = c.xnb_rewrite.ensures in
+    record {
+      tells_rewrite = rewrite_told enums file n out bytes small e.value e.out_after e.words_after;
+      tells_rewrite_refusal = rewrite_refusal-told enums file n out bytes small e.value e.out_after e.words_after;
+    }

@@ -16,13 +16,25 @@ is-lettered : (c : Else-file-ne66) → Lettered c.args.file.now
 is-lettered c = ((let h : Sized c.args.file.now = (le-leb _ _ c.if-file-gt16777216.false, le-leb _ _ c.if-file-lt10.false) in h), eq-eqb _ _ c.if-file-ne88.false, eq-eqb _ _ c.if-file-ne78.false, eq-eqb _ _ c.if-file-ne66.false)
 
 is-placed : (c : Else-not-is_platform) → Placed c.args.file.now
-is-placed c = ((let h : Lettered c.args.file.now = ((let h : Sized c.args.file.now = (le-leb _ _ c.if-file-gt16777216.false, le-leb _ _ c.if-file-lt10.false) in h), eq-eqb _ _ c.if-file-ne88.false, eq-eqb _ _ c.if-file-ne78.false, eq-eqb _ _ c.if-file-ne66.false) in h), sym c.is_platform.ensures ∙ c.if-not-is_platform.false)
+is-placed c =
+    let sized : Sized c.args.file.now = (le-leb _ _ c.if-file-gt16777216.false, le-leb _ _ c.if-file-lt10.false) in
+    let lettered : Lettered c.args.file.now = (sized, eq-eqb _ _ c.if-file-ne88.false, eq-eqb _ _ c.if-file-ne78.false, eq-eqb _ _ c.if-file-ne66.false) in
+    (lettered, sym c.is_platform.ensures ∙ c.if-not-is_platform.false)
 
 is-versioned : (c : Else-file-ne5) → Versioned c.args.file.now
-is-versioned c = ((let h : Placed c.args.file.now = ((let h : Lettered c.args.file.now = ((let h : Sized c.args.file.now = (le-leb _ _ c.if-file-gt16777216.false, le-leb _ _ c.if-file-lt10.false) in h), eq-eqb _ _ c.if-file-ne88.false, eq-eqb _ _ c.if-file-ne78.false, eq-eqb _ _ c.if-file-ne66.false) in h), sym c.is_platform.ensures ∙ c.if-not-is_platform.false) in h), eq-eqb _ _ c.if-file-ne5.false)
+is-versioned c =
+    let sized : Sized c.args.file.now = (le-leb _ _ c.if-file-gt16777216.false, le-leb _ _ c.if-file-lt10.false) in
+    let lettered : Lettered c.args.file.now = (sized, eq-eqb _ _ c.if-file-ne88.false, eq-eqb _ _ c.if-file-ne78.false, eq-eqb _ _ c.if-file-ne66.false) in
+    let placed : Placed c.args.file.now = (lettered, sym c.is_platform.ensures ∙ c.if-not-is_platform.false) in
+    (placed, eq-eqb _ _ c.if-file-ne5.false)
 
 is-flagged : (c : Else-file-gt1) → Flagged c.args.file.now
-is-flagged c = ((let h : Versioned c.args.file.now = ((let h : Placed c.args.file.now = ((let h : Lettered c.args.file.now = ((let h : Sized c.args.file.now = (le-leb _ _ c.if-file-gt16777216.false, le-leb _ _ c.if-file-lt10.false) in h), eq-eqb _ _ c.if-file-ne88.false, eq-eqb _ _ c.if-file-ne78.false, eq-eqb _ _ c.if-file-ne66.false) in h), sym c.is_platform.ensures ∙ c.if-not-is_platform.false) in h), eq-eqb _ _ c.if-file-ne5.false) in h), lt-ltb _ _ c.if-file-ge128.false, le-leb _ _ c.if-file-gt1.false)
+is-flagged c =
+    let sized : Sized c.args.file.now = (le-leb _ _ c.if-file-gt16777216.false, le-leb _ _ c.if-file-lt10.false) in
+    let lettered : Lettered c.args.file.now = (sized, eq-eqb _ _ c.if-file-ne88.false, eq-eqb _ _ c.if-file-ne78.false, eq-eqb _ _ c.if-file-ne66.false) in
+    let placed : Placed c.args.file.now = (lettered, sym c.is_platform.ensures ∙ c.if-not-is_platform.false) in
+    let versioned : Versioned c.args.file.now = (placed, eq-eqb _ _ c.if-file-ne5.false) in
+    (versioned, lt-ltb _ _ c.if-file-ge128.false, le-leb _ _ c.if-file-gt1.false)
 
 pub returns-then-file-gt16777216 : goal.returns-then-file-gt16777216
 returns-then-file-gt16777216 c = long _ c.if-file-gt16777216.true

@@ -18,8 +18,12 @@ returns-then-used-row c =
 
 pub loop-left-preserved : goal.loop-left-preserved
 loop-left-preserved c =
-    let a = c.args in
-    (omega (arith, c.note-m.ensures.within), c.note-m.ensures.size ∙ c.loop-left.invariant.1, λ rows d. one_gathered a.grid a.words.now a.used a.n a.first rows d c.loop-left.left c.loop-left.row c.loop-left-test.true c.if-used-row.false c.next_row-value.ensures c.next_row-row.ensures c.word_in-kind.ensures _ _ _ _ (omega arith) c.note-m.ensures (c.loop-left.invariant.2 rows d))
+    let a = c.args in (
+      omega (arith, c.note-m.ensures.within),
+      c.note-m.ensures.size ∙ c.loop-left.invariant.1,
+      λ rows d.
+          one_gathered a.grid a.words.now a.used a.n a.first rows d c.loop-left.left c.loop-left.row c.loop-left-test.true c.if-used-row.false c.next_row-value.ensures c.next_row-row.ensures c.word_in-kind.ensures _ _ _ _ (omega arith) c.note-m.ensures (c.loop-left.invariant.2 rows d),
+    )
 
 pub returns : goal.returns
 returns c =

@@ -18,8 +18,12 @@ content_at-requires c = omega (arith, c.loop-i-test.true, c.requires.0)
 pub loop-i-preserved : goal.loop-i-preserved
 loop-i-preserved c =
     let a = c.args in
-    let k : Clear c.loop-i.words = rw c.loop-i.invariant.1 c.requires.1 in
-    (omega (arith, c.loop-i-test.true), c.count_file.ensures.words_unchanged k ∙ c.loop-i.invariant.1, search rules, rw (c.count_file.ensures.figures_after k, c.content_at.ensures) (c.loop-i.invariant.3 ∙ one_file (opened a.enums.now) a.pack.now a.table.now a.files c.loop-i.i c.loop-i-test.true c.loop-i.figures))
+    let k : Clear c.loop-i.words = rw c.loop-i.invariant.1 c.requires.1 in (
+      omega (arith, c.loop-i-test.true),
+      c.count_file.ensures.words_unchanged k ∙ c.loop-i.invariant.1,
+      search rules,
+      rw (c.count_file.ensures.figures_after k, c.content_at.ensures) (c.loop-i.invariant.3 ∙ one_file (opened a.enums.now) a.pack.now a.table.now a.files c.loop-i.i c.loop-i-test.true c.loop-i.figures),
+    )
 
 pub returns : goal.returns
 returns c =

@@ -46,4 +46,8 @@ returns c =
     let b : c.measure-size.result.bytes ≡ length (new_pack args.pack.now) = ap (λ (s : Size). s.bytes) c.measure-size.ensures in
     let s : c.measure-size.result.stretches ≡ length (skipped_of args.pack.now) = ap (λ (s : Size). s.stretches) c.measure-size.ensures in
     let r : c.measure-size.result.records ≡ length (kept_of (pieces_of args.pack.now)) = ap (λ (s : Size). s.records) c.measure-size.ensures in
-    named ((rw (b, s) (sym (put-answer args.pack.now c.measure-size.result.records args.out.now args.list.now (record { long = c.if-pack-lt4.false; count = r; room = omega (arith, b, c.if-out-bytes.false); listed = omega (arith, s, c.if-list-stretches.false) }))), (both c.put_pieces.ensures.out_after c.put_pieces.ensures.list_after)))
+    named ((
+      rw (b, s) (sym (put-answer args.pack.now c.measure-size.result.records args.out.now args.list.now
+          (record { long = c.if-pack-lt4.false; count = r; room = omega (arith, b, c.if-out-bytes.false); listed = omega (arith, s, c.if-list-stretches.false) }))),
+      (both c.put_pieces.ensures.out_after c.put_pieces.ensures.list_after),
+    ))
