@@ -21,7 +21,7 @@ abbrev pub Stand : Shape → (room : ℕ) (table : List ℕ) → List Row → Ty
 Stand s room table rows = (i j : ℕ) → i < length rows → j < width → get_or table (cell s room i j) 0 ≡ get_or (get_or (map words rows) i []) j 0
 
 -- words 3, 4 and 6 of row i are what the rule says of
-frame-words : (rows : List Row) (i : ℕ) → i < length rows
+pub frame-words : (rows : List Row) (i : ℕ) → i < length rows
     → (get_or (get_or (map words rows) i []) 3 0 ≡ children_of (framed rows) i)
     × (get_or (get_or (map words rows) i []) 4 0 ≡ parent_of (framed rows) i)
     × (get_or (get_or (map words rows) i []) 6 0 ≡ branch_of (framed rows) i)
@@ -30,7 +30,7 @@ frame-words [] i h = absurd (omega arith)
 frame-words (r ∷ rows) zero h = (refl, refl, refl)
 frame-words (r ∷ rows) (suc i) h = frame-words rows i (omega arith)
 
-length-framed : (rows : List Row) → length (framed rows) ≡ length rows
+pub length-framed : (rows : List Row) → length (framed rows) ≡ length rows
 length-framed [] = refl
 length-framed (r ∷ rows) = ap suc (length-framed rows)
 
@@ -43,14 +43,6 @@ stand_skips s room table rows ts e stand =
     skips_same (children_of (framed rows)) (λ i. get_or table (cell s room i 3) 0) (parent_of (framed rows)) (λ i. get_or table (cell s room i 4) 0)
     (branch_of (framed rows)) (λ i. get_or table (cell s room i 6) 0) (length rows)
     (λ i h. sym (stand i 3 h (omega arith) ∙ (w i h).0)) (λ i h. sym (stand i 4 h (omega arith) ∙ (w i h).1)) (λ i h. sym (stand i 6 h (omega arith) ∙ (w i h).2)) k
-
-stand_roots : (s : Shape) (room : ℕ) (table : List ℕ) (rows : List Row) (ts : Trees) → framed rows ≡ frames ts 0 0 → Stand s room table rows → TableRoots s room table (length rows) (count ts)
-stand_roots s room table rows ts e stand =
-    let k : Roots (parent_of (framed rows)) (branch_of (framed rows)) (length rows) (count ts)
-    = record { many = rw (← e, length-framed rows) at (root_count ts); chain = rw (← e, length-framed rows) at (roots ts) } in
-    let w = frame-words rows in
-    roots_same (parent_of (framed rows)) (λ i. get_or table (cell s room i 4) 0) (branch_of (framed rows)) (λ i. get_or table (cell s room i 6) 0) (length rows) (count ts)
-    (λ i h. sym (stand i 4 h (omega arith) ∙ (w i h).1)) (λ i h. sym (stand i 6 h (omega arith) ∙ (w i h).2)) k
 
 -- rows one after the other, and words behind them, are a table by rows
 pub rows_stand : (room : ℕ) (rows : List Row) (rest : List ℕ) → Stand by_rows room (flat rows ++ rest) rows
@@ -72,20 +64,3 @@ file_skips es s room ft bs w table stand =
     let refers = Resource (shared_of ft.objects) in
     stand_skips s room table (file_rows es ft bs w) ft.objects
     (rows-framed w.readers refers plan ft.objects w.values w.laid (10 + length w.before) 0 0) stand
-
--- there is a primary object before the shared ones
-some-object : (readers : List Target) (refers : ℕ → ℕ → Type 0) (shared : ℕ) (ts : Trees) (bs : List ℕ) → Lays readers refers (objects_plan shared) ts bs → count ts ≡ suc (count (shared_of ts))
-unfolding Lays objects_plan each shared_of count
-some-object readers refers shared none bs w = absurd w
-some-object readers refers shared (tree k i own cs rest) bs w = refl
-
--- the rows of its objects, the primary and the shared ones, follow each other in every such table
-pub file_roots : (es : List EnumEntry) (s : Shape) (room : ℕ) (ft : FileTree) (bs : List ℕ) (w : FileLays es ft bs) (table : List ℕ)
-    → Stand s room table (file_rows es ft bs w) → TableRoots s room table (length (file_rows es ft bs w)) (suc (count (shared_of ft.objects)))
-unfolding file_rows
-file_roots es s room ft bs w table stand =
-    let plan = objects_plan (count (shared_of ft.objects)) in
-    let refers = Resource (shared_of ft.objects) in
-    rw (some-object w.readers refers (count (shared_of ft.objects)) ft.objects w.values w.laid) at
-    (stand_roots s room table (file_rows es ft bs w) ft.objects
-    (rows-framed w.readers refers plan ft.objects w.values w.laid (10 + length w.before) 0 0) stand)

@@ -4,7 +4,7 @@ use Rattle.std.specs.Prelude.{refl, List, ℕ, ◌+◌, ◌*◌, ◌<◌}
 use Rattle.std.proofs.Common.{◌∙◌, arith}
 use Rattle.reading.specs.Reads.{Small}
 use Rattle.reading.specs.File.{Load, refusal}
-use Rattle.reading.specs.Refusals.{refusal-place}
+use Rattle.reading.proofs.Refusals.{refusal-place}
 use Rattle.reading.specs.Output as rewritten
 use Rattle.readers.specs.Judged.{judged_name, judges, within-name}
 use Rattle.enums.specs.Judge.{Judgement, lawful, enums_at}

@@ -19,7 +19,7 @@ use Rattle.reading.specs.Front.{lists_reads}
 use Rattle.reading.specs.Accepts.{entries-length}
 use Rattle.reading.specs.File.{lists_at, Load, refusal, accepted, load_of, table_of, table_in}
 use Rattle.layout.specs.Fits.{FittingTree, rows_in}
-use Rattle.reading.specs.Theorems.{accepted_is}
+use Rattle.reading.proofs.Theorems.{accepted_is}
 use Rattle.table.specs.Grids.{rows_grid}
 use Rattle.places.specs.Padding.{file_padding}
 use Rattle.names.specs.Entries.{enums_of}

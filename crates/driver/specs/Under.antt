@@ -12,7 +12,7 @@ use Rattle.readers.specs.Judged.{judged_name, judges}
 use Rattle.load.specs.Under.{load_under, load_lawful, load_refused-list}
 use Rattle.profile.specs.Profile.{Profile}
 use Rattle.profile.specs.Offences.{driver_of}
-use Rattle.profile.specs.Passes.{passes, same_answer}
+use Rattle.profile.proofs.Passes.{passes, same_answer}
 
 -- 02, Req 02: 32 "before all else"
 unfoldable pub by_list : Judgement → (file : List ℕ) (words : ℕ) → Load

@@ -20,6 +20,7 @@ use Rattle.places.specs.Padding.{file_padding}
 use Rattle.reading.specs.Reads.{Small}
 use Rattle.reading.specs.File.{Load, refusal, accepted, load_of, table_of, table_in}
 use Rattle.reading.specs.Theorems as T
+use Rattle.reading.proofs.Theorems as T-laws
 use Rattle.branches.specs.Table.{rows_stand, file_skips}
 use Rattle.shortest.specs.Theorems as S
 use Rattle.readers.specs.Judged.{judged_name, judges}
@@ -31,7 +32,7 @@ use Rattle.profile.specs.Profile.{Profile}
 use Rattle.profile.specs.Offences.{fine, fault, fault_of, by_fault, profiled, driver_of, Offence}
 use Rattle.profile.specs.Passes.{driver_is}
 use Rattle.profile_places.specs.Broken.{FirstBroken}
-use Rattle.profile_places.specs.First.{first_broken}
+use Rattle.profile_places.proofs.First.{first_broken}
 use Rattle.driver.specs.Facts.{hand_on}
 use Rattle.driver.specs.Under.{by_list, driver_under, passes_under, same_under, none_under}
 use Rattle.layout.specs.Fits.{Fitting, rows_in}
@@ -46,7 +47,7 @@ module _ {enums file : List ℕ} {words : ℕ} (f : Fitting enums file words) wh
   list_is = ap enums_at f.listed ∙ enums-complete f.es f.lawful
 
   load_is : load_under enums file words ≡ accepted (rows_in f.fits) (length f.fits.tree.names) (count (shared_of f.fits.tree.objects))
-  load_is = load_lawful enums file words f.es list_is ∙ T.rows_are f.es (judged_name f.es) (judges f.es) file words f.fits
+  load_is = load_lawful enums file words f.es list_is ∙ T-laws.rows_are f.es (judged_name f.es) (judges f.es) file words f.fits
 
   driver_of_lem : driver_under enums file words
       ≡ by_fault (fault_of file f.fits.lays.readers (rows_in f.fits)) (accepted (rows_in f.fits) (length f.fits.tree.names) (count (shared_of f.fits.tree.objects)))

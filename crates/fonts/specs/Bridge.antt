@@ -15,7 +15,7 @@ use Rattle.reading.specs.Rules.{same, same_true, same_refl}
 use Rattle.reading.specs.Font.{rising, font_test, font_if, font_ok}
 use Rattle.reading.specs.Drafts.{drafts_of}
 use Rattle.reading.specs.Walk.{Taken, point, sequence, walk}
-use Rattle.reading.specs.Sound.{walks_sound}
+use Rattle.reading.proofs.Sound.{walks_sound}
 use Rattle.table.specs.declared.Grid.{Grid}
 use Rattle.walked.specs.Written.{written}
 use Rattle.fonts.specs.FontWords.{beyond, beyond_is, word_at, row_after, some, equal, all_there, all_equal, font_words, by_rows}

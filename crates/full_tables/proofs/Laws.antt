@@ -14,7 +14,8 @@ use Rattle.reading.specs.Answer.{Answer, refused, read, bind}
 use Rattle.reading.specs.Drafts.{Draft, bare, length-bare}
 use Rattle.reading.specs.Walk.{Taken}
 use Rattle.reading.specs.File.{Named, Loaded, refusal, to_load, load_of, table_of, header_at, lists_at, objects_at, judged, finished, file_at, table_in}
-use Rattle.reading.specs.Accepts.{loaded_of, rows-count, file_complete, file_bare}
+use Rattle.reading.specs.Accepts.{loaded_of, rows-count, file_bare}
+use Rattle.reading.proofs.Accepts.{file_complete}
 use Rattle.readers.specs.Judged.{judged_name, judges}
 use Rattle.enums.specs.Lists.{judged-list}
 use Rattle.load.specs.Under.{load_under, load_lawful}

@@ -58,7 +58,8 @@ use Rattle.enums.specs.Judge.{Judgement, lawful, enums_at}
 use Rattle.enums.specs.Judge.{refused as list-refused}
 use Rattle.load.specs.Under.{under_list, file_under, load_under}
 use Rattle.readers.specs.Contract.{lists_total}
-use Rattle.reading.specs.Theorems.{accepted_is, rows_fit}
+use Rattle.reading.specs.Theorems.{rows_fit}
+use Rattle.reading.proofs.Theorems.{accepted_is}
 use Rattle.places.specs.Padding.{rows_padding, file_padding, file_padding_lem, file_few}
 
 module _ (file : List ℕ) (platform flags : ℕ) (names : List (List ℕ)) (readers shared : ℕ) (a : Taken) (next : ℕ) where
@@ -257,26 +258,9 @@ pub lists_padded : (file : List ℕ) (count padding : ℕ) (readers : List Targe
 unfolding lists_total
 lists_padded file count padding readers c p rows = ap in_word (rw (p, c) (sym (file_padding_lem file (length readers) rows)))
 
--- a file that is accepted has few numbers, so its padding fits a word
-listed-fits : (es : List EnumEntry) (file : List ℕ) (words : ℕ) → Small file → (rows : List Row) (readers shared : ℕ) → load_of (judged_name es) file words ≡ accepted rows readers shared → in_word (file_padding file readers rows) ≡ file_padding file readers rows
-unfolding room_of
-listed-fits es file words small rows readers shared e =
-    let a = accepted_is es (judged_name es) (judges es) file words small rows readers shared e in
-    let f = a.0 in
-    let n : length rows ≤ 65536 = omega (arith, ap length a.1, (rows_fit es (judged_name es) (judges es) file words f).0, f.room) in
-    in_word_lem (file_padding file readers rows) (omega (arith, file_few file small readers rows, a.2, f.lays.lists.not_many))
-
--- under a lent list
-total-fits : (enums file : List ℕ) (words : ℕ) → Small file → (rows : List Row) (readers shared : ℕ) → load_under enums file words ≡ accepted rows readers shared → in_word (file_padding file readers rows) ≡ file_padding file readers rows
-unfolding load_under file_under under_list to_load load_of
-total-fits enums file words small rows readers shared e = go (enums_at enums) e where
-  go : (j : Judgement) → to_load (under_list j (λ es. file_at (judged_name es) file (room_of words))) ≡ accepted rows readers shared → in_word (file_padding file readers rows) ≡ file_padding file readers rows
-  go (list-refused n i) q = differ cc
-  go (lawful es) q = listed-fits es file words small rows readers shared q
-
 -- the whole: what is answered, and what the words hold at the end
 module _ (enums file entry : List ℕ) (columns : Bool) where
-  abbrev loads : (exit : List ℕ) → Loading → Type 0
+  abbrev pub loads : (exit : List ℕ) → Loading → Type 0
   loads exit r = Loads (grid_of (length entry) columns) (file_total file) (file_under enums file (room_of (length entry))) entry exit r
 
   pub load_refused : (mid : List ℕ) {exit : List ℕ} {n p : ℕ} → loads mid (Refused n p) → length mid ≡ length entry → exit ≡ cleared mid 0
@@ -287,17 +271,3 @@ module _ (enums file entry : List ℕ) (columns : Bool) where
     go false (refused a b) l = (l, e ∙ none_kept mid (length entry) m)
     go true (refused a b) l = (l, e ∙ none_kept mid (length entry) m)
     go b (read a f) l = absurd (let q : Refused n p ≡ Loaded (length a.rows) a.readers a.shared (file_total file a.readers (bare a.rows)) = l.0 in differ cc)
-
-  pub load_loaded : Small file → {exit : List ℕ} {rows readers shared padding : ℕ} → loads exit (Loaded rows readers shared padding)
-      → (Loaded rows readers shared padding ≡ answer_of file (load_under enums file (length entry))) × (exit ≡ table_in (shape_of columns) (load_under enums file (length entry)) (length entry))
-  unfolding load_under to_load table_in
-  load_loaded small {exit} {rows} {readers} {shared} {padding} l = go columns (file_under enums file (room_of (length entry))) refl l where
-    go : (b : Bool) (x : Answer FileLoaded) → file_under enums file (room_of (length entry)) ≡ x → Loads (grid_of (length entry) b) (file_total file) x entry exit (Loaded rows readers shared padding)
-        → (Loaded rows readers shared padding ≡ answer_of file (to_load x)) × (exit ≡ table_in (shape_of b) (to_load x) (length entry))
-    go b (refused c d) q l = differ cc
-    go false (read a f) q l =
-        let t = total-fits enums file (length entry) small (bare a.rows) a.readers a.shared (ap to_load q) in
-        (l.0 ∙ rw (length-bare a.rows, t), l.1)
-    go true (read a f) q l =
-        let t = total-fits enums file (length entry) small (bare a.rows) a.readers a.shared (ap to_load q) in
-        (l.0 ∙ rw (length-bare a.rows, t), l.1)

@@ -12,7 +12,7 @@ use Rattle.reading.specs.Reads.{Small}
 use Rattle.reading.specs.Output.{Rewritten, refusal, fitted, output_of}
 use Rattle.pack_layout.specs.Pack.{Stored, PackLays, pack_bytes, mark_of}
 use Rattle.pack_reading.specs.Pack.{pack_at, to_pack}
-use Rattle.pack_reading.specs.Theorems.{pack_sound}
+use Rattle.pack_reading.proofs.Theorems.{pack_sound}
 use Rattle.packs.specs.declared.Reading.TheVariants.{Refused, Read}
 use Rattle.packs.specs.Files as packs
 use Rattle.pack_writing.specs.Convert.{by_pack, convert_of, converts, marked-length}

@@ -16,7 +16,7 @@ use Rattle.reading.specs.Answer.{read}
 use Rattle.reading.specs.Reads.{Small}
 use Rattle.reading.specs.Little.{little_at, little_there, little_next}
 use Rattle.reading.specs.Walk.{Taken, walk}
-use Rattle.reading.specs.Sound.{walk-sound}
+use Rattle.reading.proofs.Sound.{walk-sound}
 use Rattle.meshes.specs.Stages.{told_size, told_at, word_of}
 use Rattle.meshes.specs.Follows.{Telling, by_flag, by_number, by_size, by_stride}
 

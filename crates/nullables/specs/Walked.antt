@@ -18,7 +18,7 @@ use Rattle.reading.specs.Reads.{Small}
 use Rattle.reading.specs.Little.{little_at, little_there}
 use Rattle.reading.specs.Heads.{head_at}
 use Rattle.reading.specs.Walk.{Taken, Outcome, sequence, raw_at, value_at, walk}
-use Rattle.reading.specs.Bounds.{walk_bounds, walk_single}
+use Rattle.reading.proofs.Bounds.{walk_bounds, walk_single}
 use Rattle.targets.specs.Word.{enum_kind_lem}
 use Rattle.targets.specs.Code.{Stands, code_kind}
 use Rattle.targets.specs.Laws.{kind_is, nullable-argument}
@@ -37,8 +37,10 @@ use Rattle.leaves.specs.declared.run.Run.TheVariants.{Same}
 use Rattle.leaves.specs.Plain.{plain_slot, head_of, Begin}
 use Rattle.leaves.specs.Plain.{Lawful as LawfulPlain}
 use Rattle.leaves.specs.Like.{Like, like_walk, alike-each, alike-sequence}
-use Rattle.leaves.specs.Run.{run_walked, begin_on}
-use Rattle.leaves.specs.Same.{Uniform, same_run}
+use Rattle.leaves.specs.Run.{begin_on}
+use Rattle.leaves.proofs.RunLaws.{run_walked}
+use Rattle.leaves.specs.Same.{Uniform}
+use Rattle.leaves.proofs.SameLaws.{same_run}
 use Rattle.heads.specs.declared.slot.Slot.TheVariants.{Simple}
 use Rattle.heads.specs.Placed.{SlotIs, raw_of}
 use Rattle.heads.specs.Slots.{raw_is}

@@ -21,8 +21,8 @@ use Rattle.reading.specs.Reads.{Small}
 use Rattle.reading.specs.Font.{font_ok}
 use Rattle.reading.specs.Heads.{Opening, head_at}
 use Rattle.reading.specs.Walk.{Taken, Outcome, point, sequence, raw_at, walk}
-use Rattle.reading.specs.Sound.{walks_sound}
-use Rattle.reading.specs.Bounds.{sequence_bounds}
+use Rattle.reading.proofs.Sound.{walks_sound}
+use Rattle.reading.proofs.Bounds.{sequence_bounds}
 use Rattle.reading.specs.Drafts.{Draft, drafted, bare}
 use Rattle.targets.specs.Code.{code_kind}
 use Rattle.targets.specs.Word.{fixed-has-size}

@@ -9,7 +9,8 @@ use Rattle.reading.specs.Answer.{read}
 use Rattle.reading.specs.Reads.{Small}
 use Rattle.reading.specs.File.{Named, Judges, Loaded, file_at}
 use Rattle.reading.specs.Drafts.{bare}
-use Rattle.reading.specs.Accepts.{file_bare, file_sound}
+use Rattle.reading.specs.Accepts.{file_bare}
+use Rattle.reading.proofs.Accepts.{file_sound}
 use Rattle.pack_figures.specs.Figures.{Figure, of_load}
 use Rattle.pack_figures.specs.Digest.{marks, file_marks, of_accepted, of_marks, of_digest}
 

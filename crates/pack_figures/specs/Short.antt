@@ -17,7 +17,8 @@ use Rattle.reading.specs.Reads.{Small}
 use Rattle.reading.specs.Seven.{seven_at}
 use Rattle.reading.specs.File.{Named, Judges, Loaded, file_at}
 use Rattle.reading.specs.Drafts.{bare}
-use Rattle.reading.specs.Accepts.{rows-count, file_bare, file_sound}
+use Rattle.reading.specs.Accepts.{rows-count, file_bare}
+use Rattle.reading.proofs.Accepts.{file_sound}
 use Rattle.numbers.specs.Padded.{number_of}
 use Rattle.places.specs.Places.{raw_place}
 use Rattle.pack_figures.specs.Figures.{Figure, files, loaded, text_bytes, image_bytes, refusals, rows, one, of_refusal, of_load}

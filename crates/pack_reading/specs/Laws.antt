@@ -144,29 +144,3 @@ module _ (mark file : List ℕ) where
       (λ fs bs w.
       let m : length fs ≡ min n room = omega (arith, w.0, w.1) in
       (fs, records_bytes mark fs, [], w.3 ∙ sym (append-nil (records_bytes mark fs)), (m, w.2, refl), (le-leb n room w.1, (refl, refl))))
-
-  pub files_reads : (room : ℕ) → Reads file (λ fs bs. (length fs ≤ room) × PackLays mark fs bs) (files_at mark file room)
-  unfolding files_at pack_bytes
-  files_reads room =
-      convert file
-      (bind_reads file (here_reads file (λ p. little_reads file 4 p)) (λ n at. check_reads file (leb n 4096) 9 at (records_reads n room)))
-      (λ fs bs s w.
-      let u = w.5.1 in
-      let l = leb-true w.0 4096 w.5.0 in (
-        omega (arith, u.0, u.1),
-        record {
-          lawful = u.2;
-          not_many = omega (arith, u.0);
-          parts = rw (w.3, w.4.1, u.3, u.0);
-        },
-      ))
-      (λ fs bs w.
-      let p = w.1 in
-      let small : length fs < 256 ^ 4 = omega (arith, p.not_many) in (
-        length fs,
-        little 4 (length fs),
-        records_bytes mark fs,
-        p.parts,
-        (small, refl),
-        (le-leb (length fs) 4096 p.not_many, (refl, w.0, p.lawful, refl)),
-      ))

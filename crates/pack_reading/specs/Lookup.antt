@@ -82,13 +82,6 @@ module _ (file path : List ℕ) where
     go true q s = inl (matches-sound e q, refl, refl)
     go false q s = says_later e es (find_in file path es) (λ m. let z : true ≡ false = sym (matches-complete e m) ∙ q in differ cc) s
 
-  -- no entry matches where one is the first to match
-  apart : (es : List Entry) (first count : ℕ) → NoMatch file path es → FirstMatch file path es first count → ⊥
-  unfolding NoMatch FirstMatch
-  apart [] first count n f = f
-  apart (e ∷ es) first count n (inl f) = n.0 f.0
-  apart (e ∷ es) first count n (inr f) = apart es first count n.1 f.1
-
   -- the first entry that matches is the one that is found
   pub first_exactly : (es : List Entry) (first count : ℕ) → FirstMatch file path es first count → find_in file path es ≡ found first count
   unfolding FirstMatch find_in
@@ -98,13 +91,6 @@ module _ (file path : List ℕ) where
     go : (t : Bool) → matches file path e ≡ t → find_in file path es ≡ found first count → cond t (found e.data_start e.data_length) (find_in file path es) ≡ found first count
     go true q s = absurd (f.0 (matches-sound e q))
     go false q s = s
-
-  pub absent_exactly : (es : List Entry) → (find_in file path es ≡ absent) ↔ NoMatch file path es
-  unfolding Says
-  absent_exactly es = (λ q. subst (Says es) q (find_says es), λ n. go (find_in file path es) (find_says es) n) where
-    go : (x : Found) → Says es x → NoMatch file path es → x ≡ absent
-    go absent s n = refl
-    go (found first count) s n = absurd (apart es first count n s)
 
 -- ---- In the table of a pack it gives the data of the first file of that path
 
@@ -117,52 +103,3 @@ wanted path (f ∷ fs) = cond (same (lowered f.path) (lowered path)) (content f.
 unfoldable pub bytes_of : (file : List ℕ) → Found → Content
 bytes_of file absent = missing
 bytes_of file (found first count) = content (take count (drop first file))
-
-wholes-flat : (es : List Entry) (words : List ℕ) → wholes (flat es ++ words) ≡ es ++ wholes words
-unfolding wholes flat
-wholes-flat [] words = refl
-wholes-flat (e ∷ es) words = ap (λ (l : List Entry). e ∷ l) (wholes-flat es words)
-
-module _ (file path : List ℕ) where
-  -- zeros match nothing
-  zeros : (n : ℕ) → find_in file path (wholes (replicate n 0)) ≡ absent
-  unfolding wholes find_in matches
-  zeros zero = refl
-  zeros (suc zero) = refl
-  zeros (suc (suc zero)) = refl
-  zeros (suc (suc (suc zero))) = refl
-  zeros (suc (suc (suc (suc n)))) = zeros n
-
-  -- an entry that names a lawful file matches exactly where its path does
-  matches_one : (e : Entry) (f : Stored) → NamesOne file e f → Lawful f → e.path_length ≡ length f.path → matches file path e ≡ same (lowered f.path) (lowered path)
-  unfolding matches
-  matches_one e f w l k =
-      rw (
-        le-leb 1 e.path_length (omega (arith, l.not_empty)),
-        le-leb (e.path_start + e.path_length) (length file) w.path_part.inside,
-        le-leb (e.data_start + e.data_length) (length file) w.data_part.inside,
-        w.path_part.bytes_are,
-      )
-
-chosen : (file : List ℕ) (t : Bool) (first count : ℕ) (x : Found) (bytes : List ℕ) (y : Content) → take count (drop first file) ≡ bytes → bytes_of file x ≡ y
-    → bytes_of file (cond t (found first count) x) ≡ cond t (content bytes) y
-unfolding bytes_of
-chosen file true first count x bytes y p q = ap content p
-chosen file false first count x bytes y p q = q
-
-module _ (mark file path : List ℕ) where
-  by_names : (at : ℕ) (fs : List Stored) (n : ℕ) → Names file (entries mark at fs) fs → Each Lawful fs
-      → bytes_of file (find_in file path (entries mark at fs ++ wholes (replicate n 0))) ≡ wanted path fs
-  unfolding Names Each wanted bytes_of find_in entries entry_of
-  by_names at [] n w l = rw (zeros file path n)
-  by_names at (f ∷ fs) n w l =
-      let e = entry_of mark at f in
-      let rest = entries mark (at + length (record_bytes mark f)) fs ++ wholes (replicate n 0) in
-      let m : matches file path e ≡ same (lowered f.path) (lowered path) = matches_one file path e f w.0 l.0 refl in
-      let r : bytes_of file (find_in file path rest) ≡ wanted path fs = by_names (at + length (record_bytes mark f)) fs n w.1 l.1 in
-      rw m (chosen file (same (lowered f.path) (lowered path)) e.data_start e.data_length (find_in file path rest) f.content (wanted path fs) w.0.data_part.bytes_are r)
-
-  -- a lookup in the table that reading left gives the data of the pack's first file of that path, whatever the form of the pack
-  pub looks_up : (fs : List Stored) (n : ℕ) → PackLays mark fs file → bytes_of file (find_of file (flat (entries mark 4 fs) ++ replicate n 0) path) ≡ wanted path fs
-  unfolding find_of
-  looks_up fs n w = rw (wholes-flat (entries mark 4 fs) (replicate n 0)) (by_names 4 fs n (names mark file fs w) w.lawful)

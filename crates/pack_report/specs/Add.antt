@@ -17,7 +17,7 @@ use Rattle.pack_layout.specs.Table.{Entry, flat, entries, files_room as pack_roo
 use Rattle.pack_layout.specs.Parts.{Names}
 use Rattle.pack_reading.specs.Pack.{Pack, refusal, accepted, pack_at, to_pack, pack_of, table_of, table_for}
 use Rattle.pack_reading.specs.Parts.{names}
-use Rattle.pack_reading.specs.Theorems.{pack_sound}
+use Rattle.pack_reading.proofs.Theorems.{pack_sound}
 use Rattle.packs.specs.declared.Reading.TheVariants as reading
 use Rattle.packs.specs.Files.{answer_of}
 use Rattle.load_part.specs.Part.{opened}

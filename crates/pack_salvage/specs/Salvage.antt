@@ -9,7 +9,7 @@ use Rattle.pack_layout.specs.Pack.{Stored, marked, record_bytes, records_bytes, 
 use Rattle.pack_reading.specs.Pack.{accepted}
 use Rattle.pack_salvage.specs.Scan.{Piece, kept, skipped, Scanned, pieces_bytes, makes_up, kept_of, all_kept, kept-lawful, kept-no_longer, keeps_all, kept_all}
 use Rattle.pack_salvage.specs.Scanning.{scan, scan_is, is_scanned}
-use Rattle.pack_salvage.specs.Stretches.{Stretch, stretches, words, stretches-at_most}
+use Rattle.pack_salvage.specs.Stretches.{Stretch, stretches, words}
 
 -- Req 11: "From byte 4"; "after 4,096 records"
 abbrev pub pieces_of : (file : List ℕ) → List Piece
@@ -65,12 +65,6 @@ list_for file out list = list_of (salvage_for file out list) list
 pub pieces_scanned : (file : List ℕ) → Small file → Scanned 4096 (drop 4 file) (pieces_of file)
 pieces_scanned file small = is_scanned 4096 (drop 4 file) (small-drop 4 file small)
 
--- what is written is a marked pack
-pub pack_written : (file : List ℕ) → Small file → PackLays marked (kept_of (pieces_of file)) (new_pack file)
-pack_written file small =
-    let k = kept-lawful (pieces_scanned file small) in
-    record { lawful = k.0; not_many = k.1; parts = refl }
-
 -- the new pack has no more bytes than the pack, so that as many are always room enough
 pub no_longer : (file : List ℕ) (ps : List Piece) → 4 ≤ length file → Scanned 4096 (drop 4 file) ps → length (pack_bytes marked (kept_of ps)) ≤ length file
 unfolding pack_bytes
@@ -85,10 +79,6 @@ no_longer file ps h s =
       length-little 4 (length fs),
       length-append (little 4 (length fs)) (records_bytes marked fs),
     )
-
--- there are at most 4,097 stretches: one before each of 4,096 records, and one behind them
-pub few_stretches : {bs : List ℕ} (ps : List Piece) → Scanned 4096 bs ps → length (stretches 4 ps) ≤ 4097
-few_stretches ps s = omega (arith, stretches-at_most 4 ps, (kept-lawful s).1)
 
 no_stretch : (at : ℕ) (fs : List Stored) → stretches at (all_kept fs) ≡ []
 unfolding stretches all_kept
@@ -107,31 +97,3 @@ accepted-stays fs file out list small w room =
     let f = four fs file w in
     let s : scan 4096 zero (drop 4 file) ≡ all_kept fs = scan_is (small-drop 4 file small) (rw f.0 (keeps_all 4096 fs w.lawful w.not_many)) in
     rw (s, kept_all fs, no_stretch 4 fs, ← w.parts, le-leb 4 (length file) f.1, le-leb (length file) out room, le-leb 0 (list / 2) (omega arith))
-
-small-append : (a b : List ℕ) → Small a → Small b → Small (a ++ b)
-unfolding Small
-small-append [] b h k = k
-small-append (x ∷ a) b h k = (h.0, small-append a b h.1 k)
-
-small-little : (k n : ℕ) → Small (little k n)
-unfolding little Small
-small-little zero n = tt
-small-little (suc k) n = (omega arith, small-little k (n / 256))
-
-kept_small : (ps : List Piece) → Small (pieces_bytes ps) → Small (records_bytes marked (kept_of ps))
-unfolding pieces_bytes kept_of records_bytes Small
-kept_small [] h = tt
-kept_small (kept f ∷ ps) h =
-    let a = record_bytes marked f in
-    let b = pieces_bytes ps in
-    let k : Small b = subst Small (drop-append_seam a b) (small-drop (length a) (a ++ b) h) in
-    small-append a (records_bytes marked (kept_of ps)) (small_left a b h) (kept_small ps k)
-kept_small (skipped b ∷ ps) h = kept_small ps h.1
-
--- the new pack is a file of bytes
-new_small : (file : List ℕ) → Small file → Small (new_pack file)
-unfolding pack_bytes
-new_small file small =
-    let fs = kept_of (pieces_of file) in
-    let e = makes_up (pieces_scanned file small) in
-    small-append (little 4 (length fs)) (records_bytes marked fs) (small-little 4 (length fs)) (kept_small (pieces_of file) (rw e (small-drop 4 file small)))

@@ -6,7 +6,7 @@ use Rattle.reading.specs.Answer.{Answer, refused, read}
 use Rattle.reading.specs.Output.{Rewritten, refusal, fitted}
 use Rattle.pack_layout.specs.Pack.{Stored, plain, marked, record_bytes, records_bytes, pack_bytes, PackLays}
 use Rattle.pack_reading.specs.Pack.{pack_at}
-use Rattle.pack_reading.specs.Theorems.{pack_complete}
+use Rattle.pack_reading.proofs.Theorems.{pack_complete}
 
 -- Req 10: "Refusals: those of Req 01, 51 .., then 21 with the bytes needed"; "copying path lengths as found": the same files in the other form
 unfoldable pub by_pack : (to : List ℕ) → Answer (List Stored) → (out : ℕ) → Rewritten

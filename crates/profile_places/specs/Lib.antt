@@ -7,4 +7,3 @@ pub mod Numbers
 pub mod Names
 pub mod Pages
 pub mod Values
-pub mod First

@@ -13,9 +13,7 @@ pub mod Resource
 pub mod Heads
 pub mod Drafts
 pub mod Walk
-pub mod Complete
 pub mod Sound
-pub mod Unique
 pub mod Bounds
 pub mod File
 pub mod Front

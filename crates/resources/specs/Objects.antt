@@ -15,7 +15,8 @@ use Rattle.reading.specs.Reads.{Small}
 use Rattle.reading.specs.Resource.{length-kinds}
 use Rattle.reading.specs.Drafts.{Draft}
 use Rattle.reading.specs.Walk.{Taken}
-use Rattle.reading.specs.Sound.{Read, walks_sound}
+use Rattle.reading.specs.Sound.{Read}
+use Rattle.reading.proofs.Sound.{walks_sound}
 use Rattle.reading.specs.File.{objects_at, root_kinds}
 use Rattle.reading.specs.References.{roots_are, rows-length, slots-count}
 use Rattle.table.specs.declared.Grid.{Grid}

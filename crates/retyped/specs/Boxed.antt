@@ -23,7 +23,7 @@ use Rattle.layout.specs.File.{FileTree, shared_of, objects_plan, Entries, FileLa
 use Rattle.layout.specs.Rows.{Row, raw_rows, value_rows, noted_rows, rows_of, Below}
 use Rattle.reading.specs.Reads.{Small}
 use Rattle.reading.specs.File.{accepted, load_of, Named, Judges}
-use Rattle.reading.specs.Theorems.{accepted_is}
+use Rattle.reading.proofs.Theorems.{accepted_is}
 use Rattle.retyped.specs.Parts.{Each}
 
 -- ---- What stands raw

@@ -14,7 +14,6 @@ use Rattle.reading.specs.Walk.{Outcome, walk}
 use Rattle.reading.specs.File.{Named}
 use Rattle.retyped.specs.Texts.{Span, SequenceText, HeadText, RawText, ReaderText, ObjectText, ValueText, WalkText, FileText, In, InText, Retyped, BothRead}
 use Rattle.retyped.specs.Leaves.{TextBytes, text_here}
-use Rattle.retyped.specs.Files.{texts-kept}
 
 module _ (file : List ℕ) (P : Span → Type 0) (holds : (at : ℕ) (x : Span) → HeadText file string at x → P x) where
   sequence_texts : (step : Slot → ℕ → ℕ → Outcome) (text : Slot → ℕ → ℕ → Span → Type 0) → ((y : Slot) (at used : ℕ) (x : Span) → text y at used x → P x)
@@ -63,16 +62,6 @@ module _ (file : List ℕ) (P : Span → Type 0) (holds : (at : ℕ) (x : Span) 
       sequence_texts (λ y a u. walk file l.1 l.2 room 32 y a u 0) (λ y a u z. WalkText file l.1 l.2 room 32 y a u z)
       (λ y a u z t. walk_texts l.1 l.2 room 32 y a u z t) (objects_plan l.2) w.3.1 0 x w.3.3
 
-bytes_valid : (file : List ℕ) (n e : ℕ) (x : Span) → TextBytes file n e x → Utf8s (take x.1 (drop x.0 file))
-bytes_valid file n e x b = rw (b.0, b.1) (utf8s-sound (take n (drop e file)) b.2)
-
--- a text that a walk reads is valid
-pub text_valid : (name_of : ℕ → List ℕ → Named) (file : List ℕ) (room : ℕ) (x : Span) → FileText name_of room file x → Utf8s (take x.1 (drop x.0 file))
-text_valid name_of file room x w =
-    file_texts file (λ z. Utf8s (take z.1 (drop z.0 file))) (λ at z t.
-    let h = text_here file at z t in
-    bytes_valid file h.0 h.1 z h.3.1) name_of room x w
-
 -- ---- The hypotheses say the same
 
 module _ (Read : List ℕ → Span → Type 0) (f g : List ℕ) where
@@ -96,6 +85,3 @@ turned Read f g r = record { as_long = sym r.as_long; elsewhere = λ i. go i (r.
   go : (i : ℕ) → (get_or f i 0 ≡ get_or g i 0) ⊎ ((x : Span) × In i x × Read f x × Read g x) → (get_or g i 0 ≡ get_or f i 0) ⊎ ((x : Span) × In i x × Read g x × Read f x)
   go i (inl e) = inl (sym e)
   go i (inr w) = inr (w.0, w.1, w.3, w.2)
-
-pub file_read_by_both : (name_of : ℕ → List ℕ → Named) (f g : List ℕ) (room : ℕ) → Small f → Retyped (FileText name_of room) f g → BothRead (FileText name_of room) f g
-file_read_by_both name_of f g room small r = read_by_both (FileText name_of room) f g (texts-kept name_of f g room small r) r

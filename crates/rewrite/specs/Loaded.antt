@@ -13,7 +13,7 @@ use Rattle.reading.specs.Answer.{Answer, refused, read}
 use Rattle.reading.specs.Reads.{Small}
 use Rattle.reading.specs.File.{Load, refusal, accepted, Loaded as FileLoaded, to_load, table_of, table_in}
 use Rattle.layout.specs.Fits.{rows_in}
-use Rattle.reading.specs.Theorems.{accepted_is}
+use Rattle.reading.proofs.Theorems.{accepted_is}
 use Rattle.load.specs.declared.Loading.TheVariants.{Refused, Loaded}
 use Rattle.enums.specs.Judge.{lawful, enums_at}
 use Rattle.enums.specs.Judge.{refused as list-refused}

@@ -13,7 +13,8 @@ use Rattle.pack_layout.specs.Pack.{Stored, marked, record_bytes, records_bytes, 
 use Rattle.packs.specs.Walk.{records_append}
 use Rattle.pack_salvage.specs.Scan.{Piece, kept, all_skipped, NoRecordStands, kept_of}
 use Rattle.pack_salvage.specs.Scanning.{scan, is_scanned, scan-none, scan-keeps, record_length}
-use Rattle.pack_salvage.specs.Stretches.{Stretch, stretches, Apart, apart-later, stretches-apart}
+use Rattle.pack_salvage.specs.Stretches.{Stretch, stretches, Apart, apart-later}
+use Rattle.pack_salvage.proofs.Stretches.{stretches-apart}
 use Rattle.pack_salvage.specs.Salvage.{pieces_of, new_pack, skipped_of}
 use Rattle.salvage.specs.Salvaging.{StandsFrom, NextRecord, gap, gap_of, size_of}
 use Rattle.salvage.specs.declared.Size.{Size}

@@ -15,10 +15,11 @@ use Rattle.reading.specs.File as load
 use Rattle.reading.specs.File.{Named, Judges, Loaded, accepted, file_at, to_load, load_of}
 use Rattle.reading.specs.Drafts.{bare}
 use Rattle.reading.specs.Numbers.{last_number}
-use Rattle.reading.specs.Refusals.{WithinName, refusal-number, refusal-place}
-use Rattle.reading.specs.Accepts.{file_complete}
+use Rattle.reading.specs.Refusals.{WithinName}
+use Rattle.reading.proofs.Refusals.{refusal-number, refusal-place}
+use Rattle.reading.proofs.Accepts.{file_complete}
 use Rattle.layout.specs.Fits.{FittingTree, rows_in}
-use Rattle.reading.specs.Theorems.{accepted_is}
+use Rattle.reading.proofs.Theorems.{accepted_is}
 use Rattle.shortest.specs.File.{length_file, length-header, header_is, file_short}
 use Rattle.places.specs.Padding.{file_padding}
 use Rattle.shortest.specs.Rewrites.{rewrites-padding}

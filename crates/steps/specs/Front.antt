@@ -16,7 +16,7 @@ use Rattle.reading.specs.Answer.{Answer, refused, read}
 use Rattle.reading.specs.Reads.{Small}
 use Rattle.reading.specs.Drafts.{Draft, nothing, bare}
 use Rattle.reading.specs.Walk.{Outcome, sequence, walk}
-use Rattle.reading.specs.Bounds.{walk_bounds, walk_single}
+use Rattle.reading.proofs.Bounds.{walk_bounds, walk_single}
 use Rattle.places.specs.Places.{count_places}
 use Rattle.places.specs.Padding.{padding, id_pad, pad_few, rows_padding, rows_append}
 use Rattle.table.specs.declared.Grid.{Grid}

@@ -13,11 +13,12 @@ use Rattle.layout.specs.Tree.{none, count}
 use Rattle.layout.specs.Tree as Tree
 use Rattle.layout.specs.Shortest.{numbered}
 use Rattle.reading.specs.Reads.{Small, reads_bounds}
-use Rattle.reading.specs.Heads.{head_at, head_reads}
+use Rattle.reading.specs.Heads.{head_at}
+use Rattle.reading.proofs.Heads.{head_reads}
 use Rattle.reading.specs.Answer.{refused, read, bind, check}
 use Rattle.reading.specs.Drafts.{nothing}
 use Rattle.reading.specs.Walk.{Taken, Outcome, sequence, raw_at, walk}
-use Rattle.reading.specs.Bounds.{sequence_bounds}
+use Rattle.reading.proofs.Bounds.{sequence_bounds}
 use Rattle.table.specs.declared.Grid.{Grid}
 use Rattle.table.specs.Put.{put_row}
 use Rattle.table.specs.Word.{in_word, in_word_lem}

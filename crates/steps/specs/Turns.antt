@@ -9,7 +9,7 @@ use Rattle.layout.specs.Slot.{Plan, stop, put}
 use Rattle.reading.specs.Answer.{Answer, refused, read}
 use Rattle.reading.specs.Reads.{Small}
 use Rattle.reading.specs.Walk.{Taken, Outcome, sequence, walk}
-use Rattle.reading.specs.Bounds.{walk_bounds, walk_single}
+use Rattle.reading.proofs.Bounds.{walk_bounds, walk_single}
 use Rattle.table.specs.declared.Grid.{Grid}
 use Rattle.table.specs.Word.{in_word}
 use Rattle.walked.specs.declared.Reached.{Reached}

@@ -6,10 +6,11 @@ use Rattle.layout.specs.Target.{Target, kind_of}
 use Rattle.layout.specs.Slot as L
 use Rattle.reading.specs.Answer.{Answer, refused, read}
 use Rattle.reading.specs.Reads.{Small, reads_bounds}
-use Rattle.reading.specs.Heads.{Opening, head_at, head_reads}
+use Rattle.reading.specs.Heads.{Opening, head_at}
+use Rattle.reading.proofs.Heads.{head_reads}
 use Rattle.reading.specs.Walk.{Taken, sequence, walk}
-use Rattle.reading.specs.Sound.{walk-sound}
-use Rattle.reading.specs.Bounds.{sequence_bounds}
+use Rattle.reading.proofs.Sound.{walk-sound}
+use Rattle.reading.proofs.Bounds.{sequence_bounds}
 use Rattle.table.specs.declared.Grid.{Grid}
 use Rattle.walked.specs.declared.Head.{Head}
 use Rattle.walked.specs.declared.Walk.{Walk}

@@ -15,9 +15,10 @@ use Rattle.pack_layout.specs.Pack.{Stored, Each, mark_of}
 use Rattle.pack_layout.specs.Table.{flat, wholes, entries, Fitting}
 use Rattle.pack_layout.specs.Lookup.{lowered, missing, content}
 use Rattle.pack_reading.specs.Pack.{table_for}
-use Rattle.pack_reading.specs.Theorems as T
+use Rattle.pack_reading.proofs.Theorems as T
 use Rattle.pack_reading.specs.Lookup as lookup
-use Rattle.pack_reading.specs.Lookup.{wanted, Found, absent, found, find_in, find_of, absent_exactly, first_exactly, looks_up}
+use Rattle.pack_reading.specs.Lookup.{wanted, Found, absent, found, find_in, find_of, first_exactly}
+use Rattle.pack_reading.proofs.Lookup.{absent_exactly, looks_up}
 use Rattle.pack_lookup.specs.declared.Found as code
 use Rattle.pack_lookup.specs.declared.Found.TheVariants.{Absent}
 use Rattle.pack_lookup.specs.Lookup.{found_as, data_inside}

@@ -8,7 +8,7 @@ use Rattle.laws.specs.Small.{differ}
 use Rattle.pack_layout.specs.Pack.{marked, PackLays}
 use Rattle.pack_layout.specs.Table.{files_room, Fitting}
 use Rattle.pack_reading.specs.Pack.{pack_of, table_for}
-use Rattle.pack_reading.specs.Theorems.{files_are, table_is}
+use Rattle.pack_reading.proofs.Theorems.{files_are, table_is}
 use Rattle.packs.specs.declared.Reading.{Reading}
 use Rattle.packs.specs.Files as packs
 use Rattle.pack_salvage.specs.Scan.{Piece, kept_of}

@@ -12,6 +12,7 @@ use Rattle.places.specs.Padding.{file_padding}
 use Rattle.reading.specs.Reads.{Small}
 use Rattle.reading.specs.File.{Load, refusal, accepted, load_of, table_of, table_in}
 use Rattle.reading.specs.Theorems as T
+use Rattle.reading.proofs.Theorems as T-laws
 use Rattle.reading.specs.Output.{fitted}
 use Rattle.shortest.specs.Theorems as S
 use Rattle.readers.specs.Judged.{judged_name, judges}
@@ -30,10 +31,10 @@ module _ {enums file : List ℕ} {words : ℕ} (f : Fitting enums file words) wh
   load_is = load_lawful enums file words f.es list_is
 
   pub rows_are : load_under enums file words ≡ accepted (rows_in f.fits) (length f.fits.tree.names) (count (shared_of f.fits.tree.objects))
-  rows_are = load_is ∙ T.rows_are f.es (judged_name f.es) (judges f.es) file words f.fits
+  rows_are = load_is ∙ T-laws.rows_are f.es (judged_name f.es) (judges f.es) file words f.fits
 
   pub table_is : table_of (load_under enums file words) words ≡ flat (rows_in f.fits) ++ replicate (words - width * length (rows_in f.fits)) 0
-  table_is = ap (λ (x : Load). table_of x words) load_is ∙ T.table_is f.es (judged_name f.es) (judges f.es) file words f.fits
+  table_is = ap (λ (x : Load). table_of x words) load_is ∙ T-laws.table_is f.es (judged_name f.es) (judges f.es) file words f.fits
 
   pub rows_room : length (rows_in f.fits) ≤ room_of words
   rows_room = omega (arith, (T.rows_fit f.es (judged_name f.es) (judges f.es) file words f.fits).0, f.fits.room)
@@ -61,7 +62,7 @@ same_list f g =
     cc
 
 one_tree : (file : List ℕ) (es fs : List EnumEntry) (t u : FileTree) → es ≡ fs → FileLays es t file → FileLays fs u file → t ≡ u
-one_tree file es fs t u e v w = (T.one_file_tree es (judged_name es) (judges es) file t u v (rw e w)).0
+one_tree file es fs t u e v w = (T-laws.one_file_tree es (judged_name es) (judges es) file t u v (rw e w)).0
 
 pub same_tree : {enums file : List ℕ} {words : ℕ} (f g : Fitting enums file words) → f.fits.tree ≡ g.fits.tree
 same_tree {enums} {file} f g = one_tree file f.es g.es f.fits.tree g.fits.tree (same_list f g) f.fits.lays g.fits.lays
@@ -78,4 +79,4 @@ table-length enums file words small = go (load_under enums file words) refl wher
   go (accepted rows readers shared) e =
       let l = accepted-list enums file words rows readers shared e in
       let q : load_of (judged_name l.0) file words ≡ accepted rows readers shared = sym (load_lawful enums file words l.0 l.1) ∙ e in
-      rw (← q) (T.table-length l.0 (judged_name l.0) (judges l.0) file words small)
+      rw (← q) (T-laws.table-length l.0 (judged_name l.0) (judges l.0) file words small)

@@ -25,12 +25,13 @@ use Rattle.reading.specs.Answer.{Answer, refused, read}
 use Rattle.reading.specs.Reads.{Small}
 use Rattle.reading.specs.File as reading
 use Rattle.reading.specs.File.{Load, refusal, accepted, to_load, load_of, table_of, table_in}
-use Rattle.branches.specs.Table.{Stand, rows_stand, file_skips, file_roots}
+use Rattle.branches.specs.Table.{Stand, rows_stand, file_skips}
+use Rattle.branches.proofs.Table.{file_roots}
 use Rattle.theorems.specs.Standing.{columns_stand}
 use Rattle.layout.specs.Fits.{Fitting, rows_in}
 use Rattle.theorems.specs.Fitted.{rows_are, table_is, rows_room, rewrite_is, least, again, stays, padding_is, table-length}
-use Rattle.reading.specs.Refusals.{refusal-number, refusal-place}
-use Rattle.reading.specs.Theorems as T
+use Rattle.reading.proofs.Refusals.{refusal-number, refusal-place}
+use Rattle.reading.proofs.Theorems as T
 use Rattle.reading.specs.Output as output
 use Rattle.reading.specs.Output.{fitted, output_of}
 use Rattle.shortest.specs.Rewrite.{by_load, words_of}

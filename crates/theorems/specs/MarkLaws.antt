@@ -11,8 +11,9 @@ use Rattle.reading.specs.Output.{Rewritten, refusal, written, fitted, output_of}
 use Rattle.pack_layout.specs.Pack.{Stored, pack_bytes, PackLays, mark_of}
 use Rattle.pack_layout.specs.Numbers.{PackNumber}
 use Rattle.pack_reading.specs.Pack.{pack_at}
-use Rattle.pack_reading.specs.Theorems.{pack_sound}
-use Rattle.pack_reading.specs.Faults.{Keeps, no_31}
+use Rattle.pack_reading.proofs.Theorems.{pack_sound}
+use Rattle.pack_reading.specs.Faults.{Keeps}
+use Rattle.pack_reading.proofs.Faults.{no_31}
 use Rattle.pack_writing.specs.Convert.{by_pack, convert_of, other_form}
 use Rattle.pack_writing.specs.Convert as C
 use Rattle.marks.specs.declared.Converting.{Converting}

@@ -8,11 +8,13 @@ use Rattle.pack_layout.specs.Pack.{Stored, mark_of}
 use Rattle.pack_layout.specs.Numbers.{PackNumber}
 use Rattle.pack_layout.specs.Table.{wholes, files_room}
 use Rattle.pack_reading.specs.Pack.{pack_at, Pack, refusal, accepted, to_pack, pack_of, table_for}
-use Rattle.pack_reading.specs.Faults.{Keeps, plain-refusals, marked-refusals}
-use Rattle.pack_reading.specs.Theorems as T
+use Rattle.pack_reading.specs.Faults.{Keeps}
+use Rattle.pack_reading.proofs.Faults.{plain-refusals, marked-refusals}
+use Rattle.pack_reading.proofs.Theorems as T
 use Rattle.pack_reading.specs.Theorems.{Accepts}
 use Rattle.pack_reading.specs.Parts.{names}
-use Rattle.pack_reading.specs.Lookup.{Found, absent, found, find_in, find_of, Says, find_says, absent_exactly}
+use Rattle.pack_reading.specs.Lookup.{Found, absent, found, find_in, find_of, Says, find_says}
+use Rattle.pack_reading.proofs.Lookup.{absent_exactly}
 use Rattle.packs.specs.declared.Reading.{Reading}
 use Rattle.packs.specs.declared.Reading.TheVariants.{Refused}
 use Rattle.packs.specs.Files.{answer_of}

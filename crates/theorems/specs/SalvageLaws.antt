@@ -10,9 +10,11 @@ use Rattle.reading.specs.Reads.{Small, small-drop}
 use Rattle.pack_layout.specs.Pack.{marked, PackLays}
 use Rattle.pack_salvage.specs.Scan.{Piece, makes_up, kept_of}
 use Rattle.pack_salvage.specs.Scanning.{scan_is}
-use Rattle.pack_salvage.specs.Stretches.{words, stretches-apart, covers}
+use Rattle.pack_salvage.specs.Stretches.{words}
+use Rattle.pack_salvage.proofs.Stretches.{stretches-apart, covers}
 use Rattle.pack_salvage.specs.Salvage as S
-use Rattle.pack_salvage.specs.Salvage.{pieces_of, salvaged, refusal, unless, salvage_of, output_of, list_of, salvage_for, output_for, list_for, pieces_scanned, pack_written, no_longer, few_stretches, accepted-stays}
+use Rattle.pack_salvage.specs.Salvage.{pieces_of, salvaged, refusal, unless, salvage_of, output_of, list_of, salvage_for, output_for, list_for, pieces_scanned, no_longer, accepted-stays}
+use Rattle.pack_salvage.proofs.Salvage.{pack_written, few_stretches}
 use Rattle.salvage.specs.declared.Salvaging.{Salvaging}
 use Rattle.salvage.specs.declared.Salvaging.TheVariants.{Refused, Salvaged}
 use Rattle.salvage.specs.Salvaging.{answer_of}

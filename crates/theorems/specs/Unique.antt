@@ -10,10 +10,10 @@ use Rattle.layout.specs.File.{FileTree, FileLays, file_rows}
 use Rattle.layout.specs.EnumList.{EnumEntry, write_enums}
 use Rattle.names.specs.Entries.{entries_of}
 use Rattle.names.specs.EntryLaws.{entries-written}
-use Rattle.reading.specs.Theorems as T
+use Rattle.reading.proofs.Theorems as T
 use Rattle.readers.specs.Judged.{judged_name, judges}
 use Rattle.pack_layout.specs.Pack.{Stored, PackLays, mark_of}
-use Rattle.pack_reading.specs.Theorems as P
+use Rattle.pack_reading.proofs.Theorems as P
 
 -- "Take any two trees, of any depth, under one reader list, one shared count, one declared type and one way of standing. If bytes that one may have equal or begin bytes that the other may have, the two trees are the same and so are the bytes."
 -- 02, Req 05: "image levels, data bytes and bone references have no declared type, so demand 3 takes them only inside their owner": the slot of such a leaf has its size and its rule, which its owner alone gives.

@@ -15,6 +15,7 @@ use Rattle.enums.specs.Lists.{Bytes, enums-sound}
 use Rattle.reading.specs.Reads.{Small}
 use Rattle.reading.specs.File.{Load, refusal, accepted, load_of, table_of, table_in}
 use Rattle.reading.specs.Theorems as R
+use Rattle.reading.proofs.Theorems as R-laws
 use Rattle.reading.specs.Output.{Rewritten}
 use Rattle.shortest.specs.Rewrite.{rewrite_of}
 use Rattle.readers.specs.Judged.{judged_name, judges}
@@ -32,10 +33,12 @@ use Rattle.rewrite.specs.Contract as rewriting
 use Rattle.rewrite.specs.declared.Rewriting.{Rewriting}
 use Rattle.reading.specs.References.{length-flat}
 use Rattle.retyped.specs.Texts.{Span, FileText, Retyped}
-use Rattle.retyped.specs.Files.{never_steers}
-use Rattle.retyped.specs.Short.{AsLong, both_refuse, both_write, rewrites-alike, padding_same}
+use Rattle.retyped.proofs.Files.{never_steers}
+use Rattle.retyped.specs.Short.{AsLong, both_refuse, both_write}
+use Rattle.retyped.proofs.Short.{rewrites-alike, padding_same}
 use Rattle.retyped.specs.Parts.{Each}
-use Rattle.retyped.specs.Strings.{TextOf, every_string}
+use Rattle.retyped.specs.Strings.{TextOf}
+use Rattle.retyped.proofs.Strings.{every_string}
 use Rattle.two_runs.specs.Texts.{Read, SameButTexts, plain}
 
 -- ---- Under the lent list of enum types
@@ -113,7 +116,7 @@ fits_room enums f n small = go (load_under enums f n) refl where
   go (accepted rows readers shared) e =
       let d = accepted-list enums f n rows readers shared e in
       let es = d.0 in
-      let a = R.accepted_is es (judged_name es) (judges es) f n small rows readers shared (sym (load_lawful enums f n es d.1) ∙ e) in
+      let a = R-laws.accepted_is es (judged_name es) (judges es) f n small rows readers shared (sym (load_lawful enums f n es d.1) ∙ e) in
       let s = (R.rows_fit es (judged_name es) (judges es) f n a.0).0 in
       omega (arith, ap length a.1, a.0.room)
 

@@ -32,7 +32,8 @@ use Rattle.branches.specs.Next.{next_of, same_next}
 use Rattle.lookups.specs.declared.Span as lookups
 use Rattle.lookups.specs.declared.Span.TheVariants as span
 use Rattle.retyped.specs.Texts.{Span, FileText, InText}
-use Rattle.retyped.specs.Parts.{each_both, Encloses, is_signed, PartAlike, parts_same}
+use Rattle.retyped.specs.Parts.{each_both, Encloses, is_signed, PartAlike}
+use Rattle.retyped.proofs.Parts.{parts_same}
 use Rattle.retyped.specs.Boxed.{Boxed, strings_boxed}
 use Rattle.two_runs.specs.Texts.{SameButTexts}
 use Rattle.two_runs.specs.Alike.{lookups_of, LookupsAre, PartByte}

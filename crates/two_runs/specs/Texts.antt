@@ -7,10 +7,10 @@ use Rattle.enums.specs.Lists.{judged-list}
 use Rattle.reading.specs.Reads.{Small}
 use Rattle.readers.specs.Judged.{judged_name}
 use Rattle.retyped.specs.Texts.{Span, FileText, In, InText, Retyped, EachRead, BothRead}
-use Rattle.retyped.specs.Files as files
-use Rattle.retyped.specs.Files.{texts-kept}
+use Rattle.retyped.proofs.Files as files
+use Rattle.retyped.proofs.Files.{texts-kept}
 use Rattle.retyped.specs.Valid as valid
-use Rattle.retyped.specs.Valid.{text_valid}
+use Rattle.retyped.proofs.Valid.{text_valid}
 
 -- the walk over a file reads a String value there "as valid text", under the lent list and with this room
 pub record Read (enums : List ℕ) (room : ℕ) (file : List ℕ) (x : Span) : Type 0 where

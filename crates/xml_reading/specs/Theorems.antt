@@ -25,7 +25,8 @@ use Rattle.reading.specs.Reads.{Small}
 use Rattle.reading.specs.Output.{Rewritten, refusal, written, fitted}
 use Rattle.reading.specs.Rules.{same, same_true, same_refl}
 use Rattle.reading.specs.File.{Named, unknown, known, Judges, Loaded, file_at}
-use Rattle.reading.specs.Accepts.{loaded_of, IsFile, file_complete, file_sound}
+use Rattle.reading.specs.Accepts.{loaded_of, IsFile}
+use Rattle.reading.proofs.Accepts.{file_complete, file_sound}
 use Rattle.xml_layout.specs.Xml.{Writable, Each, exported, Exports}
 use Rattle.xml_layout.specs.Tree.{array_name, string_name, text_trees, tree_of, Strings, TextFile}
 use Rattle.xml_reading.specs.Match.{Document, other, document}

@@ -19,8 +19,10 @@ use Rattle.reading.specs.Drafts.{Draft, bare}
 use Rattle.reading.specs.File as reading
 use Rattle.reading.specs.File.{Load, Loaded, file_at, to_load, load_of, table_of}
 use Rattle.reading.specs.References.{length-flat}
-use Rattle.reading.specs.Accepts.{loaded_of, file_drafts, file_complete, file_bare}
+use Rattle.reading.specs.Accepts.{loaded_of, file_drafts, file_bare}
+use Rattle.reading.proofs.Accepts.{file_complete}
 use Rattle.reading.specs.Theorems as T
+use Rattle.reading.proofs.Theorems as T-laws
 use Rattle.reading.specs.Output.{Rewritten, refusal, written, fitted, output_of}
 use Rattle.names.specs.Entries.{enums_of}
 use Rattle.names.specs.EntryLaws.{enums-written}
@@ -85,7 +87,7 @@ module _ {enums file : List ℕ} {words : ℕ} (f : Fitting enums file words) wh
 
   table_is : table_of (load_under enums file words) words ≡ table by_rows (rows_in f.fits) words
   table_is =
-      ap (λ (x : Load). table_of x words) (load_lawful enums file words f.es list_is) ∙ T.table_is f.es (judged_name f.es) (judges f.es) file words f.fits
+      ap (λ (x : Load). table_of x words) (load_lawful enums file words f.es list_is) ∙ T-laws.table_is f.es (judged_name f.es) (judges f.es) file words f.fits
 
   table-skips : TableSkips by_rows (room_of words) (table by_rows (rows_in f.fits) words) (length (rows_in f.fits))
   table-skips = file_skips f.es by_rows (room_of words) f.fits.tree file f.fits.lays (table by_rows (rows_in f.fits) words) (rows_stand (room_of words) (rows_in f.fits) (replicate (words - width * length (rows_in f.fits)) 0))

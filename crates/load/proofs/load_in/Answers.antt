@@ -3,7 +3,8 @@ use native.Mathlib.Omega.{arith}
 use Rattle.layout.specs.Table.{room_of}
 use Rattle.table.specs.declared.Grid.{Grid}
 use Rattle.reading.specs.Reads.{small_by_index}
-use Rattle.load.specs.Laws.{load_refused, load_loaded}
+use Rattle.load.specs.Laws.{load_refused}
+use Rattle.load.proofs.Laws.{load_loaded}
 use borrow.Author.Rules.{rules}
 use Rattle.load.proofs.load_in.Goals as goal
 

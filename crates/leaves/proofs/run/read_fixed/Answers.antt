@@ -1,6 +1,6 @@
 use mathlib.Core.Path.{◌≡◌, refl}
 use native.Mathlib.Omega.{arith}
-use Rattle.leaves.specs.Same.{same_run}
+use Rattle.leaves.proofs.SameLaws.{same_run}
 use borrow.Author.Rules.{rules}
 use Rattle.leaves.proofs.run.read_fixed.Goals as goal
 

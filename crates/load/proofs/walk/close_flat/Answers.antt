@@ -3,7 +3,7 @@ use Prim.Native.Nat.{◌+◌}
 use native.Mathlib.Omega.{arith}
 use Rattle.reading.specs.Reads.{small_by_index}
 use Rattle.table.specs.Word.{in_word}
-use Rattle.leaves.specs.Run.{run_walked}
+use Rattle.leaves.proofs.RunLaws.{run_walked}
 use Rattle.leaves.specs.Like.{like_walk, alike-sequence, alike-length}
 use Rattle.steps.specs.Walks.{OpenedAs, begin_below}
 use Rattle.steps.specs.Steps.{Children-are, raw-told, plain-ends, head-ends, slots_are}

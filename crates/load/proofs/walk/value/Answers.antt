@@ -16,7 +16,8 @@ use Rattle.reading.specs.Reads.{small_by_index}
 use Rattle.walked.specs.Contract.{seen, Free}
 use Rattle.walked.specs.Loop.{refusing}
 use Rattle.walked.specs.Leaf.{leaf_walked}
-use Rattle.leaves.specs.Plain.{head_of, plain_walked, fixed_walked}
+use Rattle.leaves.specs.Plain.{head_of}
+use Rattle.leaves.proofs.PlainLaws.{plain_walked, fixed_walked}
 use Rattle.steps.specs.Steps.{null_pads, value-told, raw_steps}
 use Rattle.leaves.specs.Like.{like_walk}
 use borrow.Author.Rules.{rules}

@@ -25,7 +25,8 @@ use Rattle.profile_places.specs.Broken.{Rule, platform, numbers, used, distinct,
 use Rattle.profile_places.specs.Numbers.{numbers-lowest}
 use Rattle.profile_places.specs.Names.{unused-lowest, doubled-lowest}
 use Rattle.profile_places.specs.Pages.{file_flat, file_rise}
-use Rattle.profile_places.specs.Values.{keys-lowest, page-lowest, nexts-lowest}
+use Rattle.profile_places.specs.Values.{page-lowest, nexts-lowest}
+use Rattle.profile_places.proofs.Values.{keys-lowest}
 
 -- ---- Faults by number, then by place
 

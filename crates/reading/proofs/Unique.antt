@@ -8,7 +8,7 @@ use Rattle.layout.specs.Slot.{Plan}
 use Rattle.layout.specs.Layout.{Lays}
 use Rattle.layout.specs.Resource.{Within}
 use Rattle.reading.specs.Walk.{Taken, done}
-use Rattle.reading.specs.Complete.{complete}
+use Rattle.reading.proofs.Complete.{complete}
 use Rattle.reading.specs.Drafts.{drafts_of}
 
 pub unique : (readers : List Target) (shared : ℕ) (plan : Plan) (f₁ f₂ : Trees) (b₁ b₂ r : List ℕ)

@@ -18,7 +18,8 @@ use Rattle.reading.specs.Reads.{seam}
 use Rattle.reading.specs.Seven.{seven_reads}
 use Rattle.reading.specs.Rules.{reader, reader-complete, serves, serves-complete, head-invoked, null_id}
 use Rattle.reading.specs.Font.{font_complete}
-use Rattle.reading.specs.Heads.{head_at, head_reads, leaf_reads}
+use Rattle.reading.specs.Heads.{head_at, leaf_reads}
+use Rattle.reading.proofs.Heads.{head_reads}
 use Rattle.reading.specs.Walk.{Outcome, done, before, point, point_is, sequence, raw_at, by_reader, object_at, value_at, walk}
 use Rattle.reading.specs.Drafts.{Below, raw_drafts, value_drafts, drafts_of}
 

@@ -1,0 +1,3 @@
+pub mod PlainLaws
+pub mod RunLaws
+pub mod SameLaws

@@ -1,0 +1,97 @@
+-- Laws of loading: each step of the code against what loading answers. Assumes nothing.
+use Rattle.std.specs.Prelude.{◌≡◌, Bool, ℕ, ◌+◌, ◌*◌, ◌-◌, ◌≤◌, drop, set}
+use Rattle.std.proofs.Math.Path.{refl, sym, ap}
+use Rattle.std.proofs.Common.{subst, ◌∙◌, add-one, take-append-drop, eq-eqb, ne_eqb}
+use Rattle.std.proofs.Math.Bool.{true, false}
+use mathlib.Core.List.{List, [], ◌∷◌, ◌++◌, map}
+use native.Mathlib.Omega.{arith}
+use Rattle.std.proofs.Math.ListN.{length, take, replicate, length-append, length-drop}
+use Rattle.laws.specs.Small.{differ}
+use Rattle.layout.specs.Target.{Target, object as anything}
+use Rattle.layout.specs.Slot as L
+use Rattle.layout.specs.Slot.{each, object}
+use Rattle.layout.specs.Rows.{Row, words, flat, width}
+use Rattle.layout.specs.File.{objects_plan, header}
+use Rattle.layout.specs.Text.{ascii}
+use Rattle.layout.specs.Number.{little}
+use Rattle.layout.specs.EnumList.{EnumEntry}
+use Rattle.layout.specs.Table.{shape_of, cell, room_of, words_with}
+use Rattle.reading.specs.Answer.{Answer, refused, read, bind, check}
+use Rattle.reading.specs.Reads.{Small, reads_bounds}
+use Rattle.reading.specs.References.{length-flat}
+use Rattle.reading.specs.Walk.{Taken, sequence, walk}
+use Rattle.reading.specs.Drafts.{bare, length-bare}
+use Rattle.reading.specs.File.{Loaded as FileLoaded, accepted, root_kinds, header_at, lists_at, objects_at, finished, file_at, to_load, load_of, table_in}
+use Rattle.reading.specs.Front.{header-sound, lists_reads}
+use Rattle.table.specs.declared.Grid.{Grid}
+use Rattle.table.specs.Stores.{written_rows}
+use Rattle.table.specs.Grids.{cell_of, grid_of}
+use Rattle.table.specs.Cleared.{cleared_behind, behind_columns, behind_rows}
+use Rattle.table.specs.Stored.{settled_columns}
+use Rattle.table.specs.Word.{in_word, in_word_lem, word_more}
+use Rattle.walked.specs.declared.Reached.{Reached}
+use Rattle.walked.specs.Written.{written, length-written}
+use Rattle.walked.specs.Loop.{Counted, got}
+use Rattle.walked.specs.Contract.{padded}
+use Rattle.fill.specs.Fill.{cleared}
+use Rattle.answers.specs.declared.Number.TheVariants.{Read as Header-read, Refused as Header-refused}
+use Rattle.header.specs.Header.{to_header, header_of}
+use Rattle.heads.specs.declared.nest.Nest.TheVariants.{Each}
+use Rattle.heads.specs.declared.slot.Slot.TheVariants.{Object}
+use Rattle.targets.specs.Code.{prelude_size}
+use Rattle.heads.specs.Plans.{Prelude, prelude, NestIs}
+use Rattle.heads.specs.Nests.{begins, object_at}
+use Rattle.resources.specs.declared.Settled.{Settled}
+use Rattle.resources.specs.declared.Settled.TheVariants.{Fine, Wrong}
+use Rattle.resources.specs.Settled.{settled_of, settled as rows_settled, answered, judged_is, Drafted}
+use Rattle.resources.specs.Flat.{rows-flat}
+use Rattle.resources.specs.Objects.{objects-drafted}
+use Rattle.load.specs.declared.Loading.{Loading}
+use Rattle.load.specs.declared.Loading.TheVariants.{Refused, Loaded}
+use Rattle.steps.specs.declared.Children.{Children}
+use Rattle.steps.specs.declared.Children.TheVariants.{Done as Children-done, Refused as Children-refused}
+use Rattle.steps.specs.Turns.{Counts, whole as whole_nest, counts_walked, counts_refused}
+use Rattle.load.specs.Loads.{Total, file_total, Loads, behind_header, answer_of}
+use Rattle.readers.specs.Judged.{judged_name, judges}
+use Rattle.readers.specs.Left.{enough}
+use Rattle.enums.specs.Judge.{Judgement, lawful, enums_at}
+use Rattle.enums.specs.Judge.{refused as list-refused}
+use Rattle.load.specs.Under.{under_list, file_under, load_under}
+use Rattle.readers.specs.Contract.{lists_total}
+use Rattle.reading.specs.Theorems.{rows_fit}
+use Rattle.reading.proofs.Theorems.{accepted_is}
+use Rattle.places.specs.Padding.{rows_padding, file_padding, file_padding_lem, file_few}
+use Rattle.load.specs.Laws.{loads}
+
+-- a file that is accepted has few numbers, so its padding fits a word
+listed-fits : (es : List EnumEntry) (file : List ℕ) (words : ℕ) → Small file → (rows : List Row) (readers shared : ℕ) → load_of (judged_name es) file words ≡ accepted rows readers shared → in_word (file_padding file readers rows) ≡ file_padding file readers rows
+unfolding room_of
+listed-fits es file words small rows readers shared e =
+    let a = accepted_is es (judged_name es) (judges es) file words small rows readers shared e in
+    let f = a.0 in
+    let n : length rows ≤ 65536 = omega (arith, ap length a.1, (rows_fit es (judged_name es) (judges es) file words f).0, f.room) in
+    in_word_lem (file_padding file readers rows) (omega (arith, file_few file small readers rows, a.2, f.lays.lists.not_many))
+
+-- under a lent list
+total-fits : (enums file : List ℕ) (words : ℕ) → Small file → (rows : List Row) (readers shared : ℕ) → load_under enums file words ≡ accepted rows readers shared → in_word (file_padding file readers rows) ≡ file_padding file readers rows
+unfolding load_under file_under under_list to_load load_of
+total-fits enums file words small rows readers shared e = go (enums_at enums) e where
+  go : (j : Judgement) → to_load (under_list j (λ es. file_at (judged_name es) file (room_of words))) ≡ accepted rows readers shared → in_word (file_padding file readers rows) ≡ file_padding file readers rows
+  go (list-refused n i) q = differ cc
+  go (lawful es) q = listed-fits es file words small rows readers shared q
+
+-- the whole: what is answered, and what the words hold at the end
+module _ (enums file entry : List ℕ) (columns : Bool) where
+  pub load_loaded : Small file → {exit : List ℕ} {rows readers shared padding : ℕ} → loads enums file entry columns exit (Loaded rows readers shared padding)
+      → (Loaded rows readers shared padding ≡ answer_of file (load_under enums file (length entry))) × (exit ≡ table_in (shape_of columns) (load_under enums file (length entry)) (length entry))
+  unfolding load_under to_load table_in
+  load_loaded small {exit} {rows} {readers} {shared} {padding} l = go columns (file_under enums file (room_of (length entry))) refl l where
+    go : (b : Bool) (x : Answer FileLoaded) → file_under enums file (room_of (length entry)) ≡ x → Loads (grid_of (length entry) b) (file_total file) x entry exit (Loaded rows readers shared padding)
+        → (Loaded rows readers shared padding ≡ answer_of file (to_load x)) × (exit ≡ table_in (shape_of b) (to_load x) (length entry))
+    go b (refused c d) q l = differ cc
+    go false (read a f) q l =
+        let t = total-fits enums file (length entry) small (bare a.rows) a.readers a.shared (ap to_load q) in
+        (l.0 ∙ rw (length-bare a.rows, t), l.1)
+    go true (read a f) q l =
+        let t = total-fits enums file (length entry) small (bare a.rows) a.readers a.shared (ap to_load q) in
+        (l.0 ∙ rw (length-bare a.rows, t), l.1)

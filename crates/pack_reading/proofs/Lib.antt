@@ -1,0 +1,4 @@
+pub mod Faults
+pub mod Laws
+pub mod Lookup
+pub mod Theorems
