@@ -61,14 +61,7 @@ fn each_crate_stands_behind_those_that_it_uses() {
 }
 
 /// Crates that a line has to name though no source of that crate does: they declare a type that it reaches through another.
-const REACHED: [(&str, &str); 6] = [
-    ("theorems", "ticks"),
-    ("two_runs", "ticks"),
-    ("printing", "libc"),
-    ("sevens", "libc"),
-    ("rows", "libc"),
-    ("shorten", "libc"),
-];
+const REACHED: [(&str, &str); 2] = [("theorems", "ticks"), ("two_runs", "ticks")];
 
 /// The Rattle sources and the proofs below a folder, one after the other; must-fail edits and what `rt` made are not among them.
 fn sources(folder: &Path, text: &mut String) {
@@ -180,11 +173,14 @@ const STATED: [&str; 5] = [
 fn imported(line: &str) -> Option<String> {
     let path = line.strip_prefix("use Rattle.")?;
     let path = path.split([' ', '{']).next()?.trim_end_matches('.');
-    let (from, module) = path.split_once(".specs.")?;
+    let (from, folder, module) = ["specs", "proofs"].into_iter().find_map(|folder| {
+        let (from, module) = path.split_once(&format!(".{folder}."))?;
+        Some((from, folder, module))
+    })?;
     let of_kit = from == "std";
     let of_layout = ["layout", "pack_layout", "xml_layout"].contains(&from);
     let of_code = module.starts_with("declared.");
-    (!of_kit && !of_layout && !of_code).then(|| format!("{from}/specs/{module}.antt"))
+    (!of_kit && !of_layout && !of_code).then(|| format!("{from}/{folder}/{module}.antt"))
 }
 
 /// The lines of specifications and proofs below a folder that pass 300 characters, but for quoted texts.
