@@ -1,7 +1,7 @@
 // Judges the reader names in four files: for each file its name, then for each line 0, or the refusal's number and its place in the line.
 #![tactic(auto)]
 
-ghost use Rattle.std.specs.Prelude.{◌≡◌, ◌≤◌, length};
+ghost use Rattle.std.specs.Prelude.{◌≡◌, ◌≤◌, length, IfOk};
 ghost use Rattle.io.specs.Counts.{IsPrefixLen};
 ghost use Rattle.reader_names.specs.Lines.{refusal, line_size, Judges};
 
@@ -80,15 +80,28 @@ fn print_numbers(rt: &impl Print, numbers: &[u32]) -> io::Result<()> {
 }
 
 // A file that cannot be opened is told on standard error.
-fn judge_file(rt: &(impl Files + Alloc + Print + Eprint), path: &str) -> io::Result<()> {
-    let file = match fs::open(rt, path) {
+// Reads until the space is full or the file ends: how many bytes.
+fn read_full(file: &mut impl Read, space: &mut [u8]) -> io::Result<usize>
+    ensures { IfOk result (λ n. n ≤ length space.old) }
+{
+    let mut done = 0;
+    while done < space.len() {
+        let n = file.read(&mut space[done..])?;
+        if n == 0 {
+            break;
+        }
+        done += n;
+    }
+    Ok(done)
+}
+
+fn judge_file(rt: &(impl Files + Print + Eprint), path: &str) -> io::Result<()> {
+    let mut file = match fs::open(rt, path) {
         Ok(file) => file,
         Err(error) => return eprintln!(rt; "{path}: {error}"),
     };
-    let mut space = Vec::new(rt.alloc());
-    file.take(65536).read_to_end(&mut space)?;
-    // No clause says that no more than `take` allows was read.
-    let n = space.len().min(65536);
+    let mut space = [0u8; 65536];
+    let n = read_full(&mut file, &mut space)?;
     let mut numbers = [0u32; 65536];
     let count = judge_lines(&space[..n], &mut numbers);
     println!(rt; "{path}")?;

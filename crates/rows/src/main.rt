@@ -3,7 +3,6 @@
 
 use ids::RowNumber;
 use load::Loading;
-use std::io::Read;
 use table::{Grid, WIDTH};
 
 // The bytes behind the first `at` of the buffer, and where they end; nothing where they do not fit.
@@ -85,12 +84,12 @@ fn print_file(rt: &(impl Print + Eprint), file: &[u8], out: &mut [u8]) -> std::i
 }
 
 fn main(rt: HostRuntime) -> std::io::Result<()> {
-    let mut space = Vec::new(rt.alloc());
+    let mut space = io::large_buffer();
     // A line has at most 88 bytes, so those of 1,024 rows fit.
     let mut out = [0u8; 98304];
-    rt.reader().take(65536).read_to_end(&mut space)?;
-    if 32768 < space.len() {
+    let n = io::read_full(0, &mut space);
+    if 32768 < n {
         return printing::print_refusal(&rt, 9, 0);
     }
-    print_file(&rt, &space, &mut out)
+    print_file(&rt, &space[..n], &mut out)
 }

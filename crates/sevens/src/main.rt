@@ -4,15 +4,13 @@
 
 use answers::Number;
 use numbers::seven::{Padded, Step};
-use std::io;
-use std::io::Read;
 
-fn print_byte(rt: &impl Print, byte: u8) -> io::Result<()> {
+fn print_byte(rt: &impl Print, byte: u8) -> std::io::Result<()> {
     print!(rt; "byte {byte:02x}")
 }
 
 // The byte with index k of the number at `start`, where the input has it.
-fn print_byte_at(rt: &impl Print, s: &[u8], start: usize, k: usize) -> io::Result<()> {
+fn print_byte_at(rt: &impl Print, s: &[u8], start: usize, k: usize) -> std::io::Result<()> {
     if s.len() <= start {
         return print!(rt; "no byte");
     }
@@ -23,7 +21,7 @@ fn print_byte_at(rt: &impl Print, s: &[u8], start: usize, k: usize) -> io::Resul
 }
 
 // A step, its byte and the value so far.
-fn print_taken(rt: &impl Print, s: &[u8], start: usize, k: u8, value: u64) -> io::Result<()> {
+fn print_taken(rt: &impl Print, s: &[u8], start: usize, k: u8, value: u64) -> std::io::Result<()> {
     print!(rt; "step {}: ", k as u64 + 1)?;
     print_byte_at(rt, s, start, k as usize)?;
     print!(rt; ", value {value}, ")
@@ -37,7 +35,7 @@ fn show_said(
     k: u8,
     low: u64,
     said: Step,
-) -> io::Result<()> {
+) -> std::io::Result<()> {
     match said {
         Step::Ends(value, _, padding) => {
             print_taken(rt, s, start, k, value)?;
@@ -62,7 +60,7 @@ fn show_step(
     k: u8,
     before: Step,
     said: Step,
-) -> io::Result<()> {
+) -> std::io::Result<()> {
     match before {
         Step::HandsOn(low, _) => show_said(rt, s, start, k, low, said),
         Step::Ends(_, _, _) => Ok(()),
@@ -78,7 +76,7 @@ fn as_step(said: Padded) -> Step {
 }
 
 // The number at a place, step by step.
-fn show(rt: &(impl Print + Eprint), s: &[u8], start: usize) -> io::Result<()> {
+fn show(rt: &(impl Print + Eprint), s: &[u8], start: usize) -> std::io::Result<()> {
     let one = numbers::seven::first(s, start);
     let two = numbers::seven::second(s, start, one);
     let three = numbers::seven::third(s, start, two);
@@ -93,7 +91,7 @@ fn show(rt: &(impl Print + Eprint), s: &[u8], start: usize) -> io::Result<()> {
 }
 
 // One number after the other, the missing one at the input's end too; where one is refused, the next place is tried.
-fn list(rt: &(impl Print + Eprint), s: &[u8]) -> io::Result<()> {
+fn list(rt: &(impl Print + Eprint), s: &[u8]) -> std::io::Result<()> {
     let mut at = 0;
     while at <= s.len() {
         show(rt, s, at)?;
@@ -109,8 +107,8 @@ fn list(rt: &(impl Print + Eprint), s: &[u8]) -> io::Result<()> {
     Ok(())
 }
 
-fn main(rt: HostRuntime) -> io::Result<()> {
-    let mut space = Vec::new(rt.alloc());
-    rt.reader().take(65536).read_to_end(&mut space)?;
-    list(&rt, &space)
+fn main(rt: HostRuntime) -> std::io::Result<()> {
+    let mut space = io::large_buffer();
+    let n = io::read_full(0, &mut space);
+    list(&rt, &space[..n])
 }

@@ -2,12 +2,10 @@
 #![tactic(auto)]
 
 use rewrite::Rewriting;
-use std::io;
-use std::io::Read;
 use table::WIDTH;
 
 // Rewrites the file, with room for 1,024 rows.
-fn shorten(rt: &HostRuntime, file: &[u8], out: &mut [u8]) -> io::Result<()> {
+fn shorten(rt: &HostRuntime, file: &[u8], out: &mut [u8]) -> std::io::Result<()> {
     let mut words = [0u32; 1024 * WIDTH as usize];
     match rewrite::rewrite(file, b"", &mut words, out) {
         Rewriting::Refused(number, place) => printing::tell_refusal(rt, number, place),
@@ -15,12 +13,12 @@ fn shorten(rt: &HostRuntime, file: &[u8], out: &mut [u8]) -> io::Result<()> {
     }
 }
 
-fn main(rt: HostRuntime) -> io::Result<()> {
-    let mut space = Vec::new(rt.alloc());
-    let mut out = [0u8; 65536];
-    rt.reader().take(65536).read_to_end(&mut space)?;
-    if 32768 < space.len() {
+fn main(rt: HostRuntime) -> std::io::Result<()> {
+    let mut space = io::large_buffer();
+    let mut out = io::large_buffer();
+    let n = io::read_full(0, &mut space);
+    if 32768 < n {
         return printing::tell_refusal(&rt, 9, 0);
     }
-    shorten(&rt, &space, &mut out)
+    shorten(&rt, &space[..n], &mut out)
 }
