@@ -1,5 +1,5 @@
 -- The five steps, one after the other, read a seven-bit number and its padding. Assumes nothing.
-use Rattle.std.specs.Prelude.{◌≡◌, Bool, cond, List, eqb, drop}
+use Rattle.std.specs.Prelude.{◌≡◌, Err, Bool, cond, List, eqb, drop}
 use Rattle.std.proofs.Math.Path.{refl, ap}
 use Rattle.std.proofs.Common.{sym, ◌∙◌, add-one, add_comm, mul-add, mul-suc, mul_assoc, mul_comm, mul-le-mul_left, pow-suc, pow-add, drop_of_length-le, drop-cons}
 use Rattle.std.proofs.Math.Bool.{true, false}
@@ -12,9 +12,8 @@ use borrow.Author.Tests.{eqb-true, eqb-false, ltb-true, ltb-false, leb-true, leb
 use Rattle.layout.specs.Shortest.{shortest, fewest}
 use Rattle.reading.specs.Answer.{Answer, refused, read, bind, check}
 use Rattle.reading.specs.Seven.{group as group_read, groups, seven_at}
-use Rattle.numbers.specs.declared.seven.Step.{Step}
-use Rattle.numbers.specs.declared.seven.Step.TheVariants.{Ends, HandsOn, Refused}
-use Rattle.numbers.specs.Steps.{joined, needed_by, group, step, last_group, last_step}
+use Rattle.answers.specs.Refusals.{refusal}
+use Rattle.numbers.specs.Steps.{Stepped, ends, hands_on, joined, needed_by, group, step, last_group, last_step}
 use Rattle.numbers.specs.Shortest.{fewest-length}
 use Rattle.numbers.specs.Padded.{pad_of, padded}
 
@@ -114,9 +113,9 @@ module _ (s : List ℕ) (start : ℕ) (bytes : (i : ℕ) → i < length s → ge
       rw q
 
   -- one of the first four groups, by what the steps after it do
-  group_is : (m k : ℕ) → k < 5 → 128 ^ suc k ≤ 2 ^ 28 → (after : Step → Answer (ℕ × ℕ))
-      → ((v n p : ℕ) → after (Ends v n p) ≡ read (v, p) n) → ((n p : ℕ) → after (Refused n p) ≡ refused n p)
-      → ((low needed : ℕ) → low < 128 ^ suc k → needed ≡ length (shortest low) → after (HandsOn low needed) ≡ padded start (whole start low (128 ^ suc k) (from m (suc k))))
+  group_is : (m k : ℕ) → k < 5 → 128 ^ suc k ≤ 2 ^ 28 → (after : Stepped → Answer (ℕ × ℕ))
+      → ((v n p : ℕ) → after (ends v n p) ≡ read (v, p) n) → ((n p : ℕ) → after (Err (refusal n p)) ≡ refused n p)
+      → ((low needed : ℕ) → low < 128 ^ suc k → needed ≡ length (shortest low) → after (hands_on low needed) ≡ padded start (whole start low (128 ^ suc k) (from m (suc k))))
       → (low needed : ℕ) → low < 128 ^ k → needed ≡ length (shortest low) → after (group k s start low needed) ≡ padded start (whole start low (128 ^ k) (from (suc m) k))
   unfolding group bind check group_read pad_of
   group_is m k five few after ends refuses hands low needed h n = go (leb (length s) (start + k)) (ltb (get_or s (start + k) 0) 128) refl refl where
@@ -138,13 +137,13 @@ module _ (s : List ℕ) (start : ℕ) (bytes : (i : ℕ) → i < length s → ge
         rw (p, q, joins k low b h, r, there m k hk, q, hands (low + 128 ^ k * (b - 128)) (needed_by k needed b) (below k low (b - 128) h l) z) (ap (padded start) (handed k low (b - 128) (from m (suc k))))
 
   -- the steps after those with index 0, 1 and 2
-  abbrev after₂ : Step → Answer (ℕ × ℕ)
+  abbrev after₂ : Stepped → Answer (ℕ × ℕ)
   after₂ so_far = last_step s start (step 3 s start so_far)
 
-  abbrev after₁ : Step → Answer (ℕ × ℕ)
+  abbrev after₁ : Stepped → Answer (ℕ × ℕ)
   after₁ so_far = after₂ (step 2 s start so_far)
 
-  abbrev after₀ : Step → Answer (ℕ × ℕ)
+  abbrev after₀ : Stepped → Answer (ℕ × ℕ)
   after₀ so_far = after₁ (step 1 s start so_far)
 
   alone : (r : Answer ℕ) → whole start 0 1 r ≡ bind r (λ n e. check (ltb n (2 ^ 32)) 8 start (read n e))
@@ -152,7 +151,7 @@ module _ (s : List ℕ) (start : ℕ) (bytes : (i : ℕ) → i < length s → ge
   alone (refused n p) = refl
   alone (read n e) = let q : 0 + 1 * n ≡ n = omega arith in rw q
 
-  pub five_steps : after₀ (step 0 s start (HandsOn 0 1)) ≡ padded start (seven_at s start)
+  pub five_steps : after₀ (step 0 s start (hands_on 0 1)) ≡ padded start (seven_at s start)
   unfolding seven_at shortest fewest
   five_steps =
       let from₃ = group_is 1 3 (omega arith) (omega arith) (last_step s start) (λ v n p. refl) (λ n p. refl) last_is in
@@ -163,5 +162,5 @@ module _ (s : List ℕ) (start : ℕ) (bytes : (i : ℕ) → i < length s → ge
       from₀ ∙ ap (padded start) (alone (from 5 0)) ∙ rw z
 
   -- the other steps leave what the first one ended or refused
-  pub after_first : (o : Step) → o ≡ step 0 s start (HandsOn 0 1) → after₀ o ≡ padded start (seven_at s start)
+  pub after_first : (o : Stepped) → o ≡ step 0 s start (hands_on 0 1) → after₀ o ≡ padded start (seven_at s start)
   after_first o e = ap after₀ e ∙ five_steps

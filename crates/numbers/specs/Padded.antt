@@ -1,11 +1,11 @@
 -- A seven-bit number with its padding (02, Req 06: "The 7-bit reader is to say, besides value and bytes read, how many bytes were more than the shortest form has"). Assumes nothing.
-use Rattle.std.specs.Prelude.{◌≡◌, ℕ, ◌-◌, length}
+use Rattle.std.specs.Prelude.{◌≡◌, Result, Ok, Err, ℕ, ◌-◌, length}
 use Rattle.std.proofs.Common.{ap}
 use Rattle.laws.specs.Small.{differ}
 use Rattle.layout.specs.Shortest.{shortest}
 use Rattle.reading.specs.Answer.{Answer, read, refused}
 use Rattle.numbers.specs.declared.seven.Padded.{Padded}
-use Rattle.numbers.specs.declared.seven.Padded.TheVariants.{Read, Refused}
+use Rattle.answers.specs.declared.Refusal.{Refusal}
 
 -- the value of a number that was read, where it ends if it starts at `at`, and its bytes beyond the shortest form
 unfoldable pub number_of : Answer ℕ → ℕ
@@ -30,9 +30,9 @@ abbrev pub padded : (at : ℕ) → Answer ℕ → Answer (ℕ × ℕ)
 padded at x = beside (pad_of x at) x
 
 -- what an answer of the code tells: the value and the padding, or 01's number and place
-abbrev pub told_padded : Padded → Answer (ℕ × ℕ)
-told_padded (Read value next padding) = read (value, padding) next
-told_padded (Refused number place) = refused number place
+abbrev pub told_padded : Result Padded Refusal → Answer (ℕ × ℕ)
+told_padded (Ok r) = read (r.value, r.padding) r.next
+told_padded (Err e) = refused e.number e.place
 
 -- a number that was read with its padding was read, and one that was refused was refused
 pub number_read : (at : ℕ) (x : Answer ℕ) {n e p : ℕ} → read (n, p) e ≡ padded at x → (x ≡ read n e) × (p ≡ pad_of x at)

@@ -1,13 +1,11 @@
 -- The shortest form of a seven-bit number (01: the rewriter changes "these numbers, each to its shortest form"). Assumes nothing.
-use Rattle.std.specs.Prelude.{◌≡◌, refl, Bool, true, false, cond, List, ◌∷◌, ◌++◌, ℕ, zero, suc, ◌+◌, ◌*◌, ◌-◌, ◌/◌, ◌%◌, ◌<◌, ◌≤◌, ◌^◌, ltb, leb, length, take, drop, set}
+use Rattle.std.specs.Prelude.{◌≡◌, Option, None, Some, refl, Bool, true, false, cond, List, ◌∷◌, ◌++◌, ℕ, zero, suc, ◌+◌, ◌*◌, ◌-◌, ◌/◌, ◌%◌, ◌<◌, ◌≤◌, ◌^◌, ltb, leb, length, take, drop, set}
 use Rattle.std.proofs.Common.{ap, arith, add-one, ltb-true, ltb-false, lt-ltb, le-ltb}
 use Rattle.std.proofs.Math.Nat.{pow-succ'}
 use Rattle.std.proofs.lemmas.List.Edits.{sets}
 use Rattle.layout.specs.Number.{Groups, last, more, Seven}
 use Rattle.layout.specs.Shortest.{fewest, shortest, Shortens}
 use Rattle.reading.specs.Seven.{some_bytes}
-use Rattle.numbers.specs.declared.shortest.Placed.{Placed}
-use Rattle.numbers.specs.declared.shortest.Placed.TheVariants.{Next, NoRoom}
 
 groups-shortest : {k n : ℕ} {bs : List ℕ} → Groups k n bs → Shortens (Groups k n) (fewest k n) bs
 unfolding fewest
@@ -106,8 +104,8 @@ rest_last {out} {i} {x} {whole} {end} r l = go r.groups r.some r.ends r.writes w
       (omega (arith, rw q at ends), rw q at writes)
 
 -- where a number's shortest form ends, written from a place on, and what the lent bytes then hold; where it has no room, nothing is written
-abbrev pub placed_at : (out : List ℕ) (at n : ℕ) → Placed
-placed_at out at n = cond (leb (at + length (shortest n)) (length out)) (Next (at + length (shortest n))) NoRoom
+abbrev pub placed_at : (out : List ℕ) (at n : ℕ) → Option ℕ
+placed_at out at n = cond (leb (at + length (shortest n)) (length out)) (Some (at + length (shortest n))) None
 
 abbrev pub written_at : (out : List ℕ) (at n : ℕ) → List ℕ
 written_at out at n =

@@ -1,12 +1,13 @@
 // Little-endian numbers: reading 1, 2, 4 and 8 bytes, and putting 4.
-ghost use Rattle.std.specs.Prelude.{◌≡◌, ◌+◌, ◌≤◌, ◌<◌, leb, length, drop};
+ghost use Rattle.std.specs.Prelude.{◌≡◌, ℕ, ◌+◌, ◌≤◌, ◌<◌, leb, length, drop};
+ghost use Rattle.std.proofs.Common.{rules};
 ghost use Rattle.answers.specs.Told.{told};
 ghost use Rattle.fill.specs.Fill.{copied};
 ghost use Rattle.layout.specs.Number.{little};
 ghost use Rattle.reading.specs.Little.{little_at};
 ghost use Rattle.numbers.specs.Bytes.{Little};
 
-use answers::Number;
+use answers::{Number, Read, Rule};
 
 // Whether n bytes stand from a place on.
 pub fn has_bytes(s: &[u8], at: usize, n: usize) -> bool
@@ -46,40 +47,78 @@ fn eight(s: &[u8], i: usize) -> u64
     four(s, i) + 4294967296 * four(s, i + 4)
 }
 
-pub fn little1(s: &[u8], at: usize) -> Number
-    ensures { told result ≡ little_at s.now 1 at at }
-{
-    if !has_bytes(s, at, 1) {
-        return Number::Refused(1, at);
-    }
-    Number::Read(one(s, at), at + 1)
+// A width of little-endian numbers: how many bytes they have, and the value of those bytes from a place on.
+pub trait Width {
+    ghost BYTES: { ℕ };
+
+    const BYTES: usize;
+
+    fn value(s: &[u8], i: usize) -> u64
+        requires { i + BYTES ≤ length s.now }
+        ensures { Little s.now i BYTES result };
+
+    ghost some: { 1 ≤ BYTES };
 }
 
-pub fn little2(s: &[u8], at: usize) -> Number
-    ensures { told result ≡ little_at s.now 2 at at }
-{
-    if !has_bytes(s, at, 2) {
-        return Number::Refused(1, at);
+impl Width for u8 {
+    ghost BYTES = { 1 };
+
+    const BYTES: usize = 1;
+
+    fn value(s: &[u8], i: usize) -> u64 {
+        one(s, i)
     }
-    Number::Read(two(s, at), at + 2)
+
+    ghost some = { Prim.search rules };
 }
 
-pub fn little4(s: &[u8], at: usize) -> Number
-    ensures { told result ≡ little_at s.now 4 at at }
-{
-    if !has_bytes(s, at, 4) {
-        return Number::Refused(1, at);
+impl Width for u16 {
+    ghost BYTES = { 2 };
+
+    const BYTES: usize = 2;
+
+    fn value(s: &[u8], i: usize) -> u64 {
+        two(s, i)
     }
-    Number::Read(four(s, at), at + 4)
+
+    ghost some = { Prim.search rules };
 }
 
-pub fn little8(s: &[u8], at: usize) -> Number
-    ensures { told result ≡ little_at s.now 8 at at }
-{
-    if !has_bytes(s, at, 8) {
-        return Number::Refused(1, at);
+impl Width for u32 {
+    ghost BYTES = { 4 };
+
+    const BYTES: usize = 4;
+
+    fn value(s: &[u8], i: usize) -> u64 {
+        four(s, i)
     }
-    Number::Read(eight(s, at), at + 8)
+
+    ghost some = { Prim.search rules };
+}
+
+impl Width for u64 {
+    ghost BYTES = { 8 };
+
+    const BYTES: usize = 8;
+
+    fn value(s: &[u8], i: usize) -> u64 {
+        eight(s, i)
+    }
+
+    ghost some = { Prim.search rules };
+}
+
+// The little-endian number of a width at a place.
+pub fn little<W: Width>(s: &[u8], at: usize) -> Number
+    ensures { told result ≡ little_at s.now W.BYTES at at }
+{
+    if !has_bytes(s, at, W::BYTES) {
+        return Err(Rule::PastEnd.at(at));
+    }
+    Ok(Read {
+        value: W::value(s, at),
+        next: at + W::BYTES,
+    })
 }
 
 // Puts the four bytes of a number into `out` from `at` on, where there is room for them.

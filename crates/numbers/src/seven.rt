@@ -2,37 +2,36 @@
 ghost use Rattle.std.specs.Prelude.{◌≡◌, ◌+◌, ◌*◌, ◌-◌, ◌≤◌, ◌<◌, leb, length};
 ghost use Rattle.answers.specs.Told.{told};
 ghost use Rattle.reading.specs.Seven.{seven_at};
-ghost use Rattle.numbers.specs.Steps.{joined, needed_by, group, step, last_group, last_step};
+ghost use Rattle.numbers.specs.Steps.{hands_on, joined, needed_by, group, step, last_group, last_step};
 ghost use Rattle.numbers.specs.Padded.{told_padded, padded};
 
-use answers::Number;
+use answers::{Number, Read, Refusal, Rule};
 
-// What a step says: the number ends, with its value, the next place and its padding; the value so far is handed on,
-// with how many bytes its shortest form has; or a refusal and its place.
-#[derive(Clone, Copy)]
-pub enum Step {
-    Ends(u64, usize, u32),
-    HandsOn(u64, u32),
-    Refused(u32, usize),
+// A seven-bit number: its value, the next place, and its padding, which is how many bytes it has beyond its shortest form.
+#[derive(Clone, Copy, Debug, PartialEq, Eq)]
+pub struct Padded {
+    pub value: u64,
+    pub next: usize,
+    pub padding: u32,
 }
 
-// A seven-bit number with its value, the next place and its padding: how many bytes it has beyond its shortest form; or a refusal's number and place.
-#[derive(Clone, Copy)]
-pub enum Padded {
-    Read(u64, usize, u32),
-    Refused(u32, usize),
+// What a step says: the number ends; or the value so far is handed on, with how many bytes its shortest form has.
+#[derive(Clone, Copy, Debug, PartialEq, Eq)]
+pub enum Step {
+    Ends(Padded),
+    HandsOn { low: u64, needed: u32 },
 }
 
 // Step 1: the first byte ends the number if it is below 80 hex, else hands on its low seven bits, and refuses with 1 if the file ends before it.
-pub fn first(s: &[u8], start: usize) -> Step
-    ensures { result ≡ step 0 s.now start (Step.HandsOn 0 1) }
+pub fn first(s: &[u8], start: usize) -> Result<Step, Refusal>
+    ensures { result ≡ step 0 s.now start (hands_on 0 1) }
 {
-    step_at(s, start, 0, 0, Step::HandsOn(0, 1))
+    step_at(s, start, 0, 0, Ok(Step::HandsOn { low: 0, needed: 1 }))
 }
 
 // Step 2: the second byte joins its low seven bits above the 7 read,
 // ends the number if it is below 80 hex, else hands on, and refuses with 1 if the file ends before it.
-pub fn second(s: &[u8], start: usize, so_far: Step) -> Step
+pub fn second(s: &[u8], start: usize, so_far: Result<Step, Refusal>) -> Result<Step, Refusal>
     ensures { result ≡ step 1 s.now start so_far }
 {
     step_at(s, start, 1, 7, so_far)
@@ -40,7 +39,7 @@ pub fn second(s: &[u8], start: usize, so_far: Step) -> Step
 
 // Step 3: the third byte joins its low seven bits above the 14 read,
 // ends the number if it is below 80 hex, else hands on, and refuses with 1 if the file ends before it.
-pub fn third(s: &[u8], start: usize, so_far: Step) -> Step
+pub fn third(s: &[u8], start: usize, so_far: Result<Step, Refusal>) -> Result<Step, Refusal>
     ensures { result ≡ step 2 s.now start so_far }
 {
     step_at(s, start, 2, 14, so_far)
@@ -48,7 +47,7 @@ pub fn third(s: &[u8], start: usize, so_far: Step) -> Step
 
 // Step 4: the fourth byte joins its low seven bits above the 21 read,
 // ends the number if it is below 80 hex, else hands on, and refuses with 1 if the file ends before it.
-pub fn fourth(s: &[u8], start: usize, so_far: Step) -> Step
+pub fn fourth(s: &[u8], start: usize, so_far: Result<Step, Refusal>) -> Result<Step, Refusal>
     ensures { result ≡ step 3 s.now start so_far }
 {
     step_at(s, start, 3, 21, so_far)
@@ -56,18 +55,17 @@ pub fn fourth(s: &[u8], start: usize, so_far: Step) -> Step
 
 // Step 5: the fifth byte joins its bits above the 28 read and ends the number, as no sixth may follow;
 // it refuses with 8 if it is above 0F hex, and with 1 if the file ends before it.
-pub fn fifth(s: &[u8], start: usize, so_far: Step) -> Padded
+pub fn fifth(s: &[u8], start: usize, so_far: Result<Step, Refusal>) -> Result<Padded, Refusal>
     ensures { told_padded result ≡ last_step s.now start so_far }
 {
-    match so_far {
-        Step::HandsOn(low, needed) => last_group(s, start, low, needed),
-        Step::Ends(value, next, padding) => Padded::Read(value, next, padding),
-        Step::Refused(number, place) => Padded::Refused(number, place),
+    match so_far? {
+        Step::HandsOn { low, needed } => last_group(s, start, low, needed),
+        Step::Ends(number) => Ok(number),
     }
 }
 
 // The five steps one after the other: the seven-bit number at a place, with its padding.
-fn all_steps(s: &[u8], start: usize) -> Padded
+fn all_steps(s: &[u8], start: usize) -> Result<Padded, Refusal>
     ensures { told_padded result ≡ padded start (seven_at s.now start) }
 {
     let one = first(s, start);
@@ -78,13 +76,12 @@ fn all_steps(s: &[u8], start: usize) -> Padded
 }
 
 // The seven-bit number at a place, with its padding. Most numbers have one byte, and those are read without the other four steps.
-pub fn seven_padded(s: &[u8], start: usize) -> Padded
+pub fn seven_padded(s: &[u8], start: usize) -> Result<Padded, Refusal>
     ensures { told_padded result ≡ padded start (seven_at s.now start) }
 {
-    match first(s, start) {
-        Step::Ends(value, next, padding) => Padded::Read(value, next, padding),
-        Step::HandsOn(_, _) => all_steps(s, start),
-        Step::Refused(number, place) => Padded::Refused(number, place),
+    match first(s, start)? {
+        Step::Ends(number) => Ok(number),
+        Step::HandsOn { low: _, needed: _ } => all_steps(s, start),
     }
 }
 
@@ -92,57 +89,77 @@ pub fn seven_padded(s: &[u8], start: usize) -> Padded
 pub fn seven_at(s: &[u8], start: usize) -> Number
     ensures { told result ≡ seven_at s.now start }
 {
-    match first(s, start) {
-        Step::Ends(value, next, _) => Number::Read(value, next),
-        Step::HandsOn(_, _) => match all_steps(s, start) {
-            Padded::Read(value, next, _) => Number::Read(value, next),
-            Padded::Refused(number, place) => Number::Refused(number, place),
-        },
-        Step::Refused(number, place) => Number::Refused(number, place),
-    }
+    let number = seven_padded(s, start)?;
+    Ok(Read {
+        value: number.value,
+        next: number.next,
+    })
 }
 
 // One of the first four steps: what was handed on goes on with the byte with index k; what has ended or was refused stays.
-fn step_at(s: &[u8], start: usize, k: usize, bits_read: u32, so_far: Step) -> Step
+fn step_at(
+    s: &[u8],
+    start: usize,
+    k: usize,
+    bits_read: u32,
+    so_far: Result<Step, Refusal>,
+) -> Result<Step, Refusal>
     requires { (k ≤ 3) × (bits_read ≡ 7 * k) }
     ensures { result ≡ step k s.now start so_far }
 {
-    match so_far {
-        Step::HandsOn(low, needed) => group_at(s, start, k, bits_read, low, needed),
-        Step::Ends(value, next, padding) => Step::Ends(value, next, padding),
-        Step::Refused(number, place) => Step::Refused(number, place),
+    match so_far? {
+        Step::HandsOn { low, needed } => group_at(s, start, k, bits_read, low, needed),
+        Step::Ends(number) => Ok(Step::Ends(number)),
     }
 }
 
 // The byte with index k of the number at `start`, where the bytes before it have the value `low`, whose shortest form has `needed` bytes.
-fn group_at(s: &[u8], start: usize, k: usize, bits_read: u32, low: u64, needed: u32) -> Step
+fn group_at(
+    s: &[u8],
+    start: usize,
+    k: usize,
+    bits_read: u32,
+    low: u64,
+    needed: u32,
+) -> Result<Step, Refusal>
     requires { (k ≤ 3) × (bits_read ≡ 7 * k) }
     ensures { result ≡ group k s.now start low needed }
 {
     if missing(s, start, k) {
-        return Step::Refused(1, start);
+        return Err(Rule::PastEnd.at(start));
     }
     let byte = s[start + k];
     let short = needed_by(k, needed, byte);
     if byte < 0x80 {
-        return Step::Ends(join(low, bits_read, byte), start + k + 1, beyond(k, short));
+        return Ok(Step::Ends(Padded {
+            value: join(low, bits_read, byte),
+            next: start + k + 1,
+            padding: beyond(k, short),
+        }));
     }
-    Step::HandsOn(join(low, bits_read, byte & 0x7F), short)
+    Ok(Step::HandsOn {
+        low: join(low, bits_read, byte & 0x7F),
+        needed: short,
+    })
 }
 
 // The fifth byte of the number at `start`, where the four before it have the value `low`, whose shortest form has `needed` bytes.
-fn last_group(s: &[u8], start: usize, low: u64, needed: u32) -> Padded
+fn last_group(s: &[u8], start: usize, low: u64, needed: u32) -> Result<Padded, Refusal>
     ensures { told_padded result ≡ last_group s.now start low needed }
 {
     if missing(s, start, 4) {
-        return Padded::Refused(1, start);
+        return Err(Rule::PastEnd.at(start));
     }
     let byte = s[start + 4];
     if byte <= 0x0F {
         let short = needed_by(4, needed, byte);
-        return Padded::Read(join(low, 28, byte), start + 5, beyond(4, short));
+        return Ok(Padded {
+            value: join(low, 28, byte),
+            next: start + 5,
+            padding: beyond(4, short),
+        });
     }
-    Padded::Refused(8, start)
+    Err(Rule::BrokenNumber.at(start))
 }
 
 // How many bytes the shortest form of the value so far has: it ends with the last byte whose low seven bits are not all 0.

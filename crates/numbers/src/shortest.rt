@@ -4,13 +4,6 @@ ghost use Rattle.std.proofs.lemmas.List.Edits.{sets};
 ghost use Rattle.layout.specs.Shortest.{shortest};
 ghost use Rattle.numbers.specs.Shortest.{placed_at, written_at};
 
-// The place behind the number written, or no room for it.
-#[derive(Clone, Copy)]
-pub enum Placed {
-    Next(usize),
-    NoRoom,
-}
-
 // How many bytes the shortest form of a number has.
 pub fn shortest_len(n: u32) -> usize
     ensures { result ≡ length (shortest n) }
@@ -45,17 +38,17 @@ fn put(out: &mut [u8], at: usize, n: u32)
     out[i] = x as u8;
 }
 
-// Writes the shortest form of a number into the lent bytes, if it has room there.
-pub fn write_shortest(out: &mut [u8], at: usize, n: u32) -> Placed
+// Writes the shortest form of a number into the lent bytes, if it has room there; the place behind it.
+pub fn write_shortest(out: &mut [u8], at: usize, n: u32) -> Option<usize>
     ensures { (result ≡ placed_at out.old at n) × (out.new ≡ written_at out.old at n) }
 {
     let size = shortest_len(n);
     if out.len() < at {
-        return Placed::NoRoom;
+        return None;
     }
     if out.len() - at < size {
-        return Placed::NoRoom;
+        return None;
     }
     put(out, at, n);
-    Placed::Next(at + size)
+    Some(at + size)
 }

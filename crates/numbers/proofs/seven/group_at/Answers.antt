@@ -27,7 +27,7 @@ there c = leb-false _ _ (found c)
 
 pub returns-then-missing : goal.returns-then-missing
 unfolding group
-returns-then-missing c = simp (sym c.missing.ensures ∙ c.if-missing.true)
+returns-then-missing c = simp (c.at.ensures, sym c.missing.ensures ∙ c.if-missing.true)
 
 pub overflow_add-byte : goal.overflow_add-byte
 overflow_add-byte c = omega (arith, there c)

@@ -1,0 +1,17 @@
+use Rattle.std.proofs.Common.{◌≡◌, sym, ◌∙◌, ◌≤◌, ◌+◌, arith, true, leb, length, drop}
+use borrow.Author.Tests.{not-true, not-false}
+use Rattle.reading.specs.Answer.{read, refused}
+use Rattle.reading.specs.Little.{little_at}
+use Rattle.numbers.specs.Bytes.{inside, is_there, is_missing}
+use borrow.Author.Rules.{rules}
+use Rattle.numbers.proofs.little.little.Goals as goal
+
+pub returns-then-not-has_bytes : goal.returns-then-not-has_bytes
+returns-then-not-has_bytes g c =
+    let a = c.args in
+    rw c.at.ensures (is_missing a.s.now g.W.Width.BYTES a.at (rw c.BYTES.ensures at (sym c.has_bytes.ensures ∙ c.if-not-has_bytes.true)))
+
+pub returns : goal.returns
+returns g c =
+    let a = c.args in
+    rw c.BYTES-2.ensures (is_there a.s.now g.W.Width.BYTES a.at (rw c.BYTES.ensures at (sym c.has_bytes.ensures ∙ c.if-not-has_bytes.false)) c.value.ensures)
