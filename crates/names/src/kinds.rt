@@ -9,6 +9,8 @@ pub const STRING: u32 = 13;
 
 pub const OBJECT: u32 = 14;
 
+pub const DICTIONARY_KIND: u32 = 19;
+
 pub const TIME_SPAN: u32 = 20;
 
 pub const VECTOR_3: u32 = 24;
@@ -20,6 +22,8 @@ pub const TEXTURE: u32 = 31;
 pub const TEXTURE_2D: u32 = 32;
 
 pub const PAGE: u32 = 34;
+
+pub const SHARED_REFERENCE: u32 = 36;
 
 pub const INDEX_BUFFER: u32 = 37;
 
