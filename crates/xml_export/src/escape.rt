@@ -112,15 +112,8 @@ fn block_size(text: &[u8], i: usize) -> usize
     32 + more as usize
 }
 
-// That a character of a text is not written, or how many bytes the text has in the XML.
-#[derive(Clone, Copy)]
-pub enum Sizing {
-    Unwritten,
-    Size(usize),
-}
-
-// Whether every character of a text is written, and its size: a run of quiet bytes, then blocks, and 32 bytes one by one where a block is not seen at once.
-fn filled_size(text: &[u8]) -> Sizing
+// How many bytes a text has in the XML, where every character of it is written: a run of quiet bytes, then blocks, and 32 bytes one by one where a block is not seen at once.
+fn filled_size(text: &[u8]) -> Option<usize>
     requires { length text.now ≤ 16777216 }
     ensures { result ≡ size_of text.now }
 {
@@ -146,13 +139,13 @@ fn filled_size(text: &[u8]) -> Sizing
             left -= 1;
             let n = size_at(text, i);
             if n == 0 {
-                return Sizing::Unwritten;
+                return None;
             }
             size += n;
             i += 1;
         }
     }
-    Sizing::Size(size)
+    Some(size)
 }
 
 // Whether a text of 8 to 32 bytes from `first` on is quiet: 32 bytes of the file are looked at at once.
@@ -172,15 +165,15 @@ fn quiet_short(file: &[u8], first: usize, n: usize) -> bool
 }
 
 // The same as `filled_size` for the n bytes of a file from `first` on: an empty text is told by one test, and a short one at once where it is quiet.
-pub(crate) fn text_size(file: &[u8], first: usize, n: usize) -> Sizing
+pub(crate) fn text_size(file: &[u8], first: usize, n: usize) -> Option<usize>
     requires { (length file.now ≤ 16777216) × (first + n ≤ length file.now) }
     ensures { result ≡ size_of (take n (drop first file.now)) }
 {
     if n == 0 {
-        return Sizing::Size(0);
+        return Some(0);
     }
     if quiet_short(file, first, n) {
-        return Sizing::Size(n);
+        return Some(n);
     }
     let end = first + n;
     filled_size(&file[first..end])

@@ -14,66 +14,31 @@ ghost use Rattle.xml_export.specs.Primary.{OfTexts, TextsReader};
 ghost use Rattle.xml_export.specs.Contract.{Judged, Refuses, Answers, answer_of};
 ghost use Rattle.xml_export.specs.Under.{exported, output_left, words_left};
 
-use answers::Number;
-use escape::Sizing;
+use answers::{Refusal, Rule};
 use ids::RowNumber;
-use load::Loading;
-use lookups::Span;
-use readers::Lists;
+use table::Table;
 
-// What a row has: no text; a text with a character that is not written; or a text of so many bytes in the XML.
-#[derive(Clone, Copy)]
-pub enum RowSize {
-    Null,
-    Unwritten,
-    Size(usize),
-}
-
-// The size of the text that a row has.
-fn row_size(file: &[u8], words: &[u32], row: u32) -> RowSize
+// How many bytes the text of a row has in the XML; or the rule that it breaks, which is that it is there, or that each of its characters is written.
+fn row_size(file: &[u8], words: &[u32], row: u32) -> Result<usize, Rule>
     requires { length file.now ≤ 16777216 }
     ensures { result ≡ size_at file.now (rows_text file.now words.now row) }
 {
-    match lookups::text(file, words, RowNumber(row)) {
-        Span::Refused(_, _) => RowSize::Null,
-        Span::Found(first, n) => {
-            match escape::text_size(file, first, n) {
-                Sizing::Unwritten => RowSize::Unwritten,
-                Sizing::Size(size) => RowSize::Size(size),
-            }
-        }
+    match lookups::text(file, Table::by_rows(words), RowNumber(row)) {
+        Err(_) => Err(Rule::NullText),
+        Ok(text) => escape::text_size(file, text.first, text.length).ok_or(Rule::NotInXml),
     }
-}
-
-// The refusal of a text, at its row number; or how many bytes the XML has.
-#[derive(Clone, Copy)]
-pub enum Gathering {
-    Bad(u32, u32),
-    Size(usize),
 }
 
 // Judges the texts of the rows behind the first, and measures the XML.
-fn measure(file: &[u8], words: &[u32], rows: u32) -> Gathering
+fn measure(file: &[u8], words: &[u32], rows: u32) -> Result<usize, Refusal>
     requires { length file.now ≤ 16777216 }
     ensures { result ≡ measured (row_texts file.now words.now (rows - 1) 1) }
 {
-    let mut i = 1;
     let mut size = 94;
-    while i < rows {
-        match row_size(file, words, i) {
-            RowSize::Null => {
-                return Gathering::Bad(62, i);
-            }
-            RowSize::Unwritten => {
-                return Gathering::Bad(63, i);
-            }
-            RowSize::Size(n) => {
-                size += 13 + n;
-            }
-        }
-        i += 1;
+    for i in 1..rows {
+        size += 13 + row_size(file, words, i).map_err(|rule| rule.at(i as usize))?;
     }
-    Gathering::Size(size)
+    Ok(size)
 }
 
 // The item of a row's text into the output; answers where it ends.
@@ -81,9 +46,9 @@ fn put_row(file: &[u8], words: &[u32], out: &mut [u8], row: u32, to: usize) -> u
     requires { RowFits file.now (rows_text file.now words.now row) to (length out.old) }
     ensures { RowPut file.now (rows_text file.now words.now row) to out.old out.new result }
 {
-    match lookups::text(file, words, RowNumber(row)) {
-        Span::Refused(_, _) => to,
-        Span::Found(first, n) => escape::put_item(file, out, first, n, to),
+    match lookups::text(file, Table::by_rows(words), RowNumber(row)) {
+        Err(_) => to,
+        Ok(text) => escape::put_item(file, out, text.first, text.length, to),
     }
 }
 
@@ -92,11 +57,9 @@ fn put_rows(file: &[u8], words: &[u32], out: &mut [u8], rows: u32) -> usize
     requires { Fits file.now words.now rows (length out.old) }
     ensures { ItemsPut file.now words.now rows out.old out.new result }
 {
-    let mut i = 1;
     let mut to = 73;
-    while i < rows {
+    for i in 1..rows {
         to = put_row(file, words, out, i, to);
-        i += 1;
     }
     to
 }
@@ -135,9 +98,8 @@ fn listed_reader(file: &[u8], enums: &[u8], codes: &mut [u32], id: u32) -> bool
     let mut targets = [0u16; 64];
     let mut starts = [0u16; 64];
     match readers::read_lists(file, enums, codes, &mut targets, &mut starts) {
-        Lists::NoRoom => false,
-        Lists::Refused(_, _) => false,
-        Lists::Read(_, _, _, _) => {
+        Err(_) => false,
+        Ok(_) => {
             if 64 <= i {
                 return false;
             }
@@ -177,12 +139,12 @@ fn texts_reader(file: &[u8], enums: &[u8], id: u32) -> bool
     ensures { TextsReader enums.now file.now id result }
 {
     match readers::reader_count(file, readers::START) {
-        Number::Refused(_, _) => of_two(file, enums, id),
-        Number::Read(n, _) => {
-            if n <= 2 {
+        Err(_) => of_two(file, enums, id),
+        Ok(count) => {
+            if count.value <= 2 {
                 return of_two(file, enums, id);
             }
-            if n <= 8 {
+            if count.value <= 8 {
                 return of_few(file, enums, id);
             }
             of_many(file, enums, id)
@@ -198,64 +160,57 @@ fn is_list(file: &[u8], enums: &[u8], words: &[u32], rows: u32, shared: u32) -> 
     if shared != 0 {
         return false;
     }
-    let grid = table::rows_grid(words.len());
-    let id = table::word_of(words, grid, RowNumber(0), table::DETAIL);
+    let id = Table::by_rows(words).word(RowNumber(0), table::DETAIL);
     texts_reader(file, enums, id)
 }
 
-// A refusal's number and place, or the length of the XML.
-#[derive(Clone, Copy)]
-pub enum Exporting {
-    Refused(u32, usize),
-    Exported { length: usize },
-}
-
 // A refusal behind a load: the words are cleared.
-fn refuse(words: &mut [u32], number: u32, place: usize) -> Exporting
-    ensures { Refuses number place words.old words.new result }
+fn refuse(words: &mut [u32], refusal: Refusal) -> Result<usize, Refusal>
+    ensures { Refuses refusal words.old words.new result }
 {
     fill::clear(words, 0);
-    Exporting::Refused(number, place)
+    Err(refusal)
 }
 
 // The answer for a loaded file, by whether its primary is an Array of String, with no shared objects.
-fn answer(file: &[u8], words: &mut [u32], out: &mut [u8], rows: u32, list: bool) -> Exporting
+fn answer(
+    file: &[u8],
+    words: &mut [u32],
+    out: &mut [u8],
+    rows: u32,
+    list: bool,
+) -> Result<usize, Refusal>
     requires { length file.now ≤ 16777216 }
     ensures { Answers file.now words.old words.new out.old out.new rows list result }
 {
     if !list {
-        let grid = table::rows_grid(words.len());
-        let first = table::word_of(words, grid, RowNumber(0), table::FIRST);
-        return refuse(words, 61, first as usize);
+        let first = Table::by_rows(words).word(RowNumber(0), table::FIRST);
+        return refuse(words, Rule::NotTextArray.at(first as usize));
     }
     match measure(file, words, rows) {
-        Gathering::Bad(number, row) => refuse(words, number, row as usize),
-        Gathering::Size(size) => {
+        Err(refusal) => refuse(words, refusal),
+        Ok(size) => {
             if out.len() < size {
-                return refuse(words, 21, size);
+                return refuse(words, Rule::OutputTooSmall.at(size));
             }
             write(file, words, out, rows);
-            Exporting::Exported { length: size }
+            Ok(size)
         }
     }
 }
 
-// Loads a file into the words, under a list of enum types, and writes the XML of its texts into the output.
-pub fn export(file: &[u8], enums: &[u8], words: &mut [u32], out: &mut [u8]) -> Exporting
+// Loads a file into the words, under a list of enum types, and writes the XML of its texts into the output; answers its length.
+pub fn export(
+    file: &[u8],
+    enums: &[u8],
+    words: &mut [u32],
+    out: &mut [u8],
+) -> Result<usize, Refusal>
     ensures value { result ≡ answer_of (exported enums.now file.now words.old out.old) }
     ensures out_after { out.new ≡ output_left enums.now file.now words.old out.old }
     ensures words_after { words.new ≡ words_left enums.now file.now words.old out.old }
 {
-    match load::load(file, enums, words) {
-        Loading::Refused(number, place) => Exporting::Refused(number, place),
-        Loading::Loaded {
-            rows,
-            readers: _,
-            shared,
-            padding: _,
-        } => {
-            let list = is_list(file, enums, words, rows, shared);
-            answer(file, words, out, rows, list)
-        }
-    }
+    let loaded = load::load(file, enums, words)?;
+    let list = is_list(file, enums, words, loaded.rows, loaded.shared);
+    answer(file, words, out, loaded.rows, list)
 }

@@ -1,5 +1,5 @@
 -- What matching answers in code, by places in the XML. Assumes nothing.
-use Rattle.std.specs.Prelude.{◌≡◌, Bool, not, ◌&&◌, List, [], ◌∷◌, ◌⊎◌, ℕ, ◌+◌, ◌-◌, ◌*◌, ◌≤◌, ◌<◌, leb, eqb, length, take, drop, get_or}
+use Rattle.std.specs.Prelude.{◌≡◌, Result, Ok, Err, Bool, not, ◌&&◌, List, [], ◌∷◌, ◌⊎◌, ℕ, ◌+◌, ◌-◌, ◌*◌, ◌≤◌, ◌<◌, leb, eqb, length, take, drop, get_or}
 use Rattle.layout.specs.Shortest.{short_file}
 use Rattle.xml_escape.specs.Runs.{AllOf}
 use Rattle.xml_layout.specs.Tree.{tree_of}
@@ -10,14 +10,9 @@ use Rattle.xml_reading.specs.Text as T
 use Rattle.xml_reading.specs.Plain.{plain_character, plain-matches}
 use Rattle.xml_reading.specs.Import.{texts_of}
 use Rattle.xml_escape.specs.Wrote.{Put}
-use Rattle.xml_import.specs.declared.character.Matched.{Matched}
-use Rattle.xml_import.specs.declared.character.Matched.TheVariants.{Fails, Takes}
-use Rattle.xml_import.specs.declared.character.Piece.{Piece}
-use Rattle.xml_import.specs.declared.character.Piece.TheVariants as piece
+use Rattle.xml_import.specs.declared.character.Entity.{Entity}
 use Rattle.xml_import.specs.declared.Texted.{Texted}
-use Rattle.xml_import.specs.declared.Texted.TheVariants as texted
 use Rattle.xml_import.specs.declared.Measured.{Measured}
-use Rattle.xml_import.specs.declared.Measured.TheVariants.{Other, Texts}
 
 -- an ASCII character that stands as it is
 unfoldable pub stands_alone : ℕ → Bool
@@ -41,19 +36,19 @@ abbrev pub part : (xml : List ℕ) (at next : ℕ) → List ℕ
 part xml at next = take (next - at) (drop at xml)
 
 -- a matcher of bytes
-abbrev pub MatchAt : Match (List ℕ) → (xml : List ℕ) (at : ℕ) → Matched → Type 0
-MatchAt m xml at (Fails place) = FailsAt m at place
-MatchAt m xml at (Takes next) = TakesAt m (part xml at next) xml at next
+abbrev pub MatchAt : Match (List ℕ) → (xml : List ℕ) (at : ℕ) → Result ℕ ℕ → Type 0
+MatchAt m xml at (Err place) = FailsAt m at place
+MatchAt m xml at (Ok next) = TakesAt m (part xml at next) xml at next
 
-unfoldable pub RangesAt : List Range → (xml : List ℕ) (at : ℕ) → Matched → Type 0
+unfoldable pub RangesAt : List Range → (xml : List ℕ) (at : ℕ) → Result ℕ ℕ → Type 0
 RangesAt rs xml at r = MatchAt (ranges rs (drop at xml)) xml at r
 
 -- behind EF hex
-unfoldable pub TopAt : (xml : List ℕ) (at : ℕ) → Matched → Type 0
+unfoldable pub TopAt : (xml : List ℕ) (at : ℕ) → Result ℕ ℕ → Type 0
 TopAt xml at r = MatchAt (or_else (ranges ((0x80, 0xBE) ∷ (0x80, 0xBF) ∷ []) (drop at xml)) (ranges ((0xBF, 0xBF) ∷ (0x80, 0xBD) ∷ []) (drop at xml))) xml at r
 
 -- a character that stands as it is
-unfoldable pub PlainAt : (xml : List ℕ) (at : ℕ) → Matched → Type 0
+unfoldable pub PlainAt : (xml : List ℕ) (at : ℕ) → Result ℕ ℕ → Type 0
 PlainAt xml at r = MatchAt (plain_character (drop at xml)) xml at r
 
 abbrev pub character : List ℕ → Match (List ℕ)
@@ -62,11 +57,10 @@ character l = T.character plain-matches l
 abbrev pub text : List ℕ → Match (List ℕ)
 text l = T.text plain-matches l
 
--- a character, as it stands in the XML
-unfoldable pub PieceAt : (xml : List ℕ) (at : ℕ) → Piece → Type 0
-PieceAt xml at (piece.Fails place) = FailsAt (character (drop at xml)) at place
-PieceAt xml at (piece.Entity b next) = TakesAt (character (drop at xml)) (b ∷ []) xml at next
-PieceAt xml at (piece.Plain next) = TakesAt (character (drop at xml)) (part xml at next) xml at next
+-- an entity, as a character of the XML
+unfoldable pub EntityAt : (xml : List ℕ) (at : ℕ) → Result Entity ℕ → Type 0
+EntityAt xml at (Err place) = FailsAt (character (drop at xml)) at place
+EntityAt xml at (Ok e) = TakesAt (character (drop at xml)) (e.byte ∷ []) xml at e.next
 
 -- characters that stand as they are
 unfoldable pub Chars : List (List ℕ) → Type 0
@@ -132,11 +126,11 @@ pub record StartPut (xml : List ℕ) (from to : ℕ) (entry exit : List ℕ) (r 
   pub put : Put (take r (drop from xml)) to entry exit
 
 -- the text of an item, of which so many bytes are taken, and the item's end
-unfoldable pub TextAt : (xml : List ℕ) (at : ℕ) → Texted → Type 0
-TextAt xml at (texted.Fails place) = FailsAt (text (drop at xml)) at place
-TextAt xml at (texted.Ends size next) = (t : List ℕ) × (size ≡ length t) × TakesAt (text (drop at xml)) t xml at next × (size + 7 ≤ next - at)
+unfoldable pub TextAt : (xml : List ℕ) (at : ℕ) → Result Texted ℕ → Type 0
+TextAt xml at (Err place) = FailsAt (text (drop at xml)) at place
+TextAt xml at (Ok r) = (t : List ℕ) × (r.size ≡ length t) × TakesAt (text (drop at xml)) t xml at r.next × (r.size + 7 ≤ r.next - at)
 
 -- the whole XML: how many texts it has, and how many bytes the file built from them
-unfoldable pub Measures : (xml : List ℕ) → Measured → Type 0
-Measures xml (Other place) = texts_of xml ≡ other place
-Measures xml (Texts count size) = (ts : List (List ℕ)) × (texts_of xml ≡ document ts) × (count ≡ length ts) × (size ≡ length (short_file (tree_of ts)))
+unfoldable pub Measures : (xml : List ℕ) → Result Measured ℕ → Type 0
+Measures xml (Err place) = texts_of xml ≡ other place
+Measures xml (Ok r) = (ts : List (List ℕ)) × (texts_of xml ≡ document ts) × (r.count ≡ length ts) × (r.size ≡ length (short_file (tree_of ts)))

@@ -1,5 +1,5 @@
 -- What is put into the output, and when. Assumes nothing.
-use Rattle.std.specs.Prelude.{◌≡◌, Bool, true, List, [], ◌∷◌, ◌++◌, ℕ, ◌+◌, ◌^◌, ◌≤◌, ◌<◌, length, take, drop}
+use Rattle.std.specs.Prelude.{◌≡◌, Result, Ok, Err, Bool, true, List, [], ◌∷◌, ◌++◌, ℕ, ◌+◌, ◌^◌, ◌≤◌, ◌<◌, length, take, drop}
 use Rattle.layout.specs.Number.{little}
 use Rattle.layout.specs.Text.{ascii}
 use Rattle.layout.specs.Shortest.{shortest, short, short_lists, short_file}
@@ -12,8 +12,8 @@ use Rattle.xml_reading.specs.Text.{joined}
 use Rattle.xml_reading.specs.Import.{texts_of}
 use Rattle.xml_escape.specs.Wrote.{Wrote}
 use Rattle.xml_import.specs.Places.{character, text}
-use Rattle.xml_import.specs.declared.Importing.{Importing}
-use Rattle.xml_import.specs.declared.Importing.TheVariants.{Refused, Imported}
+use Rattle.answers.specs.declared.Refusal.{Refusal}
+use Rattle.answers.specs.Refusals.{refusal as refused}
 
 -- the header without its length, and the lists with the Array's type id
 unfoldable pub header_bytes : List ℕ
@@ -90,7 +90,7 @@ StringsPut xml entry exit =
     (ts : List (List ℕ)) → texts_of xml ≡ document ts → (base done : List ℕ) → Wrote base done entry 133 → 133 + length (short (text_trees ts)) ≤ length base
     → Wrote base (done ++ short (text_trees ts)) exit (133 + length (short (text_trees ts)))
 
--- a refusal's number and place, or the length of the file
-abbrev pub answer_of : Rewritten → Importing
-answer_of (refusal number place) = Refused number place
-answer_of (written bytes) = Imported (length bytes)
+-- a refusal, or the length of the file
+abbrev pub answer_of : Rewritten → Result ℕ Refusal
+answer_of (refusal number place) = Err (refused number place)
+answer_of (written bytes) = Ok (length bytes)

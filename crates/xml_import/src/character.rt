@@ -2,7 +2,7 @@
 ghost use Rattle.std.specs.Prelude.{◌≡◌, true, ◌+◌, ◌≤◌, ◌<◌, max, length, drop, get_or, [], ◌∷◌};
 ghost use Rattle.names.specs.Parse.{common};
 ghost use Rattle.xml_layout.specs.Xml.{item_start, item_end};
-ghost use Rattle.xml_import.specs.Places.{stands_alone, Word, RangesAt, TopAt, PlainAt, PieceAt};
+ghost use Rattle.xml_import.specs.Places.{stands_alone, Word, RangesAt, TopAt, PlainAt, EntityAt};
 
 // The larger of two numbers.
 pub fn larger(a: usize, b: usize) -> usize
@@ -99,12 +99,8 @@ pub(crate) fn end_at(xml: &[u8], at: usize) -> usize
     other_end(xml, at)
 }
 
-// Where bytes fail, or where they end.
-#[derive(Clone, Copy)]
-pub enum Matched {
-    Fails(usize),
-    Takes(usize),
-}
+// Where bytes that are looked for end, or where they fail.
+type Matched = Result<usize, usize>;
 
 // A byte from `low` to `high`.
 fn byte_at(xml: &[u8], at: usize, low: u8, high: u8) -> Matched
@@ -112,16 +108,16 @@ fn byte_at(xml: &[u8], at: usize, low: u8, high: u8) -> Matched
     ensures { RangesAt ((low, high) ∷ []) xml.now at result }
 {
     if xml.len() <= at {
-        return Matched::Fails(at);
+        return Err(at);
     }
     let b = xml[at];
     if b < low {
-        return Matched::Fails(at);
+        return Err(at);
     }
     if high < b {
-        return Matched::Fails(at);
+        return Err(at);
     }
-    Matched::Takes(at + 1)
+    Ok(at + 1)
 }
 
 // A byte from `low` to `high`, and one from 80 hex to `most`.
@@ -129,10 +125,8 @@ fn two_at(xml: &[u8], at: usize, low: u8, high: u8, most: u8) -> Matched
     requires { at ≤ length xml.now }
     ensures { RangesAt ((low, high) ∷ (0x80, most) ∷ []) xml.now at result }
 {
-    match byte_at(xml, at, low, high) {
-        Matched::Fails(place) => Matched::Fails(place),
-        Matched::Takes(next) => byte_at(xml, next, 0x80, most),
-    }
+    let next = byte_at(xml, at, low, high)?;
+    byte_at(xml, next, 0x80, most)
 }
 
 // A byte from `low` to `high`, and two from 80 to BF hex.
@@ -140,10 +134,8 @@ fn three_at(xml: &[u8], at: usize, low: u8, high: u8) -> Matched
     requires { at ≤ length xml.now }
     ensures { RangesAt ((low, high) ∷ (0x80, 0xBF) ∷ (0x80, 0xBF) ∷ []) xml.now at result }
 {
-    match byte_at(xml, at, low, high) {
-        Matched::Fails(place) => Matched::Fails(place),
-        Matched::Takes(next) => two_at(xml, next, 0x80, 0xBF, 0xBF),
-    }
+    let next = byte_at(xml, at, low, high)?;
+    two_at(xml, next, 0x80, 0xBF, 0xBF)
 }
 
 // The two bytes behind EF hex, which are not those of U+FFFE and U+FFFF.
@@ -152,8 +144,8 @@ fn top_at(xml: &[u8], at: usize) -> Matched
     ensures { TopAt xml.now at result }
 {
     match byte_at(xml, at, 0x80, 0xBE) {
-        Matched::Fails(_) => two_at(xml, at, 0xBF, 0xBF, 0xBD),
-        Matched::Takes(next) => byte_at(xml, next, 0x80, 0xBF),
+        Err(_) => two_at(xml, at, 0xBF, 0xBF, 0xBD),
+        Ok(next) => byte_at(xml, next, 0x80, 0xBF),
     }
 }
 
@@ -190,7 +182,7 @@ fn wide_at(xml: &[u8], at: usize) -> Matched
     let b = xml[at];
     let next = at + 1;
     if b < 0xC2 {
-        return Matched::Fails(at);
+        return Err(at);
     }
     if b < 0xE0 {
         return byte_at(xml, next, 0x80, 0xBF);
@@ -219,92 +211,101 @@ fn wide_at(xml: &[u8], at: usize) -> Matched
     if b == 0xF4 {
         return three_at(xml, next, 0x80, 0x8F);
     }
-    Matched::Fails(at)
+    Err(at)
 }
 
 // A character that stands as it is.
-fn plain_at(xml: &[u8], at: usize) -> Matched
+pub(crate) fn plain_at(xml: &[u8], at: usize) -> Matched
     requires { at < length xml.now }
     ensures { PlainAt xml.now at result }
 {
     let b = xml[at];
     if ordinary(b) {
-        return Matched::Takes(at + 1);
+        return Ok(at + 1);
     }
     if b < 0x80 {
-        return Matched::Fails(at);
+        return Err(at);
     }
     wide_at(xml, at)
 }
 
-// Where a character fails; or an entity's character, or one that stands as it is, and where it ends.
-#[derive(Clone, Copy)]
-pub enum Piece {
-    Fails(usize),
-    Entity(u8, usize),
-    Plain(usize),
+// An entity's character, and where the entity ends.
+#[derive(Clone, Copy, Debug, PartialEq, Eq)]
+pub struct Entity {
+    pub byte: u8,
+    pub next: usize,
 }
 
 // One of the four entities, or where none stands.
-fn other_entity(xml: &[u8], at: usize) -> Piece
+fn other_entity(xml: &[u8], at: usize) -> Result<Entity, usize>
     requires { (at < length xml.now) × (get_or xml.now at 0 ≡ 0x26) }
-    ensures { PieceAt xml.now at result }
+    ensures { EntityAt xml.now at result }
 {
     let a = names::texts::matched_at(xml, at, b"&amp;");
     if a == 5 {
-        return Piece::Entity(0x26, at + 5);
+        return Ok(Entity {
+            byte: 0x26,
+            next: at + 5,
+        });
     }
     let l = names::texts::matched_at(xml, at, b"&lt;");
     if l == 4 {
-        return Piece::Entity(0x3C, at + 4);
+        return Ok(Entity {
+            byte: 0x3C,
+            next: at + 4,
+        });
     }
     let g = names::texts::matched_at(xml, at, b"&gt;");
     if g == 4 {
-        return Piece::Entity(0x3E, at + 4);
+        return Ok(Entity {
+            byte: 0x3E,
+            next: at + 4,
+        });
     }
     let q = names::texts::matched_at(xml, at, b"&quot;");
     if q == 6 {
-        return Piece::Entity(0x22, at + 6);
+        return Ok(Entity {
+            byte: 0x22,
+            next: at + 6,
+        });
     }
-    Piece::Fails(at + larger(a, larger(l, larger(g, q))))
+    Err(at + larger(a, larger(l, larger(g, q))))
 }
 
 // The same: four bytes are compared at once.
-pub(crate) fn entity_at(xml: &[u8], at: usize) -> Piece
+pub(crate) fn entity_at(xml: &[u8], at: usize) -> Result<Entity, usize>
     requires { (at < length xml.now) × (get_or xml.now at 0 ≡ 0x26) }
-    ensures { PieceAt xml.now at result }
+    ensures { EntityAt xml.now at result }
 {
     if xml.len() - at < 6 {
         return other_entity(xml, at);
     }
     if word(xml, at + 1) == 0x3B706D61 {
-        return Piece::Entity(0x26, at + 5);
+        return Ok(Entity {
+            byte: 0x26,
+            next: at + 5,
+        });
     }
     let start = word(xml, at);
     if start == 0x3B746C26 {
-        return Piece::Entity(0x3C, at + 4);
+        return Ok(Entity {
+            byte: 0x3C,
+            next: at + 4,
+        });
     }
     if start == 0x3B746726 {
-        return Piece::Entity(0x3E, at + 4);
+        return Ok(Entity {
+            byte: 0x3E,
+            next: at + 4,
+        });
     }
     if start == 0x6F757126 {
         if word(xml, at + 2) == 0x3B746F75 {
-            return Piece::Entity(0x22, at + 6);
+            return Ok(Entity {
+                byte: 0x22,
+                next: at + 6,
+            });
         }
     }
     other_entity(xml, at)
-}
-
-// A character, as it stands in the XML.
-pub(crate) fn character_at(xml: &[u8], at: usize) -> Piece
-    requires { at < length xml.now }
-    ensures { PieceAt xml.now at result }
-{
-    if xml[at] == 0x26 {
-        return entity_at(xml, at);
-    }
-    match plain_at(xml, at) {
-        Matched::Fails(place) => Piece::Fails(place),
-        Matched::Takes(next) => Piece::Plain(next),
-    }
 }

@@ -12,17 +12,17 @@ ghost use Rattle.xml_reading.specs.Answers.{import_of};
 ghost use Rattle.xml_import.specs.Places.{Known, TextAt, Measures};
 ghost use Rattle.xml_import.specs.Puts.{front_put, TextOf, LastIf, Ready, VerbatimIf, TextPut, StringPut, Fits, StringsPut, answer_of};
 
-use character::Piece;
+use answers::{Refusal, Rule};
 
-// Where the text of an item fails, or how many bytes it has and where the item ends.
-#[derive(Clone, Copy)]
-pub enum Texted {
-    Fails(usize),
-    Ends(usize, usize),
+// How many bytes the text of an item has, and where the item ends.
+#[derive(Clone, Copy, Debug, PartialEq, Eq)]
+pub struct Texted {
+    pub size: usize,
+    pub next: usize,
 }
 
 // The text of an item from `at` on, and the item's end.
-fn filled_at(xml: &[u8], at: usize) -> Texted
+fn filled_at(xml: &[u8], at: usize) -> Result<Texted, usize>
     requires { at ≤ length xml.now }
     ensures { TextAt xml.now at result }
 {
@@ -30,19 +30,9 @@ fn filled_at(xml: &[u8], at: usize) -> Texted
     let mut size = i - at;
     while i < xml.len() {
         if xml[i] == 0x26 {
-            match character::entity_at(xml, i) {
-                Piece::Fails(place) => {
-                    return Texted::Fails(place);
-                }
-                Piece::Entity(_, next) => {
-                    size += 1;
-                    i = next;
-                }
-                Piece::Plain(next) => {
-                    size += next - i;
-                    i = next;
-                }
-            }
+            let entity = character::entity_at(xml, i)?;
+            size += 1;
+            i = entity.next;
         } else {
             let run = standing::standing(xml, i);
             if i < run {
@@ -51,17 +41,13 @@ fn filled_at(xml: &[u8], at: usize) -> Texted
             } else {
                 let n = character::end_at(xml, i);
                 if n == 7 {
-                    return Texted::Ends(size, i + 7);
+                    return Ok(Texted { size, next: i + 7 });
                 }
-                match character::character_at(xml, i) {
-                    Piece::Fails(place) => {
-                        return Texted::Fails(character::larger(i + n, place));
+                match character::plain_at(xml, i) {
+                    Err(place) => {
+                        return Err(character::larger(i + n, place));
                     }
-                    Piece::Entity(_, next) => {
-                        size += 1;
-                        i = next;
-                    }
-                    Piece::Plain(next) => {
+                    Ok(next) => {
                         size += next - i;
                         i = next;
                     }
@@ -69,30 +55,36 @@ fn filled_at(xml: &[u8], at: usize) -> Texted
             }
         }
     }
-    Texted::Fails(i)
+    Err(i)
 }
 
 // The same: an empty text is told at once.
-fn text_at(xml: &[u8], at: usize) -> Texted
+fn text_at(xml: &[u8], at: usize) -> Result<Texted, usize>
     requires { at ≤ length xml.now }
     ensures { TextAt xml.now at result }
 {
     if 7 <= xml.len() - at {
         if character::ends_at(xml, at) {
-            return Texted::Ends(0, at + 7);
+            return Ok(Texted {
+                size: 0,
+                next: at + 7,
+            });
         }
     }
     filled_at(xml, at)
 }
 
 // The same for a text that was taken before: it is only measured.
-fn known_at(xml: &[u8], at: usize) -> Texted
+fn known_at(xml: &[u8], at: usize) -> Result<Texted, usize>
     requires { (at ≤ length xml.now) × Known xml.now at }
     ensures { TextAt xml.now at result }
 {
     if at < xml.len() {
         if xml[at] == 0x3C {
-            return Texted::Ends(0, at + 7);
+            return Ok(Texted {
+                size: 0,
+                next: at + 7,
+            });
         }
     }
     let mut i = known::unmarked_rest(xml, at);
@@ -100,29 +92,19 @@ fn known_at(xml: &[u8], at: usize) -> Texted
     while i < xml.len() {
         let b = xml[i];
         if b == 0x3C {
-            return Texted::Ends(size, i + 7);
+            return Ok(Texted { size, next: i + 7 });
         }
         if b == 0x26 {
-            match character::entity_at(xml, i) {
-                Piece::Fails(place) => {
-                    return Texted::Fails(place);
-                }
-                Piece::Entity(_, next) => {
-                    size += 1;
-                    i = next;
-                }
-                Piece::Plain(next) => {
-                    size += next - i;
-                    i = next;
-                }
-            }
+            let entity = character::entity_at(xml, i)?;
+            size += 1;
+            i = entity.next;
         } else {
             let run = known::unmarked_run(xml, i);
             size += run - i;
             i = run;
         }
     }
-    Texted::Fails(i)
+    Err(i)
 }
 
 // How many bytes a text has whose length and bytes have n together.
@@ -143,12 +125,15 @@ fn text_bytes(n: usize) -> usize
 }
 
 // The same as `known_at` where so many items are left, which have so many bytes in the file: the last is not measured.
-fn item_at(xml: &[u8], at: usize, items: usize, bytes: usize) -> Texted
+fn item_at(xml: &[u8], at: usize, items: usize, bytes: usize) -> Result<Texted, usize>
     requires { (at ≤ length xml.now) × Known xml.now at × LastIf xml.now at items bytes }
     ensures { TextAt xml.now at result }
 {
     if items == 1 {
-        return Texted::Ends(text_bytes(bytes - 1), xml.len() - 21);
+        return Ok(Texted {
+            size: text_bytes(bytes - 1),
+            next: xml.len() - 21,
+        });
     }
     known_at(xml, at)
 }
@@ -172,21 +157,21 @@ fn length_size(n: usize) -> usize
     5
 }
 
-// Where the XML is not of the form; or how many texts it has, and how many bytes their file.
-#[derive(Clone, Copy)]
-pub enum Measured {
-    Other(usize),
-    Texts(usize, usize),
+// How many texts the XML has, and how many bytes their file.
+#[derive(Clone, Copy, Debug, PartialEq, Eq)]
+pub struct Measured {
+    pub count: usize,
+    pub size: usize,
 }
 
-// Matches the whole XML.
-fn measure(xml: &[u8]) -> Measured
+// Matches the whole XML; its error is the place at which the XML is not of the form.
+fn measure(xml: &[u8]) -> Result<Measured, usize>
     ensures { Measures xml.now result }
 {
     let start = b"<?xml version=\"1.0\" encoding=\"utf-8\"?><XnaContent><Asset Type=\"string[]\">";
     let n = names::texts::matched_at(xml, 0, start);
     if n != 73 {
-        return Measured::Other(n);
+        return Err(n);
     }
     let mut i = 73;
     let mut count = 0;
@@ -198,25 +183,25 @@ fn measure(xml: &[u8]) -> Measured
             if e == 21 {
                 let end = i + 21;
                 if end != xml.len() {
-                    return Measured::Other(end);
+                    return Err(end);
                 }
-                return Measured::Texts(count, size);
+                return Ok(Measured { count, size });
             }
-            return Measured::Other(i + character::larger(e, s));
+            return Err(i + character::larger(e, s));
         }
         match text_at(xml, i + 6) {
-            Texted::Fails(place) => {
+            Err(place) => {
                 let e = names::texts::matched_at(xml, i, b"</Asset></XnaContent>");
-                return Measured::Other(character::larger(i + e, place));
+                return Err(character::larger(i + e, place));
             }
-            Texted::Ends(bytes, next) => {
+            Ok(text) => {
                 count += 1;
-                size += 1 + length_size(bytes) + bytes;
-                i = next;
+                size += 1 + length_size(text.size) + text.size;
+                i = text.next;
             }
         }
     }
-    Measured::Other(i)
+    Err(i)
 }
 
 // Two readers and no shared objects, and the type id of an Array that the first reads.
@@ -249,19 +234,12 @@ fn put_text(xml: &[u8], out: &mut [u8], at: usize, to: usize, size: usize)
     let mut j = to;
     while j < end {
         if xml[i] == 0x26 {
-            match character::entity_at(xml, i) {
-                Piece::Fails(_) => {
-                    return;
-                }
-                Piece::Entity(b, next) => {
-                    out[j] = b;
-                    j += 1;
-                    i = next;
-                }
-                Piece::Plain(_) => {
-                    return;
-                }
-            }
+            let Ok(entity) = character::entity_at(xml, i) else {
+                return;
+            };
+            out[j] = entity.byte;
+            j += 1;
+            i = entity.next;
         } else {
             let run = known::put_run(xml, out, i, j);
             j += run - i;
@@ -312,47 +290,32 @@ fn put_strings(xml: &[u8], out: &mut [u8], count: usize, size: usize)
     let mut k = 0;
     while k < count {
         let at = i + 6;
-        match item_at(xml, at, count - k, size - to) {
-            Texted::Fails(_) => {
-                return;
-            }
-            Texted::Ends(bytes, next) => {
-                let plain = next - at == bytes + 7;
-                to = put_string(xml, out, at, to, bytes, plain);
-                i = next;
-            }
-        }
+        let Ok(text) = item_at(xml, at, count - k, size - to) else {
+            return;
+        };
+        let plain = text.next - at == text.size + 7;
+        to = put_string(xml, out, at, to, text.size, plain);
+        i = text.next;
         k += 1;
     }
 }
 
-// A refusal's number and place, or the length of the file.
-#[derive(Clone, Copy)]
-pub enum Importing {
-    Refused(u32, usize),
-    Imported { length: usize },
-}
-
-// Imports XML: the shortest file with its texts, into the output.
-pub fn import(xml: &[u8], out: &mut [u8]) -> Importing
+// Imports XML: the shortest file with its texts, into the output; answers its length.
+pub fn import(xml: &[u8], out: &mut [u8]) -> Result<usize, Refusal>
     ensures value { result ≡ answer_of (import_of xml.now (length out.old)) }
     ensures out_after { out.new ≡ output_of (import_of xml.now (length out.old)) out.old }
 {
-    match measure(xml) {
-        Measured::Other(place) => Importing::Refused(64, place),
-        Measured::Texts(count, size) => {
-            if 65535 < count {
-                return Importing::Refused(9, 0);
-            }
-            if 16777216 < size {
-                return Importing::Refused(9, 0);
-            }
-            if out.len() < size {
-                return Importing::Refused(21, size);
-            }
-            put_front(out, size, count);
-            put_strings(xml, out, count, size);
-            Importing::Imported { length: size }
-        }
+    let texts = measure(xml).map_err(|place| Rule::NotExported.at(place))?;
+    if 65535 < texts.count {
+        return Err(Rule::TooLarge.at(0));
     }
+    if 16777216 < texts.size {
+        return Err(Rule::TooLarge.at(0));
+    }
+    if out.len() < texts.size {
+        return Err(Rule::OutputTooSmall.at(texts.size));
+    }
+    put_front(out, texts.size, texts.count);
+    put_strings(xml, out, texts.count, texts.size);
+    Ok(texts.size)
 }

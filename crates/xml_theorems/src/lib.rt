@@ -11,19 +11,23 @@ ghost use Rattle.xml_theorems.specs.Import.{Imports};
 ghost use Rattle.xml_theorems.specs.Export.{ExportsFile, Behind};
 ghost use Rattle.xml_theorems.specs.Trips.{KeepsTexts, ExportsSame};
 
+use answers::Refusal;
 use load::Loading;
-use xml_export::Exporting;
-use xml_import::Importing;
 
 // XML that is imported.
-pub fn import_exact(xml: &[u8], out: &mut [u8]) -> Importing
+pub fn import_exact(xml: &[u8], out: &mut [u8]) -> Result<usize, Refusal>
     ensures { Imports xml.now out.old out.new result }
 {
     xml_import::import(xml, out)
 }
 
 // A file that is exported, under a list of enum types.
-pub fn export_exact(file: &[u8], enums: &[u8], words: &mut [u32], out: &mut [u8]) -> Exporting
+pub fn export_exact(
+    file: &[u8],
+    enums: &[u8],
+    words: &mut [u32],
+    out: &mut [u8],
+) -> Result<usize, Refusal>
     ensures exports_file { ExportsFile enums.now file.now (length words.old) words.new
         out.old out.new result }
     ensures value { result ≡ answer_of (export_under enums.now file.now (length words.old) (length out.old)) }
@@ -32,10 +36,10 @@ pub fn export_exact(file: &[u8], enums: &[u8], words: &mut [u32], out: &mut [u8]
 }
 
 // The answers of a load and of an export.
-#[derive(Clone, Copy)]
+#[derive(Clone, Copy, Debug, PartialEq, Eq)]
 pub struct Judged {
     pub loaded: Loading,
-    pub exported: Exporting,
+    pub exported: Result<usize, Refusal>,
 }
 
 // A file that is loaded and exported, under one list of enum types.
@@ -58,14 +62,12 @@ fn export_then_import(
     words: &mut [u32],
     out: &mut [u8],
     second: &mut [u8],
-) -> Importing
+) -> Result<usize, Refusal>
     ensures { KeepsTexts enums.now file.now (length words.old) (length out.old)
         second.old second.new result }
 {
-    match export_exact(file, enums, words, out) {
-        Exporting::Refused(number, place) => Importing::Refused(number, place),
-        Exporting::Exported { length: n } => import_exact(&out[..n], second),
-    }
+    let n = export_exact(file, enums, words, out)?;
+    import_exact(&out[..n], second)
 }
 
 // XML that is imported, and the file then exported, under a list of enum types, into a second output.
@@ -75,12 +77,10 @@ fn import_then_export(
     words: &mut [u32],
     out: &mut [u8],
     second: &mut [u8],
-) -> Exporting
+) -> Result<usize, Refusal>
     ensures { ExportsSame enums.now xml.now (length words.old) (length out.old)
         second.old second.new result }
 {
-    match import_exact(xml, out) {
-        Importing::Refused(number, place) => Exporting::Refused(number, place),
-        Importing::Imported { length: n } => export_exact(&out[..n], enums, words, second),
-    }
+    let n = import_exact(xml, out)?;
+    export_exact(&out[..n], enums, words, second)
 }
