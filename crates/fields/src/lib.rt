@@ -9,21 +9,17 @@ ghost use Rattle.reading.specs.Fixed.{sized};
 ghost use Rattle.reading.specs.Heads.{leaf_at};
 ghost use Rattle.fields.specs.Ruled.{ruled};
 
-use answers::Number;
+use answers::{Number, Read, Rule};
 
 // A number of `size` bytes that was read at `at`: at most `most`, else 15.
 fn at_most(read: Number, most: u64, size: u64, at: usize) -> Number
     ensures { told result ≡ ruled (at_most most) size at (told read) }
 {
-    match read {
-        Number::Refused(number, place) => Number::Refused(number, place),
-        Number::Read(n, next) => {
-            if most < n {
-                return Number::Refused(15, at);
-            }
-            Number::Read(size, next)
-        }
+    let Read { value: n, next } = read?;
+    if most < n {
+        return Err(Rule::BadValue.at(at));
     }
+    Ok(Read { value: size, next })
 }
 
 // A number of 4 bytes that was read at `at`: a multiple of `unit`, else 15.
@@ -31,15 +27,11 @@ fn multiple_of(read: Number, unit: u64, at: usize) -> Number
     requires { 1 ≤ unit }
     ensures { told result ≡ ruled (multiple_of unit) 4 at (told read) }
 {
-    match read {
-        Number::Refused(number, place) => Number::Refused(number, place),
-        Number::Read(n, next) => {
-            if n % unit != 0 {
-                return Number::Refused(15, at);
-            }
-            Number::Read(4, next)
-        }
+    let Read { value: n, next } = read?;
+    if n % unit != 0 {
+        return Err(Rule::BadValue.at(at));
     }
+    Ok(Read { value: 4, next })
 }
 
 // A bone reference in a model of so many bones: one byte below 255 bones, else four. The value is the number of its bytes, as of the fields below.
@@ -47,16 +39,16 @@ pub fn bone_at(file: &[u8], bones: u32, at: usize) -> Number
     ensures { told result ≡ sized (leaf_at file.now (bone_leaf bones) at) }
 {
     if bones < 255 {
-        return at_most(numbers::little::little1(file, at), bones as u64, 1, at);
+        return at_most(numbers::little::little::<u8>(file, at), bones as u64, 1, at);
     }
-    at_most(numbers::little::little4(file, at), bones as u64, 4, at)
+    at_most(numbers::little::little::<u32>(file, at), bones as u64, 4, at)
 }
 
 // One of the codes 0 to `last`.
 pub fn code_at(file: &[u8], last: u32, at: usize) -> Number
     ensures { told result ≡ sized (leaf_at file.now (code_leaf last) at) }
 {
-    at_most(numbers::little::little4(file, at), last as u64, 4, at)
+    at_most(numbers::little::little::<u32>(file, at), last as u64, 4, at)
 }
 
 // The size of index data: a multiple of 2 where the flag before it is 1, else of 4.
@@ -64,9 +56,9 @@ pub fn size_at(file: &[u8], flag: u32, at: usize) -> Number
     ensures { told result ≡ sized (leaf_at file.now (size_leaf flag) at) }
 {
     if flag == 1 {
-        return multiple_of(numbers::little::little4(file, at), 2, at);
+        return multiple_of(numbers::little::little::<u32>(file, at), 2, at);
     }
-    multiple_of(numbers::little::little4(file, at), 4, at)
+    multiple_of(numbers::little::little::<u32>(file, at), 4, at)
 }
 
 // Data bytes, so many.
@@ -75,7 +67,10 @@ pub fn data_at(file: &[u8], size: u64, at: usize) -> Number
 {
     let n = size as usize;
     if !numbers::little::has_bytes(file, at, n) {
-        return Number::Refused(1, at);
+        return Err(Rule::PastEnd.at(at));
     }
-    Number::Read(size, at + n)
+    Ok(Read {
+        value: size,
+        next: at + n,
+    })
 }

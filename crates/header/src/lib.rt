@@ -6,7 +6,7 @@ ghost use Rattle.layout.specs.Number.{value_of};
 ghost use Rattle.reading.specs.File.{is_platform};
 ghost use Rattle.header.specs.Header.{header_of};
 
-use answers::Number;
+use answers::{Number, Read, Rule};
 
 // Whether a byte is `w`, `m` or `x`.
 fn is_platform(b: u8) -> bool
@@ -26,10 +26,7 @@ fn said_length(file: &[u8]) -> u64
     requires { 10 ≤ length file.now }
     ensures { result ≡ value_of (take 4 (drop 6 file.now)) }
 {
-    match numbers::little::little4(file, 6) {
-        Number::Refused(_, _) => 0,
-        Number::Read(n, _) => n,
-    }
+    numbers::little::little::<u32>(file, 6).map_or(0, |length| length.value)
 }
 
 // The header: 0 and the place behind it, or a refusal's number and place.
@@ -37,34 +34,34 @@ pub fn header(file: &[u8]) -> Number
     ensures { result ≡ header_of file.now }
 {
     if 16777216 < file.len() {
-        return Number::Refused(9, 0);
+        return Err(Rule::TooLarge.at(0));
     }
     if file.len() < 10 {
-        return Number::Refused(1, 0);
+        return Err(Rule::PastEnd.at(0));
     }
     if file[0] != 0x58 {
-        return Number::Refused(2, 0);
+        return Err(Rule::NotXnb.at(0));
     }
     if file[1] != 0x4E {
-        return Number::Refused(2, 0);
+        return Err(Rule::NotXnb.at(0));
     }
     if file[2] != 0x42 {
-        return Number::Refused(2, 0);
+        return Err(Rule::NotXnb.at(0));
     }
     if !is_platform(file[3]) {
-        return Number::Refused(3, 3);
+        return Err(Rule::Platform.at(3));
     }
     if file[4] != 5 {
-        return Number::Refused(4, 4);
+        return Err(Rule::FormatVersion.at(4));
     }
     if 0x80 <= file[5] {
-        return Number::Refused(5, 5);
+        return Err(Rule::Compressed.at(5));
     }
     if 1 < file[5] {
-        return Number::Refused(6, 5);
+        return Err(Rule::Flags.at(5));
     }
     if said_length(file) != file.len() as u64 {
-        return Number::Refused(7, 6);
+        return Err(Rule::FileLength.at(6));
     }
-    Number::Read(0, 10)
+    Ok(Read { value: 0, next: 10 })
 }

@@ -5,36 +5,26 @@ ghost use Rattle.std.specs.Prelude.{◌≡◌};
 ghost use Rattle.ids.specs.Position.{position_of};
 
 // Counts readers: one more than a place in the reader list, or 0 for null.
-#[derive(Clone, Copy)]
+#[derive(Clone, Copy, Debug, PartialEq, Eq)]
 pub struct TypeId(pub u32);
 
 // Counts shared objects: one more than a place among them, or 0 for null.
-#[derive(Clone, Copy)]
+#[derive(Clone, Copy, Debug, PartialEq, Eq)]
 pub struct ResourceId(pub u32);
 
 // Counts rows from 0.
-#[derive(Clone, Copy)]
+#[derive(Clone, Copy, Debug, PartialEq, Eq)]
 pub struct RowNumber(pub u32);
 
-// What an id points to: nothing, or a place counted from 0.
-#[derive(Clone, Copy)]
-pub enum Position {
-    Null,
-    At(u32),
-}
-
-// What type ids and resource ids share.
-fn counted(id: u32) -> Position
+// What type ids and resource ids share: a place counted from 0, or none for null.
+fn counted(id: u32) -> Option<u32>
     ensures { result ≡ position_of id }
 {
-    if id == 0 {
-        return Position::Null;
-    }
-    Position::At(id - 1)
+    id.checked_sub(1)
 }
 
 impl TypeId {
-    pub fn position(self) -> Position
+    pub fn position(self) -> Option<u32>
         ensures { result ≡ position_of self.0 }
     {
         counted(self.0)
@@ -42,7 +32,7 @@ impl TypeId {
 }
 
 impl ResourceId {
-    pub fn position(self) -> Position
+    pub fn position(self) -> Option<u32>
         ensures { result ≡ position_of self.0 }
     {
         counted(self.0)

@@ -7,7 +7,7 @@ ghost use Rattle.answers.specs.Told.{told};
 ghost use Rattle.text.specs.Passed.{Ascii, Passed, Ran};
 ghost use Rattle.text.specs.Window.{Fits, AllFit, Three};
 
-use answers::Number;
+use answers::{Number, Read, Rule};
 use widen::wide;
 
 // The character of one to three bytes at `at`.
@@ -15,14 +15,17 @@ pub fn char_at(s: &[u8], at: usize) -> Number
     ensures { told result ≡ char_at s.now at }
 {
     if s.len() <= at {
-        return Number::Refused(1, at);
+        return Err(Rule::PastEnd.at(at));
     }
     let b = s[at];
     if b < 0x80 {
-        return Number::Read(wide(b), at + 1);
+        return Ok(Read {
+            value: wide(b),
+            next: at + 1,
+        });
     }
     if b < 0xC2 {
-        return Number::Refused(15, at);
+        return Err(Rule::BadValue.at(at));
     }
     if b < 0xE0 {
         return char_two(s, at);
@@ -30,7 +33,7 @@ pub fn char_at(s: &[u8], at: usize) -> Number
     if b < 0xF0 {
         return char_three(s, at);
     }
-    Number::Refused(15, at)
+    Err(Rule::BadValue.at(at))
 }
 
 // The character at `at` that a lead byte of two bytes starts.
@@ -39,15 +42,18 @@ fn char_two(s: &[u8], at: usize) -> Number
     ensures { told result ≡ char_at s.now at }
 {
     if s.len() - at < 2 {
-        return Number::Refused(1, at);
+        return Err(Rule::PastEnd.at(at));
     }
     let b = s[at];
     let i = at + 1;
     if second(s, i, b) {
         let v = wide(b) - 0xC0;
-        return Number::Read(with_six(v, s[i]), at + 2);
+        return Ok(Read {
+            value: with_six(v, s[i]),
+            next: at + 2,
+        });
     }
-    Number::Refused(15, at)
+    Err(Rule::BadValue.at(at))
 }
 
 // The character at `at` that a lead byte of three bytes starts.
@@ -56,16 +62,19 @@ fn char_three(s: &[u8], at: usize) -> Number
     ensures { told result ≡ char_at s.now at }
 {
     if s.len() - at < 3 {
-        return Number::Refused(1, at);
+        return Err(Rule::PastEnd.at(at));
     }
     let b = s[at];
     let i = at + 1;
     let j = at + 2;
     if third(s, i, b) {
         let v = with_six(wide(b) - 0xE0, s[i]);
-        return Number::Read(with_six(v, s[j]), at + 3);
+        return Ok(Read {
+            value: with_six(v, s[j]),
+            next: at + 3,
+        });
     }
-    Number::Refused(15, at)
+    Err(Rule::BadValue.at(at))
 }
 
 // Whether `s` is UTF-8: block by block, and what no block takes, one character after the other.

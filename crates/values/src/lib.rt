@@ -6,7 +6,7 @@ ghost use Rattle.layout.specs.Fixed.{sizes};
 ghost use Rattle.reading.specs.Fixed.{is_boolean, is_date_time, is_decimal, rule, fixed_at, sized};
 ghost use Rattle.answers.specs.Told.{told};
 
-use answers::Number;
+use answers::{Number, Read, Rule};
 use widen::wide;
 
 // 01: "Each kind has a number and, where fixed, a size in bytes": 0 where none is fixed, and for Enum.
@@ -41,15 +41,13 @@ fn date_time(own: &[u8]) -> bool
     if own.len() != 8 {
         return false;
     }
-    match numbers::little::little8(own, 0) {
-        Number::Refused(_, _) => false,
-        Number::Read(n, _) => {
-            if 3155378975999999999 < n % 4611686018427387904 {
-                return false;
-            }
-            n / 4611686018427387904 <= 2
-        }
+    let Ok(Read { value: n, next: _ }) = numbers::little::little::<u64>(own, 0) else {
+        return false;
+    };
+    if 3155378975999999999 < n % 4611686018427387904 {
+        return false;
     }
+    n / 4611686018427387904 <= 2
 }
 
 fn decimal(own: &[u8]) -> bool
@@ -110,9 +108,12 @@ fn judged(file: &[u8], kind: u32, size: usize, at: usize) -> Number
     ensures { told result ≡ sized (fixed_at file.now kind size at) }
 {
     if keeps_rule(kind, part(file, at, size)) {
-        return Number::Read(size as u64, at + size);
+        return Ok(Read {
+            value: size as u64,
+            next: at + size,
+        });
     }
-    Number::Refused(15, at)
+    Err(Rule::BadValue.at(at))
 }
 
 // The value of a kind at `at`: its size is found once for many values, by `size_of_kind`.
@@ -120,11 +121,14 @@ pub fn fixed_at(file: &[u8], kind: u32, size: usize, at: usize) -> Number
     ensures { told result ≡ sized (fixed_at file.now kind size at) }
 {
     if left(file, at) < size {
-        return Number::Refused(1, at);
+        return Err(Rule::PastEnd.at(at));
     }
     let next = at + size;
     match kind {
         11 | 21 | 22 => judged(file, kind, size, at),
-        _ => Number::Read(size as u64, next),
+        _ => Ok(Read {
+            value: size as u64,
+            next,
+        }),
     }
 }
