@@ -106,15 +106,46 @@ impl Grid {
     }
 }
 
-// A word of a row, 0 where there is none.
-pub fn word_of(words: &[u32], grid: Grid, row: RowNumber, word: u32) -> u32
-    ensures { result ≡ slice_index words.now (cell_of grid row.0 word) }
-{
-    let at = grid.cell(row, word);
-    if at < words.len() {
-        return words[at];
+// The words of a table that is read, and their shape.
+#[derive(Clone, Copy)]
+pub struct Table<'a> {
+    pub words: &'a [u32],
+    pub grid: Grid,
+}
+
+impl<'a> Table<'a> {
+    // The words as a table by rows or in columns, with the room of so many words.
+    pub fn shaped(words: &'a [u32], columns: bool) -> Table<'a>
+        ensures { (result.words.now ≡ words.now) × (result.grid ≡ grid_of (length words.now) columns) }
+    {
+        let grid = shaped(words.len(), columns);
+        Table { words, grid }
     }
-    0
+
+    // The words as a table by rows.
+    pub fn by_rows(words: &'a [u32]) -> Table<'a>
+        ensures { (result.words.now ≡ words.now) × (result.grid ≡ rows_grid (length words.now)) }
+    {
+        Table::shaped(words, false)
+    }
+
+    // The words as a table in columns.
+    pub fn in_columns(words: &'a [u32]) -> Table<'a>
+        ensures { (result.words.now ≡ words.now) × (result.grid ≡ columns_grid (length words.now)) }
+    {
+        Table::shaped(words, true)
+    }
+
+    // A word of a row, 0 where there is none.
+    pub fn word(self, row: RowNumber, word: u32) -> u32
+        ensures { result ≡ slice_index self.entry.words.now (cell_of self.entry.grid row.0 word) }
+    {
+        let at = self.grid.cell(row, word);
+        if at < self.words.len() {
+            return self.words[at];
+        }
+        0
+    }
 }
 
 // Puts a row into its cells.

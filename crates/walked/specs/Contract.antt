@@ -1,8 +1,10 @@
 -- What the functions of a walk promise of their answer and of the words. Assumes nothing.
-use Rattle.std.specs.Prelude.{◌≡◌, ℕ, ◌+◌, ◌*◌, ◌^◌, ◌<◌, ◌≤◌, List, [], ◌∷◌, length}
+use Rattle.std.specs.Prelude.{◌≡◌, ℕ, ◌+◌, ◌*◌, ◌^◌, ◌<◌, ◌≤◌, List, [], ◌∷◌, length, Result, Ok, Err}
 use Rattle.std.proofs.Common.{arith, lt-ltb}
 use Rattle.layout.specs.Rows.{width}
 use Rattle.layout.specs.Table.{shape_of}
+use Rattle.answers.specs.declared.Refusal.{Refusal}
+use Rattle.answers.specs.Refusals.{refusal}
 use Rattle.reading.specs.Answer.{Answer, refused, read}
 use Rattle.reading.specs.Drafts.{Draft, bare}
 use Rattle.reading.specs.Walk.{Outcome}
@@ -13,9 +15,11 @@ use Rattle.table.specs.Grids.{cell_of}
 use Rattle.table.specs.Stores.{cell-inside}
 use Rattle.table.specs.Put.{put_row}
 use Rattle.walked.specs.declared.Reached.{Reached}
-use Rattle.walked.specs.declared.Walk.{Walk}
-use Rattle.walked.specs.declared.Walk.TheVariants.{Done, Refused}
 use Rattle.walked.specs.Written.{written, marked, put_written}
+
+-- what a walk over values answers
+abbrev pub Walk : Type 0
+Walk = Result Reached Refusal
 
 -- what a program has of an outcome: the rows used and the new rows, without the trees
 abbrev pub Seen : Type 0
@@ -27,7 +31,7 @@ seen (read a e) = read (a.0, a.1) e
 
 -- values that were read: the rows used, the padding of the new ones and the next byte
 abbrev pub reaching : (used padding next : ℕ) → Walk
-reaching used padding next = Done (record { used = used; padding = padding; next = next })
+reaching used padding next = Ok (record { used = used; padding = padding; next = next })
 
 -- what was reached below a value whose own numbers have this padding
 abbrev pub atop : (padding : ℕ) → Reached → Reached
@@ -39,7 +43,7 @@ padded file rows = in_word (rows_padding file (bare rows))
 
 -- 01's number and place for a refusal, and for a value its end, the rows used and the padding of its rows
 abbrev pub answer_of : (file : List ℕ) → Answer Seen → Walk
-answer_of file (refused n p) = Refused n p
+answer_of file (refused n p) = Err (refusal n p)
 answer_of file (read a e) = reaching a.0 (padded file a.1) e
 
 -- the new rows stand in the words from row `used` on; after a refusal the words may be anything

@@ -1,7 +1,8 @@
 -- The row of a value, and a value without children. Assumes nothing.
-use Rattle.std.specs.Prelude.{◌≡◌, ℕ, suc, ◌+◌, ◌-◌, ◌^◌, ◌<◌, ◌≤◌, List, [], ◌∷◌, refl}
+use Rattle.std.specs.Prelude.{◌≡◌, ℕ, suc, ◌+◌, ◌-◌, ◌^◌, ◌<◌, ◌≤◌, List, [], ◌∷◌, refl, Err}
 use Rattle.std.proofs.Common.{◌∙◌, arith, add-one}
 use Rattle.layout.specs.Rows.{Row, row}
+use Rattle.answers.specs.Refusals.{refusal}
 use Rattle.reading.specs.Answer.{Answer, refused, read}
 use Rattle.reading.specs.Drafts.{Wants, Draft}
 use Rattle.places.specs.Padding.{rows_padding}
@@ -9,10 +10,8 @@ use Rattle.table.specs.declared.Grid.{Grid}
 use Rattle.table.specs.Word.{in_word, in_word_lem}
 use Rattle.table.specs.Put.{put_row}
 use Rattle.walked.specs.declared.Head.{Head}
-use Rattle.walked.specs.declared.Walk.{Walk}
-use Rattle.walked.specs.declared.Walk.TheVariants.{Refused}
 use Rattle.walked.specs.Written.{marks}
-use Rattle.walked.specs.Contract.{Seen, Free, Ahead, Walked, reaching, put-leaf}
+use Rattle.walked.specs.Contract.{Walk, Seen, Free, Ahead, Walked, reaching, put-leaf}
 
 -- the row of a value that ends before `next`
 abbrev pub value_row : Head → (kind children branch next : ℕ) → Row
@@ -25,7 +24,7 @@ value_row_lem h kind children branch next a f = rw (in_word_lem h.first (omega a
 
 -- what is answered once the bytes of a value without children, whose id has this padding, are read, or refused
 abbrev pub leaf_answer : {A : Type 0} → (u padding : ℕ) → Answer A → Walk
-leaf_answer u padding (refused n p) = Refused n p
+leaf_answer u padding (refused n p) = Err (refusal n p)
 leaf_answer u padding (read a next) = reaching (in_word (u + 1)) padding next
 
 -- and what the words then hold: its row, if they have it

@@ -1,5 +1,5 @@
 -- Values one after the other as a plan says, as a loop reads them: what is known after some of them. Assumes nothing.
-use Rattle.std.specs.Prelude.{◌≡◌, ℕ, ◌+◌, ◌≤◌, List, [], ◌++◌, length, refl}
+use Rattle.std.specs.Prelude.{◌≡◌, ℕ, ◌+◌, ◌≤◌, List, [], ◌++◌, length, refl, Err}
 use Rattle.std.proofs.Math.Path.{sym, ap}
 use Rattle.std.proofs.Common.{◌∙◌, append_assoc, append-nil}
 use Rattle.std.proofs.lemmas.List.{map-append}
@@ -8,6 +8,8 @@ use Rattle.std.proofs.Math.ListN.{length-append}
 use Rattle.laws.specs.Small.{differ}
 use Rattle.layout.specs.Tree.{Trees, none, tree, count, told_of}
 use Rattle.layout.specs.Slot.{Slot, Plan, stop, put}
+use Rattle.answers.specs.declared.Refusal.{Refusal}
+use Rattle.answers.specs.Refusals.{refusal}
 use Rattle.reading.specs.Answer.{Answer, refused, read, bind}
 use Rattle.reading.specs.Drafts.{Draft, bare}
 use Rattle.reading.specs.Walk.{Taken, Outcome, sequence, before}
@@ -16,10 +18,8 @@ use Rattle.places.specs.Padding.{rows_padding, no_rows, rows_append}
 use Rattle.table.specs.declared.Grid.{Grid}
 use Rattle.table.specs.Word.{in_word, word_sum}
 use Rattle.walked.specs.declared.Reached.{Reached}
-use Rattle.walked.specs.declared.Walk.{Walk}
-use Rattle.walked.specs.declared.Walk.TheVariants.{Refused}
 use Rattle.walked.specs.Written.{written, written_none, written-append, length-written}
-use Rattle.walked.specs.Contract.{seen, reaching, padded, Walked}
+use Rattle.walked.specs.Contract.{Walk, seen, reaching, padded, Walked}
 
 -- what a caller knows of values that were read
 pub record Got (g : Grid) (file entry exit : List ℕ) (used : ℕ) (o : Outcome) (next u p : ℕ) : Type 0 where
@@ -32,7 +32,7 @@ pub record Got (g : Grid) (file entry exit : List ℕ) (used : ℕ) (o : Outcome
 got_of : (g : Grid) (file : List ℕ) (o : Outcome) {entry exit : List ℕ} {used next u p : ℕ} → Walked g file entry exit used (seen o) (reaching u p next) → Got g file entry exit used o next u p
 unfolding seen
 got_of g file (refused n q) {next = next} {u = u} {p = p} m =
-    let a : reaching u p next ≡ Refused n q = m.answers in
+    let a : reaching u p next ≡ Err (refusal n q) = m.answers in
     differ cc
 got_of g file (read a e) {next = next} {u = u} {p = p} m =
     let q : reaching u p next ≡ reaching a.0 (padded file a.1) e = m.answers in
@@ -45,22 +45,23 @@ got_of g file (read a e) {next = next} {u = u} {p = p} m =
 pub got : {g : Grid} {file : List ℕ} {o : Outcome} {entry exit : List ℕ} {used : ℕ} {r : Walk} {next u p : ℕ} → Walked g file entry exit used (seen o) r → r ≡ reaching u p next → Got g file entry exit used o next u p
 got {g = g} {file = file} {o = o} m e = got_of g file o (record { answers = sym e ∙ m.answers; writes = m.writes })
 
-lost_of : (g : Grid) (file : List ℕ) (o : Outcome) {entry exit : List ℕ} {used n p : ℕ} → Walked g file entry exit used (seen o) (Refused n p) → o ≡ refused n p
+lost_of : (g : Grid) (file : List ℕ) (o : Outcome) {entry exit : List ℕ} {used n p : ℕ} → Walked g file entry exit used (seen o) (Err (refusal n p)) → o ≡ refused n p
 unfolding seen
 lost_of g file (refused m q) {n = n} {p = p} h =
-    let a : Refused n p ≡ Refused m q = h.answers in
-    let e₁ : m ≡ n = cc in
-    let e₂ : q ≡ p = cc in
+    let a : ◌≡◌ {A = Walk} (Err (refusal n p)) (Err (refusal m q)) = h.answers in
+    let z : refusal n p ≡ refusal m q = cc in
+    let e₁ : m ≡ n = sym (ap (λ (r : Refusal). r.number) z) in
+    let e₂ : q ≡ p = sym (ap (λ (r : Refusal). r.place) z) in
     rw (e₁, e₂)
 lost_of g file (read a e) {n = n} {p = p} h =
-    let q : Refused n p ≡ reaching a.0 (padded file a.1) e = h.answers in
+    let q : Err (refusal n p) ≡ reaching a.0 (padded file a.1) e = h.answers in
     differ cc
 
-pub lost : {g : Grid} {file : List ℕ} {o : Outcome} {entry exit : List ℕ} {used : ℕ} {r : Walk} {n p : ℕ} → Walked g file entry exit used (seen o) r → r ≡ Refused n p → o ≡ refused n p
+pub lost : {g : Grid} {file : List ℕ} {o : Outcome} {entry exit : List ℕ} {used : ℕ} {r : Walk} {n p : ℕ} → Walked g file entry exit used (seen o) r → r ≡ Err (refusal n p) → o ≡ refused n p
 lost {g = g} {file = file} {o = o} m e = lost_of g file o (record { answers = sym e ∙ m.answers; writes = m.writes })
 
 -- a refusal, whatever the words hold
-pub refusing : {g : Grid} {file : List ℕ} {o : Outcome} {entry exit : List ℕ} {used n p : ℕ} → o ≡ refused n p → Walked g file entry exit used (seen o) (Refused n p)
+pub refusing : {g : Grid} {file : List ℕ} {o : Outcome} {entry exit : List ℕ} {used n p : ℕ} → o ≡ refused n p → Walked g file entry exit used (seen o) (Err (refusal n p))
 unfolding seen
 refusing e = rw e (record { answers = refl; writes = refl })
 

@@ -7,7 +7,7 @@ ghost use Rattle.table.specs.Put.{row_of};
 ghost use Rattle.walked.specs.Leaf.{value_row, leaf_answer, leaf_words};
 ghost use Rattle.answers.specs.Told.{told};
 
-use answers::Number;
+use answers::{Number, Refusal};
 use ids::RowNumber;
 use table::{Grid, RowWords};
 
@@ -23,19 +23,15 @@ pub struct Head {
 }
 
 // What a walk reaches: how many bytes the seven-bit numbers of the new rows have beyond their shortest forms, the next byte, and the rows used so far.
-#[derive(Clone, Copy)]
+#[derive(Clone, Copy, Debug, PartialEq, Eq)]
 pub struct Reached {
     pub padding: u32,
     pub next: usize,
     pub used: u32,
 }
 
-// A value, or values one after the other: what the walk reaches, or a refusal's number and place.
-#[derive(Clone, Copy)]
-pub enum Walk {
-    Done(Reached),
-    Refused(u32, usize),
-}
+// A value, or values one after the other: what the walk reaches, or a refusal.
+pub type Walk = Result<Reached, Refusal>;
 
 // The number of bytes from `first` to before `next`, 0 where there are none, as a word holds it.
 fn span(first: usize, next: usize) -> u32
@@ -69,18 +65,13 @@ pub fn leaf(words: &mut [u32], grid: Grid, h: Head, kind: u32, mark: u32, read: 
     ensures value { result ≡ leaf_answer h.row.0 h.padding (told read) }
     ensures words_after { words.new ≡ leaf_words grid words.old h kind mark (told read) }
 {
-    match read {
-        Number::Refused(number, place) => Walk::Refused(number, place),
-        Number::Read(_, next) => {
-            let row = h.row;
-            let r = row_words(h, kind, mark, 1, next);
-            table::put_row(words, grid, row, r);
-            let used = std::num::wrapping_add_u32(row.0, 1);
-            Walk::Done(Reached {
-                used,
-                padding: h.padding,
-                next,
-            })
-        }
-    }
+    let next = read?.next;
+    let r = row_words(h, kind, mark, 1, next);
+    table::put_row(words, grid, h.row, r);
+    let used = std::num::wrapping_add_u32(h.row.0, 1);
+    Ok(Reached {
+        used,
+        padding: h.padding,
+        next,
+    })
 }
