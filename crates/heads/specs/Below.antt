@@ -17,7 +17,6 @@ use Rattle.walked.specs.Leaf.{mute}
 use Rattle.heads.specs.declared.nest.Below.{Below}
 use Rattle.heads.specs.declared.nest.Below.TheVariants.{Nothing, Nested}
 use Rattle.heads.specs.declared.nest.Nest.TheVariants.{Mesh as Nest-mesh}
-use Rattle.heads.specs.declared.open.Opened.TheVariants.{Refused, Head}
 use Rattle.heads.specs.Plans.{BelowIs}
 use Rattle.heads.specs.Nests.{below-plan, mesh_nest}
 use Rattle.layout.specs.Fixed.{sizes}
@@ -29,9 +28,9 @@ use Rattle.reading.specs.Heads.{whole, own_at, fixed_head_at, text_at}
 use Rattle.targets.specs.Word.{enum_kind_lem}
 use Rattle.targets.specs.Code.{code_kind, code_size, Stands}
 use Rattle.targets.specs.Laws.{size_is}
-use Rattle.heads.specs.Opens.{Opens, Stopping, Leafy, of_fixed, of_enum, of_char, of_string}
+use Rattle.heads.specs.Opens.{headed, refusing, Opens, Stopping, Leafy, of_fixed, of_enum, of_char, of_string}
 
-pub alone-refused : (file codes : List ℕ) (x : Answer Opening) {n p : ℕ} → refused n p ≡ mute x → Opens file codes x (Refused n p)
+pub alone-refused : (file codes : List ℕ) (x : Answer Opening) {n p : ℕ} → refused n p ≡ mute x → Opens file codes x (refusing n p)
 unfolding mute
 alone-refused file codes (refused m q) {n} {p} e =
     let e₁ : n ≡ m = cc in
@@ -39,7 +38,7 @@ alone-refused file codes (refused m q) {n} {p} e =
     rw (e₁, e₂)
 alone-refused file codes (read o e') e = differ cc
 
-pub alone-read : (file codes : List ℕ) (x : Answer Opening) (padding : ℕ) {e : ℕ} → read tt e ≡ mute x → Stopping x → Opens file codes x (Head e (Nothing padding))
+pub alone-read : (file codes : List ℕ) (x : Answer Opening) (padding : ℕ) {e : ℕ} → read tt e ≡ mute x → Stopping x → Opens file codes x (headed e (Nothing padding))
 unfolding mute each
 alone-read file codes (refused m q) padding q' s = differ cc
 alone-read file codes (read o f) padding {e} q s =
@@ -47,10 +46,10 @@ alone-read file codes (read o f) padding {e} q s =
     rw e₁ (record { below = Nothing padding; is = refl; goes = s o f refl })
 
 -- an answer that is known
-pub opens-refused : (file codes : List ℕ) (x : Answer Opening) {n p : ℕ} → x ≡ refused n p → Opens file codes x (Refused n p)
+pub opens-refused : (file codes : List ℕ) (x : Answer Opening) {n p : ℕ} → x ≡ refused n p → Opens file codes x (refusing n p)
 opens-refused file codes x e = rw e refl
 
-pub opens-head : (file codes : List ℕ) (x : Answer Opening) {own : List ℕ} (slots : List L.Slot) {e : ℕ} (below : Below) → x ≡ read (own, each slots) e → BelowIs file codes below slots → Opens file codes x (Head e below)
+pub opens-head : (file codes : List ℕ) (x : Answer Opening) {own : List ℕ} (slots : List L.Slot) {e : ℕ} (below : Below) → x ≡ read (own, each slots) e → BelowIs file codes below slots → Opens file codes x (headed e below)
 opens-head file codes x {own} slots {e} below q b = rw q (record { below = below; is = refl; goes = below-plan file codes below slots b })
 
 module _ (file : List ℕ) (at : ℕ) where
@@ -164,7 +163,7 @@ leaf_stops file at of_char = whole_stops file (own_at file (char_at file) at)
 leaf_stops file at of_string = text_stops file at (seven_at file at)
 
 -- the fields of a mesh type
-pub opens-mesh : (file codes : List ℕ) (m : Mesh) (at : ℕ) → Opens file codes (head_at file (mesh m) at) (Head at (Nested (Nest-mesh (mesh_kind m))))
+pub opens-mesh : (file codes : List ℕ) (m : Mesh) (at : ℕ) → Opens file codes (head_at file (mesh m) at) (headed at (Nested (Nest-mesh (mesh_kind m))))
 unfolding head_at
 opens-mesh file codes m at = record { below = Nested (Nest-mesh (mesh_kind m)); is = refl; goes = mesh_nest file codes m }
 

@@ -21,8 +21,6 @@ use Rattle.walked.specs.Leaf.{mute}
 use Rattle.leaves.specs.Text.{own_size}
 use Rattle.leaves.specs.declared.run.Run.TheVariants.{Levels}
 use Rattle.heads.specs.declared.nest.Below.TheVariants.{Simple}
-use Rattle.heads.specs.declared.open.Opened.{Opened}
-use Rattle.heads.specs.declared.open.Opened.TheVariants.{Refused, Head}
 use Rattle.leaves.specs.Like.{alike_same}
 use Rattle.names.specs.Kind.{enum_kind}
 use Rattle.targets.specs.Word.{enum_kind_lem}
@@ -30,7 +28,7 @@ use Rattle.targets.specs.Code.{code_kind}
 use Rattle.targets.specs.Word.{sized-small}
 use Rattle.heads.specs.Placed.{bytes_of}
 use Rattle.heads.specs.Slots.{bytes_below}
-use Rattle.heads.specs.Opens.{Opens, Leafy, of_fixed, of_enum, of_char, of_string, ranged_at, levels_at, height_at, width_at}
+use Rattle.heads.specs.Opens.{Headed, headed, refusing, Opens, Leafy, of_fixed, of_enum, of_char, of_string, ranged_at, levels_at, height_at, width_at}
 
 -- a number below 2 to the k has at most k binary digits
 pub digits_few : (m k x : ℕ) → x < 2 ^ k → digits m x ≤ k
@@ -48,11 +46,11 @@ pub chain_bound : (w h : ℕ) → w ≤ 4096 → h ≤ 4096 → digits 32 (max w
 chain_bound w h p q = digits_few 32 13 (max w h) (omega arith)
 
 -- a step that was refused, or after which the next one opens
-pub opens-refused : (file codes : List ℕ) (k : ℕ → ℕ → Answer Opening) {x : Answer ℕ} {n p : ℕ} → x ≡ refused n p → Opens file codes (bind x k) (Refused n p)
+pub opens-refused : (file codes : List ℕ) (k : ℕ → ℕ → Answer Opening) {x : Answer ℕ} {n p : ℕ} → x ≡ refused n p → Opens file codes (bind x k) (refusing n p)
 unfolding bind
 opens-refused file codes k e = rw e refl
 
-pub opens-read : (file codes : List ℕ) (k : ℕ → ℕ → Answer Opening) (r : Opened) {x : Answer ℕ} {n e : ℕ} → x ≡ read n e → Opens file codes (k n e) r → Opens file codes (bind x k) r
+pub opens-read : (file codes : List ℕ) (k : ℕ → ℕ → Answer Opening) (r : Headed) {x : Answer ℕ} {n e : ℕ} → x ≡ read n e → Opens file codes (k n e) r → Opens file codes (bind x k) r
 unfolding bind
 opens-read file codes k r q o = rw q o
 
@@ -134,7 +132,7 @@ module _ (file : List ℕ) where
 
   -- an image's levels stand in a run
   pub levels_open : (codes : List ℕ) (f w h at n e : ℕ) → f ≤ 18 → 1 ≤ w → w ≤ 4096 → 1 ≤ h → h ≤ 4096 → ranged_at file 1 (digits 32 (max w h)) at ≡ read n e
-      → Opens file codes (levels_at file f w h at) (Head e (Simple (Levels f w h n)))
+      → Opens file codes (levels_at file f w h at) (headed e (Simple (Levels f w h n)))
   unfolding levels_at bind
   levels_open codes f w h at n e a b c d g q =
       let z = ranged_bounds 1 (digits 32 (max w h)) at q in

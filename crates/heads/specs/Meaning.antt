@@ -23,11 +23,10 @@ use Rattle.heads.specs.declared.slot.Slot.{Slot}
 use Rattle.heads.specs.declared.slot.Slot.TheVariants.{Simple, Raw, Object}
 use Rattle.heads.specs.declared.nest.Below.TheVariants.{Nothing, Nested}
 use Rattle.heads.specs.declared.nest.Nest.TheVariants.{Mesh}
-use Rattle.heads.specs.declared.open.Opened.TheVariants.{Refused, Head}
 use Rattle.heads.specs.Placed.{SlotIs}
 use Rattle.heads.specs.Slots.{slot_is, raw_is}
 use Rattle.heads.specs.Plans.{BelowIs}
-use Rattle.heads.specs.Opens.{Opens, Stopping, Leafy, of_fixed, of_enum, of_char, of_string, ranged_at, levels_at, height_at, width_at}
+use Rattle.heads.specs.Opens.{headed, refusing, Opens, Stopping, Leafy, of_fixed, of_enum, of_char, of_string, ranged_at, levels_at, height_at, width_at}
 use Rattle.heads.specs.Below.{alone-refused, alone-read, opens-refused, opens-head, flag-refused, flag_zero, flag_one, flag_other, list-refused, list_read, pairs-refused, pairs-read, font_head, page-head, opens-mesh, leaf_stops, leafless, never-leaf, between-leaf, stands-inside}
 use Rattle.heads.specs.Images as images
 use Rattle.heads.specs.Images.{opens-read, image_fields, ranged_bounds, levels_open, beside-mute, char-leaf, text-leaf, fixed-leaf}
@@ -53,7 +52,7 @@ module _ (file codes : List ℕ) (a at : ℕ) (t : Target) (s : Stands file code
   flag_opens (refused n p) e = opens-refused file codes _ (flag-refused file at t e)
   flag_opens (read f next) e = go (f == 0) (f == 1) refl refl where
     go : (b c : Bool) → (f == 0) ≡ b → (f == 1) ≡ c
-        → Opens file codes (head_at file (nullable t) at) (cond b (Head next (Nothing 0)) (cond c (Head next (each_as (raw_as codes a) 1)) (Refused 15 at)))
+        → Opens file codes (head_at file (nullable t) at) (cond b (headed next (Nothing 0)) (cond c (headed next (each_as (raw_as codes a) 1)) (refusing 15 at)))
     go true c p q = opens-head file codes _ [] (Nothing 0) (flag_zero file at t e (eqb-true f 0 p)) refl
     go false true p q = opens-head file codes _ _ _ (flag_one file at t e (eqb-true f 1 q)) (each_below file codes (raw_as codes a) 1 (raw t) (raw_is t s))
     go false false p q = opens-refused file codes _ (flag_other file at t e (eqb-false f 0 p) (eqb-false f 1 q))
@@ -98,7 +97,7 @@ module _ (file codes : List ℕ) where
 
 -- a kind that none of the first nine tests takes
 pub past_tests : (file codes : List ℕ) (k a at : ℕ) → (k ≢ 14) → (k ≢ 16) → (k ≢ 17) → (k ≢ 18) → (k ≢ 19) → (k ≢ 31) → (k ≢ 32) → (k ≢ 33) → (k ≢ 34)
-    → kind_as file codes k a at ≡ cond (between 37 40 k) (Head at (Nested (Mesh k))) (alone_as (leaf_as file k at))
+    → kind_as file codes k a at ≡ cond (between 37 40 k) (headed at (Nested (Mesh k))) (alone_as (leaf_as file k at))
 unfolding kind_as
 past_tests file codes k a at n14 n16 n17 n18 n19 n31 n32 n33 n34 =
     rw (ne_eqb k 14 n14, ne_eqb k 16 n16, ne_eqb k 17 n17, ne_eqb k 18 n18, ne_eqb k 19 n19, ne_eqb k 31 n31, ne_eqb k 32 n32, ne_eqb k 33 n33, ne_eqb k 34 n34)

@@ -1,5 +1,5 @@
 -- What opening a value answers in code, and the layout's head that it is. Assumes nothing.
-use Rattle.std.specs.Prelude.{◌≡◌, ℕ, ◌+◌, ◌<◌, max, List, ◌++◌, nat_le, slice_index}
+use Rattle.std.specs.Prelude.{◌≡◌, Result, Ok, Err, ℕ, ◌+◌, ◌<◌, max, List, ◌++◌, nat_le, slice_index}
 use Rattle.layout.specs.Number.{little}
 use Rattle.layout.specs.Target.{Target, fixed, char, string, enum}
 use Rattle.layout.specs.EnumList.{EnumSize}
@@ -11,17 +11,28 @@ use Rattle.reading.specs.Little.{little_at}
 use Rattle.reading.specs.Heads.{Opening}
 use Rattle.heads.specs.declared.nest.Below.{Below}
 use Rattle.heads.specs.declared.open.Opened.{Opened}
-use Rattle.heads.specs.declared.open.Opened.TheVariants.{Refused, Head}
+use Rattle.answers.specs.declared.Refusal.{Refusal}
+use Rattle.answers.specs.Refusals.{refusal}
 use Rattle.heads.specs.Plans.{BelowPlan}
 
+-- what opening a value answers: a head that ends before `next`, or a refusal
+abbrev pub Headed : Type 0
+Headed = Result Opened Refusal
+
+abbrev pub headed : (next : ℕ) → Below → Headed
+headed next below = Ok (record { next = next; below = below })
+
+abbrev pub refusing : (number place : ℕ) → Headed
+refusing number place = Err (refusal number place)
+
 -- a head was read: where it ends, and what stands below it
-pub record OpenIs (file codes : List ℕ) (o : Opening) (e : ℕ) (r : Opened) : Type 0 where
+pub record OpenIs (file codes : List ℕ) (o : Opening) (e : ℕ) (r : Headed) : Type 0 where
   pub below : Below
-  pub is : r ≡ Head e below
+  pub is : r ≡ headed e below
   pub goes : BelowPlan file codes below o.1
 
-abbrev pub Opens : (file codes : List ℕ) → Answer Opening → Opened → Type 0
-Opens file codes (refused n p) r = r ≡ Refused n p
+abbrev pub Opens : (file codes : List ℕ) → Answer Opening → Headed → Type 0
+Opens file codes (refused n p) r = r ≡ refusing n p
 Opens file codes (read o e) r = OpenIs file codes o e r
 
 -- nothing stands below

@@ -1,7 +1,7 @@
 -- The padding of a text's count, as an opened head tells it. Assumes nothing.
-use Rattle.std.specs.Prelude.{◌≡◌, ℕ, ◌+◌, max, Bool, true, false, cond, List, length, ◌==◌, nat_eq, nat_le}
+use Rattle.std.specs.Prelude.{◌≡◌, Ok, Err, ℕ, ◌+◌, max, Bool, true, false, cond, List, length, ◌==◌, nat_eq, nat_le}
 use Rattle.std.proofs.Math.Path.{refl}
-use Rattle.std.proofs.Common.{sym, ◌∙◌, arith}
+use Rattle.std.proofs.Common.{sym, ap, ◌∙◌, arith}
 use borrow.Author.Tests.{eqb-true, ne_eqb, leb-true}
 use Rattle.laws.specs.Small.{differ}
 use Rattle.layout.specs.Number.{between}
@@ -23,10 +23,9 @@ use Rattle.heads.specs.declared.nest.Nest.TheVariants.{Mesh}
 use Rattle.heads.specs.declared.nest.Below.{Below}
 use Rattle.heads.specs.declared.nest.Below.TheVariants.{Nothing, Nested}
 use Rattle.heads.specs.declared.nest.Below.TheVariants.{Simple as SimpleRun}
-use Rattle.heads.specs.declared.open.Opened.{Opened}
-use Rattle.heads.specs.declared.open.Opened.TheVariants.{Refused, Head}
 use Rattle.heads.specs.Placed.{bytes_of, row_kind}
-use Rattle.heads.specs.Opens.{ranged_at}
+use Rattle.heads.specs.declared.open.Opened.{Opened}
+use Rattle.heads.specs.Opens.{Headed, headed, refusing, ranged_at}
 use Rattle.heads.specs.Total.{raw_as, slot_as, each_as, pairs_as, alone_as, leaf_as, flag_as, list_as, dictionary_as, levels_as, height_as, width_as, image_as, kind_as, open_as}
 
 abbrev pub below_pad : Below → ℕ
@@ -35,9 +34,9 @@ below_pad (SimpleRun run) = 0
 below_pad (Nested nest) = 0
 
 -- if a head was opened, it tells this padding
-abbrev Tells : (n : ℕ) → Opened → Type 0
-Tells n (Refused m p) = Unit {0}
-Tells n (Head e below) = below_pad below ≡ n
+abbrev Tells : (n : ℕ) → Headed → Type 0
+Tells n (Err e) = Unit {0}
+Tells n (Ok o) = below_pad o.below ≡ n
 
 each_tells : (s : Slot) (n : ℕ) → below_pad (each_as s n) ≡ 0
 each_tells (Simple p) n = refl
@@ -51,7 +50,7 @@ pairs_tell (Simple p) (Object b) n = refl
 pairs_tell (Raw a) t n = refl
 pairs_tell (Object a) t n = refl
 
-tells_if : (n : ℕ) (b : Bool) (x y : Opened) → Tells n x → Tells n y → Tells n (cond b x y)
+tells_if : (n : ℕ) (b : Bool) (x y : Headed) → Tells n x → Tells n y → Tells n (cond b x y)
 tells_if n true x y p q = p
 tells_if n false x y p q = q
 
@@ -94,14 +93,14 @@ module _ (file codes : List ℕ) where
     pad = padding file (count_places file kind at)
 
     -- one kind of the list, which is not 13, and those behind it
-    other : (k : ℕ) → (k == 13) ≡ false → (x y : Opened) → Tells 0 x → Tells pad y → Tells pad (cond (kind == k) x y)
+    other : (k : ℕ) → (k == 13) ≡ false → (x y : Headed) → Tells 0 x → Tells pad y → Tells pad (cond (kind == k) x y)
     other k z x y p q = go (kind == k) refl where
       none : kind ≡ k → 0 ≡ pad
       none e = sym (without_count file kind at (rw e z))
 
-      zero_tells : (x : Opened) → kind ≡ k → Tells 0 x → Tells pad x
-      zero_tells (Refused n p) e t = tt
-      zero_tells (Head e' below) e t = t ∙ none e
+      zero_tells : (x : Headed) → kind ≡ k → Tells 0 x → Tells pad x
+      zero_tells (Err x) e t = tt
+      zero_tells (Ok o) e t = t ∙ none e
 
       go : (b : Bool) → (kind == k) ≡ b → Tells pad (cond b x y)
       go true e = zero_tells x (eqb-true kind k e) p
@@ -119,7 +118,7 @@ module _ (file codes : List ℕ) where
       go false false e f = rw (without_count file kind at f) (alone_tells 0 (sized (fixed_at file kind (bytes_of kind) at)))
 
     -- a mesh type has no count
-    mesh_tells : (b : Bool) → between 37 40 kind ≡ b → Tells pad (cond b (Head at (Nested (Mesh kind))) (alone_as (leaf_as file kind at)))
+    mesh_tells : (b : Bool) → between 37 40 kind ≡ b → Tells pad (cond b (headed at (Nested (Mesh kind))) (alone_as (leaf_as file kind at)))
     mesh_tells true e = sym (without_count file kind at (ne_eqb kind 13 (λ q. let z : between 37 40 13 ≡ true = rw q at e in differ cc)))
     mesh_tells false e = leaf_tells
 
@@ -145,14 +144,15 @@ module _ (file codes : List ℕ) where
     go false e = refl
 
   -- a head that was opened tells the padding of its kind's count
-  pub open_pads : (t at : ℕ) {e : ℕ} {below : Below} → open_as file codes t at ≡ Head e below → below_pad below ≡ padding file (count_places file (row_kind (kind_at codes t)) at)
+  pub open_pads : (t at : ℕ) {e : ℕ} {below : Below} → open_as file codes t at ≡ headed e below → below_pad below ≡ padding file (count_places file (row_kind (kind_at codes t)) at)
   unfolding open_as
   open_pads t at {e} {below} q =
       let k = kind_at codes t in
       rw (row_count k at)
-      (told (open_as file codes t at) (tells_if (padding file (count_places file k at)) (nat_le (length codes) t) (Refused 13 at) (kind_as file codes k (t + 1) at) tt (kind_tells k (t + 1) at)) q) where
-        told : (o : Opened) → Tells (padding file (count_places file (kind_at codes t) at)) o → o ≡ Head e below → below_pad below ≡ padding file (count_places file (kind_at codes t) at)
-        told (Refused n p) w z = differ cc
-        told (Head f b) w z =
-            let i : b ≡ below = cc in
-            rw i at w
+      (told (open_as file codes t at) (tells_if (padding file (count_places file k at)) (nat_le (length codes) t) (refusing 13 at) (kind_as file codes k (t + 1) at) tt (kind_tells k (t + 1) at)) q) where
+        told : (o : Headed) → Tells (padding file (count_places file (kind_at codes t) at)) o → o ≡ headed e below → below_pad below ≡ padding file (count_places file (kind_at codes t) at)
+        told (Err x) w z = differ cc
+        told (Ok o) w z =
+            let i : o ≡ record { next = e; below = below } = cc in
+            let b : o.below ≡ below = ap (λ (y : Opened). y.below) i in
+            rw b at w

@@ -238,8 +238,8 @@ fn number_of(read: Number) -> u32
     ensures { result ≡ word_of (told read) }
 {
     match read {
-        Number::Refused(_, _) => 0,
-        Number::Read(n, _) => (n % 4294967296) as u32,
+        Ok(read) => (read.value % 4294967296) as u32,
+        Err(_) => 0,
     }
 }
 
@@ -248,9 +248,9 @@ fn told_at(file: &[u8], step: u32, at: usize) -> u32
     ensures { result ≡ told_at file.now step at }
 {
     if step == FLAG {
-        return number_of(numbers::little::little1(file, at));
+        return number_of(numbers::little::little::<u8>(file, at));
     }
-    number_of(numbers::little::little4(file, at))
+    number_of(numbers::little::little::<u32>(file, at))
 }
 
 // The stage behind the field at a stage, which begins at `at`. Only where the number that it tells counts is that read.

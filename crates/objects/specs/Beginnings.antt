@@ -1,5 +1,5 @@
 -- What a value begins with, and the walk that it is. Assumes nothing.
-use Rattle.std.specs.Prelude.{◌≡◌, Bool, true, false, List, [], ◌∷◌, ◌⊎◌, ℕ, suc, ◌+◌, ◌-◌, ◌%◌, ◌≤◌, ◌<◌, length, get_or}
+use Rattle.std.specs.Prelude.{◌≡◌, Result, Ok, Err, Option, None, Some, Bool, true, false, List, [], ◌∷◌, ◌⊎◌, ℕ, suc, ◌+◌, ◌-◌, ◌%◌, ◌≤◌, ◌<◌, length, get_or}
 use Rattle.layout.specs.Target.{Target}
 use Rattle.layout.specs.Tree.{none, tree}
 use Rattle.layout.specs.Slot as L
@@ -16,11 +16,13 @@ use Rattle.readers.specs.declared.Readers.{Readers}
 use Rattle.leaves.specs.Plain.{plain_slot, Lawful}
 use Rattle.leaves.specs.Like.{Like}
 use Rattle.heads.specs.declared.slot.Slot.{Slot}
-use Rattle.objects.specs.declared.start.Identified.{Identified}
-use Rattle.objects.specs.declared.start.Identified.TheVariants.{Null, Reader, Refused}
+use Rattle.answers.specs.declared.Refusal.{Refusal}
+use Rattle.answers.specs.declared.Rule.{Rule}
+use Rattle.answers.specs.declared.Rule.TheVariants.{NoReader, NotDeclared}
+use Rattle.answers.specs.Refusals.{refusal}
 use Rattle.objects.specs.declared.start.Started.{Started}
 use Rattle.objects.specs.declared.start.Started.TheVariants.{Raw, Plain}
-use Rattle.objects.specs.declared.start.Started.TheVariants.{Null as NullValue, Refused as RefusedValue}
+use Rattle.objects.specs.declared.start.Started.TheVariants.{Null as NullValue}
 use Rattle.reading.specs.Drafts.{drafted}
 
 -- 01: "A type id counts readers": the position that it names in a list of at most 64
@@ -30,6 +32,17 @@ position_in id = (id + 63) % 64
 -- the same by the first byte of a type id alone, whose low six bits are those of the type id
 abbrev pub position_at : (file : List ℕ) (at : ℕ) → ℕ
 position_at file at = position_in (get_or file at 0)
+
+-- what a type id comes to: the place of a reader's type, none for null, or a rule that is broken
+abbrev pub Identified : Type 0
+Identified = Result (Option ℕ) Rule
+
+-- what a value begins with, or a refusal
+abbrev pub Starting : Type 0
+Starting = Result Started Refusal
+
+abbrev pub refusing : (number place : ℕ) → Starting
+refusing number place = Err (refusal number place)
 
 -- what is known of a reader list: how many readers it has, and the place of the type at a position
 pub record Has (rd : Readers) (count i target : ℕ) : Type 0 where
@@ -44,14 +57,14 @@ pub record ReadBy (file codes : List ℕ) (readers : List Target) (d : Target) (
   pub serving : serves d type ≡ true
 
 abbrev pub Identifies : (file codes : List ℕ) → List Target → Target → ℕ → Identified → Type 0
-Identifies file codes readers d id Null = id ≡ 0
-Identifies file codes readers d id (Refused n) = ((n ≡ 13) × (0 < id) × (reader readers id ≡ missing)) ⊎ ((n ≡ 14) × (0 < id) × ((u : Target) × (reader readers id ≡ found u) × (serves d u ≡ false)))
-Identifies file codes readers d id (Reader place) = (0 < id) × ReadBy file codes readers d id place
+Identifies file codes readers d id (Ok None) = id ≡ 0
+Identifies file codes readers d id (Err r) = ((r ≡ NoReader) × (0 < id) × (reader readers id ≡ missing)) ⊎ ((r ≡ NotDeclared) × (0 < id) × ((u : Target) × (reader readers id ≡ found u) × (serves d u ≡ false)))
+Identifies file codes readers d id (Ok (Some place)) = (0 < id) × ReadBy file codes readers d id place
 
 -- 14 unless the reader serves
 abbrev pub by : Bool → (place : ℕ) → Identified
-by true place = Reader place
-by false place = Refused 14
+by true place = Ok (Some place)
+by false place = Err NotDeclared
 
 -- the row and the tree of a null
 abbrev pub nulled : (at next used parent : ℕ) → Outcome
@@ -77,11 +90,11 @@ pub record IsNull (file : List ℕ) (readers : List Target) (x : L.Slot) (at nex
   pub inside : next ≤ length file
   pub is : (shared room : ℕ) (below : Plan → ℕ → ℕ → Outcome) (used parent : ℕ) → value_at file readers shared room below x at used parent ≡ nulled at next used parent
 
-abbrev pub ObjectStarts : (file codes : List ℕ) → List Target → L.Slot → (at : ℕ) → Started → Type 0
-ObjectStarts file codes readers x at (RefusedValue n p) = (shared room : ℕ) (below : Plan → ℕ → ℕ → Outcome) (used parent : ℕ) → value_at file readers shared room below x at used parent ≡ refused n p
-ObjectStarts file codes readers x at (Plain p) = ⊥
-ObjectStarts file codes readers x at (NullValue next padding) = IsNull file readers x at next padding
-ObjectStarts file codes readers x at (Raw place from id padding) = Invokes file codes readers x at place from id.0 padding
+abbrev pub ObjectStarts : (file codes : List ℕ) → List Target → L.Slot → (at : ℕ) → Starting → Type 0
+ObjectStarts file codes readers x at (Err e) = (shared room : ℕ) (below : Plan → ℕ → ℕ → Outcome) (used parent : ℕ) → value_at file readers shared room below x at used parent ≡ refused e.number e.place
+ObjectStarts file codes readers x at (Ok (Plain p)) = ⊥
+ObjectStarts file codes readers x at (Ok (NullValue next padding)) = IsNull file readers x at next padding
+ObjectStarts file codes readers x at (Ok (Raw place from id padding)) = Invokes file codes readers x at place from id.0 padding
 
 -- what the values below stand for, by the depth that is left to them
 abbrev pub under : (file : List ℕ) → List Target → (shared room below used : ℕ) → Plan → ℕ → ℕ → Outcome
@@ -105,8 +118,8 @@ pub record BeginsNull (file : List ℕ) (readers : List Target) (room depth : �
   pub free : used < room
   pub is : (shared parent : ℕ) → walk file readers shared room depth x at used parent ≡ nulled at next used parent
 
-abbrev pub Starts : (file codes : List ℕ) → List Target → (room depth : ℕ) → L.Slot → (at used : ℕ) → Started → Type 0
-Starts file codes readers room depth x at used (RefusedValue n p) = (shared parent : ℕ) → walk file readers shared room depth x at used parent ≡ refused n p
-Starts file codes readers room depth x at used (Plain p) = Like x (plain_slot p) × Lawful p
-Starts file codes readers room depth x at used (NullValue next padding) = BeginsNull file readers room depth x at used next padding
-Starts file codes readers room depth x at used (Raw place from id padding) = Begins file codes readers room depth x at used place from id.0 padding
+abbrev pub Starts : (file codes : List ℕ) → List Target → (room depth : ℕ) → L.Slot → (at used : ℕ) → Starting → Type 0
+Starts file codes readers room depth x at used (Err e) = (shared parent : ℕ) → walk file readers shared room depth x at used parent ≡ refused e.number e.place
+Starts file codes readers room depth x at used (Ok (Plain p)) = Like x (plain_slot p) × Lawful p
+Starts file codes readers room depth x at used (Ok (NullValue next padding)) = BeginsNull file readers room depth x at used next padding
+Starts file codes readers room depth x at used (Ok (Raw place from id padding)) = Begins file codes readers room depth x at used place from id.0 padding

@@ -1,7 +1,7 @@
 -- Laws of how a value ends: the raw value that it is, with its padding. Assumes nothing.
 use Rattle.std.proofs.Math.Path.{◌≡◌, refl, sym, ap}
 use Rattle.std.proofs.Common.{◌∙◌, eqb-true}
-use Rattle.std.specs.Prelude.{Bool, cond, List, [], ◌∷◌, ℕ, suc, ◌+◌, ◌*◌, ◌-◌, ◌≤◌, ◌<◌, ◌^◌, eqb, leb}
+use Rattle.std.specs.Prelude.{Ok, Err, Bool, cond, List, [], ◌∷◌, ℕ, suc, ◌+◌, ◌*◌, ◌-◌, ◌≤◌, ◌<◌, ◌^◌, eqb, leb}
 use Rattle.std.proofs.Math.Bool.{true, false}
 use native.Mathlib.Omega.{arith}
 use Rattle.std.proofs.Math.ListN.{length}
@@ -33,10 +33,9 @@ use Rattle.table.specs.declared.Grid.{Grid}
 use Rattle.table.specs.Put.{put_row}
 use Rattle.table.specs.Word.{in_word, word_more}
 use Rattle.walked.specs.declared.Head.{Head}
-use Rattle.walked.specs.declared.Walk.{Walk}
-use Rattle.walked.specs.declared.Walk.TheVariants.{Done, Refused}
+use Rattle.answers.specs.Refusals.{refusal}
 use Rattle.walked.specs.Written.{written, written_under, length-written}
-use Rattle.walked.specs.Contract.{seen, reaching, padded, Walked, Free, put-leaf}
+use Rattle.walked.specs.Contract.{Walk, seen, reaching, padded, Walked, Free, put-leaf}
 use Rattle.walked.specs.Leaf.{value_row, value_row_lem}
 use Rattle.walked.specs.Loop.{Got, got, lost, refusing, reading}
 use Rattle.heads.specs.Below.{font_head}
@@ -136,7 +135,7 @@ module _ (g : Grid) (file : List ℕ) (small : Small file) (readers : List Targe
           rw (← e) (word_more h.padding (rows_padding file (bare rows)) ∙ ap in_word (sym s))
 
       kept : (w₁ : List ℕ) (n e u p : ℕ) → Closable h (reaching u p e) → (y : Got g file w₀ w₁ (suc h.row.0) seq e u p) → n ≡ count y.taken.2 → (b : Bool) → font_ok point t y.taken.2 ≡ b
-          → Walked g file w₀ (cond b (put_row g w₁ h.row.0 (value_row h (kind_of t) n (u - h.row.0) e)) w₁) h.row.0 (seen raw_of) (cond b (reaching u (in_word (h.padding + p)) e) (Refused 22 at))
+          → Walked g file w₀ (cond b (put_row g w₁ h.row.0 (value_row h (kind_of t) n (u - h.row.0) e)) w₁) h.row.0 (seen raw_of) (cond b (reaching u (in_word (h.padding + p)) e) (Err (refusal 22 at)))
       unfolding raw_at bind check
       kept w₁ n e u p c y z false f = refusing (rw (opened, planned, y.is, f))
       kept w₁ n e u p c y z true f =
@@ -153,7 +152,7 @@ module _ (g : Grid) (file : List ℕ) (small : Small file) (readers : List Targe
       pub raw-closed : (w₁ : List ℕ) (n : ℕ) (walked : Walk) → Closable h walked → ((a : Taken) (e : ℕ) → seq ≡ read a e → n ≡ count a.2) → Walked g file w₀ w₁ (suc h.row.0) (seen seq) walked
           → Walked g file w₀ (close_words g file w₁ h (kind_of t) n walked) h.row.0 (seen raw_of) (close_answer g file w₁ h (kind_of t) at walked)
       unfolding raw_at bind keeps
-      raw-closed w₁ n (Refused m p) c z d = refusing (rw (opened, planned, lost d refl))
-      raw-closed w₁ n (Done r) c z d =
+      raw-closed w₁ n (Err e) c z d = refusing (rw (opened, planned, lost d refl))
+      raw-closed w₁ n (Ok r) c z d =
           let y = got d refl in
           kept w₁ n r.next r.used r.padding c y (z y.taken r.next y.is) (keeps g file w₁ (kind_of t) h.row.0) (rule y.taken r.next w₁ y.is y.words (eqb (kind_of t) 33) refl)

@@ -1,5 +1,5 @@
 -- What starting a value means: the walk that it begins. It holds for every reader list that has so many readers and the type of the reader that a type id names at a place. Assumes nothing.
-use Rattle.std.specs.Prelude.{◌≡◌, Bool, cond, List, ℕ, zero, suc, ◌≤◌, length}
+use Rattle.std.specs.Prelude.{◌≡◌, Ok, Err, None, Some, Bool, cond, List, ℕ, zero, suc, ◌≤◌, length}
 use Rattle.std.proofs.Math.Path.{refl}
 use Rattle.std.proofs.Common.{sym, ap, subst, inl, inr, leb-true, leb-false, eqb-true}
 use Rattle.std.proofs.Math.Bool.{true, false}
@@ -21,11 +21,9 @@ use Rattle.heads.specs.declared.slot.Slot.{Slot}
 use Rattle.heads.specs.declared.slot.Slot.TheVariants.{Simple, Object}
 use Rattle.heads.specs.declared.slot.Slot.TheVariants.{Raw as RawSlot}
 use Rattle.heads.specs.Placed.{SlotIs}
-use Rattle.objects.specs.declared.start.Identified.{Identified}
-use Rattle.objects.specs.declared.start.Identified.TheVariants.{Null, Reader, Refused}
+use Rattle.answers.specs.declared.Rule.TheVariants.{NoReader, NotDeclared}
 use Rattle.objects.specs.declared.start.Started.TheVariants.{Raw}
-use Rattle.objects.specs.declared.start.Started.TheVariants.{Refused as RefusedValue}
-use Rattle.objects.specs.Beginnings.{Has, position_in, position_at, Identifies, ObjectStarts, Starts}
+use Rattle.objects.specs.Beginnings.{Identified, refusing, Has, position_in, position_at, Identifies, ObjectStarts, Starts}
 use Rattle.objects.specs.Start.{beyond-list, beyond-most, never_called, called_by, has_named, no_number, null_starts, read-starts, unread, too_deep, no_row, raw-starts, object-starts}
 use Rattle.objects.specs.Total.{reader_as, place_as, identify_as, id_as, object_as, start_as}
 
@@ -37,7 +35,7 @@ module _ (file codes : List ℕ) (count target : ℕ) (rd : Readers) (readers : 
     reader_named i h =
         go (leb count i) (leb 64 i) (eqb (kind_at codes target) 14) (eqb (kind_at codes target) 31) (fits_at file codes declared target) refl refl refl refl refl where
           go : (a b c e f : Bool) → leb count i ≡ a → leb 64 i ≡ b → eqb (kind_at codes target) 14 ≡ c → eqb (kind_at codes target) 31 ≡ e → fits_at file codes declared target ≡ f
-              → Identifies file codes readers d (suc i) (cond a (Refused 13) (cond b (Refused 13) (cond c (Refused 13) (cond e (Refused 13) (cond f (Reader target) (Refused 14))))))
+              → Identifies file codes readers d (suc i) (cond a (Err NoReader) (cond b (Err NoReader) (cond c (Err NoReader) (cond e (Err NoReader) (cond f (Ok (Some target)) (Err NotDeclared))))))
           go true b c e f p q r t u = beyond-list h l s (leb-true count i p)
           go false true c e f p q r t u = beyond-most h l s (leb-true 64 i q)
           go false false true e f p q r t u = never_called h l s (leb-false count i p) refl (inl (eqb-true _ 14 r))
@@ -57,9 +55,9 @@ module _ (file codes : List ℕ) (count target : ℕ) (rd : Readers) (readers : 
       pads = ap (λ y. pad_of y at) (sym e)
 
       go : (y : Identified) → Identifies file codes readers d id y → ObjectStarts file codes readers (object d) at (id_as at next id (pad_of (read id next) at) y)
-      go Null w = null_starts file codes readers d at small e pads w
-      go (Reader place) w = read-starts file codes readers d at small e pads w
-      go (Refused n) w = unread file codes readers d at small e pads w
+      go (Ok None) w = null_starts file codes readers d at small e pads w
+      go (Ok (Some place)) w = read-starts file codes readers d at small e pads w
+      go (Err r) w = unread file codes readers d at small e pads w
 
   -- what `start` answers is the walk of the value in a slot
   pub starts_as : Small file → (room : ℕ) (slot : Slot) (at used depth : ℕ) (x : L.Slot) → Has rd count (position_at file at) target → SlotIs file codes slot x → at ≤ length file
@@ -67,13 +65,13 @@ module _ (file codes : List ℕ) (count target : ℕ) (rd : Readers) (readers : 
   starts_as small room (Simple p) at used depth x h s i = s
   starts_as small room (RawSlot place) at used depth x h s i = go (eqb depth 0) (leb room used) refl refl where
     go : (b c : Bool) → eqb depth 0 ≡ b → leb room used ≡ c
-        → Starts file codes readers room depth x at used (cond b (RefusedValue 18 at) (cond c (RefusedValue 19 at) (Raw place at (type_id 0) 0)))
+        → Starts file codes readers room depth x at used (cond b (refusing 18 at) (cond c (refusing 19 at) (Ok (Raw place at (type_id 0) 0))))
     go true c p q = too_deep file codes readers room x at used (eqb-true depth 0 p)
     go false true p q = no_row file codes readers room x at used (eqb-false depth 0 p) (leb-true room used q)
     go false false p q = raw-starts file codes readers room x at used (eqb-false depth 0 p) (leb-false room used q) i s.type s.is s.stands
   starts_as small room (Object declared) at used depth x h s i = go (eqb depth 0) (leb room used) refl refl where
     go : (b c : Bool) → eqb depth 0 ≡ b → leb room used ≡ c
-        → Starts file codes readers room depth x at used (cond b (RefusedValue 18 at) (cond c (RefusedValue 19 at) (object_as file codes count target declared at (seven_at file at))))
+        → Starts file codes readers room depth x at used (cond b (refusing 18 at) (cond c (refusing 19 at) (object_as file codes count target declared at (seven_at file at))))
     go true c p q = too_deep file codes readers room x at used (eqb-true depth 0 p)
     go false true p q = no_row file codes readers room x at used (eqb-false depth 0 p) (leb-true room used q)
     go false false p q =

@@ -1,5 +1,5 @@
 -- Laws of what a value begins with: the reader that a type id names, and the walk behind it. Assumes nothing.
-use Rattle.std.specs.Prelude.{◌≡◌, Bool, true, false, List, [], ◌∷◌, ◌⊎◌, ltb, leb, get_or, drop}
+use Rattle.std.specs.Prelude.{◌≡◌, Ok, Err, Option, None, Some, Bool, true, false, List, [], ◌∷◌, ◌⊎◌, ltb, leb, get_or, drop}
 use Rattle.std.proofs.Math.Path.{refl, subst}
 use Rattle.std.proofs.Common.{sym, ap, ◌∙◌, inr, drop_of_length-le, drop-cons}
 use Rattle.std.proofs.Math.Logic.{inl}
@@ -19,7 +19,6 @@ use Rattle.reading.specs.Reads.{Small}
 use Rattle.numbers.specs.Padded.{past, pad_of}
 use Rattle.places.specs.Padding.{id_end, id_pad}
 use Rattle.ids.specs.Position.{position_of, type_id}
-use Rattle.ids.specs.declared.Position.TheVariants.{Null as Null-position, At}
 use Rattle.reading.specs.Rules.{missing, found, invoked, reader, serves, serves-complete, serves-sound}
 use Rattle.reading.specs.Walk.{Outcome, by_reader, object_at, value_at, walk}
 use Rattle.targets.specs.Code.{code_kind, Stands}
@@ -28,11 +27,12 @@ use Rattle.targets.specs.Laws.{kind_is, fits_then, then_fits, of_kind}
 use Rattle.readers.specs.declared.Readers.{Readers}
 use Rattle.readers.specs.Listed.{Listed}
 use Rattle.heads.specs.declared.slot.Slot.{Slot}
-use Rattle.objects.specs.declared.start.Identified.TheVariants.{Refused}
-use Rattle.objects.specs.declared.start.Started.{Started}
+use Rattle.answers.specs.declared.Rule.{Rule}
+use Rattle.answers.specs.declared.Rule.TheVariants.{NoReader}
+use Rattle.answers.specs.Refusals.{number_of}
 use Rattle.objects.specs.declared.start.Started.TheVariants.{Raw, Plain}
-use Rattle.objects.specs.declared.start.Started.TheVariants.{Null as NullValue, Refused as RefusedValue}
-use Rattle.objects.specs.Beginnings.{position_in, position_at, Has, ReadBy, Identifies, by, Ided, ObjectStarts, under, Starts}
+use Rattle.objects.specs.declared.start.Started.TheVariants.{Null as NullValue}
+use Rattle.objects.specs.Beginnings.{Starting, refusing, position_in, position_at, Has, ReadBy, Identifies, by, Ided, ObjectStarts, under, Starts}
 
 -- each position is one of a list of 64
 pub position_in-list : (file : List ℕ) (at : ℕ) → position_at file at < 64
@@ -103,10 +103,10 @@ always (mesh m) a b = refl
 
 -- the reader at place i of a list that the code has
 module _ {file codes : List ℕ} {rd : Readers} {count i target : ℕ} (has : Has rd count (position_in (suc i)) target) {readers : List Target} {declared : ℕ} {d : Target} (l : Listed file codes rd readers) (s : Stands file codes declared d) where
-  pub beyond-list : count ≤ i → Identifies file codes readers d (suc i) (Refused 13)
+  pub beyond-list : count ≤ i → Identifies file codes readers d (suc i) (Err NoReader)
   beyond-list h = inl (refl, omega arith, no_reader readers i (omega (arith, l.counts, has.counts)))
 
-  pub beyond-most : 64 ≤ i → Identifies file codes readers d (suc i) (Refused 13)
+  pub beyond-most : 64 ≤ i → Identifies file codes readers d (suc i) (Err NoReader)
   beyond-most h = inl (refl, omega arith, no_reader readers i (omega (arith, l.few)))
 
   -- where the list has the reader
@@ -115,7 +115,7 @@ module _ {file codes : List ℕ} {rd : Readers} {count i target : ℕ} (has : Ha
       let p : (suc i + 63) % 64 ≡ i = omega (arith, l.counts, l.few, has.counts) in
       rw p at has.at
 
-  pub never_called : {k : ℕ} → i < count → k ≡ kind_at codes target → (k ≡ 14) ⊎ (k ≡ 31) → Identifies file codes readers d (suc i) (Refused 13)
+  pub never_called : {k : ℕ} → i < count → k ≡ kind_at codes target → (k ≡ 14) ⊎ (k ≡ 31) → Identifies file codes readers d (suc i) (Err NoReader)
   unfolding plain fixed_kind sizes invoked
   never_called {k} h q w = inl (refl, omega arith, reader_at readers i g ∙ go w) where
     g : i < length readers
@@ -160,16 +160,16 @@ module _ {file codes : List ℕ} {rd : Readers} {count i target : ℕ} (has : Ha
     go false f = inr (refl, omega arith, (t, named, serving false (serves d t) f refl))
 
 -- an id and its position
-pub null_id : {id : ℕ} → Null-position ≡ position_of id → id ≡ 0
+pub null_id : {id : ℕ} → None ≡ position_of id → id ≡ 0
 null_id {id = zero} e = refl
 null_id {id = suc i} e = differ cc
 
-pub at_id : {id i : ℕ} → At i ≡ position_of id → id ≡ suc i
+pub at_id : {id i : ℕ} → Some i ≡ position_of id → id ≡ suc i
 at_id {id = zero} e = differ cc
 at_id {id = suc j} {i = i} e = let q : i ≡ j = cc in ap suc (sym q)
 
 module _ (file codes : List ℕ) (readers : List Target) (d : Target) (at : ℕ) where
-  pub no_number : {n p : ℕ} → seven_at file at ≡ refused n p → ObjectStarts file codes readers (object d) at (RefusedValue n p)
+  pub no_number : {n p : ℕ} → seven_at file at ≡ refused n p → ObjectStarts file codes readers (object d) at (refusing n p)
   unfolding value_at bind
   no_number e shared room below used parent = rw e
 
@@ -183,7 +183,7 @@ module _ (file codes : List ℕ) (readers : List Target) (d : Target) (at : ℕ)
     unfolding past
     past_is = rw e
 
-    pub null_starts : id ≡ 0 → ObjectStarts file codes readers (object d) at (NullValue next padding)
+    pub null_starts : id ≡ 0 → ObjectStarts file codes readers (object d) at (Ok (NullValue next padding))
     unfolding value_at bind object_at
     null_starts z =
         let b = seven_next file small at e in
@@ -195,12 +195,12 @@ module _ (file codes : List ℕ) (readers : List Target) (d : Target) (at : ℕ)
     by_id zero h shared room below used parent = absurd (omega arith)
     by_id (suc i) h shared room below used parent = refl
 
-    pub unread : {n : ℕ} → Identifies file codes readers d id (Refused n) → ObjectStarts file codes readers (object d) at (RefusedValue n at)
+    pub unread : {r : Rule} → Identifies file codes readers d id (Err r) → ObjectStarts file codes readers (object d) at (refusing (number_of r) at)
     unfolding value_at bind by_reader check
     unread (inl w) shared room below used parent = rw (e, by_id id w.1 shared room below used parent, w.2, w.0)
     unread (inr w) shared room below used parent = rw (e, by_id id w.1 shared room below used parent, w.2.1, w.2.2, w.0)
 
-    pub read-starts : {place : ℕ} → (0 < id) × ReadBy file codes readers d id place → ObjectStarts file codes readers (object d) at (Raw place next (type_id id) padding)
+    pub read-starts : {place : ℕ} → (0 < id) × ReadBy file codes readers d id place → ObjectStarts file codes readers (object d) at (Ok (Raw place next (type_id id) padding))
     unfolding value_at bind by_reader check
     read-starts w =
         let b = seven_next file small at e in
@@ -214,7 +214,7 @@ module _ (file codes : List ℕ) (readers : List Target) (d : Target) (at : ℕ)
         }
 
 module _ (file codes : List ℕ) (readers : List Target) (room : ℕ) (x : L.Slot) (at used : ℕ) where
-  pub too_deep : {depth : ℕ} → depth ≡ 0 → Starts file codes readers room depth x at used (RefusedValue 18 at)
+  pub too_deep : {depth : ℕ} → depth ≡ 0 → Starts file codes readers room depth x at used (refusing 18 at)
   unfolding walk
   too_deep e shared parent = rw e
 
@@ -228,7 +228,7 @@ module _ (file codes : List ℕ) (readers : List Target) (room : ℕ) (x : L.Slo
   full shared zero parent z h = absurd (z refl)
   full shared (suc d) parent z h = rw (le-ltb used room h)
 
-  pub no_row : {depth : ℕ} → (depth ≡ 0 → ⊥) → room ≤ used → Starts file codes readers room depth x at used (RefusedValue 19 at)
+  pub no_row : {depth : ℕ} → (depth ≡ 0 → ⊥) → room ≤ used → Starts file codes readers room depth x at used (refusing 19 at)
   no_row {depth} z h shared parent = full shared depth parent z h
 
   some_depth : (depth : ℕ) → (depth ≡ 0 → ⊥) → (d : ℕ) × (depth ≡ suc d)
@@ -236,7 +236,7 @@ module _ (file codes : List ℕ) (readers : List Target) (room : ℕ) (x : L.Slo
   some_depth (suc d) z = (d, refl)
 
   -- a slot of raw values
-  pub raw-starts : {depth place : ℕ} → (depth ≡ 0 → ⊥) → used < room → at ≤ length file → (t : Target) → x ≡ raw t → Stands file codes place t → Starts file codes readers room depth x at used (Raw place at (type_id 0) 0)
+  pub raw-starts : {depth place : ℕ} → (depth ≡ 0 → ⊥) → used < room → at ≤ length file → (t : Target) → x ≡ raw t → Stands file codes place t → Starts file codes readers room depth x at used (Ok (Raw place at (type_id 0) 0))
   unfolding value_at id_end id_pad
   raw-starts {depth} z h p t e i =
       let d = some_depth depth z in
@@ -252,12 +252,12 @@ module _ (file codes : List ℕ) (readers : List Target) (room : ℕ) (x : L.Slo
       }
 
   -- a slot of objects
-  pub object-starts : {depth : ℕ} → (depth ≡ 0 → ⊥) → used < room → (r : Started) → ObjectStarts file codes readers x at r → Starts file codes readers room depth x at used r
-  object-starts {depth} z h (RefusedValue n p) s =
+  pub object-starts : {depth : ℕ} → (depth ≡ 0 → ⊥) → used < room → (r : Starting) → ObjectStarts file codes readers x at r → Starts file codes readers room depth x at used r
+  object-starts {depth} z h (Err e) s =
       let d = some_depth depth z in
       λ shared parent. walked shared depth d.0 parent d.1 h ∙ s shared room (under file readers shared room d.0 used) used parent
-  object-starts z h (Plain p) s = absurd s
-  object-starts {depth} z h (NullValue next padding) s =
+  object-starts z h (Ok (Plain p)) s = absurd s
+  object-starts {depth} z h (Ok (NullValue next padding)) s =
       let d = some_depth depth z in
       record {
         pads = s.pads;
@@ -266,7 +266,7 @@ module _ (file codes : List ℕ) (readers : List Target) (room : ℕ) (x : L.Slo
         free = h;
         is = λ shared parent. walked shared depth d.0 parent d.1 h ∙ s.is shared room (under file readers shared room d.0 used) used parent;
       }
-  object-starts {depth} z h (Raw place from id padding) s =
+  object-starts {depth} z h (Ok (Raw place from id padding)) s =
       let d = some_depth depth z in
       record {
         type = s.type;

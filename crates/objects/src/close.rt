@@ -2,6 +2,7 @@
 ghost use Rattle.std.specs.Prelude.{◌≡◌};
 ghost use Rattle.objects.specs.Endings.{keeps, close_answer, close_words};
 
+use answers::Rule;
 use ids::RowNumber;
 use table::Grid;
 use walked::{Head, Reached, Walk};
@@ -10,7 +11,7 @@ use walked::{Head, Reached, Walk};
 fn keeps_rule(file: &[u8], words: &[u32], grid: Grid, kind: u32, row: RowNumber) -> bool
     ensures { result ≡ keeps grid file.now words.now kind row.0 }
 {
-    if kind == 33 {
+    if kind == names::kinds::SPRITE_FONT {
         return fonts::font_rule(file, words, grid, row);
     }
     true
@@ -30,21 +31,17 @@ pub fn close(
     ensures value { result ≡ close_answer grid file.now words.old h kind at walked }
     ensures words_after { words.new ≡ close_words grid file.now words.old h kind children walked }
 {
-    match walked {
-        Walk::Refused(number, place) => Walk::Refused(number, place),
-        Walk::Done(reached) => {
-            let row = h.row;
-            if keeps_rule(file, words, grid, kind, row) {
-                let branch = table::rows_from(row, reached.used);
-                let r = walked::row_words(h, kind, children, branch, reached.next);
-                table::put_row(words, grid, row, r);
-                return Walk::Done(Reached {
-                    used: reached.used,
-                    padding: table::sum(h.padding, reached.padding),
-                    next: reached.next,
-                });
-            }
-            Walk::Refused(22, at)
-        }
+    let reached = walked?;
+    let row = h.row;
+    if !keeps_rule(file, words, grid, kind, row) {
+        return Err(Rule::FontRule.at(at));
     }
+    let branch = table::rows_from(row, reached.used);
+    let r = walked::row_words(h, kind, children, branch, reached.next);
+    table::put_row(words, grid, row, r);
+    Ok(Reached {
+        used: reached.used,
+        padding: table::sum(h.padding, reached.padding),
+        next: reached.next,
+    })
 }

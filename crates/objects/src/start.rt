@@ -5,27 +5,24 @@ ghost use Rattle.reading.specs.Seven.{seven_at};
 ghost use Rattle.objects.specs.Total.{reader_as, identify_as, object_as, start_as};
 ghost use Rattle.objects.specs.Beginnings.{position_at};
 
+use answers::{Refusal, Rule};
 use heads::slot::Slot;
-use ids::{Position, TypeId};
+use ids::TypeId;
 use leaves::plain::Plain;
-use numbers::seven::Padded;
+use names::kinds;
 
-// Null; the type of the reader that a type id names; or a refusal's number.
-#[derive(Clone, Copy)]
-pub enum Identified {
-    Null,
-    Reader(usize),
-    Refused(u32),
-}
-
-// A refusal; a value without children that needs no reader list; null, where it ends and the padding of its type id;
-// or a raw value: its type, its first byte, its type id and the padding of that.
+// A value without children that needs no reader list; null, where it ends and the padding of its type id;
+// or a raw value: the place of its type, its first byte, its type id and the padding of that.
 #[derive(Clone, Copy)]
 pub enum Started {
-    Refused(u32, usize),
     Plain(Plain),
-    Null(usize, u32),
-    Raw(usize, usize, TypeId, u32),
+    Null { next: usize, padding: u32 },
+    Raw {
+        place: usize,
+        from: usize,
+        id: TypeId,
+        padding: u32,
+    },
 }
 
 // The byte at a place, 0 where there is none.
@@ -53,29 +50,23 @@ fn reader_for(
     target: usize,
     declared: usize,
     i: u32,
-) -> Identified
+) -> Result<Option<usize>, Rule>
     ensures { result ≡ reader_as file.now codes.now count target declared i }
 {
-    if count <= i {
-        return Identified::Refused(13);
-    }
-    if 64 <= i {
-        return Identified::Refused(13);
+    if count <= i || 64 <= i {
+        return Err(Rule::NoReader);
     }
     let kind = targets::kind_at(codes, target);
-    if kind == 14 {
-        return Identified::Refused(13);
-    }
-    if kind == 31 {
-        return Identified::Refused(13);
+    if kind == kinds::OBJECT || kind == kinds::TEXTURE {
+        return Err(Rule::NoReader);
     }
     if targets::fits(file, codes, declared, target) {
-        return Identified::Reader(target);
+        return Ok(Some(target));
     }
-    Identified::Refused(14)
+    Err(Rule::NotDeclared)
 }
 
-// The type that a type id names, for an object declared as the type at `declared`.
+// The type that a type id names, for an object declared as the type at `declared`; none for null.
 fn identify(
     file: &[u8],
     codes: &[u32],
@@ -83,12 +74,12 @@ fn identify(
     target: usize,
     declared: usize,
     id: TypeId,
-) -> Identified
+) -> Result<Option<usize>, Rule>
     ensures { result ≡ identify_as file.now codes.now count target declared (position_of id.0) }
 {
     match id.position() {
-        Position::Null => Identified::Null,
-        Position::At(i) => reader_for(file, codes, count, target, declared, i),
+        None => Ok(None),
+        Some(i) => reader_for(file, codes, count, target, declared, i),
     }
 }
 
@@ -100,19 +91,23 @@ fn object_start(
     target: usize,
     declared: usize,
     at: usize,
-) -> Started
+) -> Result<Started, Refusal>
     ensures { result ≡ object_as file.now codes.now count target declared at (seven_at file.now at) }
 {
-    match numbers::seven::seven_padded(file, at) {
-        Padded::Refused(number, place) => Started::Refused(number, place),
-        Padded::Read(value, next, padding) => {
-            let id = value as u32;
-            match identify(file, codes, count, target, declared, TypeId(id)) {
-                Identified::Null => Started::Null(next, padding),
-                Identified::Reader(place) => Started::Raw(place, next, TypeId(id), padding),
-                Identified::Refused(number) => Started::Refused(number, at),
-            }
-        }
+    let number = numbers::seven::seven_padded(file, at)?;
+    let id = TypeId(number.value as u32);
+    match identify(file, codes, count, target, declared, id) {
+        Ok(None) => Ok(Started::Null {
+            next: number.next,
+            padding: number.padding,
+        }),
+        Ok(Some(place)) => Ok(Started::Raw {
+            place,
+            from: number.next,
+            id,
+            padding: number.padding,
+        }),
+        Err(rule) => Err(rule.at(at)),
     }
 }
 
@@ -128,27 +123,22 @@ pub fn start(
     at: usize,
     used: u32,
     depth: u32,
-) -> Started
+) -> Result<Started, Refusal>
     ensures { result ≡ start_as file.now codes.now count target room slot at used depth }
 {
     match slot {
-        Slot::Simple(value) => Started::Plain(value),
+        Slot::Simple(value) => Ok(Started::Plain(value)),
         Slot::Raw(place) => {
-            if depth == 0 {
-                return Started::Refused(18, at);
-            }
-            if room <= used {
-                return Started::Refused(19, at);
-            }
-            Started::Raw(place, at, TypeId(0), 0)
+            walked::room::room_for(depth, room, used, at)?;
+            Ok(Started::Raw {
+                place,
+                from: at,
+                id: TypeId(0),
+                padding: 0,
+            })
         }
         Slot::Object(declared) => {
-            if depth == 0 {
-                return Started::Refused(18, at);
-            }
-            if room <= used {
-                return Started::Refused(19, at);
-            }
+            walked::room::room_for(depth, room, used, at)?;
             object_start(file, codes, count, target, declared, at)
         }
     }

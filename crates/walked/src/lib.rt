@@ -1,6 +1,8 @@
 // What a walk over values answers, and the row of a value.
 #![tactic(auto)]
 
+pub mod room;
+
 ghost use Rattle.std.specs.Prelude.{◌≡◌, ◌-◌};
 ghost use Rattle.table.specs.Word.{in_word};
 ghost use Rattle.table.specs.Put.{row_of};
