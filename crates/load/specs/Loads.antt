@@ -1,5 +1,7 @@
 -- What loading a file answers in code, and what it leaves in the words (01, "The row table"). Assumes nothing.
-use Rattle.std.specs.Prelude.{◌≡◌, List, ℕ, length}
+use Rattle.std.specs.Prelude.{◌≡◌, List, ℕ, length, Result, Ok, Err}
+use Rattle.answers.specs.declared.Refusal.{Refusal}
+use Rattle.answers.specs.Refusals.{refusal as broken}
 use Rattle.table.specs.declared.Grid.{Grid}
 use Rattle.table.specs.Word.{in_word}
 use Rattle.reading.specs.Answer.{Answer, refused, read, bind}
@@ -10,14 +12,21 @@ use Rattle.layout.specs.Rows.{Row}
 use Rattle.layout.specs.Table.{words_with, shape_of}
 use Rattle.places.specs.Padding.{file_padding}
 use Rattle.readers.specs.Judged.{judged_name}
-use Rattle.load.specs.declared.Loading.{Loading}
-use Rattle.load.specs.declared.Loading.TheVariants.{Refused, Loaded}
+use Rattle.load.specs.declared.Loaded.{Loaded}
 use Rattle.reading.specs.Drafts.{bare}
+
+-- what loading a file answers in code
+abbrev pub Loading : Type 0
+Loading = Result Loaded Refusal
+
+-- so many rows and readers, this shared count and this padding
+abbrev pub loaded : (rows readers shared padding : ℕ) → Loaded
+loaded rows readers shared padding = record { rows = rows; readers = readers; shared = shared; padding = padding }
 
 -- 01's answer in code: a refusal's number and place, or the number of rows, the number of readers and the shared count, and (02, Req 06) "the file's total": how many bytes its seven-bit numbers have beyond their shortest forms
 abbrev pub answer_of : (file : List ℕ) → File.Load → Loading
-answer_of file (refusal number place) = Refused number place
-answer_of file (accepted rows readers shared) = Loaded (length rows) readers shared (file_padding file readers rows)
+answer_of file (refusal number place) = Err (broken number place)
+answer_of file (accepted rows readers shared) = Ok (loaded (length rows) readers shared (file_padding file readers rows))
 
 -- a padding, by the number of readers and the rows
 abbrev pub Total : Type 0
@@ -29,8 +38,8 @@ file_total file readers rows = in_word (file_padding file readers rows)
 
 -- after success the rows stand in the words, with zeros elsewhere; after a refusal the words may hold anything
 abbrev pub Loads : Grid → Total → Answer FileLoaded → (entry exit : List ℕ) → Loading → Type 0
-Loads g total (refused n p) entry exit r = r ≡ Refused n p
-Loads g total (read a e) entry exit r = (r ≡ Loaded (length a.rows) a.readers a.shared (total a.readers (bare a.rows))) × (exit ≡ words_with (shape_of g.columns) g.room (bare a.rows) (length entry))
+Loads g total (refused n p) entry exit r = r ≡ Err (broken n p)
+Loads g total (read a e) entry exit r = (r ≡ Ok (loaded (length a.rows) a.readers a.shared (total a.readers (bare a.rows)))) × (exit ≡ words_with (shape_of g.columns) g.room (bare a.rows) (length entry))
 
 -- what stands behind the header, under a list of enum types
 unfoldable pub behind_header : List EnumEntry → (file : List ℕ) (room platform flags at : ℕ) → Answer FileLoaded

@@ -12,9 +12,8 @@ use Rattle.table.specs.Word.{in_word}
 use Rattle.readers.specs.declared.Readers.{Readers}
 use Rattle.readers.specs.Listed.{Listed}
 use Rattle.resources.specs.Settled.{Drafted}
-use Rattle.load.specs.declared.Loading.{Loading}
 use Rattle.load.specs.Under.{file_under}
-use Rattle.load.specs.Loads.{Total, file_total, Loads, behind_header}
+use Rattle.load.specs.Loads.{Loading, Total, file_total, Loads, behind_header}
 use Rattle.layout.specs.Rows.{Row}
 use Rattle.reading.specs.Drafts.{bare}
 use Rattle.places.specs.Padding.{rows_padding}

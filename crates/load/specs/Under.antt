@@ -1,5 +1,6 @@
 -- What loading answers under a lent list of enum types (02, Req 02). Assumes nothing.
-use Rattle.std.specs.Prelude.{◌≡◌, List, ℕ}
+use Rattle.std.specs.Prelude.{◌≡◌, List, ℕ, Ok, Err}
+use Rattle.answers.specs.Refusals.{refusal as broken}
 use Rattle.std.proofs.Math.Path.{refl, ap}
 use Rattle.std.proofs.Common.{◌∙◌}
 use Rattle.laws.specs.Small.{differ}
@@ -12,7 +13,6 @@ use Rattle.names.specs.Entries.{enums_of}
 use Rattle.names.specs.EntryLaws.{enums-written}
 use Rattle.enums.specs.Judge.{Judgement, lawful, enums_at}
 use Rattle.enums.specs.Judge.{refused as list-refused}
-use Rattle.enums.specs.declared.Judged.TheVariants.{Lawful, Refused}
 use Rattle.enums.specs.Contract.{answer_of}
 use Rattle.enums.specs.Lists.{Bytes, enums-sound}
 use Rattle.readers.specs.Judged.{judged_name}
@@ -34,20 +34,20 @@ load_under enums file words = to_load (file_under enums file (room_of words))
 
 -- by what the judge of the list answers
 module _ (enums file : List ℕ) (room : ℕ) where
-  pub refused-list : {n i : ℕ} → Refused n i ≡ answer_of (enums_at enums) → file_under enums file room ≡ refused n i
+  pub refused-list : {n i : ℕ} → Err (broken n i) ≡ answer_of (enums_at enums) → file_under enums file room ≡ refused n i
   unfolding file_under under_list
   refused-list {n} {i} e = go (enums_at enums) e where
-    go : (j : Judgement) → Refused n i ≡ answer_of j → under_list j (λ es. file_at (judged_name es) file room) ≡ refused n i
+    go : (j : Judgement) → Err (broken n i) ≡ answer_of j → under_list j (λ es. file_at (judged_name es) file room) ≡ refused n i
     go (list-refused m k) q =
         let e₁ : n ≡ m = cc in
         let e₂ : i ≡ k = cc in
         rw (e₁, e₂)
     go (lawful es) q = differ cc
 
-  pub lawful-list : Bytes enums → Lawful ≡ answer_of (enums_at enums) → file_under enums file room ≡ file_at (judged_name (enums_of enums)) file room
+  pub lawful-list : Bytes enums → Ok tt ≡ answer_of (enums_at enums) → file_under enums file room ≡ file_at (judged_name (enums_of enums)) file room
   unfolding file_under under_list
   lawful-list b e = go (enums_at enums) refl e where
-    go : (j : Judgement) → enums_at enums ≡ j → Lawful ≡ answer_of j → under_list j (λ es. file_at (judged_name es) file room) ≡ file_at (judged_name (enums_of enums)) file room
+    go : (j : Judgement) → enums_at enums ≡ j → Ok tt ≡ answer_of j → under_list j (λ es. file_at (judged_name es) file room) ≡ file_at (judged_name (enums_of enums)) file room
     go (list-refused m k) q e = differ cc
     go (lawful es) q e =
         let w = rw q at (enums-sound enums b) in

@@ -9,7 +9,7 @@ ghost use Rattle.layout.specs.Table.{shape_of, by_columns};
 ghost use Rattle.reading.specs.File.{table_of, table_in};
 ghost use Rattle.names.specs.Entries.{enums_of};
 ghost use Rattle.targets.specs.Code.{prelude_size};
-ghost use Rattle.readers.specs.Left.{codes_for, enough};
+ghost use Rattle.readers.specs.Left.{enough};
 ghost use Rattle.leaves.specs.Plain.{Begin};
 ghost use Rattle.heads.specs.Plans.{prelude};
 ghost use Rattle.steps.specs.Known.{Known};
@@ -17,30 +17,27 @@ ghost use Rattle.load.specs.Under.{load_under};
 ghost use Rattle.load.specs.Loads.{answer_of};
 ghost use Rattle.load.specs.Promises.{Finishes, ObjectsLoad, Behind, ListsLoad, FileLoads, UnderLoads};
 
-use answers::Number;
-use enums::Judged;
+use answers::{Refusal, Rule};
 use heads::nest::Nest;
 use heads::prelude;
 use heads::slot::Slot;
 use ids::RowNumber;
 use names::kinds;
-use readers::{Lists, Readers};
-use resources::Settled;
-use steps::Children;
+use readers::{Readers, Unlisted};
 use table::Grid;
 
-// A refusal's number and place; or the number of rows used, the number of readers, the shared count,
+// The number of rows used, the number of readers, the shared count,
 // and how many bytes the seven-bit numbers of the file have beyond their shortest forms.
-#[derive(Clone, Copy)]
-pub enum Loading {
-    Refused(u32, usize),
-    Loaded {
-        rows: u32,
-        readers: u32,
-        shared: u32,
-        padding: u32,
-    },
+#[derive(Clone, Copy, Debug, PartialEq, Eq)]
+pub struct Loaded {
+    pub rows: u32,
+    pub readers: u32,
+    pub shared: u32,
+    pub padding: u32,
 }
+
+// What loading a file answers.
+pub type Loading = Result<Loaded, Refusal>;
 
 // 20 after the last object, 17 last; then zeros behind the rows.
 fn finish(
@@ -56,20 +53,18 @@ fn finish(
     ensures { Finishes grid file.now readers shared padding next used words.old words.new result }
 {
     if next != file.len() {
-        return Loading::Refused(20, next);
+        return Err(Rule::LeftOver.at(next));
     }
-    match resources::settle(words, grid, used) {
-        Settled::Wrong(first) => Loading::Refused(17, first as usize),
-        Settled::Fine => {
-            table::clear_behind(words, grid, RowNumber(used));
-            Loading::Loaded {
-                rows: used,
-                readers,
-                shared,
-                padding,
-            }
-        }
+    if let Some(first) = resources::settle(words, grid, used) {
+        return Err(Rule::ResourceType.at(first as usize));
     }
+    table::clear_behind(words, grid, RowNumber(used));
+    Ok(Loaded {
+        rows: used,
+        readers,
+        shared,
+        padding,
+    })
 }
 
 // The primary and the shared objects, and the end of the file; the numbers before them have this padding.
@@ -89,23 +84,21 @@ fn objects(
     let n = shared + 1;
     let nest = Nest::Each(Slot::Object(prelude::OBJECT), n);
     let children = if n < walk::LONG {
-        walk::nested(file, codes, rd, words, grid, shared, nest, at, 0, 32, 0)
+        walk::nested(file, codes, rd, words, grid, shared, nest, at, 0, 32, 0)?
     } else {
-        walk::list_from(file, codes, rd, words, grid, shared, nest, n, at, 0, 32)
+        walk::list_from(file, codes, rd, words, grid, shared, nest, n, at, 0, 32)?
     };
-    match children {
-        Children::Refused(number, place) => Loading::Refused(number, place),
-        Children::Done { count: _, reached } => finish(
-            file,
-            words,
-            grid,
-            rd.count,
-            shared,
-            table::sum(padding, reached.padding),
-            reached.next,
-            reached.used,
-        ),
-    }
+    let reached = children.reached;
+    finish(
+        file,
+        words,
+        grid,
+        rd.count,
+        shared,
+        table::sum(padding, reached.padding),
+        reached.next,
+        reached.used,
+    )
 }
 
 // The types that fonts, pages and meshes declare, at the start of the codes.
@@ -143,71 +136,49 @@ fn listed(
     let mut starts = [0u16; 64];
     put_prelude(codes);
     match readers::read_lists(file, enums, codes, &mut targets, &mut starts) {
-        Lists::NoRoom => Loading::Refused(1, at),
-        Lists::Refused(number, place) => Loading::Refused(number, place),
-        Lists::Read(count, shared, padding, next) => {
+        Err(Unlisted::NoRoom) => Err(Rule::PastEnd.at(at)),
+        Err(Unlisted::Refused(refusal)) => Err(refusal),
+        Ok(lists) => {
             let rd = Readers {
                 targets,
                 starts,
-                count,
+                count: lists.readers,
             };
-            objects(file, codes, rd, words, grid, shared, padding, next)
+            objects(
+                file, codes, rd, words, grid, lists.shared, lists.padding, lists.next,
+            )
         }
     }
 }
 
-// The same with no readers, with one, with at most 8, and with at most 64: no more codes are cleared than so many readers need.
-fn none_listed(file: &[u8], enums: &[u8], words: &mut [u32], grid: Grid, at: usize) -> Loading
-    requires { Behind file.now words.old grid at × (enough file.now at (codes_for 0) ≡ true) }
+// The same with N codes: no more are cleared than the readers need.
+fn listed_with<const N: usize>(
+    file: &[u8],
+    enums: &[u8],
+    words: &mut [u32],
+    grid: Grid,
+    at: usize,
+) -> Loading
+    requires { Behind file.now words.old grid at × (prelude_size ≤ N) × (enough file.now at N ≡ true) }
     ensures { ListsLoad grid (enums_of enums.now) file.now at words.old words.new result }
 {
-    let mut codes = [0u32; 12];
+    let mut codes = [0u32; N];
     listed(file, enums, &mut codes, words, grid, at)
 }
 
-fn one_listed(file: &[u8], enums: &[u8], words: &mut [u32], grid: Grid, at: usize) -> Loading
-    requires { Behind file.now words.old grid at × (enough file.now at (codes_for 1) ≡ true) }
-    ensures { ListsLoad grid (enums_of enums.now) file.now at words.old words.new result }
-{
-    let mut codes = [0u32; 199];
-    listed(file, enums, &mut codes, words, grid, at)
-}
-
-fn few_listed(file: &[u8], enums: &[u8], words: &mut [u32], grid: Grid, at: usize) -> Loading
-    requires { Behind file.now words.old grid at × (enough file.now at (codes_for 8) ≡ true) }
-    ensures { ListsLoad grid (enums_of enums.now) file.now at words.old words.new result }
-{
-    let mut codes = [0u32; 850];
-    listed(file, enums, &mut codes, words, grid, at)
-}
-
-fn many_listed(file: &[u8], enums: &[u8], words: &mut [u32], grid: Grid, at: usize) -> Loading
-    requires { Behind file.now words.old grid at × (enough file.now at (codes_for 64) ≡ true) }
-    ensures { ListsLoad grid (enums_of enums.now) file.now at words.old words.new result }
-{
-    let mut codes = [0u32; 6058];
-    listed(file, enums, &mut codes, words, grid, at)
-}
-
-// What stands behind the header.
+// What stands behind the header, with codes for no readers, for one, for at most 8, or for at most 64.
 fn lists(file: &[u8], enums: &[u8], words: &mut [u32], grid: Grid, at: usize) -> Loading
     requires { Behind file.now words.old grid at }
     ensures { ListsLoad grid (enums_of enums.now) file.now at words.old words.new result }
 {
     match readers::reader_count(file, at) {
-        Number::Refused(_, _) => none_listed(file, enums, words, grid, at),
-        Number::Read(n, _) => {
-            if n == 0 {
-                return none_listed(file, enums, words, grid, at);
-            }
-            if n == 1 {
-                return one_listed(file, enums, words, grid, at);
-            }
-            if n <= 8 {
-                return few_listed(file, enums, words, grid, at);
-            }
-            many_listed(file, enums, words, grid, at)
-        }
+        Err(_) => listed_with::<12>(file, enums, words, grid, at),
+        Ok(count) => match count.value {
+            0 => listed_with::<12>(file, enums, words, grid, at),
+            1 => listed_with::<199>(file, enums, words, grid, at),
+            2..=8 => listed_with::<850>(file, enums, words, grid, at),
+            _ => listed_with::<6058>(file, enums, words, grid, at),
+        },
     }
 }
 
@@ -216,10 +187,8 @@ fn load_rows(file: &[u8], enums: &[u8], words: &mut [u32], grid: Grid) -> Loadin
     requires { width * grid.room ≤ length words.old }
     ensures { FileLoads grid (enums_of enums.now) file.now words.old words.new result }
 {
-    match header::header(file) {
-        Number::Refused(number, place) => Loading::Refused(number, place),
-        Number::Read(_, at) => lists(file, enums, words, grid, at),
-    }
+    let header = header::header(file)?;
+    lists(file, enums, words, grid, header.next)
 }
 
 // The list of enum types, and the file under it.
@@ -227,10 +196,8 @@ fn load_under(file: &[u8], enums: &[u8], words: &mut [u32], grid: Grid) -> Loadi
     requires { width * grid.room ≤ length words.old }
     ensures { UnderLoads grid enums.now file.now words.old words.new result }
 {
-    match enums::judge(enums) {
-        Judged::Refused(number, entry) => Loading::Refused(number, entry),
-        Judged::Lawful => load_rows(file, enums, words, grid),
-    }
+    enums::judge(enums)?;
+    load_rows(file, enums, words, grid)
 }
 
 // Loads a file into the words, by rows or in columns, under a list of enum types: its rows, and zeros elsewhere; only zeros after a refusal.
@@ -240,23 +207,11 @@ pub fn load_in(file: &[u8], enums: &[u8], words: &mut [u32], columns: bool) -> L
         ≡ table_in (shape_of columns) (load_under enums.now file.now (length words.old)) (length words.old) }
 {
     let grid = table::shaped(words.len(), columns);
-    match load_under(file, enums, words, grid) {
-        Loading::Refused(number, place) => {
-            fill::clear(words, 0);
-            Loading::Refused(number, place)
-        }
-        Loading::Loaded {
-            rows,
-            readers,
-            shared,
-            padding,
-        } => Loading::Loaded {
-            rows,
-            readers,
-            shared,
-            padding,
-        },
+    let loaded = load_under(file, enums, words, grid);
+    if loaded.is_err() {
+        fill::clear(words, 0);
     }
+    loaded
 }
 
 // Loads a file into the words, under a list of enum types: its rows, then zeros; only zeros after a refusal.

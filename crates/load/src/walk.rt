@@ -6,28 +6,17 @@ ghost use Rattle.steps.specs.Steps.{KnownRaw, NoRule, step_of, topped, plain_wor
 ghost use Rattle.steps.specs.Front.{ListOf, AllAlike, Takeable};
 ghost use Rattle.steps.specs.Promises.{FlatSteps, PlacedSteps, ValueSteps, RawWalks, NestWalks};
 
-use answers::Number;
+use answers::{Read, Refusal};
 use heads::nest::{Below, Nest};
-use heads::open::Opened;
 use heads::slot::Slot;
 use ids::{RowNumber, TypeId};
 use leaves::plain::Plain;
-use nullables::Listed;
+use names::kinds;
 use objects::start::Started;
 use readers::Readers;
 use steps::{Children, Stepped};
 use table::Grid;
 use walked::{Head, Reached, Walk};
-
-// A value that was walked.
-fn walked_step(walked: Walk) -> Stepped
-    ensures { result ≡ step_of walked }
-{
-    match walked {
-        Walk::Done(reached) => Stepped::Done(reached),
-        Walk::Refused(number, place) => Stepped::Refused(number, place),
-    }
-}
 
 // A value of a kind without a rule and without a count, once its children are walked: its row.
 fn close_plain(
@@ -37,24 +26,20 @@ fn close_plain(
     h: Head,
     children: u32,
     walked: Walk,
-) -> Stepped
+) -> Result<Stepped, Refusal>
     ensures value { result ≡ step_of (topped h.padding walked) }
     ensures words_after { words.new ≡ plain_words grid words.old h kind children walked }
 {
-    match walked {
-        Walk::Refused(number, place) => Stepped::Refused(number, place),
-        Walk::Done(reached) => {
-            let row = h.row;
-            let branch = table::rows_from(row, reached.used);
-            let r = walked::row_words(h, kind, children, branch, reached.next);
-            table::put_row(words, grid, row, r);
-            Stepped::Done(Reached {
-                used: reached.used,
-                padding: table::sum(h.padding, reached.padding),
-                next: reached.next,
-            })
-        }
-    }
+    let reached = walked?;
+    let row = h.row;
+    let branch = table::rows_from(row, reached.used);
+    let r = walked::row_words(h, kind, children, branch, reached.next);
+    table::put_row(words, grid, row, r);
+    Ok(Stepped::Done(Reached {
+        used: reached.used,
+        padding: table::sum(h.padding, reached.padding),
+        next: reached.next,
+    }))
 }
 
 // A raw value of a kind, once its head is read: walked, unless its children need the reader list.
@@ -71,7 +56,7 @@ fn close_flat(
     depth: u32,
     next: usize,
     below: Below,
-) -> Stepped
+) -> Result<Stepped, Refusal>
     requires { Ready file.now words.old grid h at × NoRule kind below }
     ensures { FlatSteps grid file.now shared kind place h at depth next below words.old words.new result }
 {
@@ -86,7 +71,7 @@ fn close_flat(
                 detail: h.detail,
                 padding: table::sum(h.padding, count),
             };
-            walked_step(walked::leaf(words, grid, whole, kind, 0, Number::Read(0, next)))
+            walked::leaf(words, grid, whole, kind, 0, Ok(Read { value: 0, next })).map(Stepped::Done)
         }
         Below::Simple(run) => {
             let n = table::word(leaves::run::turns(run));
@@ -95,14 +80,14 @@ fn close_flat(
             );
             close_plain(words, grid, kind, h, n, walked)
         }
-        Below::Nested(nest) => Stepped::Nested {
+        Below::Nested(nest) => Ok(Stepped::Nested {
             place,
             from: at,
             nest,
             padding: h.padding,
             id: TypeId(h.detail),
             next,
-        },
+        }),
     }
 }
 
@@ -117,19 +102,15 @@ fn raw_step(
     h: Head,
     at: usize,
     depth: u32,
-) -> Stepped
+) -> Result<Stepped, Refusal>
     requires { Ready file.now words.old grid h at }
     ensures { PlacedSteps grid file.now codes.now shared place h at depth words.old words.new result }
 {
-    match heads::open::open(file, codes, place, at) {
-        Opened::Refused(number, from) => Stepped::Refused(number, from),
-        Opened::Head(next, below) => {
-            let kind = heads::slot::row_kind(codes, place);
-            close_flat(
-                file, words, grid, shared, kind, place, h, at, depth, next, below,
-            )
-        }
-    }
+    let head = heads::open::open(file, codes, place, at)?;
+    let kind = heads::slot::row_kind(codes, place);
+    close_flat(
+        file, words, grid, shared, kind, place, h, at, depth, head.next, head.below,
+    )
 }
 
 // The value in a slot, with the depth left, as far as it needs no more of the reader list than how many readers
@@ -147,23 +128,22 @@ fn value(
     used: u32,
     depth: u32,
     parent: u32,
-) -> Stepped
+) -> Result<Stepped, Refusal>
     requires { KnownValue file.now codes.now words.old grid slot at used count target }
     ensures { ValueSteps grid file.now codes.now words.old words.new result
         count target shared slot at used depth parent }
 {
     let named = target as usize;
-    match objects::start::start(file, codes, count, named, grid.room, slot, at, used, depth) {
-        Started::Refused(number, place) => Stepped::Refused(number, place),
-        Started::Plain(plain) => match plain {
-            Plain::Fixed(kind, size) => walked_step(leaves::plain::read_fixed(
-                file, words, grid, kind, size, at, used, depth, parent,
-            )),
-            _ => walked_step(leaves::plain::read_plain(
-                file, words, grid, shared, plain, at, used, depth, parent,
-            )),
-        },
-        Started::Null(next, padding) => {
+    match objects::start::start(file, codes, count, named, grid.room, slot, at, used, depth)? {
+        Started::Plain(Plain::Fixed(kind, size)) => {
+            leaves::plain::read_fixed(file, words, grid, kind, size, at, used, depth, parent)
+                .map(Stepped::Done)
+        }
+        Started::Plain(plain) => {
+            leaves::plain::read_plain(file, words, grid, shared, plain, at, used, depth, parent)
+                .map(Stepped::Done)
+        }
+        Started::Null { next, padding } => {
             let h = Head {
                 row: RowNumber(used),
                 first: at,
@@ -171,9 +151,14 @@ fn value(
                 detail: 0,
                 padding,
             };
-            walked_step(walked::leaf(words, grid, h, 0, 0, Number::Read(0, next)))
+            walked::leaf(words, grid, h, 0, 0, Ok(Read { value: 0, next })).map(Stepped::Done)
         }
-        Started::Raw(place, from, id, padding) => {
+        Started::Raw {
+            place,
+            from,
+            id,
+            padding,
+        } => {
             let h = Head {
                 row: RowNumber(used),
                 first: at,
@@ -207,15 +192,13 @@ fn raw(
         words.old words.new result }
 {
     let first = h.row.0 + 1;
-    match below(
+    let children = below(
         file, codes, rd, words, grid, shared, nest, next, first, depth,
-    ) {
-        Children::Refused(number, q) => Walk::Refused(number, q),
-        Children::Done { count, reached } => {
-            let kind = heads::slot::row_kind(codes, place);
-            objects::close::close(file, words, grid, h, kind, count, at, Walk::Done(reached))
-        }
-    }
+    )?;
+    let kind = heads::slot::row_kind(codes, place);
+    objects::close::close(
+        file, words, grid, h, kind, children.count, at, Ok(children.reached),
+    )
 }
 
 // Lists of fewer elements are walked one element after the other: what `list_from` takes at once would not make up for the call.
@@ -249,8 +232,7 @@ fn takeable(codes: &[u32], declared: usize, n: u32, depth: u32) -> u32
         return 0;
     }
     match targets::kind_at(codes, declared) {
-        13 => n,
-        14 => n,
+        kinds::STRING | kinds::OBJECT => n,
         _ => 0,
     }
 }
@@ -269,7 +251,7 @@ fn below(
     at: usize,
     used: u32,
     depth: u32,
-) -> Children
+) -> Result<Children, Refusal>
     requires { Begin file.now words.old grid at used × Known file.now codes.now rd × KnownNest file.now codes.now nest }
     ensures { NestWalks grid file.now codes.now rd shared nest at used depth used
         words.old words.new result }
@@ -299,7 +281,7 @@ pub(crate) fn list_from(
     at: usize,
     used: u32,
     depth: u32,
-) -> Children
+) -> Result<Children, Refusal>
     requires { Begin file.now words.old grid at used × Known file.now codes.now rd × KnownNest file.now codes.now nest
         × AllAlike nest n }
     ensures { NestWalks grid file.now codes.now rd shared nest at used depth used
@@ -330,15 +312,15 @@ fn raws_from(
     at: usize,
     used: u32,
     depth: u32,
-) -> Children
+) -> Result<Children, Refusal>
     requires { Begin file.now words.old grid at used × Known file.now codes.now rd
         × KnownNest file.now codes.now (Nest.Each (Slot.Raw a) n) }
     ensures { NestWalks grid file.now codes.now rd shared (Nest.Each (Slot.Raw a) n) at used depth used
         words.old words.new result }
 {
     match nullables::read(file, codes, words, grid, a, n, at, used, depth) {
-        Listed::All(reached) => Children::Done { count: n, reached },
-        Listed::Unseen => nested(
+        Some(reached) => Ok(Children { count: n, reached }),
+        None => nested(
             file,
             codes,
             rd,
@@ -368,7 +350,7 @@ fn objects_from(
     at: usize,
     used: u32,
     depth: u32,
-) -> Children
+) -> Result<Children, Refusal>
     requires { Begin file.now words.old grid at used × Known file.now codes.now rd
         × KnownNest file.now codes.now (Nest.Each (Slot.Object declared) n) }
     ensures { NestWalks grid file.now codes.now rd shared (Nest.Each (Slot.Object declared) n) at used depth used
@@ -389,17 +371,17 @@ fn objects_from(
     );
     let row = used + front.count;
     if n <= front.count {
-        return Children::Done {
+        return Ok(Children {
             count: front.count,
             reached: Reached {
                 used: row,
                 padding: front.padding,
                 next: front.next,
             },
-        };
+        });
     }
     let left = n - front.count;
-    match nested(
+    let rest = nested(
         file,
         codes,
         rd,
@@ -411,17 +393,16 @@ fn objects_from(
         row,
         depth,
         used,
-    ) {
-        Children::Refused(number, q) => Children::Refused(number, q),
-        Children::Done { count: _, reached } => Children::Done {
-            count: n,
-            reached: Reached {
-                used: reached.used,
-                padding: table::sum(front.padding, reached.padding),
-                next: reached.next,
-            },
+    )?;
+    let reached = rest.reached;
+    Ok(Children {
+        count: n,
+        reached: Reached {
+            used: reached.used,
+            padding: table::sum(front.padding, reached.padding),
+            next: reached.next,
         },
-    }
+    })
 }
 
 // Objects and raw values one after the other, as a nest says, with rows from `used` on, under a parent.
@@ -438,7 +419,7 @@ pub(crate) fn nested(
     used: u32,
     depth: u32,
     parent: u32,
-) -> Children
+) -> Result<Children, Refusal>
     requires { Begin file.now words.old grid at used × Known file.now codes.now rd × KnownNest file.now codes.now nest }
     ensures { NestWalks grid file.now codes.now rd shared nest at used depth parent
         words.old words.new result }
@@ -452,17 +433,10 @@ pub(crate) fn nested(
         let first = next;
         let position = objects::start::reader_position(file, next);
         let target = rd.targets[position];
-        match value(
+        let reached = match value(
             file, codes, words, rd.count, target, grid, shared, slot, next, row, depth, parent,
-        ) {
-            Stepped::Done(reached) => {
-                next = reached.next;
-                row = reached.used;
-                sum = table::sum(sum, reached.padding);
-            }
-            Stepped::Refused(number, place) => {
-                return Children::Refused(number, place);
-            }
+        )? {
+            Stepped::Done(reached) => reached,
             Stepped::Nested {
                 place,
                 from,
@@ -478,7 +452,7 @@ pub(crate) fn nested(
                     detail: id.0,
                     padding,
                 };
-                match raw(
+                raw(
                     file,
                     codes,
                     rd,
@@ -491,26 +465,20 @@ pub(crate) fn nested(
                     below,
                     inner,
                     depth - 1,
-                ) {
-                    Walk::Done(reached) => {
-                        next = reached.next;
-                        row = reached.used;
-                        sum = table::sum(sum, reached.padding);
-                    }
-                    Walk::Refused(number, q) => {
-                        return Children::Refused(number, q);
-                    }
-                }
+                )?
             }
-        }
+        };
+        next = reached.next;
+        row = reached.used;
+        sum = table::sum(sum, reached.padding);
         stage = heads::nest::after(file, nest, stage, first);
     }
-    Children::Done {
+    Ok(Children {
         count: stage.next,
         reached: Reached {
             used: row,
             padding: sum,
             next,
         },
-    }
+    })
 }

@@ -1,5 +1,5 @@
 -- The first objects of a list, which were taken at once, are walked, and with what follows them the whole list. Assumes nothing.
-use Rattle.std.specs.Prelude.{◌≡◌, ◌⊎◌, get_or, drop, replicate}
+use Rattle.std.specs.Prelude.{◌≡◌, ◌⊎◌, get_or, drop, replicate, Result, Ok, Err, Some}
 use Rattle.std.proofs.Math.Path.{refl, ap, subst}
 use Rattle.std.proofs.Common.{sym, ◌∙◌, arith, add-one, drop_of_length-le, drop-cons}
 use mathlib.Core.List.{List, ◌++◌, map-append}
@@ -7,6 +7,8 @@ use Rattle.std.proofs.Math.Logic.{inl, inr}
 use Prim.Native.Nat.{ℕ, zero, suc, ◌+◌, ◌-◌, ◌≤◌, ◌<◌}
 use Rattle.std.proofs.Math.ListN.{length-replicate, get_or-replicate}
 use borrow.Author.Tests.{lt-leb, ne_eqb}
+use Rattle.answers.specs.Refusals.{refusal}
+use Rattle.answers.specs.declared.Refusal.{Refusal}
 use Rattle.laws.specs.Small.{differ}
 use Rattle.layout.specs.Target.{Target, kind_of}
 use Rattle.layout.specs.Slot as L
@@ -23,7 +25,6 @@ use Rattle.table.specs.declared.Grid.{Grid}
 use Rattle.table.specs.Word.{in_word, in_word_lem, word_sum}
 use Rattle.table.specs.Put.{put_row}
 use Rattle.walked.specs.declared.Reached.{Reached}
-use Rattle.walked.specs.declared.Walk.TheVariants.{Done as Walk-done}
 use Rattle.walked.specs.Contract.{seen, reaching, padded, Free, Walked}
 use Rattle.walked.specs.Leaf.{value_row, leaf_walked}
 use Rattle.walked.specs.Loop.{Counted, counted, counted-read, prefixed, Got, got, Reading, start, turn, ended}
@@ -46,15 +47,13 @@ use Rattle.heads.specs.Meaning.{opens_as}
 use Rattle.objects.specs.Beginnings.{Has, position_at}
 use Rattle.objects.specs.Meaning.{starts_as}
 use Rattle.objects.specs.Close.{slots-counted}
-use Rattle.nullables.specs.declared.Listed.TheVariants.{All}
 use Rattle.nullables.specs.Walked.{ListWalks}
 use Rattle.first_values.specs.declared.Seen.{Seen}
 use Rattle.first_values.specs.Looks.{NullSeen, LeafSeen, Looked}
 use Rattle.first_values.specs.Took.{Took}
 use Rattle.steps.specs.declared.Children.{Children}
-use Rattle.steps.specs.declared.Children.TheVariants.{Done, Refused}
 use Rattle.steps.specs.Known.{Ready}
-use Rattle.steps.specs.Turns.{Counts, children_of, whole}
+use Rattle.steps.specs.Turns.{Counts, children, children_of, whole}
 use Rattle.steps.specs.Walks.{OpenedAs, opened_as}
 use Rattle.steps.specs.Steps.{no_rule, null_pads, head-ends, got_as}
 
@@ -77,7 +76,7 @@ list_element nest n al r t h e = al.1 ∙ ap (λ y. Each y n) (sym (h al.0 n al.
 
 -- nullables that were walked at once
 pub list_nullables : (g : Grid) (file codes : List ℕ) (readers : List Target) (small : Small file) (shared a n : ℕ) (plan : Plan) (i : NestIs file codes (Each (Raw a) n) plan) (at used depth : ℕ) (entry exit : List ℕ) (r : Reached)
-    → Begin file entry g at used → ListWalks g file codes a n at used depth entry exit (All r) → Counts g file entry exit used (whole g file codes readers shared depth plan entry at used used) (Done n r)
+    → Begin file entry g at used → ListWalks g file codes a n at used depth entry exit (Some r) → Counts g file entry exit used (whole g file codes readers shared depth plan entry at used used) (Ok (children n r))
 unfolding seen counted
 list_nullables g file codes readers small shared a n plan i at used depth entry exit r b l =
     let q = i.are.is in
@@ -86,11 +85,11 @@ list_nullables g file codes readers small shared a n plan i at used depth entry 
       step : L.Slot → ℕ → ℕ → Outcome
       step = λ y v u. walk file readers shared g.room depth y v u used
 
-      go : (o : Outcome) → sequence step (each (replicate n (raw i.are.is.type))) at used ≡ o → Walked g file entry exit used (seen o) (Walk-done r) → Counts g file entry exit used (counted o) (Done n r)
+      go : (o : Outcome) → sequence step (each (replicate n (raw i.are.is.type))) at used ≡ o → Walked g file entry exit used (seen o) (Ok r) → Counts g file entry exit used (counted o) (Ok (children n r))
       go (refused m p) e w = let z = w.answers in differ cc
       go (read v f) e w =
           let s : count v.2 ≡ n = (slots-counted g file small readers shared depth (replicate n (raw i.are.is.type)) at used used v f e).0 ∙ length-replicate n (raw i.are.is.type) in
-          let y : Walk-done r ≡ Walk-done (record { used = v.0; padding = padded file v.1; next = f }) = w.answers in
+          let y : Ok {E = Refusal} r ≡ Ok (record { used = v.0; padding = padded file v.1; next = f }) = w.answers in
           let z : ◌≡◌ {A = Reached} r (record { used = v.0; padding = padded file v.1; next = f }) = cc in
           rw (s, z) (record { answers = refl; writes = w.writes })
 
@@ -221,7 +220,7 @@ module _ (g : Grid) (file codes : List ℕ) (rd : Readers) (readers : List Targe
     outcome = sequence (one depth) (each slots) at used
 
     -- all were taken
-    front_all : k ≤ n → n ≤ k → Counts g file w₀ w used (counted outcome) (Done k (record { used = used + k; padding = sum; next = next }))
+    front_all : k ≤ n → n ≤ k → Counts g file w₀ w used (counted outcome) (Ok (children k (record { used = used + k; padding = sum; next = next })))
     unfolding each
     front_all p q =
         let e : each (drop k slots) ≡ stop = ap each (drop_of_length-le slots {i = k} (omega (arith, q, length-replicate n x))) in
@@ -242,13 +241,12 @@ module _ (g : Grid) (file codes : List ℕ) (rd : Readers) (readers : List Targe
     joined = subst (λ y. prefixed r.rows k (counted (sequence (one depth) (each y) next (used + k))) ≡ counted outcome) (rest-slots x n k) r.whole
 
     -- one of those that are left is refused
-    front_refused : {w' : List ℕ} {m p : ℕ} → Counts g file w w' (used + k) left (Refused m p) → Counts g file w₀ w' used (counted outcome) (Refused m p)
-    front_refused {w'} {m} {p} c = go left refl c.answers where
-      go : (o : Answer Counted) → left ≡ o → Refused m p ≡ children_of file o → Counts g file w₀ w' used (counted outcome) (Refused m p)
+    front_refused : {w' : List ℕ} {y : Refusal} → Counts g file w w' (used + k) left (Err y) → Counts g file w₀ w' used (counted outcome) (Err y)
+    front_refused {w'} {y} c = go left refl c.answers where
+      go : (o : Answer Counted) → left ≡ o → Err y ≡ children_of file o → Counts g file w₀ w' used (counted outcome) (Err y)
       go (refused i q) e a =
-          let e₁ : i ≡ m = cc in
-          let e₂ : q ≡ p = cc in
-          rw (sym joined ∙ ap (prefixed r.rows k) e, e₁, e₂) (record { answers = refl; writes = refl })
+          let z : y ≡ refusal i q = cc in
+          rw (sym joined ∙ ap (prefixed r.rows k) e, z) (record { answers = refl; writes = refl })
       go (read v f) e a = differ cc
 
     more_padded : (rows more : List Draft) → in_word (padded file rows + padded file more) ≡ padded file (rows ++ more)
@@ -256,15 +254,16 @@ module _ (g : Grid) (file codes : List ℕ) (rd : Readers) (readers : List Targe
         word_sum (rows_padding file (bare rows)) (rows_padding file (bare more)) ∙ ap in_word (sym (rows_append file (bare rows) (bare more)) ∙ ap (rows_padding file) (sym (map-append _ rows more)))
 
     -- all that are left are walked
-    front_done : {w' : List ℕ} {i : ℕ} {t : Reached} → Counts g file w w' (used + k) left (Done i t)
-        → Counts g file w₀ w' used (counted outcome) (Done n (record { used = t.used; padding = in_word (sum + t.padding); next = t.next }))
+    front_done : {w' : List ℕ} {i : ℕ} {t : Reached} → Counts g file w w' (used + k) left (Ok (children i t))
+        → Counts g file w₀ w' used (counted outcome) (Ok (children n (record { used = t.used; padding = in_word (sum + t.padding); next = t.next })))
     front_done {w'} {i} {t} c = go left refl c where
-      go : (o : Answer Counted) → left ≡ o → Counts g file w w' (used + k) o (Done i t)
-          → Counts g file w₀ w' used (counted outcome) (Done n (record { used = t.used; padding = in_word (sum + t.padding); next = t.next }))
+      go : (o : Answer Counted) → left ≡ o → Counts g file w w' (used + k) o (Ok (children i t))
+          → Counts g file w₀ w' used (counted outcome) (Ok (children n (record { used = t.used; padding = in_word (sum + t.padding); next = t.next })))
       go (refused m p) e a = let q = a.answers in differ cc
       go (read v f) e a =
-          let q : Done i t ≡ Done v.2 (record { used = v.0; padding = padded file v.1; next = f }) = a.answers in
-          let z : ◌≡◌ {A = Reached} t (record { used = v.0; padding = padded file v.1; next = f }) = cc in
+          let q : Ok {E = Refusal} (children i t) ≡ Ok (children v.2 (record { used = v.0; padding = padded file v.1; next = f })) = a.answers in
+          let c : children i t ≡ children v.2 (record { used = v.0; padding = padded file v.1; next = f }) = cc in
+          let z : ◌≡◌ {A = Reached} t (record { used = v.0; padding = padded file v.1; next = f }) = ap (λ (x : Children). x.reached) c in
           let h : counted outcome ≡ read (v.0, r.rows ++ v.1, k + v.2) f = sym joined ∙ ap (prefixed r.rows k) e in
           let y = counted-read outcome h in
           let s : k + v.2 ≡ n = sym y.4 ∙ (slots-counted g file small readers shared depth slots at used used y.0 f y.1).0 ∙ length-replicate n x in
@@ -295,13 +294,13 @@ module _ (g : Grid) (file codes : List ℕ) (rd : Readers) (readers : List Targe
   pub list_begin : Begin file w g next (used + k)
   list_begin = front_begin g file codes rd readers l small shared declared x i.are.is w₀ at used b n depth reads
 
-  pub list_all : n ≤ k → Counts g file w₀ w used (whole g file codes readers shared depth plan w₀ at used used) (Done k (record { used = used + k; padding = sum; next = next }))
+  pub list_all : n ≤ k → Counts g file w₀ w used (whole g file codes readers shared depth plan w₀ at used used) (Ok (children k (record { used = used + k; padding = sum; next = next })))
   list_all q = rw planned (front_all g file codes rd readers l small shared declared x i.are.is w₀ at used b n depth reads (omega (arith, h, m.0)) q)
 
-  pub list-refused : {w' : List ℕ} {number p : ℕ} → Counts g file w w' (used + k) (whole g file codes readers shared depth left_plan w next (used + k) used) (Refused number p)
-      → Counts g file w₀ w' used (whole g file codes readers shared depth plan w₀ at used used) (Refused number p)
+  pub list-refused : {w' : List ℕ} {y : Refusal} → Counts g file w w' (used + k) (whole g file codes readers shared depth left_plan w next (used + k) used) (Err y)
+      → Counts g file w₀ w' used (whole g file codes readers shared depth plan w₀ at used used) (Err y)
   list-refused c = rw planned (front_refused g file codes rd readers l small shared declared x i.are.is w₀ at used b n depth reads c)
 
-  pub list_done : {w' : List ℕ} {number : ℕ} {r : Reached} → Counts g file w w' (used + k) (whole g file codes readers shared depth left_plan w next (used + k) used) (Done number r)
-      → Counts g file w₀ w' used (whole g file codes readers shared depth plan w₀ at used used) (Done n (record { used = r.used; padding = in_word (sum + r.padding); next = r.next }))
+  pub list_done : {w' : List ℕ} {number : ℕ} {r : Reached} → Counts g file w w' (used + k) (whole g file codes readers shared depth left_plan w next (used + k) used) (Ok (children number r))
+      → Counts g file w₀ w' used (whole g file codes readers shared depth plan w₀ at used used) (Ok (children n (record { used = r.used; padding = in_word (sum + r.padding); next = r.next })))
   list_done c = rw planned (front_done g file codes rd readers l small shared declared x i.are.is w₀ at used b n depth reads c)

@@ -1,8 +1,10 @@
 -- What a value comes to by what needs no reader list, and how a value ends. Assumes nothing.
-use Rattle.std.specs.Prelude.{◌≡◌, refl, Bool, true, false, cond, List, [], leb, length}
+use Rattle.std.specs.Prelude.{◌≡◌, refl, Bool, true, false, cond, List, [], leb, length, Result, Ok, Err}
 use Rattle.std.proofs.Common.{sym, ap, subst, ◌∙◌, add-one, ne_eqb}
 use Prim.Native.Nat.{ℕ, suc, ◌+◌, ◌-◌, ◌≤◌, ◌<◌, ◌^◌}
 use native.Mathlib.Omega.{arith}
+use Rattle.answers.specs.Refusals.{refusal}
+use Rattle.answers.specs.declared.Refusal.{Refusal}
 use Rattle.laws.specs.Small.{differ}
 use Rattle.layout.specs.Named.{Lawful}
 use Rattle.layout.specs.Target.{Target, kind_of}
@@ -23,9 +25,7 @@ use Rattle.table.specs.declared.Grid.{Grid}
 use Rattle.table.specs.Put.{put_row}
 use Rattle.table.specs.Word.{in_word, in_word_lem}
 use Rattle.walked.specs.declared.Head.{Head}
-use Rattle.walked.specs.declared.Walk.{Walk}
-use Rattle.walked.specs.declared.Walk.TheVariants.{Done as Walk-done, Refused as Walk-refused}
-use Rattle.walked.specs.Contract.{seen, atop, Free, Walked}
+use Rattle.walked.specs.Contract.{Walk, seen, atop, Free, Walked}
 use Rattle.walked.specs.Leaf.{value_row, leaf_of, leaf_answer, leaf_words, Pads, leaf_walked}
 use Rattle.walked.specs.Loop.{Got, refusing}
 use Rattle.numbers.specs.Padded.{pad_of}
@@ -38,7 +38,7 @@ use Rattle.heads.specs.declared.nest.Nest.{Nest}
 use Rattle.heads.specs.declared.nest.Below.{Below}
 use Rattle.heads.specs.declared.nest.Nest.TheVariants.{Font}
 use Rattle.heads.specs.declared.nest.Below.TheVariants.{Nothing, Simple, Nested as Nested-below}
-use Rattle.heads.specs.declared.open.Opened.TheVariants.{Head as Opened-head, Refused as Opened-refused}
+use Rattle.heads.specs.declared.open.Opened.{Opened}
 use Rattle.heads.specs.Placed.{row_kind}
 use Rattle.heads.specs.Slots.{kind_kept}
 use Rattle.heads.specs.Total.{open_as, kind_as}
@@ -48,24 +48,24 @@ use Rattle.objects.specs.Beginnings.{Begins, under}
 use Rattle.objects.specs.Endings.{close_answer, close_words, keeps}
 use Rattle.objects.specs.Close.{row-padding, raw-closed, slots-counted}
 use Rattle.steps.specs.declared.Stepped.{Stepped}
-use Rattle.steps.specs.declared.Stepped.TheVariants.{Done, Refused, Nested}
+use Rattle.steps.specs.declared.Stepped.TheVariants.{Done, Nested}
 use Rattle.steps.specs.Known.{Ready}
-use Rattle.steps.specs.Walks.{OpenedAs, close_ready}
+use Rattle.steps.specs.Walks.{OpenedAs, close_ready, opened}
 
 -- a value that was walked
-abbrev pub step_of : Walk → Stepped
-step_of (Walk-done r) = Done r
-step_of (Walk-refused n p) = Refused n p
+abbrev pub step_of : Walk → Result Stepped Refusal
+step_of (Ok r) = Ok (Done r)
+step_of (Err e) = Err e
 
 -- a walk below a value whose own numbers have this padding
 abbrev pub topped : (padding : ℕ) → Walk → Walk
-topped padding (Walk-done r) = Walk-done (atop padding r)
-topped padding (Walk-refused n p) = Walk-refused n p
+topped padding (Ok r) = Ok (atop padding r)
+topped padding (Err e) = Err e
 
 -- the row of a value of a kind without a rule, once its children are walked
 abbrev pub plain_words : Grid → (w : List ℕ) → Head → (kind children : ℕ) → Walk → List ℕ
-plain_words g w h kind n (Walk-done r) = put_row g w h.row.0 (value_row h kind n (r.used - h.row.0) r.next)
-plain_words g w h kind n (Walk-refused m p) = w
+plain_words g w h kind n (Ok r) = put_row g w h.row.0 (value_row h kind n (r.used - h.row.0) r.next)
+plain_words g w h kind n (Err e) = w
 
 -- only a font has a rule, and its children need the reader list
 abbrev pub NoRule : (kind : ℕ) → Below → Type 0
@@ -73,14 +73,16 @@ NoRule kind (Nothing padding) = kind ≡ 33 → ⊥
 NoRule kind (Simple run) = kind ≡ 33 → ⊥
 NoRule kind (Nested-below nest) = Unit {0}
 
-font_below : (file codes : List ℕ) (place at : ℕ) {next : ℕ} {below : Below} → kind_at codes place ≡ 33 → open_as file codes place at ≡ Opened-head next below → below ≡ Nested-below Font
+font_below : (file codes : List ℕ) (place at : ℕ) {next : ℕ} {below : Below} → kind_at codes place ≡ 33 → open_as file codes place at ≡ Ok (opened next below) → below ≡ Nested-below Font
 unfolding open_as kind_as
-font_below file codes place at {next} {below} k e = go (leb (length codes) place) (sym (ap (λ n. cond (leb (length codes) place) (Opened-refused 13 at) (kind_as file codes n (place + 1) at)) k) ∙ e) where
-  go : (b : Bool) → cond b (Opened-refused 13 at) (Opened-head at (Nested-below Font)) ≡ Opened-head next below → below ≡ Nested-below Font
+font_below file codes place at {next} {below} k e = go (leb (length codes) place) (sym (ap (λ n. cond (leb (length codes) place) (Err (refusal 13 at)) (kind_as file codes n (place + 1) at)) k) ∙ e) where
+  go : (b : Bool) → cond {A = Result Opened Refusal} b (Err (refusal 13 at)) (Ok (opened at (Nested-below Font))) ≡ Ok (opened next below) → below ≡ Nested-below Font
   go true q = differ cc
-  go false q = cc
+  go false q =
+      let y : opened at (Nested-below Font) ≡ opened next below = cc in
+      sym (ap (λ (o : Opened). o.below) y)
 
-pub no_rule : (file codes : List ℕ) (place at kind : ℕ) {next : ℕ} (below : Below) → kind ≡ row_kind (kind_at codes place) → open_as file codes place at ≡ Opened-head next below → NoRule kind below
+pub no_rule : (file codes : List ℕ) (place at kind : ℕ) {next : ℕ} (below : Below) → kind ≡ row_kind (kind_at codes place) → open_as file codes place at ≡ Ok (opened next below) → NoRule kind below
 no_rule file codes place at kind (Nothing padding) k e = λ q. absurd (let z = font_below file codes place at (kind_kept (kind_at codes place) 33 (λ r. omega arith) (sym k ∙ q)) e in differ cc)
 no_rule file codes place at kind (Simple run) k e = λ q. absurd (let z = font_below file codes place at (kind_kept (kind_at codes place) 33 (λ r. omega arith) (sym k ∙ q)) e in differ cc)
 no_rule file codes place at kind (Nested-below nest) k e = tt
@@ -109,35 +111,35 @@ abbrev pub raw_of : (file : List ℕ) → List Target → (shared room depth : �
 raw_of file readers shared room depth t h at = raw_at file readers shared room (under file readers shared room depth h.row.0) t h.first at h.row.0 h.parent h.detail
 
 -- a raw value of a type is walked, or its children are left
-abbrev pub RawSteps : Grid → (file codes : List ℕ) → List Target → (shared depth : ℕ) → Target → (place : ℕ) → Head → (at : ℕ) → (entry exit : List ℕ) → Stepped → Type 0
-RawSteps g file codes readers shared depth t place h at entry exit (Done r) = Walked g file entry exit h.row.0 (seen (raw_of file readers shared g.room depth t h at)) (Walk-done r)
-RawSteps g file codes readers shared depth t place h at entry exit (Refused n p) = Walked g file entry exit h.row.0 (seen (raw_of file readers shared g.room depth t h at)) (Walk-refused n p)
-RawSteps g file codes readers shared depth t place h at entry exit (Nested there from nest padding id next) = RawLeft file codes t place h at entry exit id.0 padding from there next nest
+abbrev pub RawSteps : Grid → (file codes : List ℕ) → List Target → (shared depth : ℕ) → Target → (place : ℕ) → Head → (at : ℕ) → (entry exit : List ℕ) → Result Stepped Refusal → Type 0
+RawSteps g file codes readers shared depth t place h at entry exit (Ok (Done r)) = Walked g file entry exit h.row.0 (seen (raw_of file readers shared g.room depth t h at)) (Ok r)
+RawSteps g file codes readers shared depth t place h at entry exit (Err e) = Walked g file entry exit h.row.0 (seen (raw_of file readers shared g.room depth t h at)) (Err e)
+RawSteps g file codes readers shared depth t place h at entry exit (Ok (Nested there from nest padding id next)) = RawLeft file codes t place h at entry exit id.0 padding from there next nest
 
 -- the value in a slot is walked, or it is a raw value whose children are left
-abbrev pub Steps : Grid → (file codes : List ℕ) → List Target → (shared depth : ℕ) → L.Slot → (at used parent : ℕ) → (entry exit : List ℕ) → Stepped → Type 0
-Steps g file codes readers shared depth x at used parent entry exit (Done r) = Walked g file entry exit used (seen (walk file readers shared g.room depth x at used parent)) (Walk-done r)
-Steps g file codes readers shared depth x at used parent entry exit (Refused n p) = Walked g file entry exit used (seen (walk file readers shared g.room depth x at used parent)) (Walk-refused n p)
-Steps g file codes readers shared depth x at used parent entry exit (Nested place from nest padding id next) = Left file codes readers g.room depth x at used entry exit id.0 padding from place next nest
+abbrev pub Steps : Grid → (file codes : List ℕ) → List Target → (shared depth : ℕ) → L.Slot → (at used parent : ℕ) → (entry exit : List ℕ) → Result Stepped Refusal → Type 0
+Steps g file codes readers shared depth x at used parent entry exit (Ok (Done r)) = Walked g file entry exit used (seen (walk file readers shared g.room depth x at used parent)) (Ok r)
+Steps g file codes readers shared depth x at used parent entry exit (Err e) = Walked g file entry exit used (seen (walk file readers shared g.room depth x at used parent)) (Err e)
+Steps g file codes readers shared depth x at used parent entry exit (Ok (Nested place from nest padding id next)) = Left file codes readers g.room depth x at used entry exit id.0 padding from place next nest
 
 pub raw-told : (g : Grid) (file codes : List ℕ) (readers : List Target) (shared depth : ℕ) (t : Target) (place : ℕ) (h : Head) (at : ℕ) {entry exit : List ℕ} (w : Walk)
     → Walked g file entry exit h.row.0 (seen (raw_of file readers shared g.room depth t h at)) w → RawSteps g file codes readers shared depth t place h at entry exit (step_of w)
-raw-told g file codes readers shared depth t place h at (Walk-done r) c = c
-raw-told g file codes readers shared depth t place h at (Walk-refused n p) c = c
+raw-told g file codes readers shared depth t place h at (Ok r) c = c
+raw-told g file codes readers shared depth t place h at (Err e) c = c
 
 pub value-told : (g : Grid) (file codes : List ℕ) (readers : List Target) (shared depth : ℕ) (x : L.Slot) (at used parent : ℕ) {entry exit : List ℕ} (w : Walk)
     → Walked g file entry exit used (seen (walk file readers shared g.room depth x at used parent)) w → Steps g file codes readers shared depth x at used parent entry exit (step_of w)
-value-told g file codes readers shared depth x at used parent (Walk-done r) c = c
-value-told g file codes readers shared depth x at used parent (Walk-refused n p) c = c
+value-told g file codes readers shared depth x at used parent (Ok r) c = c
+value-told g file codes readers shared depth x at used parent (Err e) c = c
 
 -- a value that is a raw value comes to what that comes to
-pub raw_steps : (g : Grid) (file codes : List ℕ) (readers : List Target) (shared depth below : ℕ) (x : L.Slot) (at used parent place from id padding : ℕ) (entry exit : List ℕ) (r : Stepped) → depth ≡ suc below
+pub raw_steps : (g : Grid) (file codes : List ℕ) (readers : List Target) (shared depth below : ℕ) (x : L.Slot) (at used parent place from id padding : ℕ) (entry exit : List ℕ) (r : Result Stepped Refusal) → depth ≡ suc below
     → (b : Begins file codes readers g.room depth x at used place from id padding)
     → RawSteps g file codes readers shared below b.type place (head_of used at parent id padding) from entry exit r
     → Steps g file codes readers shared depth x at used parent entry exit r
-raw_steps g file codes readers shared depth below x at used parent place from id padding entry exit (Done r) q b s = rw (b.is shared below parent q) s
-raw_steps g file codes readers shared depth below x at used parent place from id padding entry exit (Refused n p) q b s = rw (b.is shared below parent q) s
-raw_steps g file codes readers shared depth below x at used parent place from id padding entry exit (Nested l f nest p i next) q b s =
+raw_steps g file codes readers shared depth below x at used parent place from id padding entry exit (Ok (Done r)) q b s = rw (b.is shared below parent q) s
+raw_steps g file codes readers shared depth below x at used parent place from id padding entry exit (Err e) q b s = rw (b.is shared below parent q) s
+raw_steps g file codes readers shared depth below x at used parent place from id padding entry exit (Ok (Nested l f nest p i next)) q b s =
     rw (s.id_is, s.padding_is, s.from_is, s.place_is) (record { same = s.same; begins = b; opened = s.opened })
 
 -- the children that were left are walked
@@ -149,7 +151,7 @@ left_walked g shared below parent q l c = rw (l.begins.is shared below parent q,
 
 -- the head was refused, and so is the raw value
 pub refusing-head : (g : Grid) (file : List ℕ) {words w : List ℕ} (readers : List Target) (shared depth : ℕ) (t : Target) (h : Head) (at : ℕ) {n p : ℕ} → head_at file t at ≡ refused n p
-    → Walked g file words w h.row.0 (seen (raw_of file readers shared g.room depth t h at)) (Walk-refused n p)
+    → Walked g file words w h.row.0 (seen (raw_of file readers shared g.room depth t h at)) (Err (refusal n p))
 unfolding raw_at bind
 refusing-head g file readers shared depth t h at e = refusing (rw e)
 
@@ -208,10 +210,10 @@ pub plain-ends : (g : Grid) (file : List ℕ) {codes words w₁ : List ℕ} (h :
     → Walked g file words w₁ (h.row.0 + 1) (seen (sequence (λ y b v. walk file readers shared g.room depth y b v (h.row.0 + 1)) o.o.1 next (h.row.0 + 1))) walked
     → Walked g file words (plain_words g w₁ h kind n walked) h.row.0 (seen (raw_of file readers shared g.room depth t h at)) (topped h.padding walked)
 unfolding keeps
-plain-ends g file h at t readers shared depth n kind (Walk-done r) x s y l o q e k c =
-    let z = raw-ends g file h at t readers shared depth n kind (Walk-done r) s y l o q e k c in
+plain-ends g file h at t readers shared depth n kind (Ok r) x s y l o q e k c =
+    let z = raw-ends g file h at t readers shared depth n kind (Ok r) s y l o q e k c in
     rw (ne_eqb kind 33 x) at z
-plain-ends g file h at t readers shared depth n kind (Walk-refused m p) x s y l o q e k c = raw-ends g file h at t readers shared depth n kind (Walk-refused m p) s y l o q e k c
+plain-ends g file h at t readers shared depth n kind (Err v) x s y l o q e k c = raw-ends g file h at t readers shared depth n kind (Err v) s y l o q e k c
 
 -- children in slots that no child has a say in: none, or as many as a word holds
 pub slots_are : (g : Grid) (file : List ℕ) (small : Small file) (readers : List Target) (shared depth : ℕ) (slots : List L.Slot) (next row n : ℕ) → row ≤ g.room → g.room < 2 ^ 32 → n ≡ in_word (length slots)
@@ -228,7 +230,7 @@ got_as y p q r t = rw (p, q, r, t) y
 -- the children were refused, and so is the raw value
 pub raw-lost : (g : Grid) (file : List ℕ) {codes words w₁ : List ℕ} (h : Head) (at : ℕ) {next : ℕ} {below : Below} (t : Target) (readers : List Target) (shared depth : ℕ) {n p : ℕ}
     → (o : OpenedAs file codes t at next below) → sequence (λ y b v. walk file readers shared g.room depth y b v (h.row.0 + 1)) o.o.1 next (h.row.0 + 1) ≡ refused n p
-    → Walked g file words w₁ h.row.0 (seen (raw_of file readers shared g.room depth t h at)) (Walk-refused n p)
+    → Walked g file words w₁ h.row.0 (seen (raw_of file readers shared g.room depth t h at)) (Err (refusal n p))
 unfolding raw_at bind
 raw-lost g file h at {next} t readers shared depth {n} {p} o e =
     let q : sequence (λ y b v. walk file readers shared g.room depth y b v (suc h.row.0)) o.o.1 next (suc h.row.0) ≡ refused n p

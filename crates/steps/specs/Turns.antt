@@ -1,6 +1,8 @@
 -- The values of a nest one after the other, as a loop walks them: what is known after some of them. Assumes nothing.
-use Rattle.std.specs.Prelude.{◌≡◌, refl, List, ℕ, ◌+◌, ◌%◌, ◌^◌, ◌≤◌, ◌<◌}
+use Rattle.std.specs.Prelude.{◌≡◌, refl, List, ℕ, ◌+◌, ◌%◌, ◌^◌, ◌≤◌, ◌<◌, Result, Ok, Err}
 use Rattle.std.proofs.Common.{ap, subst, ◌∙◌, arith}
+use Rattle.answers.specs.Refusals.{refusal}
+use Rattle.answers.specs.declared.Refusal.{Refusal}
 use Rattle.laws.specs.Small.{differ}
 use Rattle.layout.specs.Target.{Target}
 use Rattle.layout.specs.Tree.{count, told_of}
@@ -25,40 +27,45 @@ use Rattle.heads.specs.Plans.{Prelude, NestIs, StageIs, Heard, begin_of, after_o
 use Rattle.heads.specs.Nests.{ends, goes}
 use Rattle.meshes.specs.Tells.{told_is}
 use Rattle.steps.specs.declared.Children.{Children}
-use Rattle.steps.specs.declared.Children.TheVariants.{Done, Refused}
 use Rattle.steps.specs.Walks.{walk-takes}
 
+-- so many children, and what was reached
+abbrev pub children : (count : ℕ) → Reached → Children
+children count reached = record { count = count; reached = reached }
+
 -- 01's number and place for a refusal; for children their number, their end, the rows used and their padding
-abbrev pub children_of : (file : List ℕ) → Answer Counted → Children
-children_of file (refused n p) = Refused n p
-children_of file (read a e) = Done a.2 (record { used = a.0; padding = padded file a.1; next = e })
+abbrev pub children_of : (file : List ℕ) → Answer Counted → Result Children Refusal
+children_of file (refused n p) = Err (refusal n p)
+children_of file (read a e) = Ok (children a.2 (record { used = a.0; padding = padded file a.1; next = e }))
 
 -- the new rows stand in the words; after a refusal the words may be anything
 abbrev pub counted_words : Grid → (exit entry : List ℕ) (used : ℕ) → Answer Counted → List ℕ
 counted_words g exit entry used (refused n p) = exit
 counted_words g exit entry used (read a e) = written g entry used a.1
 
-pub record Counts (g : Grid) (file entry exit : List ℕ) (used : ℕ) (o : Answer Counted) (r : Children) : Type 0 where
+pub record Counts (g : Grid) (file entry exit : List ℕ) (used : ℕ) (o : Answer Counted) (r : Result Children Refusal) : Type 0 where
   pub answers : r ≡ children_of file o
   pub writes : exit ≡ counted_words g exit entry used o
 
 -- the children that were counted were walked
-pub counts_walked : {g : Grid} {file entry exit : List ℕ} {used n : ℕ} {r : Reached} (o : Outcome) → Counts g file entry exit used (counted o) (Done n r)
+pub counts_walked : {g : Grid} {file entry exit : List ℕ} {used n : ℕ} {r : Reached} (o : Outcome) → Counts g file entry exit used (counted o) (Ok (children n r))
     → Walked g file entry exit used (seen o) (reaching r.used r.padding r.next) × ((a : Taken) (f : ℕ) → o ≡ read a f → n ≡ count a.2)
 unfolding seen counted
 counts_walked (refused m p) c = absurd (let q = c.answers in differ cc)
 counts_walked {g} {file} {entry} {exit} {used} {n} {r} (read a f) c =
-    let q : Done n r ≡ Done (count a.2) (record { used = a.0; padding = padded file a.1; next = f }) = c.answers in
-    let k : n ≡ count a.2 = cc in
-    let z : ◌≡◌ {A = Reached} r (record { used = a.0; padding = padded file a.1; next = f }) = cc in
+    let q : Ok {E = Refusal} (children n r) ≡ Ok (children (count a.2) (record { used = a.0; padding = padded file a.1; next = f })) = c.answers in
+    let y : children n r ≡ children (count a.2) (record { used = a.0; padding = padded file a.1; next = f }) = cc in
+    let k : n ≡ count a.2 = ap (λ (x : Children). x.count) y in
+    let z : ◌≡◌ {A = Reached} r (record { used = a.0; padding = padded file a.1; next = f }) = ap (λ (x : Children). x.reached) y in
     (record { answers = ap (λ (x : Reached). reaching x.used x.padding x.next) z; writes = c.writes }, λ b m e. let y : a ≡ b = cc in k ∙ ap (λ (t : Taken). count t.2) y)
 
-pub counts_refused : {g : Grid} {file entry exit : List ℕ} {used n p : ℕ} (o : Outcome) → Counts g file entry exit used (counted o) (Refused n p) → o ≡ refused n p
+pub counts_refused : {g : Grid} {file entry exit : List ℕ} {used n p : ℕ} (o : Outcome) → Counts g file entry exit used (counted o) (Err (refusal n p)) → o ≡ refused n p
 unfolding counted
 counts_refused {n = n} {p = p} (refused m q) c =
-    let z : Refused n p ≡ Refused m q = c.answers in
-    let e₁ : m ≡ n = cc in
-    let e₂ : q ≡ p = cc in
+    let z : Err {A = Children} (refusal n p) ≡ Err (refusal m q) = c.answers in
+    let e₀ : refusal m q ≡ refusal n p = cc in
+    let e₁ : m ≡ n = ap (λ (x : Refusal). x.number) e₀ in
+    let e₂ : q ≡ p = ap (λ (x : Refusal). x.place) e₀ in
     rw (e₁, e₂)
 counts_refused (read a f) c = absurd (let q = c.answers in differ cc)
 
@@ -99,14 +106,14 @@ module _ (g : Grid) (file codes : List ℕ) (readers : List Target) (shared dept
 
     -- nothing stands next: all values are walked
     pub nothing_next : {w : List ℕ} {stage : Stage} {next row sum : ℕ} → Standing w stage next row sum → stage.count ≤ stage.next
-        → Counts g file w₀ w used whole (Done stage.next (record { used = row; padding = sum; next = next }))
+        → Counts g file w₀ w used whole (Ok (children stage.next (record { used = row; padding = sum; next = next })))
     nothing_next {w} {stage} {next} {row} {sum} s h =
         let r : Reading g file step plan₀ w₀ at used w stop next row sum stage.next = subst (λ y. Reading g file step plan₀ w₀ at used w y next row sum stage.next) (ends file codes nest stage s.plan s.is h) s.read_so in
         let c = ended g file step plan₀ w₀ at used r in
         rw (c.0, c.2) (record { answers = refl; writes = c.1 })
 
     -- the value is refused
-    pub next_lost : {w w' : List ℕ} {stage : Stage} {next row sum n p : ℕ} (v : Next w stage next row sum) → step v.x next row ≡ refused n p → Counts g file w₀ w' used whole (Refused n p)
+    pub next_lost : {w w' : List ℕ} {stage : Stage} {next row sum n p : ℕ} (v : Next w stage next row sum) → step v.x next row ≡ refused n p → Counts g file w₀ w' used whole (Err (refusal n p))
     next_lost v e = rw (give_up g file step plan₀ w₀ at used v.x v.go v.read_so e) (record { answers = refl; writes = refl })
 
     -- the value is walked

@@ -10,7 +10,6 @@ use walked::Reached;
 #[derive(Clone, Copy)]
 pub enum Stepped {
     Done(Reached),
-    Refused(u32, usize),
     Nested {
         place: usize,
         from: usize,
@@ -21,9 +20,9 @@ pub enum Stepped {
     },
 }
 
-// Values one after the other, walked: how many they are and what the walk reaches; or a refusal's number and place.
+// Values one after the other, walked: how many they are and what the walk reaches.
 #[derive(Clone, Copy)]
-pub enum Children {
-    Done { count: u32, reached: Reached },
-    Refused(u32, usize),
+pub struct Children {
+    pub count: u32,
+    pub reached: Reached,
 }
