@@ -1,5 +1,5 @@
 -- Laws of loading: each step of the code against what loading answers. Assumes nothing.
-use Rattle.std.specs.Prelude.{◌≡◌, Bool, ℕ, ◌+◌, ◌*◌, ◌-◌, ◌≤◌, drop, set}
+use Rattle.std.specs.Prelude.{◌≡◌, Bool, ℕ, ◌+◌, ◌*◌, ◌-◌, ◌≤◌, drop, set, Result, Ok, Err, Some, None}
 use Rattle.std.proofs.Math.Path.{refl, sym, ap}
 use Rattle.std.proofs.Common.{subst, ◌∙◌, add-one, take-append-drop, eq-eqb, ne_eqb}
 use Rattle.std.proofs.Math.Bool.{true, false}
@@ -34,24 +34,22 @@ use Rattle.walked.specs.Written.{written, length-written}
 use Rattle.walked.specs.Loop.{Counted, got}
 use Rattle.walked.specs.Contract.{padded}
 use Rattle.fill.specs.Fill.{cleared}
-use Rattle.answers.specs.declared.Number.TheVariants.{Read as Header-read, Refused as Header-refused}
+use Rattle.answers.specs.declared.Read.{Read as Number-read}
+use Rattle.answers.specs.declared.Refusal.{Refusal}
+use Rattle.answers.specs.Refusals.{refusal}
 use Rattle.header.specs.Header.{to_header, header_of}
 use Rattle.heads.specs.declared.nest.Nest.TheVariants.{Each}
 use Rattle.heads.specs.declared.slot.Slot.TheVariants.{Object}
 use Rattle.targets.specs.Code.{prelude_size}
 use Rattle.heads.specs.Plans.{Prelude, prelude, NestIs}
 use Rattle.heads.specs.Nests.{begins, object_at}
-use Rattle.resources.specs.declared.Settled.{Settled}
-use Rattle.resources.specs.declared.Settled.TheVariants.{Fine, Wrong}
 use Rattle.resources.specs.Settled.{settled_of, settled as rows_settled, answered, judged_is, Drafted}
 use Rattle.resources.specs.Flat.{rows-flat}
 use Rattle.resources.specs.Objects.{objects-drafted}
-use Rattle.load.specs.declared.Loading.{Loading}
-use Rattle.load.specs.declared.Loading.TheVariants.{Refused, Loaded}
+use Rattle.load.specs.declared.Loaded.{Loaded}
 use Rattle.steps.specs.declared.Children.{Children}
-use Rattle.steps.specs.declared.Children.TheVariants.{Done as Children-done, Refused as Children-refused}
-use Rattle.steps.specs.Turns.{Counts, whole as whole_nest, counts_walked, counts_refused}
-use Rattle.load.specs.Loads.{Total, file_total, Loads, behind_header, answer_of}
+use Rattle.steps.specs.Turns.{Counts, children, whole as whole_nest, counts_walked, counts_refused}
+use Rattle.load.specs.Loads.{Loading, loaded, Total, file_total, Loads, behind_header, answer_of}
 use Rattle.readers.specs.Judged.{judged_name, judges}
 use Rattle.readers.specs.Left.{enough}
 use Rattle.enums.specs.Judge.{Judgement, lawful, enums_at}
@@ -69,15 +67,15 @@ module _ (file : List ℕ) (platform flags : ℕ) (names : List (List ℕ)) (rea
   not_the_end h = rw (ne_eqb next (length file) h)
 
   module _ (end : next ≡ length file) where
-    settled : (s : Settled) → settled_of (drop 1 (root_kinds a.1)) a.1 ≡ s
+    settled : (s : Option ℕ) → settled_of (drop 1 (root_kinds a.1)) a.1 ≡ s
         → finished file platform flags names readers shared a next
         ≡ answered s (read (record { tree = record { platform = platform; flags = flags; names = names; objects = a.2 }; rows = a.1; readers = readers; shared = shared }) next)
     unfolding finished check
     settled s e = rw (eq-eqb next (length file) end, judged_is, e)
 
     -- 01: "17 last"
-    pub wrong-resource : {first : ℕ} → settled_of (drop 1 (root_kinds a.1)) a.1 ≡ Wrong first → finished file platform flags names readers shared a next ≡ refused 17 first
-    wrong-resource {first} e = settled (Wrong first) e
+    pub wrong-resource : {first : ℕ} → settled_of (drop 1 (root_kinds a.1)) a.1 ≡ Some first → finished file platform flags names readers shared a next ≡ refused 17 first
+    wrong-resource {first} e = settled (Some first) e
 
     cleared_rows : (rows : List Row) (rest : List ℕ) → cleared (flat rows ++ rest) (width * length rows) ≡ flat rows ++ replicate (length rest) 0
     unfolding cleared
@@ -107,14 +105,14 @@ module _ (file : List ℕ) (platform flags : ℕ) (names : List (List ℕ)) (rea
     rows_left_in g w rows fits long true e = behind_columns g _ (length rows) e ∙ settled_columns g w rows e fits long
 
     -- all is well: the rows, and zeros elsewhere
-    pub all_well : (total : Total) {g : Grid} {used padding : ℕ} {entry mid exit w : List ℕ} → Drafted g entry used a.1 w → padding ≡ total readers (bare a.1) → Fine ≡ settled_of (drop 1 (root_kinds a.1)) a.1 → mid ≡ rows_settled g w a.1
-        → exit ≡ cleared_behind g mid used → Loads g total (finished file platform flags names readers shared a next) entry exit (Loaded used readers shared padding)
+    pub all_well : (total : Total) {g : Grid} {used padding : ℕ} {entry mid exit w : List ℕ} → Drafted g entry used a.1 w → padding ≡ total readers (bare a.1) → None ≡ settled_of (drop 1 (root_kinds a.1)) a.1 → mid ≡ rows_settled g w a.1
+        → exit ≡ cleared_behind g mid used → Loads g total (finished file platform flags names readers shared a next) entry exit (Ok (loaded used readers shared padding))
     unfolding rows_settled
     all_well total {g} {used} {padding} {entry} {mid} {exit} {w} d q s m c =
         let n : used ≡ length a.1 = d.count in
         let b : length (bare a.1) ≡ length a.1 = length-bare a.1 in
         let e : length entry ≡ length w = ap length d.stand ∙ length-written g w 0 a.1 in
-        rw (settled Fine (sym s), e) (rw (n, q) refl, c ∙ rw (m, n, ← b) (rows_left_in g w (bare a.1) (omega (arith, d.fits)) d.long g.columns refl))
+        rw (settled None (sym s), e) (rw (n, q) refl, c ∙ rw (m, n, ← b) (rows_left_in g w (bare a.1) (omega (arith, d.fits)) d.long g.columns refl))
 
 -- only the words' length counts
 same_size : (g : Grid) (total : Total) (w w' exit : List ℕ) (r : Loading) → length w' ≡ length w → (x : Answer FileLoaded) → Loads g total x w' exit r → Loads g total x w exit r
@@ -122,7 +120,7 @@ same_size g total w w' exit r l (refused n p) c = c
 same_size g total w w' exit r l (read a e) c = rw (← l) c
 
 -- a refusal
-pub loads-refused : (g : Grid) (total : Total) (x : Answer FileLoaded) (entry exit : List ℕ) {n p : ℕ} → x ≡ refused n p → Loads g total x entry exit (Refused n p)
+pub loads-refused : (g : Grid) (total : Total) (x : Answer FileLoaded) (entry exit : List ℕ) {n p : ℕ} → x ≡ refused n p → Loads g total x entry exit (Err (refusal n p))
 loads-refused g total x entry exit e = rw e refl
 
 module _ (g : Grid) (file : List ℕ) (small : Small file) (codes : List ℕ) (shared at : ℕ) (few : shared ≤ 256) where
@@ -144,7 +142,7 @@ module _ (g : Grid) (file : List ℕ) (small : Small file) (codes : List ℕ) (s
     abbrev roots_walked : Answer Counted
     roots_walked = whole_nest g file codes readers shared 32 (each roots) [] at 0 0
 
-    pub objects-lost : {w w' : List ℕ} {n p : ℕ} {r : Children} → Counts g file w w' 0 roots_walked r → r ≡ Children-refused n p → whole ≡ refused n p
+    pub objects-lost : {w w' : List ℕ} {n p : ℕ} {r : Result Children Refusal} → Counts g file w w' 0 roots_walked r → r ≡ Err (refusal n p) → whole ≡ refused n p
     unfolding bind
     objects-lost c e = rw (sym (objects_are readers) ∙ counts_refused (sequence (λ y b v. walk file readers shared g.room 32 y b v 0) (each roots) at 0) (record { answers = sym e ∙ c.answers; writes = c.writes }))
 
@@ -155,7 +153,7 @@ module _ (g : Grid) (file : List ℕ) (small : Small file) (codes : List ℕ) (s
       pub is : objects_at file g.room readers shared at ≡ read taken next
       pub drafted : Drafted g w' used taken.1 w
 
-    pub objects-got : {w w' : List ℕ} {n : ℕ} {reached : Reached} {r : Children} → width * g.room ≤ length w → Counts g file w w' 0 roots_walked r → r ≡ Children-done n reached → Rooted w w' reached.next reached.used reached.padding
+    pub objects-got : {w w' : List ℕ} {n : ℕ} {reached : Reached} {r : Result Children Refusal} → width * g.room ≤ length w → Counts g file w w' 0 roots_walked r → r ≡ Ok (children n reached) → Rooted w w' reached.next reached.used reached.padding
     objects-got {w} {w'} {n} {reached} long c e =
         let y = got (counts_walked (sequence (λ y b v. walk file readers shared g.room 32 y b v 0) (each roots) at 0) (record { answers = sym e ∙ c.answers; writes = c.writes })).0 refl in
         let q = sym (objects_are readers) ∙ y.is in
@@ -183,6 +181,10 @@ header-length : (platform flags n : ℕ) → length (header platform flags n) �
 unfolding header ascii little
 header-length platform flags n = refl
 
+-- a number that was read
+abbrev pub number_read : (value next : ℕ) → Number-read
+number_read value next = record { value = value; next = next }
+
 -- the header was read
 pub record HeaderRead (file : List ℕ) (at : ℕ) : Type 0 where
   pub h : ℕ × ℕ
@@ -191,23 +193,25 @@ pub record HeaderRead (file : List ℕ) (at : ℕ) : Type 0 where
   pub inside : at ≤ length file
   pub ten : at ≡ 10
 
-pub header_read : (file : List ℕ) → Small file → {v at : ℕ} → Header-read v at ≡ header_of file → HeaderRead file at
+pub header_read : (file : List ℕ) → Small file → {v at : ℕ} → Ok {E = Refusal} (number_read v at) ≡ header_of file → HeaderRead file at
 header_read file s {v} {at} e = go (header_at file) refl e where
-  go : (x : Answer (ℕ × ℕ)) → header_at file ≡ x → Header-read v at ≡ to_header x → HeaderRead file at
+  go : (x : Answer (ℕ × ℕ)) → header_at file ≡ x → Ok {E = Refusal} (number_read v at) ≡ to_header x → HeaderRead file at
   go (refused n p) q e = differ cc
   go (read h f) q e =
       let v = (header-sound file s).got q in
-      let z : f ≡ at = cc in
+      let y : number_read v at ≡ number_read 0 f = cc in
+      let z : f ≡ at = sym (ap (λ (x : Number-read). x.next) y) in
       record { h = h; is = q ∙ ap (read h) z; short = v.1.short; ten = sym z ∙ v.0; inside = omega (arith, z, v.0, ap length v.1.parts ∙ length-append (header h.0 h.1 (length file)) (drop 10 file), header-length h.0 h.1 (length file)) }
 
 -- the file, by its header
-pub header_refused : (es : List EnumEntry) (file : List ℕ) (room : ℕ) {n p : ℕ} → Header-refused n p ≡ header_of file → file_at (judged_name es) file room ≡ refused n p
+pub header_refused : (es : List EnumEntry) (file : List ℕ) (room : ℕ) {n p : ℕ} → Err (refusal n p) ≡ header_of file → file_at (judged_name es) file room ≡ refused n p
 unfolding file_at bind
 header_refused es file room {n} {p} e = go (header_at file) refl e where
-  go : (x : Answer (ℕ × ℕ)) → header_at file ≡ x → Header-refused n p ≡ to_header x → file_at (judged_name es) file room ≡ refused n p
+  go : (x : Answer (ℕ × ℕ)) → header_at file ≡ x → Err (refusal n p) ≡ to_header x → file_at (judged_name es) file room ≡ refused n p
   go (refused m q) h e =
-      let e₁ : n ≡ m = cc in
-      let e₂ : p ≡ q = cc in
+      let z : refusal n p ≡ refusal m q = cc in
+      let e₁ : n ≡ m = ap (λ (y : Refusal). y.number) z in
+      let e₂ : p ≡ q = ap (λ (y : Refusal). y.place) z in
       rw (h, e₁, e₂)
   go (read h f) q e = differ cc
 
@@ -263,11 +267,11 @@ module _ (enums file entry : List ℕ) (columns : Bool) where
   abbrev pub loads : (exit : List ℕ) → Loading → Type 0
   loads exit r = Loads (grid_of (length entry) columns) (file_total file) (file_under enums file (room_of (length entry))) entry exit r
 
-  pub load_refused : (mid : List ℕ) {exit : List ℕ} {n p : ℕ} → loads mid (Refused n p) → length mid ≡ length entry → exit ≡ cleared mid 0
-      → (Refused n p ≡ answer_of file (load_under enums file (length entry))) × (exit ≡ table_in (shape_of columns) (load_under enums file (length entry)) (length entry))
+  pub load_refused : (mid : List ℕ) {exit : List ℕ} {y : Refusal} → loads mid (Err y) → length mid ≡ length entry → exit ≡ cleared mid 0
+      → (Err y ≡ answer_of file (load_under enums file (length entry))) × (exit ≡ table_in (shape_of columns) (load_under enums file (length entry)) (length entry))
   unfolding load_under to_load table_in cleared
-  load_refused mid {exit} {n} {p} l m e = go columns (file_under enums file (room_of (length entry))) l where
-    go : (b : Bool) (x : Answer FileLoaded) → Loads (grid_of (length entry) b) (file_total file) x entry mid (Refused n p) → (Refused n p ≡ answer_of file (to_load x)) × (exit ≡ table_in (shape_of b) (to_load x) (length entry))
+  load_refused mid {exit} {y} l m e = go columns (file_under enums file (room_of (length entry))) l where
+    go : (b : Bool) (x : Answer FileLoaded) → Loads (grid_of (length entry) b) (file_total file) x entry mid (Err y) → (Err y ≡ answer_of file (to_load x)) × (exit ≡ table_in (shape_of b) (to_load x) (length entry))
     go false (refused a b) l = (l, e ∙ none_kept mid (length entry) m)
     go true (refused a b) l = (l, e ∙ none_kept mid (length entry) m)
-    go b (read a f) l = absurd (let q : Refused n p ≡ Loaded (length a.rows) a.readers a.shared (file_total file a.readers (bare a.rows)) = l.0 in differ cc)
+    go b (read a f) l = absurd (let q : Err {A = Loaded} y ≡ Ok (loaded (length a.rows) a.readers a.shared (file_total file a.readers (bare a.rows))) = l.0 in differ cc)

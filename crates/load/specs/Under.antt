@@ -1,5 +1,6 @@
 -- What loading answers under a lent list of enum types (02, Req 02). Assumes nothing.
 use Rattle.std.specs.Prelude.{◌≡◌, List, ℕ, Ok, Err}
+use Rattle.answers.specs.declared.Refusal.{Refusal}
 use Rattle.answers.specs.Refusals.{refusal as broken}
 use Rattle.std.proofs.Math.Path.{refl, ap}
 use Rattle.std.proofs.Common.{◌∙◌}
@@ -39,8 +40,9 @@ module _ (enums file : List ℕ) (room : ℕ) where
   refused-list {n} {i} e = go (enums_at enums) e where
     go : (j : Judgement) → Err (broken n i) ≡ answer_of j → under_list j (λ es. file_at (judged_name es) file room) ≡ refused n i
     go (list-refused m k) q =
-        let e₁ : n ≡ m = cc in
-        let e₂ : i ≡ k = cc in
+        let z : broken n i ≡ broken m k = cc in
+        let e₁ : n ≡ m = ap (λ (y : Refusal). y.number) z in
+        let e₂ : i ≡ k = ap (λ (y : Refusal). y.place) z in
         rw (e₁, e₂)
     go (lawful es) q = differ cc
 

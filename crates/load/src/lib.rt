@@ -145,7 +145,14 @@ fn listed(
                 count: lists.readers,
             };
             objects(
-                file, codes, rd, words, grid, lists.shared, lists.padding, lists.next,
+                file,
+                codes,
+                rd,
+                words,
+                grid,
+                lists.shared,
+                lists.padding,
+                lists.next,
             )
         }
     }

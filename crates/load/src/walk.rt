@@ -71,7 +71,9 @@ fn close_flat(
                 detail: h.detail,
                 padding: table::sum(h.padding, count),
             };
-            walked::leaf(words, grid, whole, kind, 0, Ok(Read { value: 0, next })).map(Stepped::Done)
+            walked::leaf(words, grid, whole, kind, 0, Ok(Read { value: 0, next })).map(
+                Stepped::Done,
+            )
         }
         Below::Simple(run) => {
             let n = table::word(leaves::run::turns(run));
@@ -136,12 +138,14 @@ fn value(
     let named = target as usize;
     match objects::start::start(file, codes, count, named, grid.room, slot, at, used, depth)? {
         Started::Plain(Plain::Fixed(kind, size)) => {
-            leaves::plain::read_fixed(file, words, grid, kind, size, at, used, depth, parent)
-                .map(Stepped::Done)
+            leaves::plain::read_fixed(file, words, grid, kind, size, at, used, depth, parent).map(
+                Stepped::Done,
+            )
         }
         Started::Plain(plain) => {
-            leaves::plain::read_plain(file, words, grid, shared, plain, at, used, depth, parent)
-                .map(Stepped::Done)
+            leaves::plain::read_plain(
+                file, words, grid, shared, plain, at, used, depth, parent,
+            ).map(Stepped::Done)
         }
         Started::Null { next, padding } => {
             let h = Head {
@@ -197,7 +201,14 @@ fn raw(
     )?;
     let kind = heads::slot::row_kind(codes, place);
     objects::close::close(
-        file, words, grid, h, kind, children.count, at, Ok(children.reached),
+        file,
+        words,
+        grid,
+        h,
+        kind,
+        children.count,
+        at,
+        Ok(children.reached),
     )
 }
 

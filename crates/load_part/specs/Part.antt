@@ -1,5 +1,5 @@
 -- A file that is loaded in a part of the table, under a lent list of enum types: with more room it has the same answer, unless there was no row left. Assumes nothing.
-use Rattle.std.specs.Prelude.{◌≡◌, Bool, true, false, List, ◌∷◌, ◌++◌, ℕ, zero, suc, ◌+◌, ◌*◌, ◌-◌, ◌≤◌, min, length, drop, replicate}
+use Rattle.std.specs.Prelude.{◌≡◌, Bool, true, false, List, ◌∷◌, ◌++◌, ℕ, zero, suc, ◌+◌, ◌*◌, ◌-◌, ◌≤◌, min, length, drop, replicate, Err}
 use Rattle.std.proofs.Math.Path.{refl}
 use Rattle.std.proofs.Common.{sym, ap, ◌∙◌, append_assoc, arith, length-append, length-drop}
 use Rattle.std.proofs.lemmas.List.{length-replicate}
@@ -13,9 +13,8 @@ use Rattle.enums.specs.Judge.{Judgement, lawful, enums_at}
 use Rattle.enums.specs.Judge.{refused as list-refused}
 use Rattle.readers.specs.Judged.{judged_name}
 use Rattle.load.specs.Under.{under_list, file_under, load_under}
-use Rattle.load.specs.Loads.{answer_of}
-use Rattle.load.specs.declared.Loading.{Loading}
-use Rattle.load.specs.declared.Loading.TheVariants as code
+use Rattle.load.specs.Loads.{Loading, answer_of}
+use Rattle.answers.specs.Refusals.{refusal as broken}
 use Rattle.load_part.specs.Grows.{Grows, alike, full, file_grows}
 
 -- 02, Req 14: "Each XNB file is read with room for 65,536 rows", under one list of enum types
@@ -41,8 +40,8 @@ room_first rows words = omega arith
 
 -- whether an answer is any but 19, so that it is the same with more room
 abbrev pub NotFull : Bool → Loading → Type 0
-NotFull true told = (p : ℕ) → told ≡ code.Refused 19 p → ⊥
-NotFull false told = (p : ℕ) × (told ≡ code.Refused 19 p)
+NotFull true told = (p : ℕ) → told ≡ Err (broken 19 p) → ⊥
+NotFull false told = (p : ℕ) × (told ≡ Err (broken 19 p))
 
 -- a file is loaded in so many of the words; where all were zeros, they hold its table
 abbrev pub LoadsIn : (enums file entry exit : List ℕ) (part : ℕ) → Loading → Type 0

@@ -7,6 +7,7 @@ ghost use Rattle.load.specs.Under.{load_under};
 ghost use Rattle.load.specs.Loads.{answer_of};
 ghost use Rattle.load_part.specs.Part.{first_words, LoadsIn, NotFull};
 
+use answers::Rule;
 use load::Loading;
 use table::WIDTH;
 
@@ -25,10 +26,7 @@ fn first_words(rows: usize, words: usize) -> usize
 fn few_rows(bytes: usize) -> usize
     ensures { result ≡ min bytes 128 }
 {
-    if bytes < 128 {
-        return bytes;
-    }
-    128
+    bytes.min(128)
 }
 
 // Whether an answer is any but 19, so that it is the same with more room.
@@ -36,18 +34,8 @@ fn not_full(told: Loading) -> bool
     ensures { NotFull result told }
 {
     match told {
-        Loading::Refused(number, _) => {
-            if number == 19 {
-                return false;
-            }
-            true
-        }
-        Loading::Loaded {
-            rows: _,
-            readers: _,
-            shared: _,
-            padding: _,
-        } => true,
+        Err(refusal) => refusal.number != Rule::NoRowLeft.number(),
+        Ok(_) => true,
     }
 }
 

@@ -1,5 +1,7 @@
 -- What rewriting answers in code, and what its functions promise of a file that was loaded. Assumes nothing.
-use Rattle.std.specs.Prelude.{◌≡◌, ℕ, ◌+◌, ◌-◌, ◌<◌, ◌≤◌, take}
+use Rattle.std.specs.Prelude.{◌≡◌, ℕ, ◌+◌, ◌-◌, ◌<◌, ◌≤◌, take, Result, Ok, Err}
+use Rattle.answers.specs.declared.Refusal.{Refusal}
+use Rattle.answers.specs.Refusals.{refusal as broken}
 use Rattle.std.proofs.Math.Path.{refl, sym, ap}
 use Rattle.std.proofs.Common.{◌∙◌, length-append}
 use Rattle.std.proofs.Math.Bool.{true, false}
@@ -16,15 +18,17 @@ use Rattle.places.specs.Places.{lists_places}
 use Rattle.fill.specs.Fill.{cleared}
 use Rattle.reading.specs.Output.{Rewritten, refusal, written, fitted, output_of}
 use Rattle.shortest.specs.Rewrite.{words_of}
-use Rattle.rewrite.specs.declared.Rewriting.{Rewriting}
-use Rattle.rewrite.specs.declared.Rewriting.TheVariants.{Refused, Rewritten as Length}
 use Rattle.rewrite.specs.Table.{table_places, places_of}
 use Rattle.rewrite.specs.Pending.{Pending, LengthPut}
 
+-- what rewriting a file answers in code: the length of the rewritten file, or a refusal
+abbrev pub Rewriting : Type 0
+Rewriting = Result ℕ Refusal
+
 -- 01: "its length is the answer"
 abbrev pub answer_of : Rewritten → Rewriting
-answer_of (refusal number place) = Refused number place
-answer_of (written bytes) = Length (length bytes)
+answer_of (refusal number place) = Err (broken number place)
+answer_of (written bytes) = Ok (length bytes)
 
 -- a file of this padding whose rows stand in the table: its tree, and that its numbers made shortest give the tree's shortest bytes
 pub record Ready (file table : List ℕ) (readers rows padding : ℕ) : Type 0 where
@@ -77,7 +81,7 @@ module _ (file table : List ℕ) (readers rows padding : ℕ) (w : Ready file ta
 
     -- there is no room: nothing is written, and the words are cleared
     pub too_small : {exit : List ℕ} → length out < length file - padding → exit ≡ cleared table 0
-        → (Refused 21 (length file - padding) ≡ answer_of (fitted (short_file w.tree) (length out)))
+        → (Err (broken 21 (length file - padding)) ≡ answer_of (fitted (short_file w.tree) (length out)))
         × (out ≡ output_of (fitted (short_file w.tree) (length out)) out)
         × (exit ≡ words_of (fitted (short_file w.tree) (length out)) table)
     unfolding fitted output_of words_of cleared
@@ -89,11 +93,11 @@ module _ (file table : List ℕ) (readers rows padding : ℕ) (w : Ready file ta
     -- there is room
     pub fits_in : {end : List ℕ} → length file - padding ≤ length out
         → ((v : Ready file table readers rows padding) → length file - padding ≡ length (short_file v.tree) → length file - padding ≤ length out → end ≡ short_file v.tree ++ drop (length file - padding) out)
-        → (Length (length file - padding) ≡ answer_of (fitted (short_file w.tree) (length out)))
+        → (Ok (length file - padding) ≡ answer_of (fitted (short_file w.tree) (length out)))
         × (end ≡ output_of (fitted (short_file w.tree) (length out)) out)
         × (table ≡ words_of (fitted (short_file w.tree) (length out)) table)
     unfolding fitted output_of words_of
     fits_in h e =
         let t : leb (length (short_file w.tree)) (length out) ≡ true = le-leb (length (short_file w.tree)) (length out) (omega (arith, long)) in
         let x = e w long h in
-        rw t (ap Length long, rw long at x, refl)
+        rw t (ap Ok long, rw long at x, refl)

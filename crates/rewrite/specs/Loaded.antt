@@ -1,5 +1,7 @@
 -- A file that was loaded is ready to be rewritten, by what load answered and left. Assumes nothing.
-use Rattle.std.specs.Prelude.{◌≡◌, List, ◌++◌, ℕ, ◌+◌, ◌*◌, ◌-◌, length}
+use Rattle.std.specs.Prelude.{◌≡◌, List, ◌++◌, ℕ, ◌+◌, ◌*◌, ◌-◌, length, Ok, Err}
+use Rattle.answers.specs.declared.Refusal.{Refusal}
+use Rattle.answers.specs.Refusals.{refusal as broken}
 use Rattle.std.proofs.Math.Path.{refl, sym}
 use Rattle.std.proofs.Common.{ap, ◌∙◌}
 use Rattle.std.proofs.Math.ListN.{replicate}
@@ -14,7 +16,7 @@ use Rattle.reading.specs.Reads.{Small}
 use Rattle.reading.specs.File.{Load, refusal, accepted, Loaded as FileLoaded, to_load, table_of, table_in}
 use Rattle.layout.specs.Fits.{rows_in}
 use Rattle.reading.proofs.Theorems.{accepted_is}
-use Rattle.load.specs.declared.Loading.TheVariants.{Refused, Loaded}
+use Rattle.load.specs.declared.Loaded.{Loaded}
 use Rattle.enums.specs.Judge.{lawful, enums_at}
 use Rattle.enums.specs.Judge.{refused as list-refused}
 use Rattle.reading.specs.Output as output
@@ -27,10 +29,8 @@ use Rattle.shortest.specs.Lists.{file_rewrites}
 use Rattle.reading.specs.Output.{fitted, output_of}
 use Rattle.shortest.specs.Rewrite.{by_load, rewrite_of, words_of}
 use Rattle.shortest.specs.Theorems.{rewrite_is, padding_is}
-use Rattle.rewrite.specs.declared.Rewriting.{Rewriting}
-use Rattle.rewrite.specs.declared.Rewriting.TheVariants as rewriting
 use Rattle.rewrite.specs.Table.{places_of, table_places_lem}
-use Rattle.rewrite.specs.Contract.{answer_of, Ready, Fits}
+use Rattle.rewrite.specs.Contract.{Rewriting, answer_of, Ready, Fits}
 use Rattle.rewrite.specs.Whole.{rewrite_under}
 use Rattle.readers.specs.Judged.{judged_name, judges}
 
@@ -46,19 +46,18 @@ rewrite_refused_list enums file words out e = rw e
 
 module _ (enums file : List ℕ) (words : ℕ) where
   -- a refusal is handed on, and the words are all zero
-  pub load_refused : {n p : ℕ} (out : List ℕ) → Refused n p ≡ load.answer_of file (load_under enums file words)
-      → (rewriting.Refused n p ≡ answer_of (rewrite_under enums file words (length out)))
+  pub load_refused : {y : Refusal} (out : List ℕ) → Err y ≡ load.answer_of file (load_under enums file words)
+      → (Err y ≡ answer_of (rewrite_under enums file words (length out)))
       × (out ≡ output_of (rewrite_under enums file words (length out)) out)
       × (table_of (load_under enums file words) words ≡ words_of (rewrite_under enums file words (length out)) (table_of (load_under enums file words) words))
   unfolding load_under rewrite_under to_load by_load table_in output_of words_of
-  load_refused {n} {p} out e = go (file_under enums file (room_of words)) e where
-    go : (x : Answer FileLoaded) → Refused n p ≡ load.answer_of file (to_load x)
-        → (rewriting.Refused n p ≡ answer_of (by_load x (length out))) × (out ≡ output_of (by_load x (length out)) out)
+  load_refused {y} out e = go (file_under enums file (room_of words)) e where
+    go : (x : Answer FileLoaded) → Err y ≡ load.answer_of file (to_load x)
+        → (Err y ≡ answer_of (by_load x (length out))) × (out ≡ output_of (by_load x (length out)) out)
         × (table_of (to_load x) words ≡ words_of (by_load x (length out)) (table_of (to_load x) words))
     go (refused m q) e =
-        let e₁ : n ≡ m = cc in
-        let e₂ : p ≡ q = cc in
-        (rw (e₁, e₂), refl, sym (ap (λ (k : ℕ). replicate k 0) (length-replicate words 0)))
+        let z : y ≡ broken m q = cc in
+        (ap Err z, refl, sym (ap (λ (k : ℕ). replicate k 0) (length-replicate words 0)))
     go (read a f) e = differ cc
 
   accepted_table : (rs : List Row) (rd sh : ℕ) → table_of (accepted rs rd sh) words ≡ flat rs ++ replicate (words - width * length rs) 0
@@ -70,14 +69,15 @@ module _ (enums file : List ℕ) (words : ℕ) where
     pub ready : Ready file (table_of (load_under enums file words) words) readers rows padding
     pub rewrites_to : (out : ℕ) → rewrite_under enums file words out ≡ fitted (short_file ready.tree) out
 
-  pub loaded : {rows readers shared padding : ℕ} → Small file → Loaded rows readers shared padding ≡ load.answer_of file (load_under enums file words) → Good readers rows padding
+  pub loaded : {rows readers shared padding : ℕ} → Small file → Ok (load.loaded rows readers shared padding) ≡ load.answer_of file (load_under enums file words) → Good readers rows padding
   loaded {rows} {readers} {shared} {padding} small e = go (load_under enums file words) refl e where
-    go : (x : Load) → load_under enums file words ≡ x → Loaded rows readers shared padding ≡ load.answer_of file x → Good readers rows padding
+    go : (x : Load) → load_under enums file words ≡ x → Ok (load.loaded rows readers shared padding) ≡ load.answer_of file x → Good readers rows padding
     go (refusal n p) q e = differ cc
     go (accepted rs rd sh) q e =
-        let e₁ : rows ≡ length rs = cc in
-        let e₂ : readers ≡ rd = cc in
-        let e₃ : padding ≡ file_padding file rd rs = cc in
+        let z : load.loaded rows readers shared padding ≡ load.loaded (length rs) rd sh (file_padding file rd rs) = cc in
+        let e₁ : rows ≡ length rs = ap (λ (y : Loaded). y.rows) z in
+        let e₂ : readers ≡ rd = ap (λ (y : Loaded). y.readers) z in
+        let e₃ : padding ≡ file_padding file rd rs = ap (λ (y : Loaded). y.padding) z in
         let d = accepted-list enums file words rs rd sh q in
         let es = d.0 in
         let a = accepted_is es (judged_name es) (judges es) file words small rs rd sh (sym (load_lawful enums file words es d.1) ∙ q) in

@@ -1,5 +1,5 @@
 -- How far the output is written while a file is rewritten number by number. Assumes nothing.
-use Rattle.std.specs.Prelude.{◌≡◌, refl, Bool, false, ◌&&◌, List, [], ◌∷◌, ◌++◌, ℕ, ◌+◌, ◌-◌, ◌/◌, ◌%◌, ◌<◌, ◌≤◌, length, take, set}
+use Rattle.std.specs.Prelude.{◌≡◌, refl, Bool, false, ◌&&◌, List, [], ◌∷◌, ◌++◌, ℕ, ◌+◌, ◌-◌, ◌/◌, ◌%◌, ◌<◌, ◌≤◌, length, take, set, Option, Some, None}
 use Rattle.std.proofs.Common.{sym, ap, ◌∙◌, append_assoc, arith, length-append, drop-drop, take_all, length-take-le}
 use Rattle.std.proofs.Math.Bool.{true}
 use Rattle.std.proofs.Math.Dec.{leb}
@@ -14,8 +14,6 @@ use Rattle.layout.specs.Shortest.{shortest}
 use Rattle.reading.specs.Answer.{read}
 use Rattle.reading.specs.Seven.{seven_at}
 use Rattle.numbers.specs.Shortest.{placed_at, written_at}
-use Rattle.numbers.specs.declared.shortest.Placed.{Placed}
-use Rattle.numbers.specs.declared.shortest.Placed.TheVariants.{Next, NoRoom}
 use Rattle.fill.specs.Fill.{inside, pasted, copied}
 use Rattle.shortest.specs.File.{length-header}
 use Rattle.numbers.specs.Padded.{number_of, past, pad_of}
@@ -58,7 +56,7 @@ module _ (base done : List ℕ) (to : ℕ) (long : length done ≡ to) where
 
   -- a number's shortest form put there
   pub number-puts : (v : ℕ) → to + length (shortest v) ≤ length base
-      → (placed_at (done ++ drop to base) to v ≡ Next (to + length (shortest v))) × (written_at (done ++ drop to base) to v ≡ (done ++ shortest v) ++ drop (to + length (shortest v)) base)
+      → (placed_at (done ++ drop to base) to v ≡ Some (to + length (shortest v))) × (written_at (done ++ drop to base) to v ≡ (done ++ shortest v) ++ drop (to + length (shortest v)) base)
   number-puts v h =
       let l = same_length (omega arith) in
       let a : leb (to + length (shortest v)) (length (done ++ drop to base)) ≡ true = le-leb (to + length (shortest v)) (length (done ++ drop to base)) (omega arith) in
@@ -69,7 +67,7 @@ module _ (file base out : List ℕ) (from to : ℕ) (whole : List ℕ) where
   pub record Wrote (at value next : ℕ) (places : List ℕ) : Type 0 where
     pub ahead : from ≤ at
     pub copies : inside out to file from (at - from) ≡ true
-    pub puts : placed_at (copied out to file from (at - from)) (to + (at - from)) value ≡ Next (to + (at - from) + length (shortest value))
+    pub puts : placed_at (copied out to file from (at - from)) (to + (at - from)) value ≡ Some (to + (at - from) + length (shortest value))
     pub after : Pending file base (written_at (copied out to file from (at - from)) (to + (at - from)) value) next (to + (at - from) + length (shortest value)) places whole
 
   number_read : (at : ℕ) {n e : ℕ} → seven_at file at ≡ read n e → (number_of (seven_at file at) ≡ n) × (past (seven_at file at) at ≡ e)
@@ -118,17 +116,17 @@ module _ (file base out : List ℕ) (from to : ℕ) (whole : List ℕ) where
     pub not_copied : false ≡ inside out to file from (at - from) → ⊥
     not_copied e = let q : false ≡ true = e ∙ (wrote at value next places ev en p).copies in differ cc
 
-    pub has_room : {mid : List ℕ} {r : Placed} → mid ≡ copied out to file from (at - from) → r ≡ placed_at mid (to + (at - from)) value → r ≡ NoRoom → ⊥
+    pub has_room : {mid : List ℕ} {r : Option ℕ} → mid ≡ copied out to file from (at - from) → r ≡ placed_at mid (to + (at - from)) value → r ≡ None → ⊥
     has_room {mid} {r} c e n =
         let w = wrote at value next places ev en p in
-        let q : NoRoom ≡ Next (to + (at - from) + length (shortest value)) = sym n ∙ rw c at e ∙ w.puts in
+        let q : None ≡ Some (to + (at - from) + length (shortest value)) = sym n ∙ rw c at e ∙ w.puts in
         differ cc
 
-    pub number-written : {mid exit : List ℕ} {r : Placed} {end : ℕ} → mid ≡ copied out to file from (at - from) → r ≡ placed_at mid (to + (at - from)) value → exit ≡ written_at mid (to + (at - from)) value
-        → r ≡ Next end → Pending file base exit next end places whole
+    pub number-written : {mid exit : List ℕ} {r : Option ℕ} {end : ℕ} → mid ≡ copied out to file from (at - from) → r ≡ placed_at mid (to + (at - from)) value → exit ≡ written_at mid (to + (at - from)) value
+        → r ≡ Some end → Pending file base exit next end places whole
     number-written {mid} {exit} {r} {end} c e x n =
         let w = wrote at value next places ev en p in
-        let q : Next end ≡ Next (to + (at - from) + length (shortest value)) = sym n ∙ rw c at e ∙ w.puts in
+        let q : Some end ≡ Some (to + (at - from) + length (shortest value)) = sym n ∙ rw c at e ∙ w.puts in
         let z : end ≡ to + (at - from) + length (shortest value) = cc in
         let y : exit ≡ written_at (copied out to file from (at - from)) (to + (at - from)) value = rw c at x in
         rw (y, z) w.after

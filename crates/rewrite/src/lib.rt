@@ -11,17 +11,8 @@ ghost use Rattle.rewrite.specs.Contract.{answer_of, Ready, Fits};
 ghost use Rattle.rewrite.specs.Writes.{Writes, WritesNumber, PassesNumber, WritesLast, WritesEntries, WritesLists, WritesRest, WritesFile};
 ghost use Rattle.rewrite.specs.Whole.{rewritten, output_left, words_left};
 
+use answers::{Refusal, Rule};
 use ids::RowNumber;
-use load::Loading;
-use numbers::seven::Padded;
-use numbers::shortest::Placed;
-
-// A refusal's number and place, or the length of the rewritten file.
-#[derive(Clone, Copy)]
-pub enum Rewriting {
-    Refused(u32, usize),
-    Rewritten { length: usize },
-}
 
 // How far the file is taken, and how far the output is written.
 #[derive(Clone, Copy)]
@@ -53,19 +44,16 @@ fn measure(file: &[u8], at: usize) -> Measured
     ensures { result ≡ measure_of (seven_at file.now at) at }
 {
     match numbers::seven::seven_padded(file, at) {
-        Padded::Refused(_, _) => Measured {
+        Err(_) => Measured {
             value: 0,
             padding: 0,
             next: at,
         },
-        Padded::Read(n, next, padding) => {
-            let value = n as u32;
-            Measured {
-                value,
-                padding,
-                next,
-            }
-        }
+        Ok(number) => Measured {
+            value: number.value as u32,
+            padding: number.padding,
+            next: number.next,
+        },
     }
 }
 
@@ -88,14 +76,11 @@ fn write_number(
     let n = at - from;
     if fill::copy(out, to, file, from, n) {
         let mid = to + n;
-        match numbers::shortest::write_shortest(out, mid, value) {
-            Placed::Next(end) => {
-                return Cursor {
-                    from: next,
-                    to: end,
-                };
-            }
-            Placed::NoRoom => {}
+        if let Some(end) = numbers::shortest::write_shortest(out, mid, value) {
+            return Cursor {
+                from: next,
+                to: end,
+            };
         }
     }
     Cursor { from, to }
@@ -253,32 +238,37 @@ fn fit(
     rows: u32,
     readers: u32,
     padding: usize,
-) -> Rewriting
+) -> Result<usize, Refusal>
     requires { Ready file.now words.old readers rows padding }
     ensures { Fits file.now words.old words.new out.old out.new readers rows padding result }
 {
     let needed = file.len() - padding;
     if out.len() < needed {
         fill::clear(words, 0);
-        return Rewriting::Refused(21, needed);
+        return Err(Rule::OutputTooSmall.at(needed));
     }
     write(file, words, out, rows, readers, padding);
-    Rewriting::Rewritten { length: needed }
+    Ok(needed)
 }
 
 // Loads a file into the words, under a list of enum types, and writes it with its numbers in their shortest forms into the output.
-pub fn rewrite(file: &[u8], enums: &[u8], words: &mut [u32], out: &mut [u8]) -> Rewriting
+pub fn rewrite(
+    file: &[u8],
+    enums: &[u8],
+    words: &mut [u32],
+    out: &mut [u8],
+) -> Result<usize, Refusal>
     ensures value { result ≡ answer_of (rewritten enums.now file.now words.old out.old) }
     ensures out_after { out.new ≡ output_left enums.now file.now words.old out.old }
     ensures words_after { words.new ≡ words_left enums.now file.now words.old out.old }
 {
-    match load::load(file, enums, words) {
-        Loading::Refused(number, place) => Rewriting::Refused(number, place),
-        Loading::Loaded {
-            rows,
-            readers,
-            shared: _,
-            padding,
-        } => fit(file, words, out, rows, readers, padding as usize),
-    }
+    let loaded = load::load(file, enums, words)?;
+    fit(
+        file,
+        words,
+        out,
+        loaded.rows,
+        loaded.readers,
+        loaded.padding as usize,
+    )
 }
