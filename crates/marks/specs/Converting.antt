@@ -1,15 +1,15 @@
 -- What a conversion answers in code, by the definitions of Req 10. Assumes nothing.
-use Rattle.std.specs.Prelude.{◌≡◌, Bool, true, false, not, List, ℕ, ◌+◌, ◌*◌, ◌-◌, ◌≤◌, ◌<◌, ◌^◌, length}
+use Rattle.std.specs.Prelude.{◌≡◌, Bool, true, false, not, List, ℕ, ◌+◌, ◌*◌, ◌-◌, ◌≤◌, ◌<◌, ◌^◌, length, Result, Ok, Err}
 use Rattle.fill.specs.Fill.{copied}
 use Rattle.reading.specs.Output.{Rewritten, refusal, written}
 use Rattle.pack_layout.specs.Pack as layout
 use Rattle.pack_layout.specs.Pack.{Stored, PackLays, pack_bytes, mark_of}
 use Rattle.pack_reading.specs.Pack.{pack_at, to_pack}
-use Rattle.packs.specs.declared.Reading.{Reading}
+use Rattle.answers.specs.declared.Refusal.{Refusal}
+use Rattle.answers.specs.Refusals as answers
 use Rattle.packs.specs.Files as packs
+use Rattle.packs.specs.Files.{Reading}
 use Rattle.pack_writing.specs.Convert.{convert_of}
-use Rattle.marks.specs.declared.Converting.{Converting}
-use Rattle.marks.specs.declared.Converting.TheVariants.{Refused, Converted}
 
 -- so many files behind the file count, where there is room for every pack
 abbrev pub walk_of : (marked : Bool) (pack : List ℕ) (n : ℕ) → Reading
@@ -51,7 +51,7 @@ pub record Fits (marked : Bool) (pack : List ℕ) (n out : ℕ) : Type 0 where
 abbrev pub converted : (marked : Bool) (pack : List ℕ) (out : ℕ) → Rewritten
 converted marked pack out = convert_of (mark_of (not marked)) (mark_of marked) pack out
 
--- a refusal's number and place, or the length of the new pack
-abbrev pub answer_of : Rewritten → Converting
-answer_of (refusal number place) = Refused number place
-answer_of (written bytes) = Converted (length bytes)
+-- a refusal, or the length of the new pack
+abbrev pub answer_of : Rewritten → Result ℕ Refusal
+answer_of (refusal number place) = Err (answers.refusal number place)
+answer_of (written bytes) = Ok (length bytes)

@@ -6,52 +6,35 @@ ghost use Rattle.pack_layout.specs.Pack.{mark_of};
 ghost use Rattle.reading.specs.Output.{output_of};
 ghost use Rattle.marks.specs.Converting.{walk_of, count_of, size_of, Measured, Placed, placed, Fits, converted, answer_of};
 
-use answers::Number;
-use pack_records::Record;
-use packs::Reading;
+use answers::{Refusal, Rule};
+use numbers::little::little;
+use pack_records::record_at;
 
 // Walks over so many records behind the file count, to the end of the pack.
-fn walk(pack: &[u8], marked: bool, n: usize) -> Reading
+fn walk(pack: &[u8], marked: bool, n: usize) -> Result<usize, Refusal>
     requires { n ≤ 4096 }
     ensures { result ≡ walk_of marked pack.now n }
 {
-    let mut i = 0;
     let mut at = 4;
-    while i < n {
-        match pack_records::record_at(pack, at, marked) {
-            Record::Refused(number, place) => {
-                return Reading::Refused(number, place);
-            }
-            Record::Read {
-                start: _,
-                size: _,
-                first,
-                count,
-            } => {
-                at = first + count;
-            }
-        }
-        i += 1;
+    for _i in 0..n {
+        let file = record_at(pack, at, marked)?;
+        at = file.first + file.count;
     }
     if at != pack.len() {
-        return Reading::Refused(20, at);
+        return Err(Rule::LeftOver.at(at));
     }
-    Reading::Read { files: n }
+    Ok(n)
 }
 
 // Counts the files of a pack, or refuses it as its reader does where the table has room.
-fn count(pack: &[u8], marked: bool) -> Reading
+fn count(pack: &[u8], marked: bool) -> Result<usize, Refusal>
     ensures { result ≡ count_of marked pack.now }
 {
-    match numbers::little::little4(pack, 0) {
-        Number::Refused(number, place) => Reading::Refused(number, place),
-        Number::Read(n, _) => {
-            if 4096 < n {
-                return Reading::Refused(9, 0);
-            }
-            walk(pack, marked, n as usize)
-        }
+    let files = little::<u32>(pack, 0)?;
+    if 4096 < files.value {
+        return Err(Rule::TooLarge.at(0));
     }
+    walk(pack, marked, files.value as usize)
 }
 
 // How many bytes a mark has.
@@ -97,50 +80,30 @@ fn put_files(pack: &[u8], out: &mut [u8], marked: bool, n: usize)
     ensures { out.new ≡ output_of (converted marked pack.now (length out.old)) out.old }
 {
     fill::copy(out, 0, pack, 0, 4);
-    let mut i = 0;
     let mut at = 4;
     let mut to = 4;
-    while i < n {
-        match pack_records::record_at(pack, at, !marked) {
-            Record::Refused(_, _) => {
-                return;
-            }
-            Record::Read {
-                start: _,
-                size: _,
-                first,
-                count,
-            } => {
-                let end = first + count;
+    for _i in 0..n {
+        match record_at(pack, at, !marked) {
+            Err(_) => return,
+            Ok(file) => {
+                let end = file.first + file.count;
                 to = put_record(pack, out, marked, at, end, to);
                 at = end;
             }
         }
-        i += 1;
     }
 }
 
-// A refusal's number and place, or the length of the new pack.
-#[derive(Clone, Copy)]
-pub enum Converting {
-    Refused(u32, usize),
-    Converted { length: usize },
-}
-
-// Converts a pack to the form `marked`: the records in their order, each as it was found but for its mark.
-pub fn convert(pack: &[u8], out: &mut [u8], marked: bool) -> Converting
+// Converts a pack to the form `marked`, and answers the length of the new pack: the records in their order, each as it was found but for its mark.
+pub fn convert(pack: &[u8], out: &mut [u8], marked: bool) -> Result<usize, Refusal>
     ensures value { result ≡ answer_of (converted marked pack.now (length out.old)) }
     ensures out_after { out.new ≡ output_of (converted marked pack.now (length out.old)) out.old }
 {
-    match count(pack, !marked) {
-        Reading::Refused(number, place) => Converting::Refused(number, place),
-        Reading::Read { files } => {
-            let size = measure(pack.len(), files, marked);
-            if out.len() < size {
-                return Converting::Refused(21, size);
-            }
-            put_files(pack, out, marked, files);
-            Converting::Converted { length: size }
-        }
+    let files = count(pack, !marked)?;
+    let size = measure(pack.len(), files, marked);
+    if out.len() < size {
+        return Err(Rule::OutputTooSmall.at(size));
     }
+    put_files(pack, out, marked, files);
+    Ok(size)
 }

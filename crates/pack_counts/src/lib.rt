@@ -11,7 +11,6 @@ ghost use Rattle.pack_figures.specs.Counted.{by_rows};
 ghost use Rattle.pack_counts.specs.Raise.{up_to, raised, only, counted};
 ghost use Rattle.pack_counts.specs.Count.{row_at, rows_at};
 
-use answers::Number;
 use ids::RowNumber;
 use numbers::seven::seven_at;
 use table::{Grid, word_of};
@@ -42,8 +41,8 @@ fn number_at(file: &[u8], at: usize) -> u64
     ensures { result ≡ number_of (seven_at file.now at) }
 {
     match seven_at(file, at) {
-        Number::Refused(_, _) => 0,
-        Number::Read(n, _) => n,
+        Err(_) => 0,
+        Ok(number) => number.value,
     }
 }
 
@@ -52,8 +51,8 @@ fn behind(file: &[u8], at: usize) -> usize
     ensures { result ≡ past (seven_at file.now at) at }
 {
     match seven_at(file, at) {
-        Number::Refused(_, _) => at,
-        Number::Read(_, next) => next,
+        Err(_) => at,
+        Ok(number) => number.next,
     }
 }
 
@@ -101,10 +100,8 @@ fn count_rows(file: &[u8], words: &[u32], grid: Grid, used: u32, figures: &mut [
     ensures { figures.new
         ≡ counted (of_marks (marks file.now (rows_at grid words.now 0 used))) figures.old }
 {
-    let mut row = 0;
-    while row < used {
+    for row in 0..used {
         count_row(file, words, grid, row, figures);
-        row += 1;
     }
 }
 

@@ -9,7 +9,6 @@ ghost use Rattle.pack_figures.specs.Figures.{of_load, of_content};
 ghost use Rattle.pack_counts.specs.Raise.{counted};
 ghost use Rattle.pack_files.specs.Xnb.{Clear};
 
-use load::Loading;
 use table::WIDTH;
 
 // Whether a file starts with `XNB`.
@@ -35,15 +34,11 @@ fn count_xnb(content: &[u8], enums: &[u8], words: &mut [u32], figures: &mut [u64
     ensures words_unchanged { Clear words.old → words.new ≡ words.old }
 {
     match load_part::load_part(content, enums, words) {
-        Loading::Refused(number, _) => {
-            pack_counts::count_refused(number, figures);
+        Err(refusal) => {
+            pack_counts::count_refused(refusal.number, figures);
         }
-        Loading::Loaded {
-            rows,
-            readers: _,
-            shared: _,
-            padding: _,
-        } => {
+        Ok(loaded) => {
+            let rows = loaded.rows;
             pack_counts::count_loaded(content, words, table::rows_grid(words.len()), rows, figures);
             fill::clear_range(words, 0, WIDTH as usize * rows as usize);
         }

@@ -1,21 +1,24 @@
 -- What a lookup by path answers in code. Assumes nothing.
-use Rattle.std.specs.Prelude.{◌≡◌, refl, List, [], ◌∷◌, ℕ, ◌+◌, ◌-◌, ◌≤◌, length, take, drop, get_or}
+use Rattle.std.specs.Prelude.{◌≡◌, refl, List, [], ◌∷◌, ℕ, ◌+◌, ◌-◌, ◌≤◌, length, take, drop, get_or, Option, Some, None}
 use Rattle.std.proofs.Common.{inl, inr, arith}
 use Rattle.laws.specs.Small.{differ}
 use Rattle.pack_layout.specs.Table.{Entry, entry, wholes}
 use Rattle.pack_layout.specs.Lookup.{FirstMatch}
 use Rattle.pack_reading.specs.Lookup.{Found, absent, found, find_in, find_of, Says, find_says}
-use Rattle.pack_lookup.specs.declared.Found as code
-use Rattle.pack_lookup.specs.declared.Found.TheVariants.{Absent, At}
+use Rattle.pack_lookup.specs.declared.Part.{Part}
 
 -- the entry at word i of a table
 abbrev pub entry_at : (table : List ℕ) (i : ℕ) → Entry
 entry_at table i = entry (get_or table i 0) (get_or table (i + 1) 0) (get_or table (i + 2) 0) (get_or table (i + 3) 0)
 
+-- a part that starts at a place and has so many bytes
+abbrev pub part : (first count : ℕ) → Part
+part first count = record { first = first; count = count }
+
 -- nothing, or where the data starts and how many bytes it has
-abbrev pub found_as : Found → code.Found
-found_as absent = Absent
-found_as (found first count) = At first count
+abbrev pub found_as : Found → Option Part
+found_as absent = None
+found_as (found first count) = Some (part first count)
 
 -- the data that a lookup names, none where nothing matches
 abbrev pub data_of : (file : List ℕ) → Found → List ℕ
@@ -30,7 +33,7 @@ first_inside file path [] first count m = absurd m
 first_inside file path (e ∷ es) first count (inl m) = rw (m.1, m.2) m.0.data_inside
 first_inside file path (e ∷ es) first count (inr m) = first_inside file path es first count m.1
 
-says_inside : (file path : List ℕ) (es : List Entry) (x : Found) {first count : ℕ} → Says file path es x → At first count ≡ found_as x → first + count ≤ length file
+says_inside : (file path : List ℕ) (es : List Entry) (x : Found) {first count : ℕ} → Says file path es x → Some (part first count) ≡ found_as x → first + count ≤ length file
 unfolding Says
 says_inside file path es absent s e = differ cc
 says_inside file path es (found a b) {first} {count} s e =
@@ -38,11 +41,11 @@ says_inside file path es (found a b) {first} {count} s e =
     let r : count ≡ b = cc in
     rw (p, r) (first_inside file path es a b s)
 
-pub data_inside : (file table path : List ℕ) {first count : ℕ} → At first count ≡ found_as (find_of file table path) → first + count ≤ length file
+pub data_inside : (file table path : List ℕ) {first count : ℕ} → Some (part first count) ≡ found_as (find_of file table path) → first + count ≤ length file
 unfolding find_of
 data_inside file table path q = says_inside file path (wholes table) (find_in file path (wholes table)) (find_says file path (wholes table)) q
 
-pub data_found : (file : List ℕ) (x : Found) {first count : ℕ} → At first count ≡ found_as x → take (first + count - first) (drop first file) ≡ data_of file x
+pub data_found : (file : List ℕ) (x : Found) {first count : ℕ} → Some (part first count) ≡ found_as x → take (first + count - first) (drop first file) ≡ data_of file x
 data_found file absent q = differ cc
 data_found file (found a b) {first} {count} q =
     let p : first ≡ a = cc in
@@ -50,6 +53,6 @@ data_found file (found a b) {first} {count} q =
     let e : first + count - first ≡ count = omega arith in
     rw (e, p, r)
 
-pub data_absent : (file : List ℕ) (x : Found) → Absent ≡ found_as x → [] ≡ data_of file x
+pub data_absent : (file : List ℕ) (x : Found) → None ≡ found_as x → [] ≡ data_of file x
 data_absent file absent q = refl
 data_absent file (found a b) q = differ cc

@@ -110,15 +110,15 @@ fn entry_matches(pack: &[u8], table: &[u64], path: &[u8], i: usize) -> bool
     true
 }
 
-// Nothing, or where a file's data starts and how many bytes it has.
-#[derive(Clone, Copy)]
-pub enum Found {
-    Absent,
-    At { first: usize, count: usize },
+// A part of a pack: where it starts, and how many bytes it has.
+#[derive(Clone, Copy, Debug, PartialEq, Eq)]
+pub struct Part {
+    pub first: usize,
+    pub count: usize,
 }
 
 // Finds the data of the first file of a path, by a table of any words.
-pub fn find(pack: &[u8], table: &[u64], path: &[u8]) -> Found
+pub fn find(pack: &[u8], table: &[u64], path: &[u8]) -> Option<Part>
     ensures { result ≡ found_as (find_of pack.now table.now path.now) }
 {
     let mut i = 0;
@@ -126,11 +126,11 @@ pub fn find(pack: &[u8], table: &[u64], path: &[u8]) -> Found
         if entry_matches(pack, table, path, i) {
             let first = table[i + 2] as usize;
             let count = table[i + 3] as usize;
-            return Found::At { first, count };
+            return Some(Part { first, count });
         }
         i += 4;
     }
-    Found::Absent
+    None
 }
 
 // The data itself, none where no path matches.
@@ -138,10 +138,10 @@ pub fn find_bytes<'a>(pack: &'a [u8], table: &[u64], path: &[u8]) -> &'a [u8]
     ensures { result.now ≡ data_of pack.now (find_of pack.now table.now path.now) }
 {
     match find(pack, table, path) {
-        Found::Absent => &pack[0..0],
-        Found::At { first, count } => {
-            let end = first + count;
-            &pack[first..end]
+        None => &pack[0..0],
+        Some(part) => {
+            let end = part.first + part.count;
+            &pack[part.first..end]
         }
     }
 }

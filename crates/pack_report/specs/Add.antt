@@ -1,5 +1,5 @@
 -- What adding a pack to a report answers in code, and what it leaves (02, Req 14). Assumes nothing.
-use Rattle.std.specs.Prelude.{◌≡◌, true, false, ℕ, ◌+◌, ◌*◌, ◌-◌, ◌≤◌, ◌<◌, ◌^◌, take, drop}
+use Rattle.std.specs.Prelude.{◌≡◌, true, false, ℕ, ◌+◌, ◌*◌, ◌-◌, ◌≤◌, ◌<◌, ◌^◌, take, drop, Result, Ok, Err, tt, ⊤}
 use Rattle.std.proofs.Math.Path.{refl}
 use Rattle.std.proofs.Common.{ap, ◌∙◌, take-append-drop, le-leb}
 use mathlib.Core.List.{List, [], ◌∷◌, ◌++◌}
@@ -18,22 +18,24 @@ use Rattle.pack_layout.specs.Parts.{Names}
 use Rattle.pack_reading.specs.Pack.{Pack, refusal, accepted, pack_at, to_pack, pack_of, table_of, table_for}
 use Rattle.pack_reading.specs.Parts.{names}
 use Rattle.pack_reading.proofs.Theorems.{pack_sound}
-use Rattle.packs.specs.declared.Reading.TheVariants as reading
 use Rattle.packs.specs.Files.{answer_of}
 use Rattle.load_part.specs.Part.{opened}
 use Rattle.pack_figures.specs.Figures.{Figure, of_files, of_pack}
 use Rattle.pack_figures.specs.Report as Report
 use Rattle.pack_figures.specs.Report.{report, fits, sum_of, left, unchanged, added, by_pack, add_of, table_left}
 use Rattle.pack_counts.specs.Raise.{counted, counted-alike, counted-report}
-use Rattle.pack_report.specs.declared.Adding.{Adding}
-use Rattle.pack_report.specs.declared.Adding.TheVariants.{Refused, Added}
+use Rattle.answers.specs.declared.Refusal.{Refusal}
+use Rattle.answers.specs.Refusals as answers
 use Rattle.pack_report.specs.Files.{of_entries, entries_are}
 use Rattle.pack_files.specs.Xnb.{Clear, content-below}
 
--- a refusal's number and place, or that the pack is added
+-- a refusal, or that the pack is added
+abbrev pub Adding : Type 0
+Adding = Result ⊤ Refusal
+
 abbrev pub added_as : Report.Added → Adding
-added_as (unchanged number place) = Refused number place
-added_as (added s) = Added
+added_as (unchanged number place) = Err (answers.refusal number place)
+added_as (added s) = Ok tt
 
 -- what adding a pack answers under a lent list of enum types, where so many words of rows and of a pack table are lent
 abbrev pub add_under : (enums : List ℕ) (row_words pack_words : ℕ) (report pack : List ℕ) → Report.Added
@@ -45,7 +47,7 @@ add_read enums pack pack_words report = by_pack (opened enums) (pack_of plain pa
 
 -- the table is what the reader of packs left, which read so many files
 abbrev pub Listed : (pack table : List ℕ) (files : ℕ) → Type 0
-Listed pack table files = (reading.Read files ≡ answer_of (pack_of plain pack (length table))) × (table ≡ table_for plain pack (length table))
+Listed pack table files = (Ok files ≡ answer_of (pack_of plain pack (length table))) × (table ≡ table_for plain pack (length table))
 
 -- ---- A pack that was read
 
@@ -56,10 +58,10 @@ pub record Has (pack : List ℕ) (words files : ℕ) : Type 0 where
   pub lays : PackLays plain stored pack
 
 module _ (pack : List ℕ) (small : Small pack) where
-  pub has : (words : ℕ) {files : ℕ} → reading.Read files ≡ answer_of (pack_of plain pack words) → Has pack words files
+  pub has : (words : ℕ) {files : ℕ} → Ok files ≡ answer_of (pack_of plain pack words) → Has pack words files
   unfolding pack_of to_pack
   has words {files} e = go (pack_at plain pack (pack_room words)) refl e where
-    go : (x : Answer (List Stored)) → pack_at plain pack (pack_room words) ≡ x → reading.Read files ≡ answer_of (to_pack x) → Has pack words files
+    go : (x : Answer (List Stored)) → pack_at plain pack (pack_room words) ≡ x → Ok files ≡ answer_of (to_pack x) → Has pack words files
     go (refused n p) q e = differ cc
     go (read fs end) q e = record {
       stored = fs;
@@ -102,11 +104,11 @@ module _ (enums pack : List ℕ) (words : ℕ) {files : ℕ} (h : Has pack words
   unfolding by_pack
   by_sum = rw (h.is, e)
 
-  pub is_added : fits into figures ≡ true → (Added ≡ added_as answer) × (left (sum_of into figures) into ≡ left answer into) × (table_for plain pack words ≡ table_left answer words pack)
+  pub is_added : fits into figures ≡ true → (Ok tt ≡ added_as answer) × (left (sum_of into figures) into ≡ left answer into) × (table_for plain pack words ≡ table_left answer words pack)
   unfolding sum_of table_left
   is_added t = rw (by_sum, t) (refl, refl, refl)
 
-  pub is_not_added : fits into figures ≡ false → (Refused 71 0 ≡ added_as answer) × (left (sum_of into figures) into ≡ left answer into) × (replicate words 0 ≡ table_left answer words pack)
+  pub is_not_added : fits into figures ≡ false → (Err (answers.refusal 71 0) ≡ added_as answer) × (left (sum_of into figures) into ≡ left answer into) × (replicate words 0 ≡ table_left answer words pack)
   unfolding sum_of table_left
   is_not_added t = rw (by_sum, t) (refl, refl, refl)
 
@@ -118,11 +120,11 @@ module _ (enums pack into : List ℕ) (row_words words : ℕ) where
   unfolding add_of
   room_enough h = rw (le-leb 65536 (room_of row_words) h)
 
-  pub no_room : room_of row_words < 65536 → (Refused 72 0 ≡ added_as whole) × (into ≡ left whole into) × (replicate words 0 ≡ table_left whole words pack)
+  pub no_room : room_of row_words < 65536 → (Err (answers.refusal 72 0) ≡ added_as whole) × (into ≡ left whole into) × (replicate words 0 ≡ table_left whole words pack)
   unfolding add_of left table_left
   no_room h = rw (lt-leb 65536 (room_of row_words) h) (refl, refl, refl)
 
-  pack_not : (x : Pack) {n p : ℕ} → reading.Refused n p ≡ answer_of x → (Refused n p ≡ added_as (by_pack (opened enums) x into)) × (into ≡ left (by_pack (opened enums) x into) into)
+  pack_not : (x : Pack) {n p : ℕ} → Err (answers.refusal n p) ≡ answer_of x → (Err (answers.refusal n p) ≡ added_as (by_pack (opened enums) x into)) × (into ≡ left (by_pack (opened enums) x into) into)
       × (table_of plain x words ≡ table_left (by_pack (opened enums) x into) words pack)
   unfolding by_pack left table_left table_of
   pack_not (refusal m q) {n} {p} e =
@@ -131,8 +133,8 @@ module _ (enums pack into : List ℕ) (row_words words : ℕ) where
       (rw (a, b), refl, refl)
   pack_not (accepted fs) e = differ cc
 
-  pub pack_refused : 65536 ≤ room_of row_words → {n p : ℕ} → reading.Refused n p ≡ answer_of (pack_of plain pack words)
-      → (Refused n p ≡ added_as whole) × (into ≡ left whole into) × (table_for plain pack words ≡ table_left whole words pack)
+  pub pack_refused : 65536 ≤ room_of row_words → {n p : ℕ} → Err (answers.refusal n p) ≡ answer_of (pack_of plain pack words)
+      → (Err (answers.refusal n p) ≡ added_as whole) × (into ≡ left whole into) × (table_for plain pack words ≡ table_left whole words pack)
   pack_refused h e = rw (← room_enough h) (pack_not (pack_of plain pack words) e)
 
 -- zeros from the first word on
@@ -155,6 +157,6 @@ clear_so l e h =
     let n : length (cleared l 0) ≡ length l = ap length (all_cleared l) ∙ length-replicate {A = ℕ} (length l) 0 in
     record { room = omega (arith, e, h); zeros = rw n (all_cleared l) }
 
-pub listed : (pack entry exit : List ℕ) {files : ℕ} → length exit ≡ length entry → reading.Read files ≡ answer_of (pack_of plain pack (length entry))
+pub listed : (pack entry exit : List ℕ) {files : ℕ} → length exit ≡ length entry → Ok files ≡ answer_of (pack_of plain pack (length entry))
     → exit ≡ table_for plain pack (length entry) → Listed pack exit files
 listed pack entry exit n e t = rw n (e, t)

@@ -9,8 +9,8 @@ ghost use Rattle.pack_report.specs.Files.{content_at, of_entries};
 ghost use Rattle.pack_files.specs.Xnb.{Clear};
 ghost use Rattle.pack_report.specs.Add.{added_as, add_read, add_under, Listed};
 
+use answers::{Refusal, Rule};
 use pack_files::count_file;
-use packs::Reading;
 
 // A word of a table, 0 where there is none.
 fn word_at(table: &[u64], at: usize) -> u64
@@ -53,18 +53,9 @@ fn count_files(
         ≡ counted (of_entries (opened enums.now) pack.now table.now 0 files) figures.old }
     ensures words_unchanged { words.new ≡ words.old }
 {
-    let mut i = 0;
-    while i < files {
+    for i in 0..files {
         count_file(content_at(pack, table, i), enums, words, figures);
-        i += 1;
     }
-}
-
-// A refusal's number and place; or the pack is added.
-#[derive(Clone, Copy)]
-pub enum Adding {
-    Refused(u32, usize),
-    Added,
 }
 
 // Adds a pack that was read into the table: its figures in words of their own, then all sums tested, then added.
@@ -75,7 +66,7 @@ fn add_read(
     files: usize,
     words: &mut [u32],
     report: &mut [u64],
-) -> Adding
+) -> Result<(), Refusal>
     requires { Listed pack.now table.old files × Clear words.old }
     ensures value { result ≡ added_as (add_read enums.now pack.now (length table.old) report.old) }
     ensures report_after { report.new
@@ -88,10 +79,10 @@ fn add_read(
     let mut figures = [0u64; 132];
     count_files(pack, enums, table, files, words, &mut figures);
     if pack_sums::sum(report, &figures) {
-        return Adding::Added;
+        return Ok(());
     }
     fill::clear64(table, 0);
-    Adding::Refused(71, 0)
+    Err(Rule::FigureTooLarge.at(0))
 }
 
 // Adds a pack to a report, under a list of enum types. The table is left as by the reader of packs, with zeros after a refusal, and the words are left zero.
@@ -101,7 +92,7 @@ pub fn add(
     table: &mut [u64],
     words: &mut [u32],
     report: &mut [u64],
-) -> Adding
+) -> Result<(), Refusal>
     ensures value { result
         ≡ added_as (add_under enums.now (length words.old) (length table.old) report.old pack.now) }
     ensures report_after { report.new
@@ -115,10 +106,8 @@ pub fn add(
     fill::clear(words, 0);
     if table::room(words.len()) < 65536 {
         fill::clear64(table, 0);
-        return Adding::Refused(72, 0);
+        return Err(Rule::NoRowRoom.at(0));
     }
-    match packs::read(pack, table, false) {
-        Reading::Refused(number, place) => Adding::Refused(number, place),
-        Reading::Read { files } => add_read(pack, enums, table, files, words, report),
-    }
+    let files = packs::read(pack, table, false)?;
+    add_read(pack, enums, table, files, words, report)
 }

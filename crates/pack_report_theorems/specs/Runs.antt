@@ -1,10 +1,10 @@
 -- What is demanded of adding packs to a report and of adding reports (02, Req 14). Assumes nothing.
-use Rattle.std.specs.Prelude.{◌≡◌, refl, Bool, true, false, List, [], ◌∷◌, ◌++◌, ℕ, replicate}
+use Rattle.std.specs.Prelude.{◌≡◌, refl, Bool, true, false, List, [], ◌∷◌, ◌++◌, ℕ, replicate, Err}
 use Rattle.load_part.specs.Part.{opened}
 use Rattle.pack_figures.specs.Figures.{season}
 use Rattle.pack_figures.specs.Report.{words_from, report_of}
-use Rattle.pack_report.specs.declared.Adding.{Adding}
-use Rattle.pack_report.specs.declared.Adding.TheVariants.{Refused}
+use Rattle.answers.specs.Refusals.{refusal}
+use Rattle.pack_report.specs.Add.{Adding}
 
 -- the report of a list of packs, "with one enum list and one size of pack table throughout"
 abbrev pub season_report : (enums : List ℕ) (pack_words : ℕ) → List (List ℕ) → List ℕ
@@ -17,14 +17,14 @@ none_seen enums pack_words = refl
 
 -- "no 71 or 72 met"
 abbrev pub Unmet : Adding → Type 0
-Unmet r = (place : ℕ) → (r ≡ Refused 71 place → ⊥) × (r ≡ Refused 72 place → ⊥)
+Unmet r = (place : ℕ) → (r ≡ Err (refusal 71 place) → ⊥) × (r ≡ Err (refusal 72 place) → ⊥)
 
 -- a pack was added to a report, which held `entry` and holds `exit`
 pub record Carries (enums : List ℕ) (pack_words : ℕ) (pack entry exit : List ℕ) (r : Adding) : Type 0 where
   -- "The report is a value carried from pack to pack": a report of the packs seen becomes that of these and the new one
   pub carries : (seen : List (List ℕ)) → entry ≡ season_report enums pack_words seen → Unmet r → exit ≡ season_report enums pack_words (seen ++ (pack ∷ []))
   -- "A refused pack changes no figure"
-  pub refuses : (number place : ℕ) → r ≡ Refused number place → exit ≡ entry
+  pub refuses : (number place : ℕ) → r ≡ Err (refusal number place) → exit ≡ entry
 
 -- another report was added
 pub record Joins (entry other exit : List ℕ) (r : Bool) : Type 0 where

@@ -7,7 +7,7 @@ ghost use Rattle.pack_figures.specs.Report.{fits};
 ghost use Rattle.pack_report.specs.Add.{added_as, add_under};
 ghost use Rattle.pack_report_theorems.specs.Runs.{Carries, Joins};
 
-use pack_report::Adding;
+use answers::Refusal;
 
 // A pack that is added to a report.
 pub fn add_exact(
@@ -16,7 +16,7 @@ pub fn add_exact(
     table: &mut [u64],
     words: &mut [u32],
     report: &mut [u64],
-) -> Adding
+) -> Result<(), Refusal>
     ensures carries { Carries enums.now (length table.old) pack.now report.old report.new result }
     ensures value { result
         ≡ added_as (add_under enums.now (length words.old) (length table.old) report.old pack.now) }

@@ -10,22 +10,17 @@ ghost use Rattle.marks.specs.Converting.{converted};
 ghost use Rattle.pack_salvage.specs.Salvage.{salvage_for, output_for, list_for};
 ghost use Rattle.pack_told.specs.Told.{pack_told, written_told, salvage_told, found_told};
 
-use marks::Converting;
-use pack_lookup::Found;
-use packs::Reading;
-use salvage::Salvaging;
-
 // Reads a pack of either form into the table, and writes the number of files, or a refusal's place: the answer is the refusal's number, or 0.
 pub fn read_told(pack: &[u8], table: &mut [u64], marked: bool, at: &mut u64) -> u32
     ensures at_after { (result, at.new) ≡ pack_told (pack_of (mark_of marked) pack.now (length table.old)) }
     ensures table_after { table.new ≡ table_for (mark_of marked) pack.now (length table.old) }
 {
     match packs::read(pack, table, marked) {
-        Reading::Refused(number, place) => {
-            *at = place as u64;
-            number
+        Err(refusal) => {
+            *at = refusal.place as u64;
+            refusal.number
         }
-        Reading::Read { files } => {
+        Ok(files) => {
             *at = files as u64;
             0
         }
@@ -38,11 +33,11 @@ pub fn convert_told(pack: &[u8], out: &mut [u8], marked: bool, at: &mut u64) -> 
     ensures out_after { out.new ≡ output_of (converted marked pack.now (length out.old)) out.old }
 {
     match marks::convert(pack, out, marked) {
-        Converting::Refused(number, place) => {
-            *at = place as u64;
-            number
+        Err(refusal) => {
+            *at = refusal.place as u64;
+            refusal.number
         }
-        Converting::Converted { length: size } => {
+        Ok(size) => {
             *at = size as u64;
             0
         }
@@ -62,17 +57,14 @@ pub fn salvage_told(
     ensures list_after { list.new ≡ list_for pack.now out.old list.old }
 {
     match salvage::salvage(pack, out, list) {
-        Salvaging::Refused(number, place) => {
-            *at = place as u64;
+        Err(refusal) => {
+            *at = refusal.place as u64;
             *stretches = 0;
-            number
+            refusal.number
         }
-        Salvaging::Salvaged {
-            length: size,
-            stretches: n,
-        } => {
-            *at = size as u64;
-            *stretches = n as u64;
+        Ok(done) => {
+            *at = done.length as u64;
+            *stretches = done.stretches as u64;
             0
         }
     }
@@ -83,17 +75,14 @@ pub fn find_told(pack: &[u8], table: &[u64], path: &[u8], first: &mut u64, count
     ensures { (result, first.new, count.new) ≡ found_told (find_of pack.now table.now path.now) }
 {
     match pack_lookup::find(pack, table, path) {
-        Found::Absent => {
+        None => {
             *first = 0;
             *count = 0;
             0
         }
-        Found::At {
-            first: start,
-            count: size,
-        } => {
-            *first = start as u64;
-            *count = size as u64;
+        Some(part) => {
+            *first = part.first as u64;
+            *count = part.count as u64;
             1
         }
     }

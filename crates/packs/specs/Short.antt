@@ -1,5 +1,5 @@
 -- A record whose path's length is one byte, by the size of its data. Assumes nothing.
-use Rattle.std.specs.Prelude.{◌≡◌, Bool, true, false, List, ℕ, ◌+◌, ◌-◌, ◌<◌, ◌≤◌, ◌^◌, leb, take, drop}
+use Rattle.std.specs.Prelude.{◌≡◌, Bool, true, false, List, ℕ, ◌+◌, ◌-◌, ◌<◌, ◌≤◌, ◌^◌, leb, take, drop, Ok}
 use native.Mathlib.Omega.{arith}
 use Rattle.std.proofs.Math.Numerals.{add-one}
 use Rattle.std.proofs.Math.ListN.{length, get_or, length-drop}
@@ -15,8 +15,8 @@ use Rattle.reading.specs.Same.{same, with_bytes}
 use Rattle.pack_layout.specs.Pack.{plain, mark_of}
 use Rattle.pack_layout.specs.Table.{entry_of}
 use Rattle.pack_reading.specs.Pack.{mark_at, path_at, content_at, record_at}
-use Rattle.pack_records.specs.declared.Record.TheVariants.{Read}
-use Rattle.pack_records.specs.Records.{recorded}
+use Rattle.pack_records.specs.declared.Record.{Record}
+use Rattle.pack_records.specs.Records.{stands, recorded}
 
 -- the bytes from one place to another are a path of up to 127 bytes
 pub record ShortPath (file : List ℕ) (start behind : ℕ) : Type 0 where
@@ -24,11 +24,9 @@ pub record ShortPath (file : List ℕ) (start behind : ℕ) : Type 0 where
   pub few : behind - start ≤ 127
   pub text : utf8s (take (behind - start) (drop start file)) ≡ true
 
--- the record at a place is read, its path's length is the byte there, and it has one byte of data less than `more`
-pub record Short (marked : Bool) (file : List ℕ) (at more : ℕ) : Type 0 where
-  pub inside : at < length file
-  pub ends : at + 1 + get_or file at 0 + 4 + (more - 1) ≤ length file
-  pub is : Read (at + 1) (get_or file at 0) (at + 1 + get_or file at 0 + 4) (more - 1) ≡ recorded (mark_of marked) at (record_at (mark_of marked) file at)
+-- the record at a place is read so
+abbrev pub Short : (marked : Bool) (file : List ℕ) (at : ℕ) → Record → Type 0
+Short marked file at r = Ok r ≡ recorded (mark_of marked) at (record_at (mark_of marked) file at)
 
 module _ (file : List ℕ) (at : ℕ) (h : at < length file) (l : get_or file at 0 < 128) where
   seven_short : seven_at file at ≡ read (get_or file at 0) (at + 1)
@@ -54,7 +52,7 @@ module _ (file : List ℕ) (at : ℕ) (h : at < length file) (l : get_or file at
           let z : at + 0 ≡ at = omega arith in
           rw (le-leb 0 (length (drop at file)) (omega arith), z, path_short, content_short)
 
-      read_short : Read (at + 1) (get_or file at 0) (at + 1 + get_or file at 0 + 4) count ≡ recorded plain at (record_at plain file at)
+      read_short : Ok (stands (at + 1) (get_or file at 0) (at + 1 + get_or file at 0 + 4) count) ≡ recorded plain at (record_at plain file at)
       unfolding entry_of
       read_short =
           let a : length (take 1 (drop at file)) ≡ 1 = length-take-le 1 (drop at file) (omega (arith, length-drop at file)) in
@@ -66,14 +64,9 @@ module _ (file : List ℕ) (at : ℕ) (h : at < length file) (l : get_or file at
 -- what the tests of a record say of it
 pub short_there : {marked : Bool} (file : List ℕ) (at : ℕ) {count first : ℕ} → Small file → marked ≡ false → at < length file → get_or file at 0 < length file - at
     → ShortPath file (at + 1) (at + 1 + get_or file at 0)
-    → little_at file 4 (at + 1 + get_or file at 0) (at + 1 + get_or file at 0) ≡ read count first → leb count (length (drop first file)) ≡ true → Short marked file at (count + 1)
+    → little_at file 4 (at + 1 + get_or file at 0) (at + 1 + get_or file at 0) ≡ read count first → leb count (length (drop first file)) ≡ true → Short marked file at (stands (at + 1) (get_or file at 0) first count)
 short_there file at {count} {first} small m h r p q t =
     let w = little_next file small 4 (at + 1 + get_or file at 0) (at + 1 + get_or file at 0) (omega arith) q in
     let e : at + 1 + get_or file at 0 - (at + 1) ≡ get_or file at 0 = omega arith in
     let v : utf8s (take (get_or file at 0) (drop (at + 1) file)) ≡ true = rw e at p.text in
-    let x : count + 1 - 1 ≡ count = omega arith in
-    record {
-      inside = h;
-      ends = omega (arith, w.0, w.1, leb-true count (length (drop first file)) t, length-drop first file);
-      is = rw (m, x) (read_short file at h (omega (arith, p.few)) (omega (arith, p.some_bytes)) (omega arith) v q t);
-    }
+    rw (m, w.0) (read_short file at h (omega (arith, p.few)) (omega (arith, p.some_bytes)) (omega arith) v q t)

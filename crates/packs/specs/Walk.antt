@@ -1,5 +1,5 @@
 -- The records of a pack one after the other, and what they say of the whole pack. Assumes nothing.
-use Rattle.std.specs.Prelude.{◌≡◌}
+use Rattle.std.specs.Prelude.{◌≡◌, Ok, Err}
 use Rattle.std.proofs.Math.Path.{refl, ap}
 use Rattle.std.proofs.Common.{sym, ◌∙◌}
 use mathlib.Core.List.{List, [], ◌∷◌, ◌++◌, append-nil, append_assoc}
@@ -8,6 +8,7 @@ use native.Mathlib.Omega.{arith}
 use Rattle.std.proofs.Math.ListN.{length, length-append}
 use borrow.Author.Tests.{le-leb, lt-leb, eq-eqb, ne_eqb}
 use Rattle.laws.specs.Small.{differ}
+use Rattle.answers.specs.Refusals.{refusal}
 use Rattle.reading.specs.Answer.{Answer, refused, read, bind, check, several}
 use Rattle.reading.specs.Reads.{Small, next_of}
 use Rattle.reading.specs.Little.{little_at, little_next, length-little}
@@ -16,8 +17,7 @@ use Rattle.pack_layout.specs.Table.{entry, entry_of}
 use Rattle.pack_reading.specs.Pack as pack
 use Rattle.pack_reading.specs.Pack.{record_at, records_at, pack_at}
 use Rattle.pack_reading.specs.Laws.{record_reads}
-use Rattle.pack_records.specs.declared.Record.TheVariants as record'
-use Rattle.pack_records.specs.Records.{recorded}
+use Rattle.pack_records.specs.Records.{stands, recorded}
 use Rattle.packs.specs.Files.{files_from}
 
 -- ---- A record
@@ -46,7 +46,7 @@ module _ (mark : List ℕ) where
     pub behind : first + count ≡ at + length (record_bytes mark stored)
 
   got_of : (file : List ℕ) (at : ℕ) {start size first count : ℕ} → Small file → (x : Answer Stored) → record_at mark file at ≡ x
-      → record'.Read start size first count ≡ recorded mark at x → Got file at start size first count
+      → Ok (stands start size first count) ≡ recorded mark at x → Got file at start size first count
   got_of file at small (refused number place) e q = differ cc
   got_of file at {start} {size} {first} {count} small (read f next) e q =
       let e₁ : start ≡ (entry_of mark at f).path_start = cc in
@@ -65,11 +65,11 @@ module _ (mark : List ℕ) where
         behind = b;
       }
 
-  pub got : (file : List ℕ) (at : ℕ) {start size first count : ℕ} → Small file → record'.Read start size first count ≡ recorded mark at (record_at mark file at)
+  pub got : (file : List ℕ) (at : ℕ) {start size first count : ℕ} → Small file → Ok (stands start size first count) ≡ recorded mark at (record_at mark file at)
       → Got file at start size first count
   got file at small q = got_of file at small (record_at mark file at) refl q
 
-  pub none : (at : ℕ) {number place : ℕ} (x : Answer Stored) → record'.Refused number place ≡ recorded mark at x → x ≡ refused number place
+  pub none : (at : ℕ) {number place : ℕ} (x : Answer Stored) → Err (refusal number place) ≡ recorded mark at x → x ≡ refused number place
   none at {number} {place} (refused n p) q =
       let a : n ≡ number = cc in
       let b : p ≡ place = cc in

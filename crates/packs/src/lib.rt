@@ -1,26 +1,28 @@
 // Reading a pack of files into a lent table (Req 01).
 #![tactic(auto)]
 
-ghost use Rattle.std.specs.Prelude.{◌≡◌, true, [], ◌∷◌, ◌++◌, ◌+◌, ◌-◌, ◌≤◌, length, take};
+ghost use Rattle.std.specs.Prelude.{◌≡◌, true, [], ◌∷◌, ◌++◌, ◌+◌, ◌-◌, ◌≤◌, length, take, IfSome};
 ghost use Rattle.text.specs.Passed.{Ascii};
 ghost use Rattle.pack_layout.specs.Table.{entry, flat};
 ghost use Rattle.pack_layout.specs.Pack.{mark_of};
-ghost use Rattle.pack_reading.specs.Pack.{pack_of, table_for};
+ghost use Rattle.pack_reading.specs.Pack.{record_at, pack_of, table_for};
+ghost use Rattle.pack_records.specs.Records.{recorded};
 ghost use Rattle.packs.specs.Files.{FilesRead, PackRead, answer_of};
 ghost use Rattle.packs.specs.Short.{Short, ShortPath};
 
-use answers::Number;
-use pack_records::Record;
+use answers::{Refusal, Rule};
+use numbers::little::{has_bytes, little};
+use pack_records::{Record, record_at};
 
-// Puts an entry into the table: a path of `size` bytes from `start` on, and data of `count` bytes from `first` on.
-fn put_entry(table: &mut [u64], at: usize, start: usize, size: usize, first: usize, count: usize)
+// Puts an entry into the table.
+fn put_entry(table: &mut [u64], at: usize, file: Record)
     requires { at + 4 ≤ length table.old }
-    ensures { take (at + 4) table.new ≡ take at table.old ++ flat (entry start size first count ∷ []) }
+    ensures { take (at + 4) table.new ≡ take at table.old ++ flat (entry file.start file.size file.first file.count ∷ []) }
 {
-    table[at] = start as u64;
-    table[at + 1] = size as u64;
-    table[at + 2] = first as u64;
-    table[at + 3] = count as u64;
+    table[at] = file.start as u64;
+    table[at + 1] = file.size as u64;
+    table[at + 2] = file.first as u64;
+    table[at + 3] = file.count as u64;
 }
 
 // Whether the 16 bytes from i on and those from k on are ASCII.
@@ -74,116 +76,84 @@ fn is_path(pack: &[u8], start: usize, behind: usize) -> bool
     text::is_short_utf8(&pack[start..behind])
 }
 
-// One more than the bytes of data of the record at `at`, where it has no mark, its path is short, and nothing is wrong with it; else 0.
-fn short_record(pack: &[u8], at: usize, marked: bool) -> usize
-    ensures { 1 ≤ result → Short marked pack.now at result }
+// The record at `at`, where it has no mark, its path is short, and nothing is wrong with it.
+fn short_record(pack: &[u8], at: usize, marked: bool) -> Option<Record>
+    ensures { IfSome result (λ r. Short marked pack.now at r) }
 {
-    if marked {
-        return 0;
-    }
-    if pack.len() <= at {
-        return 0;
+    if marked || pack.len() <= at {
+        return None;
     }
     let size = pack[at] as usize;
     if pack.len() - at <= size {
-        return 0;
+        return None;
     }
     let start = at + 1;
     let behind = start + size;
     if !is_path(pack, start, behind) {
-        return 0;
+        return None;
     }
-    match numbers::little::little4(pack, behind) {
-        Number::Refused(_, _) => 0,
-        Number::Read(n, first) => {
-            let count = n as usize;
-            if !numbers::little::has_bytes(pack, first, count) {
-                return 0;
-            }
-            count + 1
-        }
+    let length = little::<u32>(pack, behind).ok()?;
+    let first = length.next;
+    let count = length.value as usize;
+    if !has_bytes(pack, first, count) {
+        return None;
     }
+    Some(Record {
+        start,
+        size,
+        first,
+        count,
+    })
 }
 
-// A refusal's number and place, or the number of files.
-#[derive(Clone, Copy)]
-pub enum Reading {
-    Refused(u32, usize),
-    Read { files: usize },
+// The record at a place: a short one at once, and others as any record.
+fn record(pack: &[u8], at: usize, marked: bool) -> Result<Record, Refusal>
+    ensures { result ≡ recorded (mark_of marked) at (record_at (mark_of marked) pack.now at) }
+{
+    match short_record(pack, at, marked) {
+        Some(file) => Ok(file),
+        None => record_at(pack, at, marked),
+    }
 }
 
 // So many files, the first of which stands behind the file count, and the end of the pack.
-fn read_files(pack: &[u8], table: &mut [u64], marked: bool, n: usize) -> Reading
+fn read_files(pack: &[u8], table: &mut [u64], marked: bool, n: usize) -> Result<usize, Refusal>
     ensures { FilesRead marked pack.now n (length table.old) table.new result }
 {
     let room = table.len() / 4;
-    let mut i = 0;
     let mut at = 4;
-    while i < n {
+    for i in 0..n {
         if room <= i {
-            return Reading::Refused(31, at);
+            return Err(Rule::NoTableRoom.at(at));
         }
-        let more = short_record(pack, at, marked);
-        if 0 < more {
-            let size = pack[at] as usize;
-            let start = at + 1;
-            let first = start + size + 4;
-            let count = more - 1;
-            put_entry(table, 4 * i, start, size, first, count);
-            at = first + count;
-            i += 1;
-        } else {
-            match pack_records::record_at(pack, at, marked) {
-                Record::Refused(number, place) => {
-                    return Reading::Refused(number, place);
-                }
-                Record::Read {
-                    start,
-                    size,
-                    first,
-                    count,
-                } => {
-                    put_entry(table, 4 * i, start, size, first, count);
-                    at = first + count;
-                    i += 1;
-                }
-            }
-        }
+        let file = record(pack, at, marked)?;
+        put_entry(table, 4 * i, file);
+        at = file.first + file.count;
     }
     if at != pack.len() {
-        return Reading::Refused(20, at);
+        return Err(Rule::LeftOver.at(at));
     }
-    Reading::Read { files: n }
+    Ok(n)
 }
 
 // The file count, and the files.
-fn read_counted(pack: &[u8], table: &mut [u64], marked: bool) -> Reading
+fn read_counted(pack: &[u8], table: &mut [u64], marked: bool) -> Result<usize, Refusal>
     ensures { PackRead marked pack.now (length table.old) table.new result }
 {
-    match numbers::little::little4(pack, 0) {
-        Number::Refused(number, place) => Reading::Refused(number, place),
-        Number::Read(n, _) => {
-            if 4096 < n {
-                return Reading::Refused(9, 0);
-            }
-            read_files(pack, table, marked, n as usize)
-        }
+    let count = little::<u32>(pack, 0)?;
+    if 4096 < count.value {
+        return Err(Rule::TooLarge.at(0));
     }
+    read_files(pack, table, marked, count.value as usize)
 }
 
-// Reads a pack into the table: four words for each file, then zeros; only zeros after a refusal.
-pub fn read(pack: &[u8], table: &mut [u64], marked: bool) -> Reading
+// Reads a pack into the table, and answers the number of files: four words for each file, then zeros; only zeros after a refusal.
+pub fn read(pack: &[u8], table: &mut [u64], marked: bool) -> Result<usize, Refusal>
     ensures value { result ≡ answer_of (pack_of (mark_of marked) pack.now (length table.old)) }
     ensures table_after { table.new ≡ table_for (mark_of marked) pack.now (length table.old) }
 {
-    match read_counted(pack, table, marked) {
-        Reading::Refused(number, place) => {
-            fill::clear64(table, 0);
-            Reading::Refused(number, place)
-        }
-        Reading::Read { files } => {
-            fill::clear64(table, 4 * files);
-            Reading::Read { files }
-        }
-    }
+    let read = read_counted(pack, table, marked);
+    let files = read.unwrap_or(0);
+    fill::clear64(table, 4 * files);
+    read
 }

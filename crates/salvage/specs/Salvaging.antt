@@ -1,13 +1,15 @@
 -- What salvaging a marked pack answers in code, by the definitions of Req 11. Assumes nothing.
-use Rattle.std.specs.Prelude.{◌≡◌, List, [], ◌∷◌, ◌++◌, ◌⊎◌, ℕ, zero, suc, ◌+◌, ◌*◌, ◌-◌, ◌≤◌, ◌<◌, length, take, drop, get_or}
+use Rattle.std.specs.Prelude.{◌≡◌, List, [], ◌∷◌, ◌++◌, ◌⊎◌, ℕ, zero, suc, ◌+◌, ◌*◌, ◌-◌, ◌≤◌, ◌<◌, length, take, drop, get_or, Result, Ok, Err}
 use Rattle.layout.specs.Number.{little}
 use Rattle.pack_layout.specs.Pack.{Stored, marked, record_bytes}
 use Rattle.pack_salvage.specs.Scan.{RecordStands, NoRecordStands, kept_of}
 use Rattle.pack_salvage.specs.Stretches.{Stretch, words}
-use Rattle.pack_salvage.specs.Salvage.{pieces_of, new_pack, skipped_of, Salvaged, refusal, salvaged}
+use Rattle.pack_salvage.specs.Salvage as salvage
+use Rattle.pack_salvage.specs.Salvage.{pieces_of, new_pack, skipped_of, salvaged}
 use Rattle.salvage.specs.declared.Size.{Size}
-use Rattle.salvage.specs.declared.Salvaging.{Salvaging}
-use Rattle.salvage.specs.declared.Salvaging.TheVariants as salvaging
+use Rattle.salvage.specs.declared.Salvaged.{Salvaged}
+use Rattle.answers.specs.declared.Refusal.{Refusal}
+use Rattle.answers.specs.Refusals as answers
 
 -- from one place to another no byte is FD hex, the first of a mark
 pub record NoLead (pack : List ℕ) (from to : ℕ) : Type 0 where
@@ -61,7 +63,7 @@ pub record Fits (pack : List ℕ) (out list records : ℕ) : Type 0 where
   pub room : length (new_pack pack) ≤ out
   pub listed : 2 * length (skipped_of pack) ≤ list
 
--- a refusal's number and place, or the length of the new pack and the number of stretches
-abbrev pub answer_of : Salvaged → Salvaging
-answer_of (refusal number place) = salvaging.Refused number place
-answer_of (salvaged bytes l) = salvaging.Salvaged (length bytes) (length l)
+-- a refusal, or the length of the new pack and the number of stretches
+abbrev pub answer_of : salvage.Salvaged → Result Salvaged Refusal
+answer_of (salvage.refusal number place) = Err (answers.refusal number place)
+answer_of (salvaged bytes l) = Ok (record { length = length bytes; stretches = length l })

@@ -5,7 +5,8 @@ ghost use Rattle.std.specs.Prelude.{◌≡◌, true, ◌+◌, ◌≤◌, length}
 ghost use Rattle.pack_salvage.specs.Salvage.{salvage_for, output_for, list_for};
 ghost use Rattle.salvage.specs.Salvaging.{NoLead, NextRecord, gap_of, size_of, GapFits, gap_put, count_put, Fits, answer_of};
 
-use pack_records::Record;
+use answers::{Refusal, Rule};
+use pack_records::record_at;
 
 // Whether none of the 32 bytes from `from` on is FD hex, the first byte of a mark.
 fn is_clear(pack: &[u8], from: usize) -> bool
@@ -68,19 +69,14 @@ fn next_record(pack: &[u8], from: usize) -> Span
 {
     let mut at = next_lead(pack, from);
     while at < pack.len() {
-        match pack_records::record_at(pack, at, true) {
-            Record::Refused(_, _) => {
+        match record_at(pack, at, true) {
+            Err(_) => {
                 at = next_lead(pack, at + 1);
             }
-            Record::Read {
-                start: _,
-                size: _,
-                first,
-                count,
-            } => {
+            Ok(file) => {
                 return Span {
                     start: at,
-                    end: first + count,
+                    end: file.first + file.count,
                 };
             }
         }
@@ -188,34 +184,34 @@ fn put_pieces(pack: &[u8], out: &mut [u8], list: &mut [u64], records: usize)
     put_gap(list, n, at, pack.len());
 }
 
-// A refusal's number and place, or the length of the new pack and the number of stretches skipped.
-#[derive(Clone, Copy)]
-pub enum Salvaging {
-    Refused(u32, usize),
-    Salvaged { length: usize, stretches: usize },
+// The length of the new pack, and the number of stretches skipped.
+#[derive(Clone, Copy, Debug, PartialEq, Eq)]
+pub struct Salvaged {
+    pub length: usize,
+    pub stretches: usize,
 }
 
 // Writes a marked pack of the records that a damaged one still holds, and a list of the stretches that are skipped: start and length.
-pub fn salvage(pack: &[u8], out: &mut [u8], list: &mut [u64]) -> Salvaging
+pub fn salvage(pack: &[u8], out: &mut [u8], list: &mut [u64]) -> Result<Salvaged, Refusal>
     ensures value { result ≡ answer_of (salvage_for pack.now out.old list.old) }
     ensures out_after { out.new ≡ output_for pack.now out.old list.old }
     ensures list_after { list.new ≡ list_for pack.now out.old list.old }
 {
     if pack.len() < 4 {
-        return Salvaging::Refused(1, 0);
+        return Err(Rule::PastEnd.at(0));
     }
     let size = measure(pack);
     let bytes = size.bytes;
     let stretches = size.stretches;
     if out.len() < bytes {
-        return Salvaging::Refused(21, bytes);
+        return Err(Rule::OutputTooSmall.at(bytes));
     }
     if list.len() / 2 < stretches {
-        return Salvaging::Refused(52, stretches);
+        return Err(Rule::ListTooShort.at(stretches));
     }
     put_pieces(pack, out, list, size.records);
-    Salvaging::Salvaged {
+    Ok(Salvaged {
         length: bytes,
         stretches,
-    }
+    })
 }

@@ -5,27 +5,16 @@ ghost use Rattle.std.specs.Prelude.{◌≡◌, true};
 ghost use Rattle.text_order.specs.Ordered.{order_of};
 ghost use Rattle.text_order.specs.Blocks.{Passes, PassesSome};
 
-use answers::Number;
-use numbers::little::{has_bytes, little8};
-
-// How two texts stand to each other.
-#[derive(Clone, Copy)]
-pub enum Order {
-    Below,
-    Same,
-    Above,
-}
+use numbers::little::{has_bytes, little};
+use std::cmp::Ordering;
 
 // Eight bytes of both texts from a place on are equal.
 fn same_eight(a: &[u8], b: &[u8], i: usize) -> bool
     ensures { result ≡ true → PassesSome 8 a.now b.now i }
 {
-    match little8(a, i) {
-        Number::Refused(_, _) => false,
-        Number::Read(x, _) => match little8(b, i) {
-            Number::Refused(_, _) => false,
-            Number::Read(y, _) => x == y,
-        },
+    match (little::<u64>(a, i), little::<u64>(b, i)) {
+        (Ok(x), Ok(y)) => x.value == y.value,
+        _ => false,
     }
 }
 
@@ -87,24 +76,24 @@ fn past_equal(a: &[u8], b: &[u8]) -> usize
 }
 
 // Two texts, byte by byte.
-pub fn compare(a: &[u8], b: &[u8]) -> Order
+pub fn compare(a: &[u8], b: &[u8]) -> Ordering
     ensures { result ≡ order_of a.now b.now }
 {
     let mut i = past_equal(a, b);
     while i < a.len() {
         if b.len() <= i {
-            return Order::Above;
+            return Ordering::Greater;
         }
         if a[i] < b[i] {
-            return Order::Below;
+            return Ordering::Less;
         }
         if b[i] < a[i] {
-            return Order::Above;
+            return Ordering::Greater;
         }
         i += 1;
     }
     if i < b.len() {
-        return Order::Below;
+        return Ordering::Less;
     }
-    Order::Same
+    Ordering::Equal
 }
