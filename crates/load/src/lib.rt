@@ -81,13 +81,8 @@ fn objects(
     requires { Begin file.now words.old grid at 0 × Known file.now codes.now rd × (shared ≤ 256) }
     ensures { ObjectsLoad grid file.now codes.now rd shared padding at words.old words.new result }
 {
-    let n = shared + 1;
-    let nest = Nest::Each(Slot::Object(prelude::OBJECT), n);
-    let children = if n < walk::LONG {
-        walk::nested(file, codes, rd, words, grid, shared, nest, at, 0, 32, 0)?
-    } else {
-        walk::list_from(file, codes, rd, words, grid, shared, nest, n, at, 0, 32)?
-    };
+    let nest = Nest::Each(Slot::Object(prelude::OBJECT), shared + 1);
+    let children = walk::below(file, codes, rd, words, grid, shared, nest, at, 0, 32)?;
     let reached = children.reached;
     finish(
         file,

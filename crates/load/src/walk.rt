@@ -1,9 +1,9 @@
 // The walk over values in file order: objects, raw values and their children, with a row for each.
-ghost use Rattle.std.specs.Prelude.{◌≡◌, ℕ};
+ghost use Rattle.std.specs.Prelude.{◌≡◌};
 ghost use Rattle.leaves.specs.Plain.{Begin};
 ghost use Rattle.steps.specs.Known.{Known, KnownNest, KnownValue, Ready};
 ghost use Rattle.steps.specs.Steps.{KnownRaw, NoRule, step_of, topped, plain_words};
-ghost use Rattle.steps.specs.Front.{ListOf, AllAlike, Takeable};
+ghost use Rattle.steps.specs.Front.{Takeable};
 ghost use Rattle.steps.specs.Promises.{FlatSteps, PlacedSteps, ValueSteps, RawWalks, NestWalks};
 
 use answers::{Read, Refusal};
@@ -213,27 +213,7 @@ fn raw(
 }
 
 // Lists of fewer elements are walked one element after the other: what `list_from` takes at once would not make up for the call.
-pub(crate) const LONG: u32 = 32;
-
-// How many elements that stand alike a nest has; 0 where its values do not.
-fn list_count(nest: Nest) -> u32
-    ensures { ListOf nest result }
-{
-    match nest {
-        Nest::Each(_, n) => n,
-        _ => 0,
-    }
-}
-
-// How the elements of a nest stand, where they stand alike.
-fn element(nest: Nest) -> Slot
-    ensures { (s : Slot) (n : ℕ) → nest ≡ Nest.Each s n → result ≡ s }
-{
-    match nest {
-        Nest::Each(slot, _) => slot,
-        _ => Slot::Raw(0),
-    }
-}
+const LONG: u32 = 32;
 
 // How many of n objects may be taken at once: all where Object or String is declared and depth is left, else none.
 fn takeable(codes: &[u32], declared: usize, n: u32, depth: u32) -> u32
@@ -251,7 +231,7 @@ fn takeable(codes: &[u32], declared: usize, n: u32, depth: u32) -> u32
 // What stands below a raw value: a long list as such, all else as its nest says.
 // The parent is the row before the first of these.
 #[cycle(values)]
-fn below(
+pub(crate) fn below(
     file: &[u8],
     codes: &[u32],
     rd: Readers,
@@ -267,44 +247,55 @@ fn below(
     ensures { NestWalks grid file.now codes.now rd shared nest at used depth used
         words.old words.new result }
 {
-    let n = list_count(nest);
-    if LONG <= n {
-        return list_from(
-            file, codes, rd, words, grid, shared, nest, n, at, used, depth,
-        );
+    match nest {
+        Nest::Each(slot, n) if LONG <= n => list_from(
+            file, codes, rd, words, grid, shared, slot, n, at, used, depth,
+        ),
+        _ => nested(
+            file, codes, rd, words, grid, shared, nest, at, used, depth, used,
+        ),
     }
-    nested(
-        file, codes, rd, words, grid, shared, nest, at, used, depth, used,
-    )
 }
 
-// A list of n elements. Their parent is the row before the first of theirs, or none if that is row 0.
+// A list of n elements that stand alike. Their parent is the row before the first of theirs, or none if that is row 0.
+// In the walk itself it would take registers from every other value.
 #[cycle(values)]
-pub(crate) fn list_from(
+#[inline(never)]
+fn list_from(
     file: &[u8],
     codes: &[u32],
     rd: Readers,
     words: &mut [u32],
     grid: Grid,
     shared: u32,
-    nest: Nest,
+    slot: Slot,
     n: u32,
     at: usize,
     used: u32,
     depth: u32,
 ) -> Result<Children, Refusal>
-    requires { Begin file.now words.old grid at used × Known file.now codes.now rd × KnownNest file.now codes.now nest
-        × AllAlike nest n }
-    ensures { NestWalks grid file.now codes.now rd shared nest at used depth used
+    requires { Begin file.now words.old grid at used × Known file.now codes.now rd
+        × KnownNest file.now codes.now (Nest.Each slot n) }
+    ensures { NestWalks grid file.now codes.now rd shared (Nest.Each slot n) at used depth used
         words.old words.new result }
 {
-    match element(nest) {
+    match slot {
         Slot::Object(declared) => objects_from(
             file, codes, rd, words, grid, shared, declared, n, at, used, depth,
         ),
         Slot::Raw(a) => raws_from(file, codes, rd, words, grid, shared, a, n, at, used, depth),
         Slot::Simple(_) => nested(
-            file, codes, rd, words, grid, shared, nest, at, used, depth, used,
+            file,
+            codes,
+            rd,
+            words,
+            grid,
+            shared,
+            Nest::Each(slot, n),
+            at,
+            used,
+            depth,
+            used,
         ),
     }
 }
@@ -418,7 +409,7 @@ fn objects_from(
 
 // Objects and raw values one after the other, as a nest says, with rows from `used` on, under a parent.
 #[cycle(values)]
-pub(crate) fn nested(
+fn nested(
     file: &[u8],
     codes: &[u32],
     rd: Readers,

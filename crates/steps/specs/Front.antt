@@ -57,23 +57,6 @@ use Rattle.steps.specs.Turns.{Counts, children, children_of, whole}
 use Rattle.steps.specs.Walks.{OpenedAs, opened_as}
 use Rattle.steps.specs.Steps.{no_rule, null_pads, head-ends, got_as}
 
--- the values of a nest are n that stand alike
-abbrev pub AllAlike : Nest → (n : ℕ) → Type 0
-AllAlike nest n = (s : Slot) × (nest ≡ Each s n)
-
--- so many, or none where they do not
-abbrev pub ListOf : Nest → (n : ℕ) → Type 0
-ListOf nest n = (n ≡ 0) ⊎ AllAlike nest n
-
--- a long list was found
-pub list_nest : (nest : Nest) (n : ℕ) → ListOf nest n → 32 ≤ n → AllAlike nest n
-list_nest nest n (inl z) h = absurd (omega (arith, z, h))
-list_nest nest n (inr e) h = e
-
--- a list's elements stand as the code found it
-pub list_element : (nest : Nest) (n : ℕ) → AllAlike nest n → (r t : Slot) → ((s : Slot) (m : ℕ) → nest ≡ Each s m → r ≡ s) → r ≡ t → nest ≡ Each t n
-list_element nest n al r t h e = al.1 ∙ ap (λ y. Each y n) (sym (h al.0 n al.1) ∙ e)
-
 -- nullables that were walked at once
 pub list_nullables : (g : Grid) (file codes : List ℕ) (readers : List Target) (small : Small file) (shared a n : ℕ) (plan : Plan) (i : NestIs file codes (Each (Raw a) n) plan) (at used depth : ℕ) (entry exit : List ℕ) (r : Reached)
     → Begin file entry g at used → ListWalks g file codes a n at used depth entry exit (Some r) → Counts g file entry exit used (whole g file codes readers shared depth plan entry at used used) (Ok (children n r))
