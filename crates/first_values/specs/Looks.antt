@@ -1,5 +1,5 @@
 -- What one look at an object says. Assumes nothing.
-use Rattle.std.specs.Prelude.{◌≡◌, refl, Bool, true, false, ◌&&◌, List, ◌⊎◌, ℕ, zero, suc, ◌+◌, ◌-◌, ◌≤◌, ◌<◌, ◌*◌, ◌^◌, ◌/◌, ◌%◌, leb, length, get_or, take, drop}
+use Rattle.std.specs.Prelude.{◌≡◌, refl, Ok, Option, None, Some, Bool, true, false, ◌&&◌, List, ◌⊎◌, ℕ, zero, suc, ◌+◌, ◌-◌, ◌≤◌, ◌<◌, ◌*◌, ◌^◌, ◌/◌, ◌%◌, leb, length, get_or, take, drop}
 use Rattle.std.proofs.Common.{sym, ap, subst, ◌∙◌, inl, inr, arith, add-one, drop-cons, lt-ltb, le-leb, leb-true, leb-false, ne_eqb}
 use Rattle.std.proofs.Math.ListN.{get_or-eq_default}
 use Rattle.std.proofs.lemmas.Bool.{lt-leb}
@@ -16,7 +16,7 @@ use Rattle.targets.specs.Place.{kind_at, same_name, same_code, agree, equal_at, 
 use Rattle.targets.specs.Extent.{no_agree}
 use Rattle.leaves.specs.Text.{text_there, text-counted}
 use Rattle.heads.specs.declared.nest.Below.TheVariants.{Nothing}
-use Rattle.heads.specs.declared.open.Opened.TheVariants.{Head}
+use Rattle.heads.specs.Opens.{headed}
 use Rattle.heads.specs.Placed.{bytes_of, row_kind}
 use Rattle.heads.specs.Total.{leaf_as, alone_as, kind_as, open_as}
 use Rattle.objects.specs.declared.start.Started.TheVariants.{Raw}
@@ -24,29 +24,34 @@ use Rattle.objects.specs.declared.start.Started.TheVariants.{Null as NullValue}
 use Rattle.objects.specs.Beginnings.{position_at}
 use Rattle.objects.specs.Start.{first_byte}
 use Rattle.objects.specs.Total.{place_as, reader_as, object_as}
+use Rattle.first_values.specs.declared.Choice.{Choice}
+use Rattle.first_values.specs.declared.Choice.TheVariants.{All, Texts, Nothing as Nowhere}
 use Rattle.first_values.specs.declared.Id.{Id}
 use Rattle.first_values.specs.declared.Seen.{Seen}
 
 -- a type id was read, with its padding
-abbrev pub Numbered : (file : List ℕ) (at : ℕ) → Id → Type 0
-Numbered file at r = (r.next ≡ 0) ⊎ ((seven_at file at ≡ read r.id r.next) × (pad_of (seven_at file at) at ≡ r.padding))
+abbrev pub Numbered : (file : List ℕ) (at : ℕ) → Option Id → Type 0
+Numbered file at None = Unit {0}
+Numbered file at (Some r) = (seven_at file at ≡ read r.id r.next) × (pad_of (seven_at file at) at ≡ r.padding)
 
 -- a text whose count is in its shortest form ends at `end`
-abbrev pub TextEnds : (file : List ℕ) (at end : ℕ) → Type 0
-TextEnds file at end = (end ≡ 0) ⊎ ((n : ℕ) × (leaf_as file 13 at ≡ read (n, 0) end))
+abbrev pub TextEnds : (file : List ℕ) (at : ℕ) → Option ℕ → Type 0
+TextEnds file at None = Unit {0}
+TextEnds file at (Some end) = (n : ℕ) × (leaf_as file 13 at ≡ read (n, 0) end)
 
 -- a raw value of the type at a place has no children and ends at `end`
 pub record Leaf (file codes : List ℕ) (place at end : ℕ) : Type 0 where
-  pub opens : open_as file codes place at ≡ Head end (Nothing 0)
+  pub opens : open_as file codes place at ≡ headed end (Nothing 0)
   pub no_object : kind_at codes place ≡ 14 → ⊥
   pub no_texture : kind_at codes place ≡ 31 → ⊥
 
-abbrev pub Ends : (file codes : List ℕ) (place at end : ℕ) → Type 0
-Ends file codes place at end = (end ≡ 0) ⊎ Leaf file codes place at end
+abbrev pub Ends : (file codes : List ℕ) (place at : ℕ) → Option ℕ → Type 0
+Ends file codes place at None = Unit {0}
+Ends file codes place at (Some end) = Leaf file codes place at end
 
 -- null
 pub record NullSeen (file codes : List ℕ) (count target declared at : ℕ) (s : Seen) : Type 0 where
-  pub starts : object_as file codes count target declared at (seven_at file at) ≡ NullValue s.end s.padding
+  pub starts : object_as file codes count target declared at (seven_at file at) ≡ Ok (NullValue s.end s.padding)
   pub kind_is : s.kind ≡ 0
   pub id_is : s.id ≡ 0
 
@@ -54,21 +59,24 @@ pub record NullSeen (file codes : List ℕ) (count target declared at : ℕ) (s 
 pub record LeafSeen (file codes : List ℕ) (count target declared at : ℕ) (s : Seen) : Type 0 where
   pub place : ℕ
   pub from : ℕ
-  pub starts : object_as file codes count target declared at (seven_at file at) ≡ Raw place from (type_id s.id) s.padding
-  pub opens : open_as file codes place from ≡ Head s.end (Nothing 0)
+  pub starts : object_as file codes count target declared at (seven_at file at) ≡ Ok (Raw place from (type_id s.id) s.padding)
+  pub opens : open_as file codes place from ≡ headed s.end (Nothing 0)
   pub kind_is : s.kind ≡ row_kind (kind_at codes place)
 
--- the type at a place has a code that is wanted; 0 stands for every code
-abbrev pub Wanted : (codes : List ℕ) (wanted place : ℕ) → Type 0
-Wanted codes wanted place = (wanted ≡ 0) ⊎ (get_or codes place 0 % 256 ≡ wanted)
+-- the type at a place has a code that is wanted: every code, a text's, or none
+abbrev pub Wanted : (codes : List ℕ) → Choice → (place : ℕ) → Type 0
+Wanted codes All place = Unit {0}
+Wanted codes Texts place = get_or codes place 0 % 256 ≡ 13
+Wanted codes Nowhere place = ⊥
 
 -- where the type at `declared` is declared, every type that has a wanted code may be read
-abbrev pub Wants : (file codes : List ℕ) (declared wanted : ℕ) → Type 0
+abbrev pub Wants : (file codes : List ℕ) (declared : ℕ) → Choice → Type 0
 Wants file codes declared wanted = (place : ℕ) → Wanted codes wanted place → fits_at file codes declared place ≡ true
 
 -- what a look at an object says, where the type of the reader that its type id names is at `target`
-abbrev pub Looked : (file codes : List ℕ) (count target declared at : ℕ) → Seen → Type 0
-Looked file codes count target declared at s = (s.end ≡ 0) ⊎ (NullSeen file codes count target declared at s ⊎ LeafSeen file codes count target declared at s)
+abbrev pub Looked : (file codes : List ℕ) (count target declared at : ℕ) → Option Seen → Type 0
+Looked file codes count target declared at None = Unit {0}
+Looked file codes count target declared at (Some s) = NullSeen file codes count target declared at s ⊎ LeafSeen file codes count target declared at s
 
 -- a number of one byte
 pub one_byte : (file : List ℕ) (at : ℕ) → at < length file → get_or file at 0 < 128 → seven_at file at ≡ read (get_or file at 0) (suc at)
@@ -84,11 +92,11 @@ unfolding pad_of shortest fewest
 one_unpadded n at h = rw (lt-ltb n 128 h) (omega arith)
 
 -- a type id of one byte
-pub byte_numbered : (file : List ℕ) (at : ℕ) (r : Id) → at < length file → r.id ≡ get_or file at 0 → r.id < 128 → r.next ≡ at + 1 → r.padding ≡ 0 → Numbered file at r
+pub byte_numbered : (file : List ℕ) (at : ℕ) (r : Id) → at < length file → r.id ≡ get_or file at 0 → r.id < 128 → r.next ≡ at + 1 → r.padding ≡ 0 → Numbered file at (Some r)
 byte_numbered file at r h i b n p =
     let e : seven_at file at ≡ read r.id r.next = rw (i, n ∙ add-one at) (one_byte file at h (omega (arith, i, b))) in
     let u : pad_of (read r.id r.next) at ≡ 0 = rw (n ∙ add-one at) (one_unpadded r.id at b) in
-    inr (e, ap (λ y. pad_of y at) e ∙ u ∙ sym p)
+    (e, ap (λ y. pad_of y at) e ∙ u ∙ sym p)
 
 -- a text of less than 64 bytes
 pub text-short : (file : List ℕ) (at n : ℕ) → at < length file → n ≡ get_or file at 0 → n < 64 → n ≤ length (drop (at + 1) file) → utf8s (take n (drop (at + 1) file)) ≡ true
@@ -148,14 +156,13 @@ fixed-opens file codes place at size end i h e =
     record { opens = o ∙ ap (λ y. alone_as (beside 0 y)) e; no_object = other k 14 h refl; no_texture = other k 31 h refl }
 
 -- Object is declared: every type may be read
-pub wants_all : (file codes : List ℕ) (declared : ℕ) → kind_at codes declared ≡ 14 → Wants file codes declared 0
+pub wants_all : (file codes : List ℕ) (declared : ℕ) → kind_at codes declared ≡ 14 → Wants file codes declared All
 unfolding fits_at
 wants_all file codes declared k place w = rw k
 
 -- no code is wanted that none can be
-pub wants_none : (file codes : List ℕ) (declared : ℕ) → Wants file codes declared 256
-wants_none file codes declared place (inl z) = absurd (omega (arith, z))
-wants_none file codes declared place (inr e) = absurd (omega (arith, e))
+pub wants_none : (file codes : List ℕ) (declared : ℕ) → Wants file codes declared Nowhere
+wants_none file codes declared place w = absurd w
 
 -- a code that is not 0 stands in the codes
 in_codes : (codes : List ℕ) (place : ℕ) → get_or codes place 0 % 256 ≡ 13 → (b : Bool) → leb (length codes) place ≡ b → place < length codes
@@ -163,10 +170,9 @@ in_codes codes place e true p = absurd (omega (arith, e, get_or-eq_default codes
 in_codes codes place e false p = leb-false (length codes) place p
 
 -- String is declared: a text may be read
-pub wants_text : (file codes : List ℕ) (declared : ℕ) → get_or codes declared 0 % 256 ≡ 13 → Wants file codes declared 13
+pub wants_text : (file codes : List ℕ) (declared : ℕ) → get_or codes declared 0 % 256 ≡ 13 → Wants file codes declared Texts
 unfolding fits_at kind_at equal_at agree same_code same_name
-wants_text file codes declared k place (inl z) = absurd (omega (arith, z))
-wants_text file codes declared k place (inr e) =
+wants_text file codes declared k place e =
     let i = in_codes codes declared k (leb (length codes) declared) refl in
     let j = in_codes codes place e (leb (length codes) place) refl in
     let kind : get_or codes declared 0 % 64 ≡ 13 = omega (arith, k) in
@@ -205,15 +211,12 @@ pos (suc n) h = omega arith
 -- a type id that is no null's
 pub looked : (file codes targets : List ℕ) (count declared at id next : ℕ) (s : Seen) → fits_at file codes declared (get_or targets (id - 1) 0) ≡ true → seven_at file at ≡ read id next → pad_of (seven_at file at) at ≡ s.padding
     → (id ≡ 0 → ⊥) → id - 1 < count → id - 1 < 64
-    → (s.end ≡ 0 → ⊥) → Ends file codes (get_or targets (id - 1) 0) next s.end → s.kind ≡ row_kind (kind_at codes (get_or targets (id - 1) 0)) → s.id ≡ id
-    → Looked file codes count (get_or targets (position_at file at) 0) declared at s
-looked file codes targets count declared at id next s d e u z c few b w k n = rw p (go w) where
-  m : id ≡ suc (id - 1)
-  m = omega (arith, pos id z)
+    → Leaf file codes (get_or targets (id - 1) 0) next s.end → s.kind ≡ row_kind (kind_at codes (get_or targets (id - 1) 0)) → s.id ≡ id
+    → Looked file codes count (get_or targets (position_at file at) 0) declared at (Some s)
+looked file codes targets count declared at id next s d e u z c few l k n =
+    rw p (inr (leaf-seen file codes count (get_or targets (id - 1) 0) declared at (id - 1) next s d (subst (λ (x : ℕ). seven_at file at ≡ read x next) m e) u few c l k (n ∙ m))) where
+      m : id ≡ suc (id - 1)
+      m = omega (arith, pos id z)
 
-  p : position_at file at ≡ id - 1
-  p = sym (first_byte file at e) ∙ omega (arith, m, few)
-
-  go : Ends file codes (get_or targets (id - 1) 0) next s.end → Looked file codes count (get_or targets (id - 1) 0) declared at s
-  go (inl y) = absurd (b y)
-  go (inr l) = inr (inr (leaf-seen file codes count (get_or targets (id - 1) 0) declared at (id - 1) next s d (subst (λ (x : ℕ). seven_at file at ≡ read x next) m e) u few c l k (n ∙ m)))
+      p : position_at file at ≡ id - 1
+      p = sym (first_byte file at e) ∙ omega (arith, m, few)

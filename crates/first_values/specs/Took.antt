@@ -1,5 +1,5 @@
 -- The first objects of a list, taken one after the other. Assumes nothing.
-use Rattle.std.specs.Prelude.{◌≡◌, List, ℕ, zero, suc, ◌+◌, ◌<◌, get_or}
+use Rattle.std.specs.Prelude.{◌≡◌, Some, List, ℕ, zero, suc, ◌+◌, ◌<◌, get_or}
 use Rattle.table.specs.declared.Grid.{Grid}
 use Rattle.table.specs.Word.{in_word}
 use Rattle.table.specs.Put.{put_row}
@@ -19,9 +19,8 @@ module _ (g : Grid) (file codes targets : List ℕ) (count declared used : ℕ) 
     pub before : Before first had old
     pub free : used + k < g.room
     pub ends : seen.end ≡ end
-    pub there : end ≡ 0 → ⊥
     pub sums : sum ≡ in_word (had + seen.padding)
-    pub looked : Looked file codes count (get_or targets (position_at file first) 0) declared first seen
+    pub looked : Looked file codes count (get_or targets (position_at file first) 0) declared first (Some seen)
     pub puts : w ≡ put_row g old (used + k) (value_row (head_of (used + k) first used seen.id seen.padding) seen.kind 0 1 end)
 
   -- k objects were taken: where the next one begins, the padding of their type ids, and the words

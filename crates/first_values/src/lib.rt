@@ -10,22 +10,21 @@ ghost use Rattle.objects.specs.Beginnings.{position_at};
 ghost use Rattle.first_values.specs.Looks.{Numbered, TextEnds, Ends, Wanted, Wants, Looked};
 ghost use Rattle.first_values.specs.Took.{Took};
 
-use answers::Number;
 use ids::RowNumber;
-use numbers::seven::Padded;
+use names::kinds;
 use table::Grid;
 use walked::Head;
 
-// A type id: the number, where it ends and its padding. The end is 0 where it was not read.
-#[derive(Clone, Copy)]
+// A type id: the number, where it ends and its padding.
+#[derive(Clone, Copy, Debug, PartialEq, Eq)]
 pub struct Id {
     pub id: u32,
     pub next: usize,
     pub padding: u32,
 }
 
-// An object that was seen: where it ends, its kind, its type id and the padding of that. The end is 0 where it was not seen.
-#[derive(Clone, Copy)]
+// An object that was seen: where it ends, its kind, its type id and the padding of that.
+#[derive(Clone, Copy, Debug, PartialEq, Eq)]
 pub struct Seen {
     pub end: usize,
     pub kind: u32,
@@ -33,80 +32,68 @@ pub struct Seen {
     pub padding: u32,
 }
 
+// Which types are seen where a type is declared: all, only texts, or none.
+#[derive(Clone, Copy, Debug, PartialEq, Eq)]
+pub enum Choice {
+    All,
+    Texts,
+    Nothing,
+}
+
 // How many objects were taken, where the next one begins, and the padding of their type ids.
-#[derive(Clone, Copy)]
+#[derive(Clone, Copy, Debug, PartialEq, Eq)]
 pub struct Front {
     pub count: u32,
     pub next: usize,
     pub padding: u32,
 }
 
-fn no_id() -> Id
-    ensures { result.next ≡ 0 }
-{
-    Id {
-        id: 0,
-        next: 0,
-        padding: 0,
-    }
-}
-
-fn unseen() -> Seen
-    ensures { result.end ≡ 0 }
-{
-    Seen {
-        end: 0,
-        kind: 0,
-        id: 0,
-        padding: 0,
-    }
-}
-
-// The type id at a place. Most have one byte.
-fn id_at(file: &[u8], at: usize) -> Id
+// The type id at a place, if it can be read. Most have one byte.
+fn id_at(file: &[u8], at: usize) -> Option<Id>
     ensures { Numbered file.now at result }
 {
     if file.len() <= at {
-        return no_id();
+        return None;
     }
     let id = file[at] as u32;
     if id < 128 {
         let next = at + 1;
-        return Id {
+        return Some(Id {
             id,
             next,
             padding: 0,
-        };
+        });
     }
     match numbers::seven::seven_padded(file, at) {
-        Padded::Refused(_, _) => no_id(),
-        Padded::Read(value, next, padding) => {
-            let id = value as u32;
-            Id { id, next, padding }
-        }
+        Ok(read) => Some(Id {
+            id: read.value as u32,
+            next: read.next,
+            padding: read.padding,
+        }),
+        Err(_) => None,
     }
 }
 
-// Where a text ends, if its count has one byte and it has less than 64; else 0.
-fn text_end(file: &[u8], at: usize) -> usize
+// Where a text ends, if its count has one byte and it has less than 64.
+fn text_end(file: &[u8], at: usize) -> Option<usize>
     ensures { TextEnds file.now at result }
 {
     if file.len() <= at {
-        return 0;
+        return None;
     }
     let n = file[at] as usize;
     if 64 <= n {
-        return 0;
+        return None;
     }
     let start = at + 1;
     if file.len() - start < n {
-        return 0;
+        return None;
     }
     let end = start + n;
     if text::is_short_utf8(&file[start..end]) {
-        return end;
+        return Some(end);
     }
-    0
+    None
 }
 
 // How many bytes a value of a kind has; those of most boxed numbers need no table.
@@ -114,39 +101,32 @@ fn size_of(kind: u32) -> usize
     ensures { result ≡ bytes_of kind }
 {
     match kind {
-        1 => 1,
-        2 => 1,
-        3 => 2,
-        4 => 2,
-        5 => 4,
-        6 => 4,
-        7 => 8,
-        8 => 8,
-        9 => 4,
-        10 => 8,
-        11 => 1,
+        kinds::BYTE | kinds::SBYTE | kinds::BOOLEAN => 1,
+        kinds::INT_16 | kinds::UINT_16 => 2,
+        kinds::INT_32 | kinds::UINT_32 | kinds::SINGLE => 4,
+        kinds::INT_64 | kinds::UINT_64 | kinds::DOUBLE => 8,
         _ => heads::slot::bytes_of(kind),
     }
 }
 
-// Where a raw value of the type at `place` ends, if it is a short text or has a fixed size; else 0.
-fn leaf_end(file: &[u8], codes: &[u32], place: usize, at: usize) -> usize
+// Where a raw value of the type at `place` ends, if it is a short text or has a fixed size.
+fn leaf_end(file: &[u8], codes: &[u32], place: usize, at: usize) -> Option<usize>
     ensures { Ends file.now codes.now place at result }
 {
     if codes.len() <= place {
-        return 0;
+        return None;
     }
     let kind = targets::kind_at(codes, place);
-    if kind == 13 {
+    if kind == kinds::STRING {
         return text_end(file, at);
     }
     let size = size_of(kind);
     if size == 0 {
-        return 0;
+        return None;
     }
     match values::fixed_at(file, kind, size, at) {
-        Number::Refused(_, _) => 0,
-        Number::Read(_, end) => end,
+        Ok(read) => Some(read.next),
+        Err(_) => None,
     }
 }
 
@@ -157,110 +137,94 @@ fn place_of(target: u16) -> usize
     target as usize
 }
 
-// The code of the types that may be read where the type at `declared` is declared: 0 if all may be, 13 if only texts, 256 if it is another type.
-fn wanted_code(codes: &[u32], declared: usize) -> u32
+// Which types are seen where the type at `declared` is declared: all if it is Object, only texts if it is String.
+fn wanted_code(codes: &[u32], declared: usize) -> Choice
     ensures { (file : List ℕ) → Wants file codes.now declared result }
 {
     if codes.len() <= declared {
-        return 256;
+        return Choice::Nothing;
     }
     let code = codes[declared] % 256;
-    if code % 64 == 14 {
-        return 0;
+    if code % 64 == kinds::OBJECT {
+        return Choice::All;
     }
-    if code == 13 {
-        return 13;
+    if code == kinds::STRING {
+        return Choice::Texts;
     }
-    256
+    Choice::Nothing
 }
 
 // The type at `place` has a code that is wanted.
-fn is_wanted(codes: &[u32], wanted: u32, place: usize) -> bool
+fn is_wanted(codes: &[u32], wanted: Choice, place: usize) -> bool
     ensures { result ≡ true → Wanted codes.now wanted place }
 {
-    if wanted == 0 {
-        return true;
+    match wanted {
+        Choice::All => true,
+        Choice::Texts => place < codes.len() && codes[place] % 256 == kinds::STRING,
+        Choice::Nothing => false,
     }
-    if codes.len() <= place {
-        return false;
-    }
-    codes[place] % 256 == wanted
 }
 
-// The object whose type id was read up to `next`, where types of the wanted code are declared.
+// The object whose type id was read, where the wanted types are seen.
 fn named(
     file: &[u8],
     codes: &[u32],
     targets: &[u16; 64],
     count: u32,
-    wanted: u32,
-    id: u32,
-    next: usize,
-    padding: u32,
-) -> Seen
+    wanted: Choice,
+    it: Id,
+) -> Option<Seen>
     ensures { (declared at : ℕ) → Wants file.now codes.now declared wanted
-        → seven_at file.now at ≡ read id next → pad_of (seven_at file.now at) at ≡ padding
+        → seven_at file.now at ≡ read it.id it.next → pad_of (seven_at file.now at) at ≡ it.padding
         → Looked file.now codes.now count (get_or targets.now (position_at file.now at) 0) declared at result }
 {
-    if id == 0 {
-        return Seen {
-            end: next,
+    if it.id == 0 {
+        return Some(Seen {
+            end: it.next,
             kind: 0,
             id: 0,
-            padding,
-        };
+            padding: it.padding,
+        });
     }
-    let i = id - 1;
-    if count <= i {
-        return unseen();
+    let i = it.id - 1;
+    if count <= i || 64 <= i {
+        return None;
     }
-    if 64 <= i {
-        return unseen();
-    }
-    let named = i as usize;
-    let place = place_of(targets[named]);
+    let place = place_of(targets[i as usize]);
     if !is_wanted(codes, wanted, place) {
-        return unseen();
+        return None;
     }
-    let end = leaf_end(file, codes, place, next);
-    if end == 0 {
-        return unseen();
-    }
+    let end = leaf_end(file, codes, place, it.next)?;
     let kind = heads::slot::row_kind(codes, place);
-    Seen {
+    Some(Seen {
         end,
         kind,
-        id,
-        padding,
-    }
+        id: it.id,
+        padding: it.padding,
+    })
 }
 
-// The object at a place, where types of the wanted code are declared.
-fn look(file: &[u8], codes: &[u32], targets: &[u16; 64], count: u32, wanted: u32, at: usize) -> Seen
+// The object at a place, where the wanted types are seen.
+fn look(
+    file: &[u8],
+    codes: &[u32],
+    targets: &[u16; 64],
+    count: u32,
+    wanted: Choice,
+    at: usize,
+) -> Option<Seen>
     ensures { (declared : ℕ) → Wants file.now codes.now declared wanted
         → Looked file.now codes.now count (get_or targets.now (position_at file.now at) 0) declared at result }
 {
-    let it = id_at(file, at);
-    if it.next == 0 {
-        return unseen();
-    }
-    named(
-        file, codes, targets, count, wanted, it.id, it.next, it.padding,
-    )
+    let it = id_at(file, at)?;
+    named(file, codes, targets, count, wanted, it)
 }
 
 // How many of n rows from `used` on there is room for.
 fn fitting(room: u32, used: u32, n: u32) -> u32
     ensures { (result ≤ n) × ((k : ℕ) → k < result → used + k < room) }
 {
-    if room <= used {
-        return 0;
-    }
-    let free = room - used;
-    if free < n {
-        return free;
-    }
-    n
+    room.saturating_sub(used).min(n)
 }
 
 // Takes the first of n objects that are declared as the type at `declared`, with rows from `used` on.
@@ -281,18 +245,16 @@ pub fn take(
 {
     let wanted = wanted_code(codes, declared);
     let most = fitting(grid.room, used, n);
-    let mut taken = 0;
     let mut next = at;
     let mut sum = 0;
-    while taken < most {
-        let seen = look(file, codes, targets, count, wanted, next);
-        if seen.end == 0 {
+    for taken in 0..most {
+        let Some(seen) = look(file, codes, targets, count, wanted, next) else {
             return Front {
                 count: taken,
                 next,
                 padding: sum,
             };
-        }
+        };
         let row = used + taken;
         let h = Head {
             row: RowNumber(row),
@@ -305,10 +267,9 @@ pub fn take(
         table::put_row(words, grid, RowNumber(row), r);
         next = seen.end;
         sum = table::sum(sum, seen.padding);
-        taken += 1;
     }
     Front {
-        count: taken,
+        count: most,
         next,
         padding: sum,
     }

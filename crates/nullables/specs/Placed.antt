@@ -1,5 +1,5 @@
 -- Nullables that follow each other, whose values are of one kind and size: where they stand, that they are there, and their rows. Assumes nothing.
-use Rattle.std.specs.Prelude.{◌≡◌, List, ℕ, zero, suc, ◌+◌, ◌*◌, ◌-◌, ◌≤◌, ◌<◌, length, get_or}
+use Rattle.std.specs.Prelude.{◌≡◌, Option, None, Some, List, ℕ, zero, suc, ◌+◌, ◌*◌, ◌-◌, ◌≤◌, ◌<◌, length, get_or}
 use Rattle.std.proofs.Math.Path.{refl}
 use Rattle.std.proofs.Common.{sym, ◌∙◌, add-one}
 use native.Mathlib.Omega.{arith}
@@ -12,10 +12,8 @@ use Rattle.table.specs.Runs.{put_run}
 use Rattle.leaves.specs.declared.plain.Plain.{Plain}
 use Rattle.leaves.specs.declared.plain.Plain.TheVariants.{Fixed, Enum, Char, Level, Reference, Blob, Bone, Code, DataSize}
 use Rattle.leaves.specs.Same.{Kept, Uniform, all_free, all_booleans, all_chars}
-use Rattle.nullables.specs.declared.Listed.{Listed}
-use Rattle.nullables.specs.declared.Listed.TheVariants.{All, Unseen}
+use Rattle.walked.specs.declared.Reached.{Reached}
 use Rattle.nullables.specs.declared.Ends.{Ends}
-use Rattle.nullables.specs.declared.Ends.TheVariants.{Behind, Unknown}
 
 -- 01: a nullable is one byte, 0 or 1, and the value if it is 1
 abbrev pub flag_at : (file : List ℕ) (place : ℕ) → ℕ
@@ -93,16 +91,16 @@ pub data Ruled : (kind size most : ℕ) → Type 0 where
   character : {kind size most : ℕ} → kind ≡ 12 → size ≡ 1 → most ≡ 127 → Ruled kind size most
 
 -- where n nullables end, and the row behind theirs
-abbrev pub EndsAre : (file : List ℕ) (kind size n at used : ℕ) → Ends → Type 0
-EndsAre file kind size n at used (Behind next last) = AllFit file kind size at n × (next ≡ place_of file size at n) × (last ≡ row_of file size at used n)
-EndsAre file kind size n at used Unknown = Unit {0}
+abbrev pub EndsAre : (file : List ℕ) (kind size n at used : ℕ) → Option Ends → Type 0
+EndsAre file kind size n at used (Some ends) = AllFit file kind size at n × (ends.next ≡ place_of file size at n) × (ends.last ≡ row_of file size at used n)
+EndsAre file kind size n at used None = Unit {0}
 
 -- n nullables below row `used` and what they reach, if they are seen to be there with room for their rows; else the words stay
-abbrev pub ListedAre : Grid → (file : List ℕ) (kind size n at used : ℕ) → (entry exit : List ℕ) → Listed → Type 0
-ListedAre g file kind size n at used entry exit (All r) =
+abbrev pub ListedAre : Grid → (file : List ℕ) (kind size n at used : ℕ) → (entry exit : List ℕ) → Option Reached → Type 0
+ListedAre g file kind size n at used entry exit (Some r) =
     (0 < size) × AllFit file kind size at n × (row_of file size at used n ≤ g.room)
     × (r ≡ record { used = row_of file size at used n; padding = 0; next = place_of file size at n }) × (exit ≡ put_all g file kind size used at used entry n)
-ListedAre g file kind size n at used entry exit Unseen = exit ≡ entry
+ListedAre g file kind size n at used entry exit None = exit ≡ entry
 
 -- one more of them
 module _ (file : List ℕ) (size at used i : ℕ) where

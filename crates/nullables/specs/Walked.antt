@@ -1,5 +1,5 @@
 -- Nullables that follow each other are walked: how their rows are put at once is what the walk answers. Assumes nothing.
-use Rattle.std.specs.Prelude.{◌≡◌, true, List, [], ◌∷◌, length, replicate}
+use Rattle.std.specs.Prelude.{◌≡◌, Ok, Option, None, Some, true, List, [], ◌∷◌, length, replicate}
 use Rattle.std.proofs.Math.Path.{refl, ap, subst}
 use Rattle.std.proofs.Common.{sym, ◌∙◌, add-one, drop-cons, lt-ltb}
 use Prim.Native.Nat.{ℕ, zero, suc, ◌+◌, ◌*◌, ◌-◌, ◌≤◌, ◌<◌}
@@ -27,7 +27,7 @@ use Rattle.table.specs.Word.{in_word, in_word_lem}
 use Rattle.places.specs.Places.{count_places}
 use Rattle.places.specs.Padding.{padding, without_count, id_end, id_pad}
 use Rattle.table.specs.declared.Grid.{Grid}
-use Rattle.walked.specs.declared.Walk.TheVariants.{Done}
+use Rattle.walked.specs.declared.Reached.{Reached}
 use Rattle.walked.specs.Contract.{seen, reaching, padded, Walked}
 use Rattle.walked.specs.Written.{written}
 use Rattle.table.specs.Runs.{put_run}
@@ -48,16 +48,14 @@ use Rattle.heads.specs.Below.{flag_zero, flag_one}
 use Rattle.objects.specs.Beginnings.{Ided, under}
 use Rattle.objects.specs.Endings.{keeps}
 use Rattle.objects.specs.Close.{raw-closed, slots-counted}
-use Rattle.nullables.specs.declared.Listed.{Listed}
-use Rattle.nullables.specs.declared.Listed.TheVariants.{All, Unseen}
 use Rattle.nullables.specs.Placed.{flag_at, place_of, row_of, Fits, AllFit, ListedAre, kind_in, size_in, uniform_in, put_nullable, put_all, row_below, place-more, row_more, put-more}
 
 -- n values of the type at a place of the codes are walked with the row before theirs as parent; or nothing is read
-abbrev pub ListWalks : Grid → (file codes : List ℕ) (a n at used depth : ℕ) → (entry exit : List ℕ) → Listed → Type 0
-ListWalks g file codes a n at used depth entry exit (All r) =
+abbrev pub ListWalks : Grid → (file codes : List ℕ) (a n at used depth : ℕ) → (entry exit : List ℕ) → Option Reached → Type 0
+ListWalks g file codes a n at used depth entry exit (Some r) =
     (readers : List Target) (shared : ℕ) (t : Target) → Begin file entry g at used → Stands file codes a t
-    → Walked g file entry exit used (seen (sequence (λ y b v. walk file readers shared g.room depth y b v used) (each (replicate n (raw t))) at used)) (Done r)
-ListWalks g file codes a n at used depth entry exit Unseen = exit ≡ entry
+    → Walked g file entry exit used (seen (sequence (λ y b v. walk file readers shared g.room depth y b v used) (each (replicate n (raw t))) at used)) (Ok r)
+ListWalks g file codes a n at used depth entry exit None = exit ≡ entry
 
 -- a nullable's first byte, and the slots below it
 module _ (file : List ℕ) (t : Target) (place : ℕ) (there : place < length file) where
@@ -201,10 +199,10 @@ nullable_of (mesh vertex_buffer) l e = absurd (omega arith)
 nullable_of (mesh model) l e = absurd (omega arith)
 
 -- what was put is what the walk answers for the type at a place
-pub list_walked : (g : Grid) (file codes : List ℕ) (small : Small file) (a n at used depth : ℕ) (p : Plain) (entry exit : List ℕ) (r : Listed) → kind_at codes a ≡ 16 → 2 ≤ depth → raw_of (kind_at codes (a + 1)) (a + 1) ≡ Simple p
+pub list_walked : (g : Grid) (file codes : List ℕ) (small : Small file) (a n at used depth : ℕ) (p : Plain) (entry exit : List ℕ) (r : Option Reached) → kind_at codes a ≡ 16 → 2 ≤ depth → raw_of (kind_at codes (a + 1)) (a + 1) ≡ Simple p
     → ListedAre g file (kind_in p) (size_in p) n at used entry exit r → ListWalks g file codes a n at used depth entry exit r
-list_walked g file codes small a n at used depth p entry exit Unseen k h s l = l
-list_walked g file codes small a n at used depth p entry exit (All r) k h s l = λ readers shared t b i.
+list_walked g file codes small a n at used depth p entry exit None k h s l = l
+list_walked g file codes small a n at used depth p entry exit (Some r) k h s l = λ readers shared t b i.
     let v = nullable_of t i.lawful (sym (kind_is i) ∙ k) in
     let j : Stands file codes a (nullable v.0) = subst (λ x. Stands file codes a x) v.1 i in
     let o = nullable-argument j in

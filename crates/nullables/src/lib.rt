@@ -9,21 +9,15 @@ ghost use Rattle.nullables.specs.Walked.{ListWalks};
 use heads::slot::Slot;
 use ids::RowNumber;
 use leaves::plain::Plain;
+use names::kinds;
 use table::{Grid, RowWords};
 use walked::Reached;
 
-// What the nullables of a list reach, if all are seen to be there with room for their rows; else nothing is read.
-#[derive(Clone, Copy)]
-pub enum Listed {
-    All(Reached),
-    Unseen,
-}
-
-// Where nullables end, and the number of the row behind theirs; or that not all are seen to be there.
-#[derive(Clone, Copy)]
-pub enum Ends {
-    Behind(usize, u64),
-    Unknown,
+// Where nullables end, and the number of the row behind theirs.
+#[derive(Clone, Copy, Debug, PartialEq, Eq)]
+pub struct Ends {
+    pub next: usize,
+    pub last: u64,
 }
 
 // How many bytes the value of a nullable has.
@@ -37,8 +31,8 @@ fn value_bytes(flag: u32, size: usize) -> usize
     size
 }
 
-// Where n nullables end, whose values are of a kind and size and, where the kind has a rule, keep it by a first byte of at most `most`.
-fn ends_of(file: &[u8], kind: u32, size: usize, most: u8, n: u32, at: usize, used: u32) -> Ends
+// Where n nullables end, if they are seen to be there: their values are of a kind and size and, where the kind has a rule, keep it by a first byte of at most `most`.
+fn ends_of(file: &[u8], kind: u32, size: usize, most: u8, n: u32, at: usize, used: u32) -> Option<Ends>
     requires { (0 < size) × Ruled kind size most }
     ensures { EndsAre file.now kind size n at used result }
 {
@@ -47,25 +41,25 @@ fn ends_of(file: &[u8], kind: u32, size: usize, most: u8, n: u32, at: usize, use
     let mut i = 0;
     while i < n {
         if file.len() <= next {
-            return Ends::Unknown;
+            return None;
         }
         let flag = widen::wide(file[next]) as u32;
         if 1 < flag {
-            return Ends::Unknown;
+            return None;
         }
         let bytes = value_bytes(flag, size);
         if file.len() - next <= bytes {
-            return Ends::Unknown;
+            return None;
         }
         let first = next + flag as usize;
         if most < file[first] {
-            return Ends::Unknown;
+            return None;
         }
         next = next + 1 + bytes;
         last = last + 1 + flag as u64;
         i += 1;
     }
-    Ends::Behind(next, last)
+    Some(Ends { next, last })
 }
 
 // Puts the row of a nullable's value, if it has one.
@@ -122,7 +116,7 @@ fn put_all(
         let whole = 1 + bytes;
         let branch = 1 + flag;
         let r = RowWords {
-            kind: 16,
+            kind: kinds::NULLABLE_KIND,
             first: table::word(next),
             bytes: table::word(whole),
             children: flag,
@@ -148,33 +142,29 @@ fn list_of(
     n: u32,
     at: usize,
     used: u32,
-) -> Listed
+) -> Option<Reached>
     requires { (0 < size) × Ruled kind size most }
     ensures { ListedAre grid file.now kind size n at used words.old words.new result }
 {
-    match ends_of(file, kind, size, most, n, at, used) {
-        Ends::Unknown => Listed::Unseen,
-        Ends::Behind(next, last) => {
-            if (grid.room as u64) < last {
-                return Listed::Unseen;
-            }
-            let reached = Reached {
-                padding: 0,
-                next,
-                used: last as u32,
-            };
-            if grid.columns {
-                put_all(file, words, grid, kind, size, n, at, used);
-                return Listed::All(reached);
-            }
-            let by_rows = Grid {
-                room: grid.room,
-                columns: false,
-            };
-            put_all(file, words, by_rows, kind, size, n, at, used);
-            Listed::All(reached)
-        }
+    let ends = ends_of(file, kind, size, most, n, at, used)?;
+    if (grid.room as u64) < ends.last {
+        return None;
     }
+    let reached = Reached {
+        padding: 0,
+        next: ends.next,
+        used: ends.last as u32,
+    };
+    if grid.columns {
+        put_all(file, words, grid, kind, size, n, at, used);
+        return Some(reached);
+    }
+    let by_rows = Grid {
+        room: grid.room,
+        columns: false,
+    };
+    put_all(file, words, by_rows, kind, size, n, at, used);
+    Some(reached)
 }
 
 // n nullables whose values are of a kind and size: those of a kind with a rule only where the first byte shows that they keep it.
@@ -187,28 +177,22 @@ fn of_kind(
     n: u32,
     at: usize,
     used: u32,
-) -> Listed
+) -> Option<Reached>
     ensures { ListedAre grid file.now kind size n at used words.old words.new result }
 {
-    if size == 0 {
-        return Listed::Unseen;
-    }
-    if kind == 21 {
-        return Listed::Unseen;
-    }
-    if kind == 22 {
-        return Listed::Unseen;
+    if size == 0 || kind == kinds::DATE_TIME || kind == kinds::DECIMAL {
+        return None;
     }
     match kind {
-        11 => {
+        kinds::BOOLEAN => {
             if size != 1 {
-                return Listed::Unseen;
+                return None;
             }
             list_of(file, words, grid, kind, size, 1, n, at, used)
         }
-        12 => {
+        kinds::CHAR => {
             if size != 1 {
-                return Listed::Unseen;
+                return None;
             }
             list_of(file, words, grid, kind, size, 127, n, at, used)
         }
@@ -225,14 +209,14 @@ fn of_plain(
     n: u32,
     at: usize,
     used: u32,
-) -> Listed
+) -> Option<Reached>
     ensures { ListedAre grid file.now (kind_in slot) (size_in slot) n at used words.old words.new result }
 {
     match slot {
         Plain::Fixed(kind, size) => of_kind(file, words, grid, kind, size, n, at, used),
-        Plain::Enum(size) => of_kind(file, words, grid, 15, size, n, at, used),
-        Plain::Char => of_kind(file, words, grid, 12, 1, n, at, used),
-        _ => Listed::Unseen,
+        Plain::Enum(size) => of_kind(file, words, grid, kinds::ENUM_KIND, size, n, at, used),
+        Plain::Char => of_kind(file, words, grid, kinds::CHAR, 1, n, at, used),
+        _ => None,
     }
 }
 
@@ -248,21 +232,14 @@ pub fn read(
     at: usize,
     used: u32,
     depth: u32,
-) -> Listed
+) -> Option<Reached>
     ensures { ListWalks grid file.now codes.now a n at used depth words.old words.new result }
 {
-    if depth < 2 {
-        return Listed::Unseen;
+    if depth < 2 || codes.len() <= a || targets::kind_at(codes, a) != kinds::NULLABLE_KIND {
+        return None;
     }
-    if codes.len() <= a {
-        return Listed::Unseen;
-    }
-    if targets::kind_at(codes, a) != 16 {
-        return Listed::Unseen;
-    }
-    let argument = a + 1;
-    match heads::slot::raw_of(codes, argument) {
+    match heads::slot::raw_of(codes, a + 1) {
         Slot::Simple(slot) => of_plain(file, words, grid, slot, n, at, used),
-        _ => Listed::Unseen,
+        _ => None,
     }
 }
