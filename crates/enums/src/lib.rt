@@ -9,15 +9,9 @@ ghost use Rattle.enums.specs.Noted.{AllNoted, is_listed};
 ghost use Rattle.names.specs.Entries.{entries_of};
 ghost use Rattle.seen_names.specs.Seen.{noted};
 
+use answers::{Refusal, Rule};
 use seen_names::note;
 use widen::wide;
-
-// Whether a list is lawful, or its refusal: the number 32 and the number, from 0, of the first entry that is not.
-#[derive(Clone, Copy)]
-pub enum Judged {
-    Lawful,
-    Refused(u32, usize),
-}
 
 // A size that an entry may have.
 fn is_size(size: u8) -> bool
@@ -54,8 +48,8 @@ fn listed(earlier: &[u8], seen: &mut [u64], name: &[u8]) -> bool
     false
 }
 
-// Judges a list by means of a table of marks, whatever its length and content are.
-fn judge_by(enums: &[u8], seen: &mut [u64]) -> Judged
+// Judges a list by means of a table of marks, whatever its length and content are. Its refusal is at the number, from 0, of its first entry that is not lawful.
+fn judge_by(enums: &[u8], seen: &mut [u64]) -> Result<(), Refusal>
     ensures { result ≡ answer_of (enums_at enums.now) }
 {
     let mut at = 0;
@@ -64,19 +58,19 @@ fn judge_by(enums: &[u8], seen: &mut [u64]) -> Judged
         let first = at + 1;
         let count = enums[at] as usize;
         if enums.len() - first <= count {
-            return Judged::Refused(32, entry);
+            return Err(Rule::EnumEntry.at(entry));
         }
         let end = first + count;
         if !is_enum_type(&enums[first..end], enums[end]) {
-            return Judged::Refused(32, entry);
+            return Err(Rule::EnumEntry.at(entry));
         }
         if listed(&enums[..at], seen, &enums[first..end]) {
-            return Judged::Refused(32, entry);
+            return Err(Rule::EnumEntry.at(entry));
         }
         at = end + 1;
         entry += 1;
     }
-    Judged::Lawful
+    Ok(())
 }
 
 // How many entries a list has, by the lengths of their names.
@@ -94,33 +88,24 @@ fn entries_in(enums: &[u8]) -> usize {
     count
 }
 
-// Judges a list of up to some thousand entries.
-fn judge_hundreds(enums: &[u8]) -> Judged
+// Judges a list by a table of so many cells.
+fn judge_in<const CELLS: usize>(enums: &[u8]) -> Result<(), Refusal>
     ensures { result ≡ answer_of (enums_at enums.now) }
 {
-    let mut seen = [0u64; 512];
-    judge_by(enums, &mut seen)
-}
-
-// Judges a list of some thousand entries and more.
-fn judge_thousands(enums: &[u8]) -> Judged
-    ensures { result ≡ answer_of (enums_at enums.now) }
-{
-    let mut seen = [0u64; 3000];
+    let mut seen = [0u64; CELLS];
     judge_by(enums, &mut seen)
 }
 
 // Judges a list of any length. Few names are compared with each other, and have no table to clear.
-pub fn judge(enums: &[u8]) -> Judged
+pub fn judge(enums: &[u8]) -> Result<(), Refusal>
     ensures { result ≡ answer_of (enums_at enums.now) }
 {
     let count = entries_in(enums);
     if count <= 12 {
-        let mut none = [0u64; 0];
-        return judge_by(enums, &mut none);
+        return judge_in::<0>(enums);
     }
     if count <= 2048 {
-        return judge_hundreds(enums);
+        return judge_in::<512>(enums);
     }
-    judge_thousands(enums)
+    judge_in::<3000>(enums)
 }

@@ -1,5 +1,5 @@
 -- What reading the reader list and the shared count answers, and what it leaves in the codes. Assumes nothing.
-use Rattle.std.specs.Prelude.{◌≡◌, Bool, true, false, List, [], ℕ, ◌+◌, ◌<◌, ◌≤◌, leb, length, take, drop, get_or}
+use Rattle.std.specs.Prelude.{Result, Ok, Err, ◌≡◌, Bool, true, false, List, [], ℕ, ◌+◌, ◌<◌, ◌≤◌, leb, length, take, drop, get_or}
 use Rattle.layout.specs.Target.{Target}
 use Rattle.layout.specs.EnumList.{EnumEntry}
 use Rattle.targets.specs.Code.{prelude_size}
@@ -11,7 +11,8 @@ use Rattle.places.specs.Places.{entries_places, entries_end, lists_places}
 use Rattle.places.specs.Padding.{padding}
 use Rattle.readers.specs.declared.Readers.{Readers}
 use Rattle.readers.specs.declared.Lists.{Lists}
-use Rattle.readers.specs.declared.Lists.TheVariants.{Refused, Read, NoRoom}
+use Rattle.readers.specs.declared.Unlisted.{Unlisted}
+use Rattle.readers.specs.declared.Unlisted.TheVariants.{Refused, NoRoom}
 use Rattle.readers.specs.Listed.{Listed}
 use Rattle.readers.specs.Judged.{judged_name}
 use Rattle.readers.specs.Parts.{up_to}
@@ -48,11 +49,11 @@ pub record ListsRead (x : Reading) (file codes codes' targets starts : List ℕ)
   pub named : (i : ℕ) → i < length names → take (length (get_or names i [])) (drop (get_or starts i 0) file) ≡ get_or names i []
 
 -- the code answers what reading answers, and the padding of the numbers of so many readers, if there is room for the codes
-abbrev pub ReadsLists : (x : Reading) (total : (count : ℕ) → ℕ) (room : Bool) (file codes codes' targets starts : List ℕ) → Lists → Type 0
-ReadsLists x total room file codes codes' targets starts (Refused n p) = (room ≡ true) × (x ≡ refused n p)
-ReadsLists x total room file codes codes' targets starts (Read count shared padding next) =
-    (room ≡ true) × ListsRead x file codes codes' targets starts count shared next × (padding ≡ total count)
-ReadsLists x total room file codes codes' targets starts NoRoom = room ≡ false
+abbrev pub ReadsLists : (x : Reading) (total : (count : ℕ) → ℕ) (room : Bool) (file codes codes' targets starts : List ℕ) → Result Lists Unlisted → Type 0
+ReadsLists x total room file codes codes' targets starts (Err (Refused e)) = (room ≡ true) × (x ≡ refused e.number e.place)
+ReadsLists x total room file codes codes' targets starts (Ok r) =
+    (room ≡ true) × ListsRead x file codes codes' targets starts r.readers r.shared r.next × (r.padding ≡ total r.readers)
+ReadsLists x total room file codes codes' targets starts (Err NoRoom) = room ≡ false
 
 -- the padding of the numbers of so many readers: from the reader count at `at` on, and behind one that has the padding `own`
 unfoldable pub lists_total : (file : List ℕ) (at : ℕ) → (count : ℕ) → ℕ
@@ -62,11 +63,11 @@ unfoldable pub counted_total : (file : List ℕ) (at own : ℕ) → (count : ℕ
 counted_total file at own count = own + padding file (entries_places file count at) + pad_of (seven_at file (entries_end file count at)) (entries_end file count at)
 
 -- behind the reader count, which has the padding `own`
-abbrev pub ReadsCounted : (es : List EnumEntry) (file : List ℕ) (n at own : ℕ) (codes codes' targets starts : List ℕ) → Lists → Type 0
+abbrev pub ReadsCounted : (es : List EnumEntry) (file : List ℕ) (n at own : ℕ) (codes codes' targets starts : List ℕ) → Result Lists Unlisted → Type 0
 ReadsCounted es file n at own codes codes' targets starts r =
     ReadsLists (counted_at es file n at) (counted_total file at own) true file codes codes' targets starts r
 
 -- from the reader count on
-abbrev pub ReadsListsAt : (es : List EnumEntry) (file : List ℕ) (at : ℕ) (codes codes' targets starts : List ℕ) → Lists → Type 0
+abbrev pub ReadsListsAt : (es : List EnumEntry) (file : List ℕ) (at : ℕ) (codes codes' targets starts : List ℕ) → Result Lists Unlisted → Type 0
 ReadsListsAt es file at codes codes' targets starts r =
     ReadsLists (lists_of es file at) (lists_total file at) (enough file at (length codes)) file codes codes' targets starts r

@@ -1,5 +1,5 @@
 -- What a reader's name is judged to be (01, "Reader names"; 02, Req 04). Assumes nothing.
-use Rattle.std.specs.Prelude.{◌≡◌, Bool, List, [], ◌⊎◌, ℕ, ◌+◌, ◌≤◌, leb}
+use Rattle.std.specs.Prelude.{Result, ◌≡◌, Bool, List, [], ◌⊎◌, ℕ, ◌+◌, ◌≤◌, leb}
 use Rattle.std.proofs.Math.Path.{refl, sym, ap}
 use Rattle.std.proofs.Common.{◌∙◌, inl, inr, arith}
 use Rattle.std.proofs.Math.Bool.{true, false, cond}
@@ -17,7 +17,7 @@ use Rattle.names.specs.Faults.{faults, fault_number_lem}
 use Rattle.names.specs.Heading.{headings}
 use Rattle.names.specs.Contract as N
 use Rattle.names.specs.Contract.{placed, ending}
-use Rattle.targets.specs.declared.Resolved.{Resolved}
+use Rattle.targets.specs.declared.Unresolved.{Unresolved}
 use Rattle.targets.specs.Complaints.{leftmost-within}
 use Rattle.targets.specs.Contract.{told, judged, resolution, Resolves}
 use Rattle.reading.specs.File.{Named, unknown, known, Judges}
@@ -80,7 +80,7 @@ module _ (es : List EnumEntry) where
     by_room true q = typed_refused used number place (reader_faults es first n) (reader_of es n) q
     by_room false q = differ cc
 
-  pub refused-name : (first : ℕ) (s c c' : List ℕ) (used number place : ℕ) {r : Resolved} → Resolves es s first c c' used r → told r ≡ N.refused number place → judged_name es first s ≡ unknown number place
+  pub refused-name : (first : ℕ) (s c c' : List ℕ) (used number place : ℕ) {r : Result ℕ Unresolved} → Resolves es s first c c' used r → told r ≡ N.refused number place → judged_name es first s ≡ unknown number place
   refused-name first s c c' used number place p e = refused_as first s (length c) used number place (placed s first used) (name_of first s) refl (sym e ∙ p.answers)
 
   -- a name that is not known is refused with 11, or with 33 to 38, within the name or at its end

@@ -1,5 +1,5 @@
 -- What reading the reader list answers, and what the lent arrays hold when it ends, for every input: what is not written stays as it was. Assumes nothing.
-use Rattle.std.specs.Prelude.{◌≡◌, Bool, true, cond, List, ℕ, zero, suc, ◌+◌, ◌*◌, ◌≤◌, leb, eqb, length, take, drop, set}
+use Rattle.std.specs.Prelude.{Result, Ok, Err, ◌≡◌, Bool, true, cond, List, ℕ, zero, suc, ◌+◌, ◌*◌, ◌≤◌, leb, eqb, length, take, drop, set}
 use Rattle.layout.specs.EnumList.{EnumEntry}
 use Rattle.names.specs.Parse.{name_of}
 use Rattle.names.specs.Contract as N
@@ -9,22 +9,23 @@ use Rattle.targets.specs.Contract.{resolution, content}
 use Rattle.reading.specs.Answer.{Answer, refused, read}
 use Rattle.reading.specs.Seven.{seven_at}
 use Rattle.numbers.specs.Padded.{pad_of}
-use Rattle.readers.specs.declared.One.{One}
-use Rattle.readers.specs.declared.One.TheVariants.{Refused, Read}
-use Rattle.readers.specs.declared.Many.{Many}
-use Rattle.readers.specs.declared.Many.TheVariants.{Refused as Many-refused, Ended}
+use Rattle.answers.specs.declared.Refusal.{Refusal}
+use Rattle.answers.specs.Refusals.{refusal}
+use Rattle.readers.specs.declared.Reader.{Reader}
+use Rattle.readers.specs.declared.Ended.{Ended}
 use Rattle.readers.specs.declared.Lists.{Lists}
-use Rattle.readers.specs.declared.Lists.TheVariants.{Refused as Lists-refused, Read as Lists-read, NoRoom}
+use Rattle.readers.specs.declared.Unlisted.{Unlisted}
+use Rattle.readers.specs.declared.Unlisted.TheVariants.{Refused, NoRoom}
 use Rattle.readers.specs.Parts.{version_at, end_of, up_to}
 
 -- a reader's answer, and the codes
 abbrev pub Step : Type 0
-Step = One × List ℕ
+Step = Result Reader Refusal × List ℕ
 
 -- the answer of a reader, by what its name of n bytes comes to
-abbrev pub after_name : (file : List ℕ) (at first n : ℕ) → N.Answer → One
-after_name file at first n no_room = Refused 1 at
-after_name file at first n (N.refused k p) = Refused k p
+abbrev pub after_name : (file : List ℕ) (at first n : ℕ) → N.Answer → Result Reader Refusal
+after_name file at first n no_room = Err (refusal 1 at)
+after_name file at first n (N.refused k p) = Err (refusal k p)
 after_name file at first n (coded end) = end_of first end (version_at file (first + n))
 
 -- a reader whose name has n bytes from `first` on
@@ -34,12 +35,12 @@ named_left es file codes used at first n =
       after_name file at first n (resolution es (placed (take n (drop first file)) first used) (length codes) first used (name_of first (take n (drop first file)))),
       content es (placed (take n (drop first file)) first used) codes first used (name_of first (take n (drop first file))),
     )
-    (Refused 1 at, codes)
+    (Err (refusal 1 at), codes)
 
 -- a reader, by the count of its name's bytes
 abbrev pub counted_left : List EnumEntry → (file codes : List ℕ) (used at : ℕ) → Answer ℕ → Step
-counted_left es file codes used at (refused n p) = (Refused n p, codes)
-counted_left es file codes used at (read n first) = cond (eqb n 0) (Refused 9 at, codes) (cond (leb n 1024) (named_left es file codes used at first n) (Refused 9 at, codes))
+counted_left es file codes used at (refused n p) = (Err (refusal n p), codes)
+counted_left es file codes used at (read n first) = cond (eqb n 0) (Err (refusal 9 at), codes) (cond (leb n 1024) (named_left es file codes used at first n) (Err (refusal 9 at), codes))
 
 unfoldable pub reader_left : List EnumEntry → (file codes : List ℕ) (used at : ℕ) → Step
 reader_left es file codes used at = counted_left es file codes used at (seven_at file at)
@@ -55,16 +56,20 @@ arrays c t s = record { codes = c; targets = t; starts = s }
 
 -- the answer of readers, and the arrays
 abbrev pub Steps : Type 0
-Steps = Many × Arrays
+Steps = Result Ended Refusal × Arrays
 
 -- reader i, whose codes stand at `used`
-abbrev pub onward : One → (codes targets starts : List ℕ) → (i used : ℕ) → (ℕ → ℕ → List ℕ → List ℕ → List ℕ → Steps) → Steps
-onward (Refused n p) c t s i used rest = (Many-refused n p, arrays c t s)
-onward (Read first end next) c t s i used rest = rest end next c (set t i used) (set s i first)
+abbrev pub onward : Result Reader Refusal → (codes targets starts : List ℕ) → (i used : ℕ) → (ℕ → ℕ → List ℕ → List ℕ → List ℕ → Steps) → Steps
+onward (Err e) c t s i used rest = (Err e, arrays c t s)
+onward (Ok r) c t s i used rest = rest r.end r.next c (set t i used) (set s i r.name)
+
+-- the readers ended at a place, and the lengths of their names have this padding
+abbrev pub ended : (padding next : ℕ) → Ended
+ended padding next = record { padding = padding; next = next }
 
 -- so many readers from reader i on, where the lengths of the names before have the padding `sum`
 unfoldable pub readers_from : List EnumEntry → (file : List ℕ) (left i used next sum : ℕ) (codes targets starts : List ℕ) → Steps
-readers_from es file zero i used next sum c t s = (Ended sum next, arrays c t s)
+readers_from es file zero i used next sum c t s = (Ok (ended sum next), arrays c t s)
 readers_from es file (suc left) i used next sum c t s =
     onward (reader_left es file c used next).0 (reader_left es file c used next).1 t s i used (λ end after c' t' s'. readers_from es file left (i + 1) end after (sum + pad_of (seven_at file next) next) c' t' s')
 
@@ -74,17 +79,21 @@ readers_left es file n next c t s = readers_from es file n 0 prelude_size next 0
 
 -- the answer of the lists, and the arrays
 abbrev pub AllSteps : Type 0
-AllSteps = Lists × Arrays
+AllSteps = Result Lists Unlisted × Arrays
+
+-- n readers and a shared count, where the numbers have this padding, and the next place
+abbrev pub lists : (n shared padding next : ℕ) → Lists
+lists n shared padding next = record { readers = n; shared = shared; padding = padding; next = next }
 
 -- by the shared count: n readers, and this padding of all numbers
-abbrev pub behind_shared : (n total : ℕ) → Answer ℕ → Lists
-behind_shared n total (refused k p) = Lists-refused k p
-behind_shared n total (read shared next) = Lists-read n shared total next
+abbrev pub behind_shared : (n total : ℕ) → Answer ℕ → Result Lists Unlisted
+behind_shared n total (refused k p) = Err (Refused (refusal k p))
+behind_shared n total (read shared next) = Ok (lists n shared total next)
 
 -- by the n readers, where the reader count has the padding `own`
-abbrev pub behind_readers : (file : List ℕ) (n own : ℕ) → Many → Lists
-behind_readers file n own (Many-refused k p) = Lists-refused k p
-behind_readers file n own (Ended names end) = behind_shared n (own + names + pad_of (seven_at file end) end) (up_to 256 file end)
+abbrev pub behind_readers : (file : List ℕ) (n own : ℕ) → Result Ended Refusal → Result Lists Unlisted
+behind_readers file n own (Err e) = Err (Refused e)
+behind_readers file n own (Ok names) = behind_shared n (own + names.padding + pad_of (seven_at file names.next) names.next) (up_to 256 file names.next)
 
 -- n readers and the shared count
 unfoldable pub shared_left : List EnumEntry → (file : List ℕ) (n at own : ℕ) (codes targets starts : List ℕ) → AllSteps
@@ -106,12 +115,12 @@ enough file at room = cond (leb (length file) 16777216) (room_for (up_to 64 file
 
 -- the lists, by the reader count, which has the padding `own`
 abbrev pub behind_count : List EnumEntry → (file : List ℕ) (own : ℕ) → Answer ℕ → (codes targets starts : List ℕ) → AllSteps
-behind_count es file own (refused k p) c t s = (Lists-refused k p, arrays c t s)
-behind_count es file own (read n next) c t s = cond (leb (codes_for n) (length c)) (shared_left es file n next own c t s) (NoRoom, arrays c t s)
+behind_count es file own (refused k p) c t s = (Err (Refused (refusal k p)), arrays c t s)
+behind_count es file own (read n next) c t s = cond (leb (codes_for n) (length c)) (shared_left es file n next own c t s) (Err NoRoom, arrays c t s)
 
 -- the reader list and the shared count at a place; 01: "longer than 16,777,216 bytes is 9 at 0"
 unfoldable pub lists_left : List EnumEntry → (file : List ℕ) (at : ℕ) (codes targets starts : List ℕ) → AllSteps
-lists_left es file at c t s = cond (leb (length file) 16777216) (behind_count es file (pad_of (seven_at file at) at) (up_to 64 file at) c t s) (Lists-refused 9 0, arrays c t s)
+lists_left es file at c t s = cond (leb (length file) 16777216) (behind_count es file (pad_of (seven_at file at) at) (up_to 64 file at) c t s) (Err (Refused (refusal 9 0)), arrays c t s)
 
 -- at most 64 readers are read, from a file of 01's size; there is room for the codes, and the arrays have their sizes
 abbrev pub Sized : (file : List ℕ) (n : ℕ) (codes targets starts : List ℕ) → Type 0

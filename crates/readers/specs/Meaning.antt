@@ -1,5 +1,5 @@
 -- What reading the reader list means: where the codes have room, what is left is what reading answers, and the targets' codes stand. Assumes nothing.
-use Rattle.std.specs.Prelude.{◌≡◌, Bool, cond, eqb, length, drop, set}
+use Rattle.std.specs.Prelude.{Result, Ok, Err, ◌≡◌, Bool, cond, eqb, length, drop, set}
 use Rattle.std.proofs.Math.Path.{refl, ap, subst}
 use Rattle.std.proofs.Common.{sym, ◌∙◌, length-drop, take-append-drop, length-take-le}
 use Rattle.std.proofs.Math.Bool.{true, false}
@@ -17,8 +17,8 @@ use Rattle.names.specs.Parse.{name_of}
 use Rattle.names.specs.Contract as N
 use Rattle.names.specs.Contract.{coded, no_room, placed}
 use Rattle.targets.specs.Code.{prelude_size}
-use Rattle.targets.specs.declared.Resolved.{Resolved}
-use Rattle.targets.specs.declared.Resolved.TheVariants.{Target as Resolved-target, Broken, NoRoom}
+use Rattle.targets.specs.declared.Unresolved.{Unresolved}
+use Rattle.targets.specs.declared.Unresolved.TheVariants.{Broken, NoRoom as Unresolved-no-room}
 use Rattle.targets.specs.Contract.{told, resolution, content, Resolves}
 use Rattle.targets.specs.Short.{codes_are_few}
 use Rattle.targets.specs.Meaning.{HasTarget, target_is, no_room_is}
@@ -29,12 +29,13 @@ use Rattle.reading.specs.Little.{little_at}
 use Rattle.reading.specs.File.{unknown, known, judge, reader_at}
 use Rattle.numbers.specs.Padded.{past, pad_of}
 use Rattle.places.specs.Padding.{past_few}
-use Rattle.readers.specs.declared.One.{One}
-use Rattle.readers.specs.declared.One.TheVariants.{Refused, Read}
-use Rattle.readers.specs.declared.Many.{Many}
-use Rattle.readers.specs.declared.Many.TheVariants.{Refused as Many-refused, Ended}
+use Rattle.answers.specs.declared.Refusal.{Refusal}
+use Rattle.answers.specs.Refusals.{refusal}
+use Rattle.readers.specs.declared.Reader.{Reader}
+use Rattle.readers.specs.declared.Ended.{Ended}
 use Rattle.readers.specs.declared.Lists.{Lists}
-use Rattle.readers.specs.declared.Lists.TheVariants.{Refused as Lists-refused, NoRoom}
+use Rattle.readers.specs.declared.Unlisted.{Unlisted}
+use Rattle.readers.specs.declared.Unlisted.TheVariants.{Refused, NoRoom}
 use Rattle.readers.specs.Judged.{judged_name, known_name, refused-name}
 use Rattle.readers.specs.Parts.{up_to, version_at, end_of, versioned, named_at, Ready, Taken, Takes}
 use Rattle.readers.specs.Left.{Step, after_name, named_left, counted_left, reader_left, Arrays, arrays, Steps, onward, readers_from, readers_left, AllSteps, behind_shared, behind_readers, shared_left, codes_for, enough, behind_count, lists_left, Sized}
@@ -46,10 +47,10 @@ use Rattle.readers.specs.Turning.{refuse, none_read, ready, one_read}
 use Rattle.readers.specs.Whole.{readers-refused, shared_refused, shared_read, lists_long, lists_refused, lists_counted, total_is}
 
 -- an answer of the code that tells this
-abbrev untold : N.Answer → Resolved
-untold (coded end) = Resolved-target end
-untold (N.refused number place) = Broken number place
-untold no_room = NoRoom
+abbrev untold : N.Answer → Result ℕ Unresolved
+untold (coded end) = Ok end
+untold (N.refused number place) = Err (Broken (refusal number place))
+untold no_room = Err Unresolved-no-room
 
 told-untold : (x : N.Answer) → told (untold x) ≡ x
 told-untold (coded end) = refl
@@ -106,10 +107,10 @@ module _ (es : List EnumEntry) (file : List ℕ) (n at first : ℕ) where
       fits : first + length s ≤ 16777216
       fits = omega (arith, size, leb-true n (length (drop first file)) t, length-drop first file)
 
-      named_room : {r : Resolved} → Resolves es s first c c' used r → told r ≡ no_room → ⊥
+      named_room : {r : Result ℕ Unresolved} → Resolves es s first c c' used r → told r ≡ no_room → ⊥
       named_room p e = omega (arith, no_room_is es s first c c' used p e below fits, size)
 
-      named_refused : (number place : ℕ) {r : Resolved} → Resolves es s first c c' used r → told r ≡ N.refused number place → named_at es file n at first ≡ refused number place
+      named_refused : (number place : ℕ) {r : Result ℕ Unresolved} → Resolves es s first c c' used r → told r ≡ N.refused number place → named_at es file n at first ≡ refused number place
       named_refused number place p e = name_refused (ap (judged_name es first) (sym q) ∙ refused-name es first s c c' used number place p e)
 
       module _ (near : first ≤ at + 5) (end : ℕ) (g : HasTarget es s first c c' used end) where
@@ -179,7 +180,7 @@ module _ (es : List EnumEntry) (sized : (h : List ℕ) → (size_in es h ≡ 0 �
 
       by_length : (b : Bool) → leb n (length (drop first file)) ≡ b
           → TakesStep (named_at es file n at first) file c used at
-          (cond b (after_name file at first n (resolution es (placed s first used) (length c) first used (name_of first s)), codes) (Refused 1 at, c))
+          (cond b (after_name file at first n (resolution es (placed s first used) (length c) first used (name_of first s)), codes) (Err (refusal 1 at), c))
       by_length true t = by_name t (resolution es (placed s first used) (length c) first used (name_of first s)) refl
       by_length false t = named_missing es file n at first t
 
@@ -187,14 +188,14 @@ module _ (es : List EnumEntry) (sized : (h : List ℕ) → (size_in es h ≡ 0 �
   unfolding reader_left past
   reader_means small = by_count (seven_at file at) refl where
     by_most : (n first : ℕ) (b : Bool) → seven_at file at ≡ read n first → leb n 1024 ≡ b → (n ≡ 0 → ⊥)
-        → TakesStep (reader_at (judged_name es) file at) file c used at (cond b (named_left es file c used at first n) (Refused 9 at, c))
+        → TakesStep (reader_at (judged_name es) file at) file c used at (cond b (named_left es file c used at first n) (Err (refusal 9 at), c))
     by_most n first true e l z =
         let few = leb-true n 1024 l in
         rw (reader_named es file at e z few) (named_means first n few (seven_next file small at e).1 (rw e at (past_few file small at)))
     by_most n first false e l z = reader-long es file at e (leb-false n 1024 l)
 
     by_least : (n first : ℕ) (b : Bool) → seven_at file at ≡ read n first → eqb n 0 ≡ b
-        → TakesStep (reader_at (judged_name es) file at) file c used at (cond b (Refused 9 at, c) (cond (leb n 1024) (named_left es file c used at first n) (Refused 9 at, c)))
+        → TakesStep (reader_at (judged_name es) file at) file c used at (cond b (Err (refusal 9 at), c) (cond (leb n 1024) (named_left es file c used at first n) (Err (refusal 9 at), c)))
     by_least n first true e z = reader_empty es file at e (eqb-true n 0 z)
     by_least n first false e z = by_most n first (leb n 1024) e refl (eqb-false n 0 z)
 
@@ -203,7 +204,7 @@ module _ (es : List EnumEntry) (sized : (h : List ℕ) → (size_in es h ≡ 0 �
     by_count (read n first) e = by_least n first (eqb n 0) e refl
 
   -- a step that is the definition's
-  pub reader-takes : Small file → {r : One} {c' : List ℕ} → reader_left es file c used at ≡ (r, c') → Takes (reader_at (judged_name es) file at) file c c' used at r
+  pub reader-takes : Small file → {r : Result Reader Refusal} {c' : List ℕ} → reader_left es file c used at ≡ (r, c') → Takes (reader_at (judged_name es) file at) file c c' used at r
   reader-takes small e = subst (TakesStep (reader_at (judged_name es) file at) file c used at) e (reader_means small)
 
 module _ (es : List EnumEntry) (sized : (h : List ℕ) → (size_in es h ≡ 0 → ⊥) → EnumSize (size_in es h)) (file : List ℕ) (small : Small file) where
@@ -213,9 +214,9 @@ module _ (es : List EnumEntry) (sized : (h : List ℕ) → (size_in es h ≡ 0 �
       by_reader : (rest : ℕ → ℕ → List ℕ → List ℕ → List ℕ → Steps)
           → ((first end behind : ℕ) (c' : List ℕ) → Underway es file c₀ c' (set t i used) (set s i first) n at (i + 1) end behind (sum + pad_of (seven_at file next) next)
           → Ends es file c₀ n at (rest end behind c' (set t i used) (set s i first)))
-          → (o : One) (c' : List ℕ) → Takes (reader_at (judged_name es) file next) file c c' used next o → Ends es file c₀ n at (onward o c' t s i used rest)
-      by_reader rest f (Refused k p) c' w = refuse u.reached h w
-      by_reader rest f (Read first end behind) c' w = f first end behind c' (one_read u h small z.1 w)
+          → (o : Result Reader Refusal) (c' : List ℕ) → Takes (reader_at (judged_name es) file next) file c c' used next o → Ends es file c₀ n at (onward o c' t s i used rest)
+      by_reader rest f (Err x) c' w = refuse u.reached h w
+      by_reader rest f (Ok r) c' w = f r.name r.end r.next c' (one_read u h small z.1 w)
 
     from_means : (left i used next sum : ℕ) (c t s : List ℕ) → i + left ≡ n → Underway es file c₀ c t s n at i used next sum → Ends es file c₀ n at (readers_from es file left i used next sum c t s)
     unfolding readers_from
@@ -231,7 +232,7 @@ module _ (es : List EnumEntry) (sized : (h : List ℕ) → (size_in es h ≡ 0 �
     readers_mean : Ends es file c₀ n at (readers_left es file n at c₀ t₀ s₀)
     readers_mean = from_means n 0 prelude_size at 0 c₀ t₀ s₀ (omega arith) (none_read es file c₀ t₀ s₀ n at z.3 z.4)
 
-    pub readers-take : {m : Many} {c t s : List ℕ} → readers_left es file n at c₀ t₀ s₀ ≡ (m, arrays c t s) → EndsAs es file c₀ c t s n at m
+    pub readers-take : {m : Result Ended Refusal} {c t s : List ℕ} → readers_left es file n at c₀ t₀ s₀ ≡ (m, arrays c t s) → EndsAs es file c₀ c t s n at m
     readers-take e = subst (Ends es file c₀ n at) e readers_mean
 
     -- and the shared count
@@ -244,9 +245,9 @@ module _ (es : List EnumEntry) (sized : (h : List ℕ) → (size_in es h ≡ 0 �
           let a = all_passed file n at end names u.passed in
           (refl, shared_read es file n at u z.1 e, rw (← a.1, ← a.0))
 
-      by_readers : (m : Many) (a : Arrays) → EndsAs es file c₀ a.codes a.targets a.starts n at m → ReadsCounted es file n at own c₀ a.codes a.targets a.starts (behind_readers file n own m)
-      by_readers (Many-refused k p) a e = (refl, readers-refused es file n at e)
-      by_readers (Ended names end) a e = by_shared e.1 (up_to 256 file end) refl
+      by_readers : (m : Result Ended Refusal) (a : Arrays) → EndsAs es file c₀ a.codes a.targets a.starts n at m → ReadsCounted es file n at own c₀ a.codes a.targets a.starts (behind_readers file n own m)
+      by_readers (Err x) a e = (refl, readers-refused es file n at e)
+      by_readers (Ok r) a e = by_shared e.1 (up_to 256 file r.next) refl
 
       counted_means : CountedStep es file n at own c₀ (shared_left es file n at own c₀ t₀ s₀)
       unfolding shared_left
@@ -261,7 +262,7 @@ module _ (es : List EnumEntry) (sized : (h : List ℕ) → (size_in es h ≡ 0 �
       own = pad_of (seven_at file at) at
 
       by_room : length file ≤ 16777216 → {n next : ℕ} → up_to 64 file at ≡ read n next → (b : Bool) → leb (codes_for n) (length c) ≡ b
-          → ListsStep es file at c (cond b (shared_left es file n next own c t s) (NoRoom, arrays c t s))
+          → ListsStep es file at c (cond b (shared_left es file n next own c t s) (Err NoRoom, arrays c t s))
       by_room h {n} {next} e true q =
           let r : enough file at (length c) ≡ true = enough_for file at (length c) h true (rw e q) in
           let z : Sized file n c t s = (h, up_to_bound 64 file at e, leb-true (codes_for n) (length c) q, targets_size, starts_size) in
@@ -272,13 +273,13 @@ module _ (es : List EnumEntry) (sized : (h : List ℕ) → (size_in es h ≡ 0 �
       by_count h (refused k p) e = (enough_for file at (length c) h true (rw e), lists_refused es file at h e)
       by_count h (read n next) e = by_room h e (leb (codes_for n) (length c)) refl
 
-      by_size : (b : Bool) → leb (length file) 16777216 ≡ b → ListsStep es file at c (cond b (behind_count es file own (up_to 64 file at) c t s) (Lists-refused 9 0, arrays c t s))
+      by_size : (b : Bool) → leb (length file) 16777216 ≡ b → ListsStep es file at c (cond b (behind_count es file own (up_to 64 file at) c t s) (Err (Refused (refusal 9 0)), arrays c t s))
       by_size true q = by_count (leb-true (length file) 16777216 q) (up_to 64 file at) refl
       by_size false q =
           let h = leb-false (length file) 16777216 q in
           (long-enough file at (length c) h, lists_long es file at h)
 
 -- the lists under a lent list of enum types
-pub lists_take : (enums file : List ℕ) → Small file → (at : ℕ) (c t s : List ℕ) {c' t' s' : List ℕ} {r : Lists} → length t ≡ 64 → length s ≡ 64 → lists_left (enums_of enums) file at c t s ≡ (r, arrays c' t' s')
+pub lists_take : (enums file : List ℕ) → Small file → (at : ℕ) (c t s : List ℕ) {c' t' s' : List ℕ} {r : Result Lists Unlisted} → length t ≡ 64 → length s ≡ 64 → lists_left (enums_of enums) file at c t s ≡ (r, arrays c' t' s')
     → ReadsListsAt (enums_of enums) file at c c' t' s' r
 lists_take enums file small at c t s p q e = subst (ListsStep (enums_of enums) file at c) e (lists_mean (enums_of enums) (enums-sized enums) file small at c t s p q)

@@ -1,5 +1,5 @@
 -- The parts of reading a reader list, as the code reads them one by one. Assumes nothing.
-use Rattle.std.specs.Prelude.{◌≡◌, List, ℕ, ◌+◌, ◌*◌, ◌≤◌, leb, eqb, length, take, drop}
+use Rattle.std.specs.Prelude.{Result, Ok, Err, ◌≡◌, List, ℕ, ◌+◌, ◌*◌, ◌≤◌, leb, eqb, length, take, drop}
 use Rattle.std.proofs.lemmas.List.Edits.{sets}
 use Rattle.layout.specs.Target.{Target}
 use Rattle.layout.specs.EnumList.{EnumEntry}
@@ -9,8 +9,9 @@ use Rattle.reading.specs.Reads.{some}
 use Rattle.reading.specs.Seven.{seven_at}
 use Rattle.reading.specs.Little.{little_at}
 use Rattle.reading.specs.File.{judge}
-use Rattle.readers.specs.declared.One.{One}
-use Rattle.readers.specs.declared.One.TheVariants.{Refused, Read}
+use Rattle.answers.specs.declared.Refusal.{Refusal}
+use Rattle.answers.specs.Refusals.{refusal}
+use Rattle.readers.specs.declared.Reader.{Reader}
 use Rattle.readers.specs.Judged.{judged_name}
 
 -- 01: a count above its most is 9, at the count
@@ -21,10 +22,14 @@ up_to most file at = bind (seven_at file at) (λ n e. check (leb n most) 9 at (r
 unfoldable pub version_at : List ℕ → ℕ → Answer ℕ
 version_at file at = bind (little_at file 4 at at) (λ v next. check (eqb v 0) 12 at (read v next))
 
+-- a reader whose name starts at `first` and whose codes end before `end`, and the next place
+abbrev pub reader : (first end next : ℕ) → Reader
+reader first end next = record { name = first; end = end; next = next }
+
 -- a reader whose name starts at `first` and whose codes end before `end`, by its version
-abbrev pub end_of : (first end : ℕ) → Answer ℕ → One
-end_of first end (refused n p) = Refused n p
-end_of first end (read v next) = Read first end next
+abbrev pub end_of : (first end : ℕ) → Answer ℕ → Result Reader Refusal
+end_of first end (refused n p) = Err (refusal n p)
+end_of first end (read v next) = Ok (reader first end next)
 
 -- a reader of the target t, whose name was read
 unfoldable pub versioned : List ℕ → List ℕ → Target → ℕ → Answer (List ℕ × Target)
@@ -52,6 +57,6 @@ pub record Taken (x : Answer (List ℕ × Target)) (file c c' : List ℕ) (used 
   pub stands : Stands file c' used t
 
 -- what the code answers of a reader that reading answers so
-abbrev pub Takes : (x : Answer (List ℕ × Target)) (file c c' : List ℕ) (used at : ℕ) → One → Type 0
-Takes x file c c' used at (Refused n p) = x ≡ refused n p
-Takes x file c c' used at (Read first end next) = Taken x file c c' used at first end next
+abbrev pub Takes : (x : Answer (List ℕ × Target)) (file c c' : List ℕ) (used at : ℕ) → Result Reader Refusal → Type 0
+Takes x file c c' used at (Err e) = x ≡ refused e.number e.place
+Takes x file c c' used at (Ok r) = Taken x file c c' used at r.name r.end r.next

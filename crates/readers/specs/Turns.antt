@@ -1,5 +1,5 @@
 -- The readers that were read so far, and the padding of their names' lengths. Assumes nothing.
-use Rattle.std.specs.Prelude.{◌≡◌, List, [], ◌++◌, ℕ, ◌+◌, ◌-◌, ◌*◌, ◌<◌, ◌≤◌, length, take, drop, get_or}
+use Rattle.std.specs.Prelude.{Result, Ok, Err, ◌≡◌, List, [], ◌++◌, ℕ, ◌+◌, ◌-◌, ◌*◌, ◌<◌, ◌≤◌, length, take, drop, get_or}
 use Rattle.layout.specs.Target.{Target, object}
 use Rattle.layout.specs.EnumList.{EnumEntry}
 use Rattle.targets.specs.Code.{prelude_size, code_size, Stands}
@@ -7,8 +7,8 @@ use Rattle.reading.specs.Answer.{Answer, refused, read, bind}
 use Rattle.reading.specs.File.{readers_at}
 use Rattle.places.specs.Places.{entries_places, entries_end}
 use Rattle.places.specs.Padding.{padding}
-use Rattle.readers.specs.declared.Many.{Many}
-use Rattle.readers.specs.declared.Many.TheVariants.{Refused, Ended}
+use Rattle.answers.specs.declared.Refusal.{Refusal}
+use Rattle.readers.specs.declared.Ended.{Ended}
 use Rattle.readers.specs.Judged.{judged_name}
 use Rattle.readers.specs.Left.{Steps}
 
@@ -51,9 +51,9 @@ pub record Underway (es : List EnumEntry) (file codes codes' targets starts : Li
   pub starts_size : length starts ≡ 64
 
 -- what the code answers of n readers
-abbrev pub EndsAs : (es : List EnumEntry) (file codes codes' targets starts : List ℕ) (n at : ℕ) → Many → Type 0
-EndsAs es file codes codes' targets starts n at (Refused number place) = readers_at (judged_name es) file n at ≡ refused number place
-EndsAs es file codes codes' targets starts n at (Ended sum next) = (used : ℕ) × Underway es file codes codes' targets starts n at n used next sum
+abbrev pub EndsAs : (es : List EnumEntry) (file codes codes' targets starts : List ℕ) (n at : ℕ) → Result Ended Refusal → Type 0
+EndsAs es file codes codes' targets starts n at (Err e) = readers_at (judged_name es) file n at ≡ refused e.number e.place
+EndsAs es file codes codes' targets starts n at (Ok r) = (used : ℕ) × Underway es file codes codes' targets starts n at n used r.next r.padding
 
 abbrev pub Ends : (es : List EnumEntry) (file codes : List ℕ) (n at : ℕ) → Steps → Type 0
 Ends es file codes n at o = EndsAs es file codes o.1.codes o.1.targets o.1.starts n at o.0

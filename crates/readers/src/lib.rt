@@ -6,12 +6,12 @@ ghost use Rattle.answers.specs.Told.{told};
 ghost use Rattle.reading.specs.Seven.{seven_at};
 ghost use Rattle.names.specs.Entries.{enums_of};
 ghost use Rattle.numbers.specs.Padded.{pad_of};
+ghost use Rattle.readers.specs.declared.Unlisted.TheVariants.{Refused};
 ghost use Rattle.readers.specs.Parts.{up_to, version_at, end_of};
 ghost use Rattle.readers.specs.Left.{named_left, reader_left, readers_left, shared_left, codes_for, lists_left, arrays, Sized};
 
-use answers::Number;
-use numbers::seven::Padded;
-use targets::Resolved;
+use answers::{Number, Refusal, Rule};
+use targets::Unresolved;
 
 // The types and names of the first `count` readers.
 #[derive(Clone, Copy)]
@@ -24,26 +24,23 @@ pub struct Readers {
 // Where the reader list of a file starts: behind the header.
 pub const START: usize = 10;
 
-// One reader: a refusal's number and place, or the first byte of its name, how many codes are used, and the next place.
-#[derive(Clone, Copy)]
-pub enum One {
-    Refused(u32, usize),
-    Read(usize, usize, usize),
+// One reader: the first byte of its name, how many codes are used, and the next place.
+#[derive(Clone, Copy, Debug, PartialEq, Eq)]
+pub struct Reader {
+    pub name: usize,
+    pub end: usize,
+    pub next: usize,
 }
 
 // A seven-bit number that is at most `most`.
 fn up_to(file: &[u8], most: u64, at: usize) -> Number
     ensures { told result ≡ up_to most file.now at }
 {
-    match numbers::seven::seven_at(file, at) {
-        Number::Refused(number, place) => Number::Refused(number, place),
-        Number::Read(n, next) => {
-            if n <= most {
-                return Number::Read(n, next);
-            }
-            Number::Refused(9, at)
-        }
+    let number = numbers::seven::seven_at(file, at)?;
+    if number.value <= most {
+        return Ok(number);
     }
+    Err(Rule::TooLarge.at(at))
 }
 
 // The padding of the seven-bit number at a place; 0 where there is none.
@@ -51,8 +48,8 @@ fn padding_at(file: &[u8], at: usize) -> u32
     ensures { result ≡ pad_of (seven_at file.now at) at }
 {
     match numbers::seven::seven_padded(file, at) {
-        Padded::Refused(_, _) => 0,
-        Padded::Read(_, _, padding) => padding,
+        Ok(number) => number.padding,
+        Err(_) => 0,
     }
 }
 
@@ -60,25 +57,23 @@ fn padding_at(file: &[u8], at: usize) -> u32
 fn version_at(file: &[u8], at: usize) -> Number
     ensures { told result ≡ version_at file.now at }
 {
-    match numbers::little::little4(file, at) {
-        Number::Refused(number, place) => Number::Refused(number, place),
-        Number::Read(version, next) => {
-            if version != 0 {
-                return Number::Refused(12, at);
-            }
-            Number::Read(version, next)
-        }
+    let version = numbers::little::little::<u32>(file, at)?;
+    if version.value != 0 {
+        return Err(Rule::ReaderVersion.at(at));
     }
+    Ok(version)
 }
 
 // The version of a reader whose name starts at `first` and whose codes end before `end`.
-fn versioned(file: &[u8], first: usize, end: usize, at: usize) -> One
+fn versioned(file: &[u8], first: usize, end: usize, at: usize) -> Result<Reader, Refusal>
     ensures { result ≡ end_of first end (version_at file.now at) }
 {
-    match version_at(file, at) {
-        Number::Refused(number, place) => One::Refused(number, place),
-        Number::Read(_, next) => One::Read(first, end, next),
-    }
+    let version = version_at(file, at)?;
+    Ok(Reader {
+        name: first,
+        end,
+        next: version.next,
+    })
 }
 
 // A reader whose name has n bytes from `first` on, which its count at `at` says.
@@ -90,45 +85,55 @@ fn named_at(
     at: usize,
     first: usize,
     n: usize,
-) -> One
+) -> Result<Reader, Refusal>
     requires { (first ≤ length file.now) × (n ≤ 1024) }
     ensures { named_left (enums_of enums.now) file.now codes.old used at first n ≡ (result, codes.new) }
 {
     if !numbers::little::has_bytes(file, first, n) {
-        return One::Refused(1, at);
+        return Err(Rule::PastEnd.at(at));
     }
     let version = first + n;
     match targets::resolve(&file[first..version], first, enums, codes, used) {
-        Resolved::NoRoom => One::Refused(1, at),
-        Resolved::Broken(number, place) => One::Refused(number, place),
-        Resolved::Unknown(place) => One::Refused(11, place),
-        Resolved::Target(end) => versioned(file, first, end, version),
+        Ok(end) => versioned(file, first, end, version),
+        Err(Unresolved::Broken(refusal)) => Err(refusal),
+        Err(Unresolved::Unknown(place)) => Err(Rule::NameHead.at(place)),
+        Err(Unresolved::NoRoom) => Err(Rule::PastEnd.at(at)),
     }
 }
 
 // A reader: the count of its name's bytes, its name and its version.
-fn reader_at(file: &[u8], enums: &[u8], codes: &mut [u32], used: usize, at: usize) -> One
+fn reader_at(
+    file: &[u8],
+    enums: &[u8],
+    codes: &mut [u32],
+    used: usize,
+    at: usize,
+) -> Result<Reader, Refusal>
     ensures { reader_left (enums_of enums.now) file.now codes.old used at ≡ (result, codes.new) }
 {
-    match numbers::seven::seven_at(file, at) {
-        Number::Refused(number, place) => One::Refused(number, place),
-        Number::Read(n, first) => {
-            if n == 0 {
-                return One::Refused(9, at);
-            }
-            if 1024 < n {
-                return One::Refused(9, at);
-            }
-            named_at(file, enums, codes, used, at, first, n as usize)
-        }
+    let count = numbers::seven::seven_at(file, at)?;
+    if count.value == 0 {
+        return Err(Rule::TooLarge.at(at));
     }
+    if 1024 < count.value {
+        return Err(Rule::TooLarge.at(at));
+    }
+    named_at(
+        file,
+        enums,
+        codes,
+        used,
+        at,
+        count.next,
+        count.value as usize,
+    )
 }
 
-// So many readers were read, with the padding of their names' lengths, and end at a place; or a refusal's number and place.
-#[derive(Clone, Copy)]
-pub enum Many {
-    Refused(u32, usize),
-    Ended(u32, usize),
+// The padding of the lengths of all readers' names, and the place behind the readers.
+#[derive(Clone, Copy, Debug, PartialEq, Eq)]
+pub struct Ended {
+    pub padding: u32,
+    pub next: usize,
 }
 
 // The readers in order. The codes of the first stand behind the prelude, those of each other behind those before it.
@@ -140,40 +145,47 @@ fn readers_at(
     starts: &mut [u16],
     n: usize,
     at: usize,
-) -> Many
+) -> Result<Ended, Refusal>
     requires { Sized file.now n codes.old targets.old starts.old × (at ≤ 15) }
     ensures { readers_left (enums_of enums.now) file.now n at codes.old targets.old starts.old
         ≡ (result, arrays codes.new targets.new starts.new) }
 {
-    let mut i = 0;
     let mut used: usize = targets::PRELUDE;
     let mut next = at;
     let mut padding = 0;
-    while i < n {
-        match reader_at(file, enums, codes, used, next) {
-            One::Refused(number, place) => {
-                return Many::Refused(number, place);
-            }
-            One::Read(first, end, after) => {
-                targets[i] = used as u16;
-                starts[i] = first as u16;
-                used = end;
-                padding += padding_at(file, next);
-                next = after;
-            }
-        }
-        i += 1;
+    for i in 0..n {
+        let reader = reader_at(file, enums, codes, used, next)?;
+        targets[i] = used as u16;
+        starts[i] = reader.name as u16;
+        used = reader.end;
+        padding += padding_at(file, next);
+        next = reader.next;
     }
-    Many::Ended(padding, next)
+    Ok(Ended { padding, next })
 }
 
-// How many readers there are, the shared count, the padding of both counts and of the names' lengths, and the next place;
-// or a refusal's number and place; or no room for the codes that so many readers may need.
-#[derive(Clone, Copy)]
-pub enum Lists {
-    Refused(u32, usize),
-    Read(u32, u32, u32, usize),
+// How many readers there are, the shared count, the padding of both counts and of the names' lengths, and the next place.
+#[derive(Clone, Copy, Debug, PartialEq, Eq)]
+pub struct Lists {
+    pub readers: u32,
+    pub shared: u32,
+    pub padding: u32,
+    pub next: usize,
+}
+
+// Why the lists of a file are not read: they are refused, or there is no room for the codes that so many readers may need.
+#[derive(Clone, Copy, Debug, PartialEq, Eq)]
+pub enum Unlisted {
+    Refused(Refusal),
     NoRoom,
+}
+
+impl From<Refusal> for Unlisted {
+    ghost from_gives = { λ refusal e. e ≡ Refused refusal };
+
+    fn from(refusal: Refusal) -> Unlisted {
+        Unlisted::Refused(refusal)
+    }
 }
 
 // The readers and the shared count, behind the reader count, which has this padding.
@@ -186,21 +198,19 @@ fn counted(
     n: usize,
     at: usize,
     padding: u32,
-) -> Lists
+) -> Result<Lists, Unlisted>
     requires { Sized file.now n codes.old targets.old starts.old × (at ≤ 15) × (padding ≤ 4) }
     ensures { shared_left (enums_of enums.now) file.now n at padding
         codes.old targets.old starts.old ≡ (result, arrays codes.new targets.new starts.new) }
 {
-    match readers_at(file, enums, codes, targets, starts, n, at) {
-        Many::Refused(number, place) => Lists::Refused(number, place),
-        Many::Ended(names, end) => match up_to(file, 256, end) {
-            Number::Refused(number, place) => Lists::Refused(number, place),
-            Number::Read(shared, next) => {
-                let total = padding + names + padding_at(file, end);
-                Lists::Read(n as u32, shared as u32, total, next)
-            }
-        },
-    }
+    let names = readers_at(file, enums, codes, targets, starts, n, at)?;
+    let shared = up_to(file, 256, names.next)?;
+    Ok(Lists {
+        readers: n as u32,
+        shared: shared.value as u32,
+        padding: padding + names.padding + padding_at(file, names.next),
+        next: shared.next,
+    })
 }
 
 // How many readers there are, by the count at a place.
@@ -229,30 +239,26 @@ pub fn read_lists(
     codes: &mut [u32],
     targets: &mut [u16; 64],
     starts: &mut [u16; 64],
-) -> Lists
+) -> Result<Lists, Unlisted>
     ensures { lists_left (enums_of enums.now) file.now 10 codes.old targets.old starts.old
         ≡ (result, arrays codes.new targets.new starts.new) }
 {
     if 16777216 < file.len() {
-        return Lists::Refused(9, 0);
+        return Err(Unlisted::Refused(Rule::TooLarge.at(0)));
     }
-    match reader_count(file, START) {
-        Number::Refused(number, place) => Lists::Refused(number, place),
-        Number::Read(count, next) => {
-            let n = count as usize;
-            if codes.len() < codes_for(n) {
-                return Lists::NoRoom;
-            }
-            counted(
-                file,
-                enums,
-                codes,
-                targets,
-                starts,
-                n,
-                next,
-                padding_at(file, START),
-            )
-        }
+    let count = reader_count(file, START)?;
+    let n = count.value as usize;
+    if codes.len() < codes_for(n) {
+        return Err(Unlisted::NoRoom);
     }
+    counted(
+        file,
+        enums,
+        codes,
+        targets,
+        starts,
+        n,
+        count.next,
+        padding_at(file, START),
+    )
 }

@@ -1,5 +1,5 @@
 -- What a reader's name comes to, and which codes are left. Assumes nothing.
-use Rattle.std.specs.Prelude.{◌≡◌, Bool, true, false, cond, List, [], ◌∷◌, ℕ, ◌+◌, ◌%◌, eqb, leb, length}
+use Rattle.std.specs.Prelude.{◌≡◌, Bool, true, false, cond, List, [], ◌∷◌, ℕ, ◌+◌, ◌%◌, eqb, leb, length, Result, Ok, Err}
 use Rattle.std.proofs.lemmas.List.Edits.{sets}
 use Rattle.layout.specs.EnumList.{EnumEntry}
 use Rattle.layout.specs.Named.{Typed, unknown, known, reader_of}
@@ -8,16 +8,23 @@ use Rattle.names.specs.Parse.{Read, broken, name, name_of}
 use Rattle.names.specs.Contract.{Answer, coded, refused, no_room, placed, ending}
 use Rattle.names.specs.Kind.{node, codes}
 use Rattle.names.specs.Heading.{headings}
-use Rattle.targets.specs.declared.Resolved.{Resolved}
-use Rattle.targets.specs.declared.Resolved.TheVariants.{Target as Resolved-target, Broken, Unknown, NoRoom}
+use Rattle.names.specs.declared.parse.Unnamed.{Unnamed}
+use Rattle.names.specs.declared.parse.Unnamed.TheVariants.{Broken as Unnamed-broken, NoRoom as Unnamed-no-room}
+use Rattle.targets.specs.declared.Unresolved.{Unresolved}
+use Rattle.targets.specs.declared.Unresolved.TheVariants.{Broken, Unknown, NoRoom}
 use Rattle.targets.specs.Code.{code_size}
 
 -- 01: "A head that is not listed, or a wrong argument count: 11"; 02: "10 becomes 33 to 38"
-abbrev pub told : Resolved → Answer
-told (Resolved-target used) = coded used
-told (Broken number place) = refused number place
-told (Unknown place) = refused 11 place
-told NoRoom = no_room
+abbrev pub told : Result ℕ Unresolved → Answer
+told (Ok used) = coded used
+told (Err (Broken r)) = refused r.number r.place
+told (Err (Unknown place)) = refused 11 place
+told (Err NoRoom) = no_room
+
+-- a name that has no codes has no target
+abbrev pub unresolved : Unnamed → Unresolved
+unresolved (Unnamed-broken r) = Broken r
+unresolved Unnamed-no-room = NoRoom
 
 -- a well-formed name, by its target and the places of the heads that are complained of
 unfoldable pub judged : (used : ℕ) → List ℕ → Typed → Answer
@@ -60,6 +67,6 @@ content es true c at used (name n k) =
     cond (leb (used + length (headings at n)) (length c)) (sets c used (left (reader_of es n) (codes es true (headings at n)))) (sets c used (codes es true (headings at n)))
 
 -- a whole reader name s whose first byte is at a place, under a list of enum types, and the codes before and after
-pub record Resolves (es : List EnumEntry) (s : List ℕ) (at : ℕ) (c c' : List ℕ) (used : ℕ) (r : Resolved) : Type 0 where
+pub record Resolves (es : List EnumEntry) (s : List ℕ) (at : ℕ) (c c' : List ℕ) (used : ℕ) (r : Result ℕ Unresolved) : Type 0 where
   pub answers : told r ≡ resolution es (placed s at used) (length c) at used (name_of at s)
   pub writes : c' ≡ content es (placed s at used) c at used (name_of at s)

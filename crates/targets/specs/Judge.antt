@@ -1,11 +1,9 @@
 -- Which codes of a well-formed name's heads are complained of, from left to right. Assumes nothing.
-use Rattle.std.specs.Prelude.{Bool, true, false, ◌||◌, cond, List, [], ◌∷◌, ◌++◌, ℕ, ◌/◌, ◌%◌, eqb, ltb}
+use Rattle.std.specs.Prelude.{Bool, true, false, ◌||◌, cond, Option, Some, None, List, [], ◌∷◌, ◌++◌, ℕ, ◌/◌, ◌%◌, eqb, ltb}
 use Rattle.layout.specs.Number.{between}
 use Rattle.layout.specs.Named.{plain}
 use Rattle.layout.specs.Complaint.{is_known, unless}
 use Rattle.names.specs.Kind.{node}
-use Rattle.targets.specs.declared.Judged.{Judged}
-use Rattle.targets.specs.declared.Judged.TheVariants.{Fine, Wrong}
 
 -- a listed enum type's kind, with no argument
 unfoldable pub listed_kind : ℕ → Bool
@@ -38,6 +36,6 @@ bad_reader (w ∷ s) =
     (cond (eqb (w % 256) (node 17 1)) (bad_arguments false s) (unless (head_ok (w % 256)) (w / 256) ++ bad_arguments (eqb (w % 256) (node 16 1)) s))
 
 -- the leftmost complaint, if there is one
-abbrev pub complaint : List ℕ → Judged
-complaint [] = Fine
-complaint (p ∷ ps) = Wrong p
+abbrev pub complaint : List ℕ → Option ℕ
+complaint [] = None
+complaint (p ∷ ps) = Some p

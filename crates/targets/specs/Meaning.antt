@@ -1,5 +1,5 @@
 -- What an answer of `resolve` says of the name: exactly which names are refused and why, and what stands in the codes otherwise. Assumes nothing.
-use Rattle.std.specs.Prelude.{◌≡◌, Bool, ◌&&◌, cond, ◌⊎◌, ℕ, ◌+◌, ◌*◌, ◌%◌, ◌≤◌, ◌<◌, eqb, drop}
+use Rattle.std.specs.Prelude.{◌≡◌, Result, Bool, ◌&&◌, cond, ◌⊎◌, ℕ, ◌+◌, ◌*◌, ◌%◌, ◌≤◌, ◌<◌, eqb, drop}
 use Rattle.std.proofs.Math.Path.{refl, ap}
 use Rattle.std.proofs.Common.{sym, ◌∙◌, inl, inr, arith}
 use Rattle.std.proofs.Math.Bool.{true, false}
@@ -23,7 +23,7 @@ use Rattle.names.specs.Codes.{read_is_few, codes-length}
 use Rattle.names.specs.Contract.{coded, refused, no_room, placed, ending}
 use Rattle.names.specs.Heading.{headings}
 use Rattle.names.specs.Kind.{codes}
-use Rattle.targets.specs.declared.Resolved.{Resolved}
+use Rattle.targets.specs.declared.Unresolved.{Unresolved}
 use Rattle.targets.specs.Code.{code_size, Stands}
 use Rattle.targets.specs.Coded.{reader-coded}
 use Rattle.targets.specs.Laws.{written_stands}
@@ -86,7 +86,7 @@ module _ (es : List EnumEntry) (sized : (h : List ℕ) → (size_in es h ≡ 0 �
   named_as end true (name n j) i a w = roomy_as end n j (leb (used + length (headings at n)) (length c)) i refl a w
 
   -- an answer with codes: the name is lawful and has a target, whose codes were written
-  pub target_is : {r : Resolved} (end : ℕ) → Resolves es s at c c' used r → told r ≡ coded end → HasTarget es s at c c' used end
+  pub target_is : {r : Result ℕ Unresolved} (end : ℕ) → Resolves es s at c c' used r → told r ≡ coded end → HasTarget es s at c c' used end
   target_is end p e = named_as end (placed s at used) (name_of at s) refl (sym e ∙ p.answers) p.writes
 
 -- what a refusal says of the name s that starts at a place
@@ -127,7 +127,7 @@ module _ (es : List EnumEntry) (s : List ℕ) (at : ℕ) (c c' : List ℕ) (used
   refused_as number place true (name n j) i a = unknown_as number place n j i (leb (used + length (headings at n)) (length c)) (reader_of es n) refl a
 
   -- what a refusal's number and place say
-  pub refused_is : {r : Resolved} (number place : ℕ) → Resolves es s at c c' used r → told r ≡ refused number place → Refusal es s at number place
+  pub refused_is : {r : Result ℕ Unresolved} (number place : ℕ) → Resolves es s at c c' used r → told r ≡ refused number place → Refusal es s at number place
   refused_is number place p e = refused_as number place (placed s at used) (name_of at s) refl (sym e ∙ p.answers)
 
   -- by the room for the codes: a name of so many bytes has few
@@ -146,5 +146,5 @@ module _ (es : List EnumEntry) (s : List ℕ) (at : ℕ) (c c' : List ℕ) (used
   no_room_as true (name n j) q i a u h = full_as n j i (leb (used + length (headings at n)) (length c)) (reader_of es n) refl a
 
   -- no room, though the places fit: there are fewer codes from `used` on than 2 for each 11 bytes of the name
-  pub no_room_is : {r : Resolved} → Resolves es s at c c' used r → told r ≡ no_room → used ≤ 16777216 → at + length s ≤ 16777216 → 11 * length c < 11 * used + 2 * length s + 9
+  pub no_room_is : {r : Result ℕ Unresolved} → Resolves es s at c c' used r → told r ≡ no_room → used ≤ 16777216 → at + length s ≤ 16777216 → 11 * length c < 11 * used + 2 * length s + 9
   no_room_is p e = no_room_as (placed s at used) (name_of at s) refl refl (sym e ∙ p.answers)

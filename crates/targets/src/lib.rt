@@ -11,10 +11,11 @@ ghost use Rattle.targets.specs.Code.{head_at};
 ghost use Rattle.targets.specs.Place.{kind_at, place_after, same_code, equal_at, fits_at};
 ghost use Rattle.targets.specs.Judge.{head_ok, value_ok, bad_arguments, bad_enum, bad_reader, complaint};
 ghost use Rattle.targets.specs.Settling.{Settles};
-ghost use Rattle.targets.specs.Contract.{enum_word, Resolves};
+ghost use Rattle.targets.specs.Contract.{enum_word, unresolved, Resolves};
 
 use names::kinds;
-use names::parse::Named;
+use answers::Refusal;
+use names::parse::Unnamed;
 
 // The types that fonts, pages and meshes declare have so many codes, at the start of the array.
 pub const PRELUDE: usize = 12;
@@ -186,15 +187,8 @@ fn argument_ok(nullable: bool, b: u32) -> bool
     head_ok(b)
 }
 
-// What is complained of among the heads of a name: nothing, or the leftmost one's place.
-#[derive(Clone, Copy)]
-pub enum Judged {
-    Fine,
-    Wrong(usize),
-}
-
-// The codes of arguments; `first` says that the head before them was Nullable.
-fn bad_arguments(s: &[u32], first: bool) -> Judged
+// The leftmost place that is complained of among the codes of arguments; `first` says that the head before them was Nullable.
+fn bad_arguments(s: &[u32], first: bool) -> Option<usize>
     ensures { result ≡ complaint (bad_arguments first s.now) }
 {
     let mut nullable = first;
@@ -204,39 +198,39 @@ fn bad_arguments(s: &[u32], first: bool) -> Judged
         let b = w % 256;
         if !argument_ok(nullable, b) {
             let place = (w / 256) as usize;
-            return Judged::Wrong(place);
+            return Some(place);
         }
         nullable = b == kinds::NULLABLE;
         i += 1;
     }
-    Judged::Fine
+    None
 }
 
-// The code of Enum's own argument.
-fn bad_enum(s: &[u32]) -> Judged
+// The place of Enum's own argument, if it is complained of.
+fn bad_enum(s: &[u32]) -> Option<usize>
     ensures { result ≡ complaint (bad_enum s.now) }
 {
     if s.len() == 0 {
-        return Judged::Fine;
+        return None;
     }
     let w = s[0];
     let b = w % 256;
     if b == 0 {
-        return Judged::Fine;
+        return None;
     }
     if within(kinds::ENUM_OF_1, kinds::ENUM_OF_8, b) {
-        return Judged::Fine;
+        return None;
     }
     let place = (w / 256) as usize;
-    Judged::Wrong(place)
+    Some(place)
 }
 
-// The codes of a reader's name.
-fn bad_reader(s: &[u32]) -> Judged
+// The leftmost place that is complained of among the codes of a reader's name.
+fn bad_reader(s: &[u32]) -> Option<usize>
     ensures { result ≡ complaint (bad_reader s.now) }
 {
     if s.len() == 0 {
-        return Judged::Fine;
+        return None;
     }
     let w = s[0];
     let b = w % 256;
@@ -248,7 +242,7 @@ fn bad_reader(s: &[u32]) -> Judged
     }
     if !head_ok(b) {
         let place = (w / 256) as usize;
-        return Judged::Wrong(place);
+        return Some(place);
     }
     bad_arguments(&s[1..], b == kinds::NULLABLE)
 }
@@ -279,26 +273,39 @@ fn settle(codes: &mut [u32], used: usize, end: usize) -> usize
     next
 }
 
-// What a reader's name comes to: how many codes are used, a refusal's number and place, the place of refusal 11,
-// or no room for the codes of its heads or for their places.
-#[derive(Clone, Copy)]
-pub enum Resolved {
-    Target(usize),
-    Broken(u32, usize),
+// Why a reader's name has no target: it is refused, or its head at a place is refused with 11,
+// or there is no room for the codes of its heads or for their places.
+#[derive(Clone, Copy, Debug, PartialEq, Eq)]
+pub enum Unresolved {
+    Broken(Refusal),
     Unknown(usize),
     NoRoom,
 }
 
-// Reads a whole reader name, whose first byte is at `at` in the file, and leaves the codes of its target in `codes` from `used` on.
-pub fn resolve(name: &[u8], at: usize, enums: &[u8], codes: &mut [u32], used: usize) -> Resolved
+impl From<Unnamed> for Unresolved {
+    ghost from_gives = { λ unnamed e. e ≡ unresolved unnamed };
+
+    fn from(unnamed: Unnamed) -> Unresolved {
+        match unnamed {
+            Unnamed::Broken(refusal) => Unresolved::Broken(refusal),
+            Unnamed::NoRoom => Unresolved::NoRoom,
+        }
+    }
+}
+
+// Reads a whole reader name, whose first byte is at `at` in the file, and leaves the codes of its target in `codes` from `used` on: how many codes are used then.
+pub fn resolve(
+    name: &[u8],
+    at: usize,
+    enums: &[u8],
+    codes: &mut [u32],
+    used: usize,
+) -> Result<usize, Unresolved>
     ensures { Resolves (enums_of enums.now) name.now at codes.old codes.new used result }
 {
-    match names::parse::read_name(name, at, enums, codes, used) {
-        Named::NoRoom => Resolved::NoRoom,
-        Named::Broken(number, place) => Resolved::Broken(number, place),
-        Named::Codes(end) => match bad_reader(&codes[used..end]) {
-            Judged::Wrong(place) => Resolved::Unknown(place),
-            Judged::Fine => Resolved::Target(settle(codes, used, end)),
-        },
+    let end = names::parse::read_name(name, at, enums, codes, used)?;
+    match bad_reader(&codes[used..end]) {
+        Some(place) => Err(Unresolved::Unknown(place)),
+        None => Ok(settle(codes, used, end)),
     }
 }
