@@ -7,18 +7,18 @@ use Rattle.reading.specs.Reads.{Small}
 use Rattle.reading.specs.Seven.{seven_at, seven_next}
 use Rattle.numbers.specs.Padded.{number_of, past, pad_of}
 use Rattle.places.specs.Places.{entries_places, entries_end}
-use Rattle.rewrite.specs.declared.Measured.{Measured}
+use Rattle.numbers.specs.declared.seven.Padded.{Padded}
 use Rattle.rewrite.specs.Steps.{next_entry, no_entry}
 
-unfoldable pub measure_of : Answer ℕ → (at : ℕ) → Measured
+unfoldable pub measure_of : Answer ℕ → (at : ℕ) → Padded
 measure_of x at = record { value = number_of x; padding = pad_of x at; next = past x at }
 
 -- what the code answers for a number that is not there, and for one that is
-pub measured-none : (x : Answer ℕ) (at : ℕ) {n p : ℕ} → x ≡ refused n p → ◌≡◌ {A = Measured} (record { value = 0; padding = 0; next = at }) (measure_of x at)
+pub measured-none : (x : Answer ℕ) (at : ℕ) {n p : ℕ} → x ≡ refused n p → ◌≡◌ {A = Padded} (record { value = 0; padding = 0; next = at }) (measure_of x at)
 unfolding measure_of number_of past pad_of
 measured-none x at e = rw e
 
-pub measured-read : (x : Answer ℕ) (at : ℕ) {n e padding : ℕ} → (x ≡ read n e) × (padding ≡ pad_of x at) → ◌≡◌ {A = Measured} (record { value = n; padding = padding; next = e }) (measure_of x at)
+pub measured-read : (x : Answer ℕ) (at : ℕ) {n e padding : ℕ} → (x ≡ read n e) × (padding ≡ pad_of x at) → ◌≡◌ {A = Padded} (record { value = n; padding = padding; next = e }) (measure_of x at)
 unfolding measure_of number_of past
 measured-read x at {n} {e} {padding} w = ap (λ (p : ℕ). record { value = n; padding = p; next = e }) w.1 ∙ ap (λ (y : Answer ℕ). record { value = number_of y; padding = pad_of x at; next = past y at }) (sym w.0)
 
@@ -32,19 +32,19 @@ measured-small file small at = go (seven_at file at) refl where
 
 module _ (file : List ℕ) (small : Small file) where
   -- what was measured at a place
-  pub record Found (at : ℕ) (m : Measured) : Type 0 where
+  pub record Found (at : ℕ) (m : Padded) : Type 0 where
     pub value_is : m.value ≡ number_of (seven_at file at)
     pub next_is : m.next ≡ past (seven_at file at) at
     pub padding_is : m.padding ≡ pad_of (seven_at file at) at
     pub end_small : m.next + m.value ≤ max at (length file + 2 ^ 32)
 
-  pub found : (at : ℕ) (m : Measured) → m ≡ measure_of (seven_at file at) at → Found at m
+  pub found : (at : ℕ) (m : Padded) → m ≡ measure_of (seven_at file at) at → Found at m
   unfolding measure_of
   found at m e =
       let b = measured-small file small at in
-      let v : m.value ≡ number_of (seven_at file at) = ap (λ (x : Measured). x.value) e in
-      let n : m.next ≡ past (seven_at file at) at = ap (λ (x : Measured). x.next) e in
-      let p : m.padding ≡ pad_of (seven_at file at) at = ap (λ (x : Measured). x.padding) e in
+      let v : m.value ≡ number_of (seven_at file at) = ap (λ (x : Padded). x.value) e in
+      let n : m.next ≡ past (seven_at file at) at = ap (λ (x : Padded). x.next) e in
+      let p : m.padding ≡ pad_of (seven_at file at) at = ap (λ (x : Padded). x.padding) e in
       record { value_is = v; next_is = n; padding_is = p; end_small = rw (v, n) b.1 }
 
   -- how far the readers are passed: so many are left, the first of them at `place`
@@ -60,7 +60,7 @@ module _ (file : List ℕ) (small : Small file) where
   pub all_passed : (readers at left place : ℕ) → left ≤ 0 → Passed readers at left place → place ≡ entries_end file readers at
   all_passed readers at left place h a = sym (no_entry file left place h).1 ∙ a.ends
 
-  module _ (readers at left place : ℕ) (m : Measured) (short : length file ≤ 16777216) (e : m ≡ measure_of (seven_at file place) place) (a : Passed readers at left place) where
+  module _ (readers at left place : ℕ) (m : Padded) (short : length file ≤ 16777216) (e : m ≡ measure_of (seven_at file place) place) (a : Passed readers at left place) where
     -- what the code adds up does not overflow
     pub end_fits : m.next + m.value + 4 < 2 ^ 64
     end_fits = let f = found place m e in omega (arith, a.place_small, a.readers_fit, f.end_small)

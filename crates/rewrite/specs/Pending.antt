@@ -168,15 +168,7 @@ copy-inside out to file from n e = leb-true (to + n) (length out) (and_left (leb
 unfoldable pub LengthPut : (n : ℕ) (entry exit : List ℕ) → Type 0
 LengthPut n entry exit = (platform flags old : ℕ) (behind : List ℕ) → entry ≡ header platform flags old ++ behind → exit ≡ header platform flags n ++ behind
 
--- the stores of the code: where there are ten bytes, and where there are not
-pub length-stored : (n : ℕ) (entry : List ℕ)
-    → LengthPut n entry (set (set (set (set entry 6 (n % 256)) 7 (n / 256 % 256)) 8 (n / 65536 % 256)) 9 (n / 16777216 % 256))
-unfolding LengthPut header ascii little
-length-stored n entry platform flags old behind e =
-    let a : n / 65536 ≡ n / 256 / 256 = omega arith in
-    let b : n / 16777216 ≡ n / 256 / 256 / 256 = omega arith in
-    rw (e, a, b)
-
-pub too_short : (n : ℕ) (entry : List ℕ) → length entry < 10 → LengthPut n entry entry
-unfolding LengthPut
-too_short n entry h platform flags old behind e = absurd (omega (arith, ap length e, length-append (header platform flags old) behind, length-header platform flags old))
+-- the bytes of a number put there
+pub length-put : (n : ℕ) (entry exit : List ℕ) → exit ≡ copied entry 6 (little 4 n) 0 4 → LengthPut n entry exit
+unfolding LengthPut header ascii little copied inside pasted
+length-put n entry exit w platform flags old behind e = w ∙ rw e

@@ -5,8 +5,7 @@ use Rattle.reading.specs.Seven.{seven_at}
 use Rattle.numbers.specs.Padded.{number_of, past}
 use Rattle.places.specs.Places.{entries_places, entries_end, lists_places}
 use Rattle.rewrite.specs.declared.Cursor.{Cursor}
-use Rattle.rewrite.specs.declared.Behind.{Behind}
-use Rattle.rewrite.specs.declared.Measured.{Measured}
+use Rattle.numbers.specs.declared.seven.Padded.{Padded}
 use Rattle.rewrite.specs.Measured.{measure_of}
 use Rattle.rewrite.specs.Pending.{Pending}
 use Rattle.rewrite.specs.Contract.{Ready}
@@ -23,7 +22,7 @@ WritesNumber file entry exit c at value next r =
     → Pending file base entry c.from c.to (at ∷ places) whole → Pending file base exit r.from r.to places whole
 
 -- the same where it has this padding too
-abbrev pub PassesNumber : (file entry exit : List ℕ) → Cursor → (at : ℕ) → Measured → Cursor → Type 0
+abbrev pub PassesNumber : (file entry exit : List ℕ) → Cursor → (at : ℕ) → Padded → Cursor → Type 0
 PassesNumber file entry exit c at m r =
     (base places whole : List ℕ) → m ≡ measure_of (seven_at file at) at
     → Pending file base entry c.from c.to (at ∷ places) whole → Pending file base exit r.from r.to places whole
@@ -39,9 +38,9 @@ WritesLists file entry exit readers r =
     (base places whole : List ℕ) → Pending file base entry 0 0 (lists_places file readers 10 ++ places) whole → Pending file base exit r.from r.to places whole
 
 -- it is written on by the lengths of so many names, and the readers end at a place
-abbrev pub WritesEntries : (file entry exit : List ℕ) → Cursor → (readers at : ℕ) → Behind → Type 0
-WritesEntries file entry exit c readers at r =
-    (r.at ≡ entries_end file readers at)
+abbrev pub WritesEntries : (file entry exit : List ℕ) → Cursor → (readers at : ℕ) → Cursor → (end : ℕ) → Type 0
+WritesEntries file entry exit c readers at r end =
+    (end ≡ entries_end file readers at)
     × ((base places whole : List ℕ) → Pending file base entry c.from c.to (entries_places file readers at ++ places) whole → Pending file base exit r.from r.to places whole)
 
 -- no number is left, and the rest of the file is copied

@@ -1,106 +1,89 @@
 // Rewriting a file with each seven-bit number in its shortest form (01, "Seven-bit numbers").
 #![tactic(auto)]
 
-ghost use Rattle.std.specs.Prelude.{◌≡◌, ◌+◌, ◌≤◌, ◌^◌, leb, length};
+ghost use Rattle.std.specs.Prelude.{◌≡◌, ◌+◌, ◌≤◌, ◌<◌, ◌^◌, leb, length};
 ghost use Rattle.reading.specs.Seven.{seven_at};
 ghost use Rattle.places.specs.Places.{count_places};
 ghost use Rattle.rewrite.specs.Table.{places_in, table_places};
 ghost use Rattle.rewrite.specs.Measured.{measure_of};
-ghost use Rattle.rewrite.specs.Pending.{LengthPut};
 ghost use Rattle.rewrite.specs.Contract.{answer_of, Ready, Fits};
 ghost use Rattle.rewrite.specs.Writes.{Writes, WritesNumber, PassesNumber, WritesLast, WritesEntries, WritesLists, WritesRest, WritesFile};
 ghost use Rattle.rewrite.specs.Whole.{rewritten, output_left, words_left};
 
 use answers::{Refusal, Rule};
 use ids::RowNumber;
+use names::kinds;
+use numbers::seven::Padded;
+use table::Table;
 
 // How far the file is taken, and how far the output is written.
-#[derive(Clone, Copy)]
+#[derive(Clone, Copy, Debug, PartialEq, Eq)]
 struct Cursor {
     from: usize,
     to: usize,
 }
 
-// Whether so many bytes are saved so far.
-fn saved(c: Cursor, padding: usize) -> bool
-    ensures { result ≡ leb (c.to + padding) c.from }
-{
-    if c.from < c.to {
-        return false;
+impl Cursor {
+    // Whether so many bytes are saved so far.
+    fn has_saved(self, padding: usize) -> bool
+        ensures { result ≡ leb (self.to + padding) self.from }
+    {
+        self.to <= self.from && padding <= self.from - self.to
     }
-    padding <= c.from - c.to
-}
-
-// A seven-bit number: its value, how many bytes it has beyond its shortest form, and where it ends.
-#[derive(Clone, Copy)]
-struct Measured {
-    value: u32,
-    padding: u32,
-    next: usize,
 }
 
 // The number at a place; where there is none, 0 that ends where it starts.
-fn measure(file: &[u8], at: usize) -> Measured
-    ensures { result ≡ measure_of (seven_at file.now at) at }
+fn measure(file: &[u8], at: usize) -> Padded
+    ensures value { result ≡ measure_of (seven_at file.now at) at }
+    ensures small { result.value < 2 ^ 32 }
 {
     match numbers::seven::seven_padded(file, at) {
-        Err(_) => Measured {
+        Ok(number) => number,
+        Err(_) => Padded {
             value: 0,
-            padding: 0,
             next: at,
-        },
-        Ok(number) => Measured {
-            value: number.value as u32,
-            padding: number.padding,
-            next: number.next,
+            padding: 0,
         },
     }
 }
 
-// Copies the file up to the number at a place, and writes the number, of this value and end, in its shortest form.
-fn write_number(
-    file: &[u8],
-    out: &mut [u8],
-    c: Cursor,
-    at: usize,
-    value: u32,
-    next: usize,
-) -> Cursor
-    ensures { WritesNumber file.now out.old out.new c at value next result }
+// Copies the file up to the number at a place, and writes the number in its shortest form.
+fn write_number(file: &[u8], out: &mut [u8], c: Cursor, at: usize, number: Padded) -> Cursor
+    requires { number.value < 2 ^ 32 }
+    ensures { WritesNumber file.now out.old out.new c at number.value number.next result }
 {
-    let from = c.from;
-    let to = c.to;
-    if at < from {
-        return Cursor { from, to };
+    if at < c.from {
+        return c;
     }
-    let n = at - from;
-    if fill::copy(out, to, file, from, n) {
-        let mid = to + n;
-        if let Some(end) = numbers::shortest::write_shortest(out, mid, value) {
-            return Cursor {
-                from: next,
-                to: end,
-            };
-        }
+    let gap = at - c.from;
+    if !fill::copy(out, c.to, file, c.from, gap) {
+        return c;
     }
-    Cursor { from, to }
+    match numbers::shortest::write_shortest(out, c.to + gap, number.value as u32) {
+        Some(to) => Cursor {
+            from: number.next,
+            to,
+        },
+        None => c,
+    }
 }
 
 // The number at a place, as it was measured: written anew if it is padded, else left to be copied with what stands around it.
-fn pass(file: &[u8], out: &mut [u8], c: Cursor, at: usize, number: Measured) -> Cursor
+fn pass(file: &[u8], out: &mut [u8], c: Cursor, at: usize, number: Padded) -> Cursor
+    requires { number.value < 2 ^ 32 }
     ensures { PassesNumber file.now out.old out.new c at number result }
 {
     if number.padding == 0 {
         return c;
     }
-    write_number(file, out, c, at, number.value, number.next)
+    write_number(file, out, c, at, number)
 }
 
 // The same for a text's count, which stands at a place; other kinds have none.
 fn pass_count(file: &[u8], out: &mut [u8], c: Cursor, kind: u32, at: usize) -> Cursor
     ensures { Writes file.now out.old out.new c (count_places file.now kind at) result }
 {
-    if kind == 13 {
+    if kind == kinds::STRING {
         return pass(file, out, c, at, measure(file, at));
     }
     c
@@ -110,13 +93,11 @@ fn pass_count(file: &[u8], out: &mut [u8], c: Cursor, kind: u32, at: usize) -> C
 fn pass_row(file: &[u8], words: &[u32], out: &mut [u8], c: Cursor, row: u32) -> Cursor
     ensures { Writes file.now out.old out.new c (places_in file.now words.now row) result }
 {
-    let grid = table::rows_grid(words.len());
-    let kind = table::word_of(words, grid, RowNumber(row), table::KIND);
-    let first = table::word_of(words, grid, RowNumber(row), table::FIRST) as usize;
-    if places::numbered(
-        kind,
-        table::word_of(words, grid, RowNumber(row), table::DETAIL),
-    ) {
+    let table = Table::by_rows(words);
+    let kind = table.word(RowNumber(row), table::KIND);
+    let first = table.word(RowNumber(row), table::FIRST) as usize;
+    let detail = table.word(RowNumber(row), table::DETAIL);
+    if places::numbered(kind, detail) {
         let id = measure(file, first);
         let behind = pass(file, out, c, first, id);
         return pass_count(file, out, behind, kind, id.next);
@@ -137,44 +118,28 @@ fn pass_rows(
         c (table_places file.now words.now rows 0) padding result }
 {
     let mut done = c;
-    let mut i = 0;
-    while i < rows {
-        if saved(done, padding) {
+    for row in 0..rows {
+        if done.has_saved(padding) {
             return done;
         }
-        done = pass_row(file, words, out, done, i);
-        i += 1;
+        done = pass_row(file, words, out, done, row);
     }
     done
 }
 
-// How far the file is taken and the output is written behind the readers, and where they end.
-#[derive(Clone, Copy)]
-struct Behind {
-    from: usize,
-    to: usize,
-    at: usize,
-}
-
-// The same for the lengths of so many names, the first of which stands at a place.
-fn pass_entries(file: &[u8], out: &mut [u8], c: Cursor, readers: u32, at: usize) -> Behind
+// The same for the lengths of so many names, the first of which stands at a place; and where the readers end.
+fn pass_entries(file: &[u8], out: &mut [u8], c: Cursor, readers: u32, at: usize) -> (Cursor, usize)
     requires { (length file.now ≤ 16777216) × (at ≤ 2 ^ 33) }
-    ensures { WritesEntries file.now out.old out.new c readers at result }
+    ensures { WritesEntries file.now out.old out.new c readers at result.0 result.1 }
 {
     let mut done = c;
     let mut place = at;
-    let mut left = readers;
-    while 0 < left {
-        let n = measure(file, place);
-        done = pass(file, out, done, place, n);
-        place = n.next + n.value as usize + 4;
-        left -= 1;
+    for i in 0..readers {
+        let number = measure(file, place);
+        done = pass(file, out, done, place, number);
+        place = number.next + number.value as usize + 4;
     }
-    Behind {
-        from: done.from,
-        to: done.to,
-        at: place,
-    }
+    (done, place)
 }
 
 // The same for the reader count, the lengths of so many names and the shared count.
@@ -184,39 +149,17 @@ fn pass_lists(file: &[u8], out: &mut [u8], readers: u32) -> Cursor
 {
     let count = measure(file, 10);
     let start = pass(file, out, Cursor { from: 0, to: 0 }, 10, count);
-    let behind = pass_entries(file, out, start, readers, count.next);
-    let read = Cursor {
-        from: behind.from,
-        to: behind.to,
-    };
-    let place = behind.at;
-    pass(file, out, read, place, measure(file, place))
+    let (behind, place) = pass_entries(file, out, start, readers, count.next);
+    pass(file, out, behind, place, measure(file, place))
 }
 
 // Copies what is left of the file.
 fn write_rest(file: &[u8], out: &mut [u8], c: Cursor)
     ensures { WritesRest file.now out.old out.new c }
 {
-    let from = c.from;
-    let to = c.to;
-    if file.len() < from {
-        return;
+    if c.from <= file.len() {
+        fill::copy(out, c.to, file, c.from, file.len() - c.from);
     }
-    let n = file.len() - from;
-    fill::copy(out, to, file, from, n);
-}
-
-// Writes the file's length into the header.
-fn put_length(out: &mut [u8], size: usize)
-    ensures { LengthPut size out.old out.new }
-{
-    if out.len() < 10 {
-        return;
-    }
-    out[6] = (size % 256) as u8;
-    out[7] = (size / 256 % 256) as u8;
-    out[8] = (size / 65536 % 256) as u8;
-    out[9] = (size / 16777216 % 256) as u8;
 }
 
 // Writes the whole file, which has this padding.
@@ -227,7 +170,7 @@ fn write(file: &[u8], words: &[u32], out: &mut [u8], rows: u32, readers: u32, pa
     let lists = pass_lists(file, out, readers);
     let objects = pass_rows(file, words, out, lists, rows, padding);
     write_rest(file, out, objects);
-    put_length(out, file.len() - padding);
+    numbers::little::put4(out, 6, file.len() - padding);
 }
 
 // A file of this padding that was loaded: writes it if there is room.
