@@ -11,10 +11,10 @@ pub returns-then-bones-lt255 : goal.returns-then-bones-lt255
 returns-then-bones-lt255 c =
     let a = c.args in
     rw (lt-ltb a.bones 255 c.if-bones-lt255.true)
-    (c.at_most.ensures ∙ ap (λ (x : Answer ℕ). ruled (at_most a.bones) 1 a.at x) c.little1.ensures ∙ numeric-ruled a.file.now bone_field 1 (at_most a.bones) a.at)
+    (c.at_most.ensures ∙ ap (λ (x : Answer ℕ). ruled (at_most a.bones) 1 a.at x) c.little.ensures ∙ numeric-ruled a.file.now bone_field 1 (at_most a.bones) a.at)
 
 pub returns : goal.returns
 returns c =
     let a = c.args in
     rw (le-ltb a.bones 255 c.if-bones-lt255.false)
-    (c.at_most-2.ensures ∙ ap (λ (x : Answer ℕ). ruled (at_most a.bones) 4 a.at x) c.little4.ensures ∙ numeric-ruled a.file.now bone_field 4 (at_most a.bones) a.at)
+    (c.at_most-2.ensures ∙ ap (λ (x : Answer ℕ). ruled (at_most a.bones) 4 a.at x) c.little-2.ensures ∙ numeric-ruled a.file.now bone_field 4 (at_most a.bones) a.at)

@@ -9,7 +9,7 @@ use Rattle.fields.proofs.data_at.Goals as goal
 pub returns-then-not-has_bytes : goal.returns-then-not-has_bytes
 returns-then-not-has_bytes c =
     let a = c.args in
-    data_missing a.file.now a.size a.at (sym c.has_bytes.ensures ∙ c.if-not-has_bytes.true)
+    rw c.at.ensures (data_missing a.file.now a.size a.at (sym c.has_bytes.ensures ∙ c.if-not-has_bytes.true))
 
 pub overflow_add-result : goal.overflow_add-result
 overflow_add-result c =

@@ -11,10 +11,10 @@ pub returns-then-flag-eq1 : goal.returns-then-flag-eq1
 returns-then-flag-eq1 c =
     let a = c.args in
     rw (eq-eqb a.flag 1 c.if-flag-eq1.true)
-    (c.multiple_of.ensures ∙ ap (λ (x : Answer ℕ). ruled (multiple_of 2) 4 a.at x) c.little4.ensures ∙ numeric-ruled a.file.now uint_field 4 (multiple_of 2) a.at)
+    (c.multiple_of.ensures ∙ ap (λ (x : Answer ℕ). ruled (multiple_of 2) 4 a.at x) c.little.ensures ∙ numeric-ruled a.file.now uint_field 4 (multiple_of 2) a.at)
 
 pub returns : goal.returns
 returns c =
     let a = c.args in
     rw (ne_eqb a.flag 1 c.if-flag-eq1.false)
-    (c.multiple_of-2.ensures ∙ ap (λ (x : Answer ℕ). ruled (multiple_of 4) 4 a.at x) c.little4-2.ensures ∙ numeric-ruled a.file.now uint_field 4 (multiple_of 4) a.at)
+    (c.multiple_of-2.ensures ∙ ap (λ (x : Answer ℕ). ruled (multiple_of 4) 4 a.at x) c.little-2.ensures ∙ numeric-ruled a.file.now uint_field 4 (multiple_of 4) a.at)
