@@ -8,7 +8,8 @@ use lib.Dec.{ltb, leb, eqb}
 use lib.ListN.{length, take, drop, get_or, length-drop}
 use borrow.Author.Tests.{le-leb, lt-leb, le-ltb, lt-ltb, eq-eqb, ne_eqb}
 use Rattle.layout.specs.Number.{value_of}
-use Rattle.answers.specs.declared.Number.TheVariants.{Read, Refused}
+use Rattle.std.specs.Prelude.{Ok, Err}
+use Rattle.answers.specs.Refusals.{refusal}
 use Rattle.reading.specs.Answer.{read, check}
 use Rattle.reading.specs.Little.{little_at, little_there}
 use Rattle.reading.specs.File.{is_platform, header_at}
@@ -20,7 +21,7 @@ length-read file h = little_there file 4 6 6 (omega (arith, length-drop 6 file, 
 
 -- the header of this file is refused
 abbrev pub Refuses : List ℕ → (number place : ℕ) → Type 0
-Refuses file number place = Refused number place ≡ header_of file
+Refuses file number place = Err (refusal number place) ≡ header_of file
 
 -- the tests passed: the size, then the letters, the platform, the version and the flags
 abbrev pub Sized : List ℕ → Type 0
@@ -87,7 +88,7 @@ other_length file f h =
     let l = v.0.0 in
     rw (l.0.0, l.0.1, l.1, l.2, l.3, v.0.1, v.1, f.1, f.2, ne_eqb (value_of (take 4 (drop 6 file))) (length file) h)
 
-pub whole : (file : List ℕ) → Flagged file → value_of (take 4 (drop 6 file)) ≡ length file → Read 0 10 ≡ header_of file
+pub whole : (file : List ℕ) → Flagged file → value_of (take 4 (drop 6 file)) ≡ length file → Ok (record { value = 0; next = 10 }) ≡ header_of file
 unfolding header_at check
 whole file f h =
     let v = f.0 in

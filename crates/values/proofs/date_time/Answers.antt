@@ -18,18 +18,17 @@ unfolding is_date_time
 returns-then-n-gt3155378975999999999 c =
     let own = c.args.own.now in
     let eight = c.if-own-ne8.false in
-    let v = eight_value own eight c.little8.ensures (ap told c.in-Read.is) in
-    rw (eq-eqb (length own) 8 eight, ← v, lt-leb (c.in-Read.n % 2 ^ 62) 3155378975999999999 c.if-n-gt3155378975999999999.true)
+    let v = eight_value own eight c.little.ensures (ap told c.in-Ok.is) in
+    rw (eq-eqb (length own) 8 eight, ← v, lt-leb (c.in-Ok.field-0.value % 2 ^ 62) 3155378975999999999 c.if-n-gt3155378975999999999.true)
 
-pub returns-in-Refused : goal.returns-in-Refused
-returns-in-Refused c =
-    let own = c.args.own.now in
-    absurd (no_refusal own c.if-own-ne8.false c.little8.ensures (ap told c.in-Refused.is))
+pub returns-in_default : goal.returns-in_default
+returns-in_default c =
+    absurd (no_refusal c.args.own.now c.if-own-ne8.false c.little.ensures (ap told c.in_default.is))
 
-pub returns-else-n-gt3155378975999999999 : goal.returns-else-n-gt3155378975999999999
+pub returns : goal.returns
 unfolding is_date_time
-returns-else-n-gt3155378975999999999 c =
+returns c =
     let own = c.args.own.now in
     let eight = c.if-own-ne8.false in
-    let v = eight_value own eight c.little8.ensures (ap told c.in-Read.is) in
-    rw (eq-eqb (length own) 8 eight, ← v, le-leb (c.in-Read.n % 2 ^ 62) 3155378975999999999 c.if-n-gt3155378975999999999.false)
+    let v = eight_value own eight c.little.ensures (ap told c.in-Ok.is) in
+    rw (eq-eqb (length own) 8 eight, ← v, le-leb (c.in-Ok.field-0.value % 2 ^ 62) 3155378975999999999 c.if-n-gt3155378975999999999.false)

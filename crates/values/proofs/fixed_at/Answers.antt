@@ -7,7 +7,7 @@ use borrow.Author.Rules.{rules}
 use Rattle.values.proofs.fixed_at.Goals as goal
 
 pub returns-then-left-size : goal.returns-then-left-size
-returns-then-left-size c = sym (missing _ _ _ _ (omega arith))
+returns-then-left-size c = rw c.at.ensures (sym (missing _ _ _ _ (omega arith)))
 
 pub overflow_add-next : goal.overflow_add-next
 overflow_add-next c =

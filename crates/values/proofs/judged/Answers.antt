@@ -23,4 +23,4 @@ pub returns-then-keeps_rule : goal.returns-then-keeps_rule
 returns-then-keeps_rule c = sym (kept _ _ _ _ c.requires (said (goal.at.returns-then-keeps_rule c).After-keeps_rule ∙ c.if-keeps_rule.true))
 
 pub returns : goal.returns
-returns c = sym (broken _ _ _ _ c.requires (said (goal.at.returns c).After-keeps_rule ∙ c.if-keeps_rule.false))
+returns c = rw c.at.ensures (sym (broken _ _ _ _ c.requires (said (goal.at.returns c).After-keeps_rule ∙ c.if-keeps_rule.false)))
