@@ -26,7 +26,10 @@ fn said_length(file: &[u8]) -> u64
     requires { 10 ≤ length file.now }
     ensures { result ≡ value_of (take 4 (drop 6 file.now)) }
 {
-    numbers::little::little::<u32>(file, 6).map_or(0, |length| length.value)
+    match numbers::little::little::<u32>(file, 6) {
+        Ok(length) => length.value,
+        Err(_) => 0,
+    }
 }
 
 // The header: 0 and the place behind it, or a refusal's number and place.
