@@ -106,8 +106,8 @@ module _ (g : Grid) (file : List ℕ) (small : Small file) (shared : ℕ) (run :
     here = rw (next_slot (run_slots run) i (plain_slot p) h t.stands) at r
 
     value_walked : (o : Walk) → leaf_answer row (plain_pad file p 0 next) value ≡ o → Whole (onward o words rest)
-    value_walked (Refused n q) z = refusing (counted-refused _ (give_up g file step plan w₀ at used (plain_slot p) (λ n. each (drop (i + 1) (run_slots run))) here (lost one z)))
-    value_walked (Done r) z =
+    value_walked (Err e) z = refusing (counted-refused _ (give_up g file step plan w₀ at used (plain_slot p) (λ n. each (drop (i + 1) (run_slots run))) here (lost one z)))
+    value_walked (Ok r) z =
         let y = got one z in
         on r.next r.used r.padding words (turn g file step plan w₀ at used (plain_slot p) (λ n. each (drop (i + 1) (run_slots run))) here y
         (walk_single file readers shared g.room small depth (plain_slot p) next row parent y.taken r.next y.is)

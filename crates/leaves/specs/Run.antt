@@ -1,5 +1,5 @@
 -- Values one after the other that have no children and need no reader list. Assumes nothing.
-use Rattle.std.specs.Prelude.{◌≡◌, Bool, true, false, cond, List, [], ◌∷◌, eqb, length, get_or, replicate, drop}
+use Rattle.std.specs.Prelude.{◌≡◌, Bool, true, false, cond, List, [], ◌∷◌, eqb, length, get_or, replicate, drop, Ok, Err}
 use Rattle.std.proofs.Math.Path.{refl}
 use Rattle.std.proofs.Common.{sym, ap, ◌∙◌, add-one, drop_of_length-le, drop-cons, eqb-true}
 use Prim.Native.Nat.{ℕ, zero, suc, ◌+◌, ◌*◌, ◌-◌, ◌/◌, ◌%◌, ◌≤◌, ◌<◌, max}
@@ -21,10 +21,8 @@ use Rattle.reading.specs.Walk.{Outcome, sequence, walk}
 use Rattle.reading.proofs.Bounds.{walk_bounds, walk_single}
 use Rattle.table.specs.declared.Grid.{Grid}
 use Rattle.table.specs.Word.{in_word}
-use Rattle.walked.specs.declared.Walk.{Walk}
-use Rattle.walked.specs.declared.Walk.TheVariants.{Done, Refused}
 use Rattle.walked.specs.Written.{written}
-use Rattle.walked.specs.Contract.{seen, reaching, padded, Walked}
+use Rattle.walked.specs.Contract.{Walk, seen, reaching, padded, Walked}
 use Rattle.walked.specs.Leaf.{leaf_answer}
 use Rattle.walked.specs.Loop.{Reading, start, same, turn, ended, give_up, got, lost, refusing, reading, counted-read, counted-refused}
 use Rattle.leaves.specs.Plain.{plain_slot, Lawful, Begin, plain_pad, plain_value, value_left}
@@ -49,8 +47,8 @@ turn_of (Levels format w h n) i = Level (level_size_of format w h i)
 
 -- a value was read, or refused
 abbrev pub onward : Walk → List ℕ → (ℕ → ℕ → ℕ → List ℕ → Walk × List ℕ) → Walk × List ℕ
-onward (Refused n p) w rest = (Refused n p, w)
-onward (Done r) w rest = rest r.next r.used r.padding w
+onward (Err e) w rest = (Err e, w)
+onward (Ok r) w rest = rest r.next r.used r.padding w
 
 module _ (g : Grid) (file : List ℕ) (shared : ℕ) (run : Run) (depth parent : ℕ) where
   -- so many values from value i on, where those before have the padding `sum`: the answer, and the words

@@ -3,16 +3,15 @@ ghost use Rattle.std.specs.Prelude.{◌≡◌, ltb};
 ghost use Rattle.walked.specs.Leaf.{leaf_answer};
 ghost use Rattle.leaves.specs.Plain.{plain_at, plain_pad, plain_value, plain_left, value_left};
 
-use answers::Number;
-use ids::{Position, ResourceId, RowNumber};
-use numbers::seven::Padded;
+use answers::{Read, Rule};
+use ids::{ResourceId, RowNumber};
 use table::Grid;
 use walked::{Head, Walk};
 
 // How such a value stands: raw of a kind of fixed size, with the size; a raw enum of a size; a raw character; an image level of a size;
 // a reference that wants a kind; data bytes, so many; a bone reference under a bone count; a code up to the last one;
 // the size of index data under its flag.
-#[derive(Clone, Copy)]
+#[derive(Clone, Copy, Debug, PartialEq, Eq)]
 pub enum Plain {
     Fixed(u32, usize),
     Enum(usize),
@@ -30,8 +29,8 @@ fn beyond(id: ResourceId, shared: u32) -> bool
     ensures { result ≡ ltb shared id.0 }
 {
     match id.position() {
-        Position::Null => false,
-        Position::At(i) => shared <= i,
+        None => false,
+        Some(i) => shared <= i,
     }
 }
 
@@ -42,24 +41,23 @@ fn reference(file: &[u8], words: &mut [u32], grid: Grid, shared: u32, wanted: u3
     ensures words_after { words.new ≡ plain_left grid file.now words.old shared (Plain.Reference wanted) h }
 {
     let at = h.first;
-    match numbers::seven::seven_padded(file, at) {
-        Padded::Refused(number, place) => Walk::Refused(number, place),
-        Padded::Read(value, next, padding) => {
-            let id = value as u32;
-            if beyond(ResourceId(id), shared) {
-                return Walk::Refused(16, at);
-            }
-            let row = h.row;
-            let named = Head {
-                row,
-                first: h.first,
-                parent: h.parent,
-                detail: id,
-                padding,
-            };
-            walked::leaf(words, grid, named, 36, wanted, Number::Read(value, next))
-        }
+    let number = numbers::seven::seven_padded(file, at)?;
+    let id = number.value as u32;
+    if beyond(ResourceId(id), shared) {
+        return Err(Rule::NoResource.at(at));
     }
+    let named = Head {
+        row: h.row,
+        first: h.first,
+        parent: h.parent,
+        detail: id,
+        padding: number.padding,
+    };
+    let read = Read {
+        value: number.value,
+        next: number.next,
+    };
+    walked::leaf(words, grid, named, 36, wanted, Ok(read))
 }
 
 // The value, once it may have a row.
@@ -121,10 +119,10 @@ pub fn read_fixed(
     ensures words_after { words.new ≡ value_left grid file.now words.old 0 (Plain.Fixed kind size) at used depth parent }
 {
     if depth == 0 {
-        return Walk::Refused(18, at);
+        return Err(Rule::TooDeep.at(at));
     }
     if grid.room <= used {
-        return Walk::Refused(19, at);
+        return Err(Rule::NoRowLeft.at(at));
     }
     let h = Head {
         row: RowNumber(used),
@@ -154,10 +152,10 @@ pub fn read_plain(
     ensures words_after { words.new ≡ value_left grid file.now words.old shared slot at used depth parent }
 {
     if depth == 0 {
-        return Walk::Refused(18, at);
+        return Err(Rule::TooDeep.at(at));
     }
     if grid.room <= used {
-        return Walk::Refused(19, at);
+        return Err(Rule::NoRowLeft.at(at));
     }
     let h = Head {
         row: RowNumber(used),

@@ -9,7 +9,7 @@ ghost use Rattle.reading.specs.Fixed.{sized};
 ghost use Rattle.reading.specs.Heads.{text_at, leaf_at};
 ghost use Rattle.leaves.specs.Text.{own_size, text_bytes};
 
-use answers::Number;
+use answers::{Number, Read, Refusal, Rule};
 use numbers::seven::Padded;
 
 // Whether bytes are UTF-8: a short text has no blocks to look for.
@@ -23,46 +23,53 @@ fn is_text(s: &[u8]) -> bool
 }
 
 // A text's bytes from `start` on, which its count at `at` says; the count has this padding.
-fn text_bytes(file: &[u8], at: usize, start: usize, count: u64, padding: u32) -> Padded
+fn text_bytes(
+    file: &[u8],
+    at: usize,
+    start: usize,
+    count: u64,
+    padding: u32,
+) -> Result<Padded, Refusal>
     requires { start ≤ length file.now }
     ensures { told_padded result ≡ beside padding (own_size (text_bytes file.now at count start)) }
 {
     let n = count as usize;
     if !numbers::little::has_bytes(file, start, n) {
-        return Padded::Refused(1, at);
+        return Err(Rule::PastEnd.at(at));
     }
-    let end = start + n;
-    if is_text(&file[start..end]) {
-        return Padded::Read(count, end, padding);
+    let next = start + n;
+    if is_text(&file[start..next]) {
+        return Ok(Padded {
+            value: count,
+            next,
+            padding,
+        });
     }
-    Padded::Refused(15, at)
+    Err(Rule::BadValue.at(at))
 }
 
 // A text: its count, then its bytes. The value is the number of its bytes, and the padding its count's.
-pub fn text_at(file: &[u8], at: usize) -> Padded
+pub fn text_at(file: &[u8], at: usize) -> Result<Padded, Refusal>
     ensures { told_padded result ≡ beside (pad_of (seven_at file.now at) at) (own_size (text_at file.now at)) }
 {
-    match numbers::seven::seven_padded(file, at) {
-        Padded::Refused(number, place) => Padded::Refused(number, place),
-        Padded::Read(count, start, padding) => text_bytes(file, at, start, count, padding),
-    }
+    let count = numbers::seven::seven_padded(file, at)?;
+    text_bytes(file, at, count.next, count.value, count.padding)
 }
 
 // An image level of a size: its size field, then its data. The value is the number of its data's bytes.
 pub fn level_at(file: &[u8], size: u64, at: usize) -> Number
     ensures { told result ≡ sized (leaf_at file.now (level size) at) }
 {
-    match numbers::little::little4(file, at) {
-        Number::Refused(number, place) => Number::Refused(number, place),
-        Number::Read(n, start) => {
-            if n != size {
-                return Number::Refused(15, at);
-            }
-            let z = n as usize;
-            if !numbers::little::has_bytes(file, start, z) {
-                return Number::Refused(1, at);
-            }
-            Number::Read(n, start + z)
-        }
+    let Read { value: n, next: start } = numbers::little::little::<u32>(file, at)?;
+    if n != size {
+        return Err(Rule::BadValue.at(at));
     }
+    let z = n as usize;
+    if !numbers::little::has_bytes(file, start, z) {
+        return Err(Rule::PastEnd.at(at));
+    }
+    Ok(Read {
+        value: n,
+        next: start + z,
+    })
 }

@@ -9,7 +9,7 @@ use table::Grid;
 use walked::{Reached, Walk};
 
 // The same value n times; two in turn, n times; or the n levels of an image.
-#[derive(Clone, Copy)]
+#[derive(Clone, Copy, Debug, PartialEq, Eq)]
 pub enum Run {
     Same(Plain, u32),
     Turns(Plain, Plain, u32),
@@ -65,22 +65,15 @@ fn read_each(
     let mut next = at;
     let mut row = used;
     let mut padding = 0;
-    let mut i = 0;
-    while i < n {
+    for i in 0..n {
         let slot = turn(run, i);
-        match crate::plain::read_plain(file, words, grid, shared, slot, next, row, depth, parent) {
-            Walk::Done(reached) => {
-                next = reached.next;
-                row = reached.used;
-                padding = table::sum(padding, reached.padding);
-            }
-            Walk::Refused(number, place) => {
-                return Walk::Refused(number, place);
-            }
-        }
-        i += 1;
+        let reached =
+            crate::plain::read_plain(file, words, grid, shared, slot, next, row, depth, parent)?;
+        next = reached.next;
+        row = reached.used;
+        padding = table::sum(padding, reached.padding);
     }
-    Walk::Done(Reached {
+    Ok(Reached {
         used: row,
         padding,
         next,
@@ -190,7 +183,7 @@ fn read_fixed(
 {
     if put_kept(file, words, grid, kind, size, n, at, used, depth, parent) {
         let next = at + n as usize * size;
-        return Walk::Done(Reached {
+        return Ok(Reached {
             used: used + n,
             padding: 0,
             next,
@@ -264,14 +257,13 @@ fn read_one(
     ensures value { result ≡ (run_of grid file.now shared (Run.Same slot 1) depth parent at used words.old).0 }
     ensures words_after { words.new ≡ (run_of grid file.now shared (Run.Same slot 1) depth parent at used words.old).1 }
 {
-    match crate::plain::read_plain(file, words, grid, shared, slot, at, used, depth, parent) {
-        Walk::Refused(number, place) => Walk::Refused(number, place),
-        Walk::Done(reached) => Walk::Done(Reached {
-            used: reached.used,
-            padding: table::sum(0, reached.padding),
-            next: reached.next,
-        }),
-    }
+    let reached =
+        crate::plain::read_plain(file, words, grid, shared, slot, at, used, depth, parent)?;
+    Ok(Reached {
+        used: reached.used,
+        padding: table::sum(0, reached.padding),
+        next: reached.next,
+    })
 }
 
 // The values from `at` on, with their rows from `used` on. The shape of the table is told apart here so that many values are read out of the walk's way.

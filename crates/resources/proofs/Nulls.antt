@@ -1,4 +1,5 @@
 -- Null references cleared before the kinds of the roots are looked up: where there is room, no mark is a kind or a parent. Assumes nothing.
+use Rattle.std.specs.Prelude.{Option, None}
 use mathlib.Core.Path.{◌≡◌, refl, sym, ap, ◌∙◌}
 use mathlib.Core.Bool.{Bool, true, false, cond}
 use mathlib.Core.List.{List}
@@ -14,8 +15,6 @@ use Rattle.reading.specs.Drafts.{resource}
 use Rattle.reading.specs.Resource.{suit, suits}
 use Rattle.table.specs.declared.Grid.{Grid}
 use Rattle.table.specs.Grids.{cell_of}
-use Rattle.resources.specs.declared.Settled.{Settled}
-use Rattle.resources.specs.declared.Settled.TheVariants.{Fine}
 use Rattle.resources.specs.Total.{roots_from, roots_of, fitted, suited, row_settled, settle_from, nulled, null_cleared}
 use Rattle.resources.proofs.Turns.{rows-turn, rows_end}
 
@@ -55,11 +54,11 @@ module _ (g : Grid) where
       go false b = refl
 
     -- a row that names no resource is fine
-    null_row : (shared : List ℕ) → (null_cleared g w i).0 ≡ false → row_settled g shared w i ≡ (Fine, (null_cleared g w i).1)
+    null_row : (shared : List ℕ) → (null_cleared g w i).0 ≡ false → row_settled g shared w i ≡ (None, (null_cleared g w i).1)
     unfolding null_cleared row_settled
     null_row shared e = go (eqb (get_or w (cell_of g i 0) 0) 36) (eqb (get_or w (cell_of g i 5) 0) 0) refl e where
       go : (a b : Bool) → eqb (get_or w (cell_of g i 5) 0) 0 ≡ b → (nulled g a b w i).0 ≡ false
-          → cond a (fitted g (suited g shared w i) w i) (Fine, w) ≡ (Fine, (nulled g a b w i).1)
+          → cond a (fitted g (suited g shared w i) w i) (None, w) ≡ (None, (nulled g a b w i).1)
       go true true q r = rw (null_suits shared (get_or w (cell_of g i 3) 0) (get_or w (cell_of g i 5) 0) q)
       go true false q r = differ cc
       go false b q r = refl
@@ -79,8 +78,8 @@ module _ (g : Grid) where
     null_turn used h l e =
         let shared = drop 1 (roots_of g w used) in
         let r = sym (null_row shared e) in
-        rows-turn g shared used i w h (ap (λ (p : Settled × List ℕ). p.0) r) (ap (λ (p : Settled × List ℕ). p.1) r)
+        rows-turn g shared used i w h (ap (λ (p : Option ℕ × List ℕ). p.0) r) (ap (λ (p : Option ℕ × List ℕ). p.1) r)
         ∙ rw (null_roots used (omega arith) l)
 
-    pub null_end : (used : ℕ) → used ≤ i → settle_from g w used i ≡ (Fine, w)
+    pub null_end : (used : ℕ) → used ≤ i → settle_from g w used i ≡ (None, w)
     null_end used h = rows_end g (drop 1 (roots_of g w used)) used i w h

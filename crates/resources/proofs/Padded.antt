@@ -1,4 +1,5 @@
 -- The kinds of the rows that have no parent, as they are put into an array and looked up. Assumes nothing.
+use Rattle.std.specs.Prelude.{Option, Some, None}
 use mathlib.Core.Path.{◌≡◌, refl, sym, ap, ◌∙◌}
 use mathlib.Core.List.{List, [], ◌∷◌, ◌++◌, append-nil, append_assoc}
 use Prim.Native.Nat.{ℕ, zero, suc, ◌+◌, ◌-◌, ◌≤◌, ◌<◌}
@@ -10,8 +11,6 @@ use Rattle.reading.specs.File.{root_kind}
 use Rattle.reading.specs.Resource.{suits}
 use Rattle.table.specs.declared.Grid.{Grid}
 use Rattle.table.specs.Grids.{cell_of}
-use Rattle.resources.specs.declared.Settled.{Settled}
-use Rattle.resources.specs.declared.Settled.TheVariants.{Fine, Wrong}
 use Rattle.resources.specs.Roots.{padded, Holds}
 use Rattle.resources.specs.Total.{roots_from, roots_of, row_settled, onward, rows_settled}
 
@@ -107,9 +106,9 @@ padded-suits kinds (resource wanted) zero = refl
 padded-suits kinds (resource wanted) (suc i) =
     rw (get_or-drop 1 (kinds ++ replicate (257 - length kinds) 0) i 0, get_or-drop 1 kinds i 0, padded_at kinds (257 - length kinds) (1 + i))
 
-same_onward : (o : Settled) (w : List ℕ) (f h : List ℕ → Settled × List ℕ) → ((v : List ℕ) → f v ≡ h v) → onward o w f ≡ onward o w h
-same_onward Fine w f h e = e w
-same_onward (Wrong first) w f h e = refl
+same_onward : (o : Option ℕ) (w : List ℕ) (f h : List ℕ → Option ℕ × List ℕ) → ((v : List ℕ) → f v ≡ h v) → onward o w f ≡ onward o w h
+same_onward None w f h e = e w
+same_onward (Some first) w f h e = refl
 
 module _ (g : Grid) (kinds : List ℕ) where
   padded_row : (w : List ℕ) (i : ℕ) → row_settled g (drop 1 (padded kinds)) w i ≡ row_settled g (drop 1 kinds) w i

@@ -1,4 +1,5 @@
 -- Whether a reference is among the rows of the words, row by row, and what becomes of rows with none. Assumes nothing.
+use Rattle.std.specs.Prelude.{None}
 use mathlib.Core.Path.{◌≡◌, refl, ◌∙◌}
 use mathlib.Core.Bool.{Bool, true, false, cond, ◌||◌}
 use mathlib.Core.List.{List}
@@ -11,7 +12,6 @@ use borrow.Author.Tests.{eq-eqb, ne_eqb, eqb-false}
 use Rattle.laws.specs.Small.{differ, neither}
 use Rattle.table.specs.declared.Grid.{Grid}
 use Rattle.table.specs.Grids.{cell_of}
-use Rattle.resources.specs.declared.Settled.TheVariants.{Fine}
 use Rattle.resources.specs.Total.{fitted, suited, row_settled, onward, rows_settled, NoneAmong, any_reference, roots_of, settle_of}
 
 module _ (g : Grid) (w : List ℕ) where
@@ -57,16 +57,16 @@ module _ (g : Grid) (w : List ℕ) where
       any_past used i n (omega arith) (λ k l. f k (omega arith)) ∙ any_turn used (i + n) (omega arith) refl (f n (omega arith)) ∙ rw z
 
   -- rows with no reference are fine and stay as they are, whatever the shared objects are
-  pub none-settled : (shared : List ℕ) (left i : ℕ) → any_reference g w left i ≡ false → rows_settled g shared left i w ≡ (Fine, w)
+  pub none-settled : (shared : List ℕ) (left i : ℕ) → any_reference g w left i ≡ false → rows_settled g shared left i w ≡ (None, w)
   unfolding any_reference row_settled rows_settled
   none-settled shared zero i e = refl
   none-settled shared (suc left) i e = go (eqb (get_or w (cell_of g i 0) 0) 36) e (none-settled shared left (i + 1)) where
     go : (b : Bool) → cond b true (any_reference g w left (i + 1)) ≡ false
-        → (any_reference g w left (i + 1) ≡ false → rows_settled g shared left (i + 1) w ≡ (Fine, w))
-        → let o = cond b (fitted g (suited g shared w i) w i) (Fine, w) in onward o.0 o.1 (λ v. rows_settled g shared left (i + 1) v) ≡ (Fine, w)
+        → (any_reference g w left (i + 1) ≡ false → rows_settled g shared left (i + 1) w ≡ (None, w))
+        → let o = cond b (fitted g (suited g shared w i) w i) (None, w) in onward o.0 o.1 (λ v. rows_settled g shared left (i + 1) v) ≡ (None, w)
     go true q more = differ cc
     go false q more = more q
 
   -- so the last pass leaves them
-  pub none_left : (used : ℕ) → any_reference g w used 0 ≡ false → settle_of g w used ≡ (Fine, w)
+  pub none_left : (used : ℕ) → any_reference g w used 0 ≡ false → settle_of g w used ≡ (None, w)
   none_left used e = none-settled (drop 1 (roots_of g w used)) used 0 e

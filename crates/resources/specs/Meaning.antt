@@ -1,5 +1,5 @@
 -- Drafts that stand in the words, behind rows that are judged and cleared. Assumes nothing.
-use Rattle.std.specs.Prelude.{◌≡◌, Bool, ℕ, suc, ◌+◌, ◌*◌, ◌≤◌, drop}
+use Rattle.std.specs.Prelude.{◌≡◌, Bool, ℕ, suc, ◌+◌, ◌*◌, ◌≤◌, drop, Option}
 use Rattle.std.proofs.Math.Path.{refl, ap}
 use Rattle.std.proofs.Common.{sym, ◌∙◌, arith, take_all}
 use Rattle.std.proofs.Math.Bool.{true, false}
@@ -12,7 +12,6 @@ use Rattle.reading.specs.File.{root_kinds}
 use Rattle.table.specs.declared.Grid.{Grid}
 use Rattle.table.specs.Stores.{Wide}
 use Rattle.walked.specs.Written.{marked, drafts, length-drafts, wide_drafts, written}
-use Rattle.resources.specs.declared.Settled.{Settled}
 use Rattle.resources.specs.Marked.{Marked}
 use Rattle.resources.specs.Settled.{settled_of, settled, Settles, Drafted}
 use Rattle.resources.specs.Total.{roots_from, roots_of, onward, rows_settled, settle_of}
@@ -62,7 +61,7 @@ module _ (g : Grid) (w : List ℕ) (long : width * g.room ≤ length w) where
 
   module _ (shared : List ℕ) where
     -- the first draft is judged, and those behind it if it is fine
-    on_settled : (d : Draft) (ds : List Draft) (b : Bool) → suits shared d.wants d.row.detail ≡ b → (without with end : List ℕ) (more : List ℕ → Settled × List ℕ)
+    on_settled : (d : Draft) (ds : List Draft) (b : Bool) → suits shared d.wants d.row.detail ≡ b → (without with end : List ℕ) (more : List ℕ → Option ℕ × List ℕ)
         → Settles shared ds (more without).1 end (more without).0
         → let o = cleared b d.row.first without with in Settles shared (d ∷ ds) (onward o.0 o.1 more).1 end (onward o.0 o.1 more).0
     unfolding settled_of
@@ -95,6 +94,6 @@ drafted_settles : {g : Grid} {entry w : List ℕ} {used : ℕ} {ds : List Draft}
 unfolding settled
 drafted_settles {g} {entry} {w} {used} {ds} d = rw (roots-drafted d, d.count) (rows_settled_lem g w d.long (drop 1 (root_kinds ds)) ds d.marked (none_before d))
 
-pub settles_drafts : {g : Grid} {entry exit w : List ℕ} {used : ℕ} {ds : List Draft} {r : Settled} → r ≡ (settle_of g entry used).0 → exit ≡ (settle_of g entry used).1 → Drafted g entry used ds w
+pub settles_drafts : {g : Grid} {entry exit w : List ℕ} {used : ℕ} {ds : List Draft} {r : Option ℕ} → r ≡ (settle_of g entry used).0 → exit ≡ (settle_of g entry used).1 → Drafted g entry used ds w
     → Settles (drop 1 (root_kinds ds)) ds exit (settled g w ds) r
 settles_drafts e f d = rw (e, f) (drafted_settles d)

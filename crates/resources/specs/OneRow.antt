@@ -1,5 +1,5 @@
 -- One of some rows that stand in the words: what its words say, and its judgement. Assumes nothing.
-use Rattle.std.specs.Prelude.{◌≡◌, refl, Bool, List, [], ◌∷◌, ◌++◌, ℕ, suc, ◌+◌, ◌*◌, ◌<◌, ◌≤◌, length, get_or, set}
+use Rattle.std.specs.Prelude.{◌≡◌, refl, Bool, List, [], ◌∷◌, ◌++◌, ℕ, suc, ◌+◌, ◌*◌, ◌<◌, ◌≤◌, length, get_or, set, Option, Some, None}
 use Rattle.std.proofs.Common.{ap, ◌∙◌, arith, length-append}
 use Rattle.std.proofs.Math.Bool.{true, false}
 use Rattle.std.proofs.lemmas.List.{get_or_at, set_at}
@@ -12,8 +12,6 @@ use Rattle.table.specs.declared.Grid.{Grid}
 use Rattle.table.specs.Stores.{written_rows, Wide, rows_at, set-row}
 use Rattle.table.specs.Grids.{cell_of}
 use Rattle.walked.specs.Written.{marked}
-use Rattle.resources.specs.declared.Settled.{Settled}
-use Rattle.resources.specs.declared.Settled.TheVariants.{Fine, Wrong}
 use Rattle.resources.specs.Marked.{RowMarked}
 use Rattle.resources.specs.Total.{fitted, row_settled}
 
@@ -28,9 +26,9 @@ abbrev pub stored : Grid → (w : List ℕ) → List (List ℕ) → List ℕ
 stored g w rows = written_rows (shape_of g.columns) g.room w 0 rows
 
 -- what a judgement answers, and the words without the row's mark or with it
-abbrev pub cleared : Bool → (first : ℕ) (without with : List ℕ) → Settled × List ℕ
-cleared true first without with = (Fine, without)
-cleared false first without with = (Wrong first, with)
+abbrev pub cleared : Bool → (first : ℕ) (without with : List ℕ) → Option ℕ × List ℕ
+cleared true first without with = (None, without)
+cleared false first without with = (Some first, with)
 
 module _ (g : Grid) (w : List ℕ) (long : width * g.room ≤ length w) where
   -- a row behind some others

@@ -9,15 +9,8 @@ ghost use Rattle.reading.specs.Resource.{suit, suits};
 ghost use Rattle.resources.specs.Roots.{padded, NotesRow};
 ghost use Rattle.resources.specs.Total.{NoneAmong, any_reference, null_cleared, roots_of, row_settled, rows_settled, settle_from, settle_of};
 
-use ids::{Position, ResourceId, RowNumber};
-use table::{Grid, WIDTH, word_of};
-
-// Every reference names a resource that suits it, or the first byte of the first that does not.
-#[derive(Clone, Copy)]
-pub enum Settled {
-    Fine,
-    Wrong(u32),
-}
+use ids::{ResourceId, RowNumber};
+use table::{Grid, Table, WIDTH};
 
 // Stores a word at a place, where there is one.
 fn put_word(words: &mut [u32], at: usize, value: u32)
@@ -29,29 +22,27 @@ fn put_word(words: &mut [u32], at: usize, value: u32)
 }
 
 // Puts the kind of a row, if it has no parent, behind the `n` kinds before it, where there is room; how many there are then.
-fn note(kinds: &mut [u32; 257], n: usize, words: &[u32], grid: Grid, row: RowNumber) -> usize
-    ensures { NotesRow grid words.now row.0 kinds.old kinds.new n result }
+fn note(kinds: &mut [u32; 257], n: usize, table: Table, row: RowNumber) -> usize
+    ensures { NotesRow table.entry.grid table.entry.words.now row.0 kinds.old kinds.new n result }
 {
     if 257 <= n {
         return n;
     }
-    if word_of(words, grid, row, table::PARENT) != 0 {
+    if table.word(row, table::PARENT) != 0 {
         return n;
     }
-    kinds[n] = word_of(words, grid, row, table::KIND);
+    kinds[n] = table.word(row, table::KIND);
     n + 1
 }
 
 // The kinds of the first 257 rows that have no parent: the primary's, then those of the shared objects; zeros behind them.
-fn root_kinds(words: &[u32], grid: Grid, used: u32) -> [u32; 257]
-    ensures { result ≡ padded (roots_of grid words.now used) }
+fn root_kinds(table: Table, used: u32) -> [u32; 257]
+    ensures { result ≡ padded (roots_of table.entry.grid table.entry.words.now used) }
 {
     let mut kinds = [0u32; 257];
     let mut n = 0;
-    let mut i = 0;
-    while i < used {
-        n = note(&mut kinds, n, words, grid, RowNumber(i));
-        i += 1;
+    for i in 0..used {
+        n = note(&mut kinds, n, table, RowNumber(i));
     }
     kinds
 }
@@ -81,8 +72,8 @@ fn suits_id(kinds: &[u32], id: ResourceId, wanted: u32) -> bool
     ensures { result ≡ suits (drop 1 kinds.now) (resource wanted) id.0 }
 {
     match id.position() {
-        Position::Null => true,
-        Position::At(i) => {
+        None => true,
+        Some(i) => {
             let at = i as usize + 1;
             suits_kind(wanted, kind_at(kinds, at))
         }
@@ -90,46 +81,49 @@ fn suits_id(kinds: &[u32], id: ResourceId, wanted: u32) -> bool
 }
 
 // Judges one row and clears its mark.
-fn judge_row(words: &mut [u32], grid: Grid, row: RowNumber, kinds: &[u32]) -> Settled
+fn judge_row(words: &mut [u32], grid: Grid, row: RowNumber, kinds: &[u32]) -> Option<u32>
     ensures value { result ≡ (row_settled grid (drop 1 kinds.now) words.old row.0).0 }
     ensures words_after { words.new ≡ (row_settled grid (drop 1 kinds.now) words.old row.0).1 }
 {
-    if word_of(words, grid, row, table::KIND) != 36 {
-        return Settled::Fine;
+    let table = Table {
+        words: &*words,
+        grid,
+    };
+    if table.word(row, table::KIND) != 36 {
+        return None;
     }
-    let wanted = word_of(words, grid, row, table::CHILDREN);
-    let id = word_of(words, grid, row, table::DETAIL);
-    if suits_id(kinds, ResourceId(id), wanted) {
-        put_word(words, grid.cell(row, table::CHILDREN), 0);
-        return Settled::Fine;
+    let wanted = table.word(row, table::CHILDREN);
+    let id = table.word(row, table::DETAIL);
+    if !suits_id(kinds, ResourceId(id), wanted) {
+        return Some(table.word(row, table::FIRST));
     }
-    Settled::Wrong(word_of(words, grid, row, table::FIRST))
+    put_word(words, grid.cell(row, table::CHILDREN), 0);
+    None
 }
 
 // Judges the rows in order, from one on.
-fn judge_rows(words: &mut [u32], grid: Grid, from: u32, used: u32, kinds: &[u32]) -> Settled
+fn judge_rows(words: &mut [u32], grid: Grid, from: u32, used: u32, kinds: &[u32]) -> Option<u32>
     ensures value { result ≡ (rows_settled grid (drop 1 kinds.now) (used - from) from words.old).0 }
     ensures words_after { words.new ≡ (rows_settled grid (drop 1 kinds.now) (used - from) from words.old).1 }
 {
-    let mut i = from;
-    while i < used {
-        match judge_row(words, grid, RowNumber(i), kinds) {
-            Settled::Fine => {}
-            Settled::Wrong(first) => {
-                return Settled::Wrong(first);
-            }
+    for i in from..used {
+        if let Some(first) = judge_row(words, grid, RowNumber(i), kinds) {
+            return Some(first);
         }
-        i += 1;
     }
-    Settled::Fine
+    None
 }
 
 // Looks up the kinds of the resources, and judges the rows from one on.
-fn judge_from(words: &mut [u32], grid: Grid, from: u32, used: u32) -> Settled
+fn judge_from(words: &mut [u32], grid: Grid, from: u32, used: u32) -> Option<u32>
     ensures value { result ≡ (settle_from grid words.old used from).0 }
     ensures words_after { words.new ≡ (settle_from grid words.old used from).1 }
 {
-    let kinds = root_kinds(words, grid, used);
+    let table = Table {
+        words: &*words,
+        grid,
+    };
+    let kinds = root_kinds(table, used);
     judge_rows(words, grid, from, used, &kinds)
 }
 
@@ -138,10 +132,14 @@ fn clear_null(words: &mut [u32], grid: Grid, row: RowNumber) -> bool
     ensures value { result ≡ (null_cleared grid words.old row.0).0 }
     ensures words_after { words.new ≡ (null_cleared grid words.old row.0).1 }
 {
-    if word_of(words, grid, row, table::KIND) != 36 {
+    let table = Table {
+        words: &*words,
+        grid,
+    };
+    if table.word(row, table::KIND) != 36 {
         return false;
     }
-    if word_of(words, grid, row, table::DETAIL) != 0 {
+    if table.word(row, table::DETAIL) != 0 {
         return true;
     }
     let mark = grid.cell(row, table::CHILDREN);
@@ -150,45 +148,41 @@ fn clear_null(words: &mut [u32], grid: Grid, row: RowNumber) -> bool
 }
 
 // Judges rows that there is room for: null suits every reference, so kinds are looked up only at the first that names a resource.
-fn judge_all(words: &mut [u32], grid: Grid, used: u32) -> Settled
+fn judge_all(words: &mut [u32], grid: Grid, used: u32) -> Option<u32>
     requires { used ≤ grid.room }
     ensures value { result ≡ (settle_of grid words.old used).0 }
     ensures words_after { words.new ≡ (settle_of grid words.old used).1 }
 {
-    let mut i = 0;
-    while i < used {
+    for i in 0..used {
         if clear_null(words, grid, RowNumber(i)) {
             return judge_from(words, grid, i, used);
         }
-        i += 1;
     }
-    Settled::Fine
+    None
 }
 
 // Whether a reference is seen among eight rows.
-fn any_of_eight(words: &[u32], grid: Grid, from: u32) -> bool
-    requires { (from + 8 ≤ grid.room) × (width * grid.room ≤ length words.now) }
-    ensures { result ≡ false → NoneAmong grid words.now from 8 }
+fn any_of_eight(table: Table, from: u32) -> bool
+    requires { (from + 8 ≤ table.grid.room) × (width * table.grid.room ≤ length table.words.now) }
+    ensures { result ≡ false → NoneAmong table.entry.grid table.entry.words.now from 8 }
 {
     let mut found = false;
-    let mut j = 0;
-    while j < 8 {
+    for j in 0..8 {
         let row = from + j;
-        let at = grid.cell(RowNumber(row), table::KIND);
-        found = found | (words[at] == 36);
-        j += 1;
+        let at = table.grid.cell(RowNumber(row), table::KIND);
+        found = found | (table.words[at] == 36);
     }
     found
 }
 
 // Past the rows that eight at a time have no reference.
-fn past_eights(words: &[u32], grid: Grid, used: u32) -> u32
-    requires { (used ≤ grid.room) × (width * grid.room ≤ length words.now) }
-    ensures { any_reference grid words.now (used - result) result ≡ any_reference grid words.now used 0 }
+fn past_eights(table: Table, used: u32) -> u32
+    requires { (used ≤ table.grid.room) × (width * table.grid.room ≤ length table.words.now) }
+    ensures { any_reference table.entry.grid table.entry.words.now (used - result) result ≡ any_reference table.entry.grid table.entry.words.now used 0 }
 {
     let mut i = 0;
     while 8 <= used - i {
-        if any_of_eight(words, grid, i) {
+        if any_of_eight(table, i) {
             return i;
         }
         i += 8;
@@ -198,9 +192,10 @@ fn past_eights(words: &[u32], grid: Grid, used: u32) -> u32
 
 // Past rows without a reference, as far as they are seen at once.
 // In a table by rows the kinds are seven words apart, which the compiler sees where the shape is known.
-fn past_many(words: &[u32], grid: Grid, used: u32) -> u32
-    ensures { any_reference grid words.now (used - result) result ≡ any_reference grid words.now used 0 }
+fn past_many(table: Table, used: u32) -> u32
+    ensures { any_reference table.entry.grid table.entry.words.now (used - result) result ≡ any_reference table.entry.grid table.entry.words.now used 0 }
 {
+    let Table { words, grid } = table;
     if used > grid.room {
         return 0;
     }
@@ -209,37 +204,39 @@ fn past_many(words: &[u32], grid: Grid, used: u32) -> u32
         return 0;
     }
     if grid.columns {
-        return past_eights(words, grid, used);
+        return past_eights(table, used);
     }
-    let by_rows = Grid {
-        room: grid.room,
+    let grid = Grid {
         columns: false,
+        ..grid
     };
-    past_eights(words, by_rows, used)
+    past_eights(Table { words, grid }, used)
 }
 
 // Whether a reference is among the first `used` rows.
-fn any_reference(words: &[u32], grid: Grid, used: u32) -> bool
-    ensures { result ≡ any_reference grid words.now used 0 }
+fn any_reference(table: Table, used: u32) -> bool
+    ensures { result ≡ any_reference table.entry.grid table.entry.words.now used 0 }
 {
-    let mut i = past_many(words, grid, used);
-    while i < used {
-        if word_of(words, grid, RowNumber(i), table::KIND) == 36 {
+    for i in past_many(table, used)..used {
+        if table.word(RowNumber(i), table::KIND) == 36 {
             return true;
         }
-        i += 1;
     }
     false
 }
 
 // Judges the references of the first `used` rows, and clears their marks: drafts that stand in the words become the rows of 01.
 // Rows that there is no room for may share words, so the kinds are looked up before a mark among them is cleared.
-pub fn settle(words: &mut [u32], grid: Grid, used: u32) -> Settled
+pub fn settle(words: &mut [u32], grid: Grid, used: u32) -> Option<u32>
     ensures value { result ≡ (settle_of grid words.old used).0 }
     ensures words_after { words.new ≡ (settle_of grid words.old used).1 }
 {
-    if !any_reference(words, grid, used) {
-        return Settled::Fine;
+    let table = Table {
+        words: &*words,
+        grid,
+    };
+    if !any_reference(table, used) {
+        return None;
     }
     if grid.room < used {
         return judge_from(words, grid, 0, used);
