@@ -11,7 +11,7 @@ pub returns : goal.returns
 unfolding in_word
 returns c =
     let a = c.args in
-    named (rw c.in_ok.was (
-      ap (λ u. reaching u a.h.padding c.in_ok.value.next) c.wrapping_add_u32-used.ensures.value,
+    named (rw c.in_ok-next.was (
+      ap (λ u. reaching u a.h.padding c.in_ok-next.field-0.next) c.wrapping_add_u32-used.ensures.value,
       c.put_row.ensures ∙ ap (put_row a.grid a.words.now a.h.row.0) c.row_words-r.ensures,
     ))
