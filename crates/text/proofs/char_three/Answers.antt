@@ -13,7 +13,7 @@ pub returns-then-s-at-lt3 : goal.returns-then-s-at-lt3
 returns-then-s-at-lt3 c =
     let a = c.args in
     let b = get_or a.s.now a.at 0 in
-    sym (char_cut a.s.now a.at 2 c.requires.0 (size-three b c.requires.1.0 c.requires.1.1) (omega arith) c.if-s-at-lt3.true)
+    rw c.at.ensures (sym (char_cut a.s.now a.at 2 c.requires.0 (size-three b c.requires.1.0 c.requires.1.1) (omega arith) c.if-s-at-lt3.true))
 
 pub with_six-v-requires : goal.with_six-v-requires
 with_six-v-requires c =
@@ -38,4 +38,4 @@ unfolding check
 returns c =
     let a = c.args in
     let b = get_or a.s.now a.at 0 in
-    sym (char-read a.s.now a.at 2 false c.requires.0 (size-three b c.requires.1.0 c.requires.1.1) (omega arith) c.if-s-at-lt3.false (sym c.third.ensures ∙ c.if-third.false))
+    rw c.at-2.ensures (sym (char-read a.s.now a.at 2 false c.requires.0 (size-three b c.requires.1.0 c.requires.1.1) (omega arith) c.if-s-at-lt3.false (sym c.third.ensures ∙ c.if-third.false)))

@@ -13,7 +13,7 @@ pub returns-then-s-at-lt2 : goal.returns-then-s-at-lt2
 returns-then-s-at-lt2 c =
     let a = c.args in
     let b = get_or a.s.now a.at 0 in
-    sym (char_cut a.s.now a.at 1 c.requires.0 (size_two b c.requires.1.0 c.requires.1.1) (omega arith) c.if-s-at-lt2.true)
+    rw c.at.ensures (sym (char_cut a.s.now a.at 1 c.requires.0 (size_two b c.requires.1.0 c.requires.1.1) (omega arith) c.if-s-at-lt2.true))
 
 pub with_six-requires : goal.with_six-requires
 with_six-requires c =
@@ -32,4 +32,4 @@ unfolding check
 returns c =
     let a = c.args in
     let b = get_or a.s.now a.at 0 in
-    sym (char-read a.s.now a.at 1 false c.requires.0 (size_two b c.requires.1.0 c.requires.1.1) (omega arith) c.if-s-at-lt2.false (sym c.second.ensures ∙ c.if-second.false))
+    rw c.at-2.ensures (sym (char-read a.s.now a.at 1 false c.requires.0 (size_two b c.requires.1.0 c.requires.1.1) (omega arith) c.if-s-at-lt2.false (sym c.second.ensures ∙ c.if-second.false)))
