@@ -1,0 +1,2 @@
+-- The proof that two texts compare as their bytes do.
+pub mod Lexicographic
