@@ -1,5 +1,5 @@
 -- Laws of loading: each step of the code against what loading answers. Assumes nothing.
-use Rattle.std.specs.Prelude.{◌≡◌, Bool, ℕ, ◌+◌, ◌*◌, ◌-◌, ◌≤◌, drop, set}
+use Rattle.std.specs.Prelude.{◌≡◌, Bool, ℕ, ◌+◌, ◌*◌, ◌-◌, ◌≤◌, drop, set, Result, Ok, Err}
 use Rattle.std.proofs.Math.Path.{refl, sym, ap}
 use Rattle.std.proofs.Common.{subst, ◌∙◌, add-one, take-append-drop, eq-eqb, ne_eqb}
 use Rattle.std.proofs.Math.Bool.{true, false}
@@ -34,24 +34,19 @@ use Rattle.walked.specs.Written.{written, length-written}
 use Rattle.walked.specs.Loop.{Counted, got}
 use Rattle.walked.specs.Contract.{padded}
 use Rattle.fill.specs.Fill.{cleared}
-use Rattle.answers.specs.declared.Number.TheVariants.{Read as Header-read, Refused as Header-refused}
 use Rattle.header.specs.Header.{to_header, header_of}
 use Rattle.heads.specs.declared.nest.Nest.TheVariants.{Each}
 use Rattle.heads.specs.declared.slot.Slot.TheVariants.{Object}
 use Rattle.targets.specs.Code.{prelude_size}
 use Rattle.heads.specs.Plans.{Prelude, prelude, NestIs}
 use Rattle.heads.specs.Nests.{begins, object_at}
-use Rattle.resources.specs.declared.Settled.{Settled}
-use Rattle.resources.specs.declared.Settled.TheVariants.{Fine, Wrong}
 use Rattle.resources.specs.Settled.{settled_of, settled as rows_settled, answered, judged_is, Drafted}
 use Rattle.resources.specs.Flat.{rows-flat}
 use Rattle.resources.specs.Objects.{objects-drafted}
-use Rattle.load.specs.declared.Loading.{Loading}
-use Rattle.load.specs.declared.Loading.TheVariants.{Refused, Loaded}
+use Rattle.load.specs.declared.Loaded.{Loaded}
 use Rattle.steps.specs.declared.Children.{Children}
-use Rattle.steps.specs.declared.Children.TheVariants.{Done as Children-done, Refused as Children-refused}
 use Rattle.steps.specs.Turns.{Counts, whole as whole_nest, counts_walked, counts_refused}
-use Rattle.load.specs.Loads.{Total, file_total, Loads, behind_header, answer_of}
+use Rattle.load.specs.Loads.{Loading, Total, file_total, Loads, behind_header, answer_of}
 use Rattle.readers.specs.Judged.{judged_name, judges}
 use Rattle.readers.specs.Left.{enough}
 use Rattle.enums.specs.Judge.{Judgement, lawful, enums_at}
@@ -82,12 +77,12 @@ total-fits enums file words small rows readers shared e = go (enums_at enums) e 
 
 -- the whole: what is answered, and what the words hold at the end
 module _ (enums file entry : List ℕ) (columns : Bool) where
-  pub load_loaded : Small file → {exit : List ℕ} {rows readers shared padding : ℕ} → loads enums file entry columns exit (Loaded rows readers shared padding)
-      → (Loaded rows readers shared padding ≡ answer_of file (load_under enums file (length entry))) × (exit ≡ table_in (shape_of columns) (load_under enums file (length entry)) (length entry))
+  pub load_loaded : Small file → {exit : List ℕ} {r : Loaded} → loads enums file entry columns exit (Ok r)
+      → (Ok r ≡ answer_of file (load_under enums file (length entry))) × (exit ≡ table_in (shape_of columns) (load_under enums file (length entry)) (length entry))
   unfolding load_under to_load table_in
-  load_loaded small {exit} {rows} {readers} {shared} {padding} l = go columns (file_under enums file (room_of (length entry))) refl l where
-    go : (b : Bool) (x : Answer FileLoaded) → file_under enums file (room_of (length entry)) ≡ x → Loads (grid_of (length entry) b) (file_total file) x entry exit (Loaded rows readers shared padding)
-        → (Loaded rows readers shared padding ≡ answer_of file (to_load x)) × (exit ≡ table_in (shape_of b) (to_load x) (length entry))
+  load_loaded small {exit} {r} l = go columns (file_under enums file (room_of (length entry))) refl l where
+    go : (b : Bool) (x : Answer FileLoaded) → file_under enums file (room_of (length entry)) ≡ x → Loads (grid_of (length entry) b) (file_total file) x entry exit (Ok r)
+        → (Ok r ≡ answer_of file (to_load x)) × (exit ≡ table_in (shape_of b) (to_load x) (length entry))
     go b (refused c d) q l = differ cc
     go false (read a f) q l =
         let t = total-fits enums file (length entry) small (bare a.rows) a.readers a.shared (ap to_load q) in

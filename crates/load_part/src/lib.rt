@@ -1,7 +1,7 @@
 // Loading a file in a part of a lent row table, so that a short file costs no more than its length.
 #![tactic(auto)]
 
-ghost use Rattle.std.specs.Prelude.{◌≡◌, ◌≤◌, min, length, replicate};
+ghost use Rattle.std.specs.Prelude.{◌≡◌, ◌≤◌, length, replicate};
 ghost use Rattle.reading.specs.File.{table_of};
 ghost use Rattle.load.specs.Under.{load_under};
 ghost use Rattle.load.specs.Loads.{answer_of};
@@ -16,18 +16,11 @@ fn first_words(rows: usize, words: usize) -> usize
     ensures { (result ≡ first_words rows words) × (result ≤ words) }
 {
     let room = table::room(words) as usize;
-    if rows < room {
-        return WIDTH as usize * rows;
-    }
-    WIDTH as usize * room
+    WIDTH as usize * rows.min(room)
 }
 
-// How many rows a file of so many bytes is given first: a row for each byte, at most 128.
-fn few_rows(bytes: usize) -> usize
-    ensures { result ≡ min bytes 128 }
-{
-    bytes.min(128)
-}
+// A file is given a row for each byte first, and at most so many.
+const FEW_ROWS: usize = 128;
 
 // Whether an answer is any but 19, so that it is the same with more room.
 fn not_full(told: Loading) -> bool
@@ -54,7 +47,7 @@ pub fn load_part(file: &[u8], enums: &[u8], words: &mut [u32]) -> Loading
     ensures words_after { words.old ≡ replicate (length words.old) 0 → words.new
         ≡ table_of (load_under enums.now file.now (length words.old)) (length words.old) }
 {
-    let few = load_within(file, enums, words, few_rows(file.len()));
+    let few = load_within(file, enums, words, file.len().min(FEW_ROWS));
     if not_full(few) {
         return few;
     }

@@ -21,7 +21,7 @@ pub enum Stepped {
 }
 
 // Values one after the other, walked: how many they are and what the walk reaches.
-#[derive(Clone, Copy)]
+#[derive(Clone, Copy, Debug, PartialEq, Eq)]
 pub struct Children {
     pub count: u32,
     pub reached: Reached,
