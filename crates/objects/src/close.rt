@@ -4,15 +4,15 @@ ghost use Rattle.objects.specs.Endings.{keeps, close_answer, close_words};
 
 use answers::Rule;
 use ids::RowNumber;
-use table::Grid;
+use table::{Grid, Table};
 use walked::{Head, Reached, Walk};
 
 // A value of a kind keeps its rule, where its children's rows are in the words.
-fn keeps_rule(file: &[u8], words: &[u32], grid: Grid, kind: u32, row: RowNumber) -> bool
-    ensures { result ≡ keeps grid file.now words.now kind row.0 }
+fn keeps_rule(file: &[u8], table: Table, kind: u32, row: RowNumber) -> bool
+    ensures { result ≡ keeps table.entry.grid file.now table.entry.words.now kind row.0 }
 {
     if kind == names::kinds::SPRITE_FONT {
-        return fonts::font_rule(file, words, grid, row);
+        return fonts::font_rule(file, table, row);
     }
     true
 }
@@ -33,7 +33,7 @@ pub fn close(
 {
     let reached = walked?;
     let row = h.row;
-    if !keeps_rule(file, words, grid, kind, row) {
+    if !keeps_rule(file, Table { words: &*words, grid }, kind, row) {
         return Err(Rule::FontRule.at(at));
     }
     let branch = table::rows_from(row, reached.used);
