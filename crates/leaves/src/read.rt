@@ -60,7 +60,10 @@ pub fn text_at(file: &[u8], at: usize) -> Result<Padded, Refusal>
 pub fn level_at(file: &[u8], size: u64, at: usize) -> Number
     ensures { told result ≡ sized (leaf_at file.now (level size) at) }
 {
-    let Read { value: n, next: start } = numbers::little::little::<u32>(file, at)?;
+    let Read {
+        value: n,
+        next: start,
+    } = numbers::little::little::<u32>(file, at)?;
     if n != size {
         return Err(Rule::BadValue.at(at));
     }

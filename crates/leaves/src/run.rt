@@ -67,8 +67,9 @@ fn read_each(
     let mut padding = 0;
     for i in 0..n {
         let slot = turn(run, i);
-        let reached =
-            crate::plain::read_plain(file, words, grid, shared, slot, next, row, depth, parent)?;
+        let reached = crate::plain::read_plain(
+            file, words, grid, shared, slot, next, row, depth, parent,
+        )?;
         next = reached.next;
         row = reached.used;
         padding = table::sum(padding, reached.padding);
@@ -257,8 +258,9 @@ fn read_one(
     ensures value { result ≡ (run_of grid file.now shared (Run.Same slot 1) depth parent at used words.old).0 }
     ensures words_after { words.new ≡ (run_of grid file.now shared (Run.Same slot 1) depth parent at used words.old).1 }
 {
-    let reached =
-        crate::plain::read_plain(file, words, grid, shared, slot, at, used, depth, parent)?;
+    let reached = crate::plain::read_plain(
+        file, words, grid, shared, slot, at, used, depth, parent,
+    )?;
     Ok(Reached {
         used: reached.used,
         padding: table::sum(0, reached.padding),

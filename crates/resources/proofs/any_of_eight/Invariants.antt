@@ -12,7 +12,4 @@ use borrow.Author.Rules.{rules}
 use Rattle.resources.proofs.any_of_eight.Given as goal
 
 abbrev pub invariant-loop-j : goal.invariant-loop-j
-invariant-loop-j l = (l.j ≤ 8) × (l.found ≡ false → NoneAmong l.grid l.words l.from l.j)
-
-abbrev pub decreases-loop-j : goal.decreases-loop-j
-decreases-loop-j l = 8 - l.j
+invariant-loop-j l = (l.j ≤ 8) × (l.found ≡ false → NoneAmong l.table.grid l.table.words.now l.from l.j)

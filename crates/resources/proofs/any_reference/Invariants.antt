@@ -8,7 +8,4 @@ use borrow.Author.Rules.{rules}
 use Rattle.resources.proofs.any_reference.Given as goal
 
 abbrev pub invariant-loop-i : goal.invariant-loop-i
-invariant-loop-i l = any_reference l.grid l.words (l.used - l.i) l.i ≡ any_reference l.grid l.words l.used 0
-
-abbrev pub decreases-loop-i : goal.decreases-loop-i
-decreases-loop-i l = l.used - l.i
+invariant-loop-i l = any_reference l.table.grid l.table.words.now (l.used - l.i) l.i ≡ any_reference l.table.grid l.table.words.now l.used 0

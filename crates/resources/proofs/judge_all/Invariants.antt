@@ -10,6 +10,3 @@ use Rattle.resources.proofs.judge_all.Given as goal
 
 abbrev pub invariant-loop-i : goal.invariant-loop-i
 invariant-loop-i l = (length l.words ≡ length l.initial.words) × (settle_from l.grid l.words l.used l.i ≡ settle_of l.grid l.initial.words l.used)
-
-abbrev pub decreases-loop-i : goal.decreases-loop-i
-decreases-loop-i l = l.used - l.i

@@ -8,20 +8,20 @@ use Rattle.resources.proofs.judge_row.Goals as goal
 named : {A B : Type 0} → A × B → record { value : A; words_after : B }
 named p = record { value = p.0; words_after = p.1 }
 
-pub returns-then-word_of-ne36 : goal.returns-then-word_of-ne36
+pub returns-then-word-ne36 : goal.returns-then-word-ne36
 unfolding row_settled
-returns-then-word_of-ne36 c = named (rw (← c.word_of.ensures, ne_eqb _ 36 c.if-word_of-ne36.true) (refl, refl))
+returns-then-word-ne36 c = named (rw (← c.word.ensures, ne_eqb _ 36 c.if-word-ne36.true) (refl, refl))
 
-pub returns-then-suits_id : goal.returns-then-suits_id
+pub returns-then-not-suits_id : goal.returns-then-not-suits_id
 unfolding row_settled
-returns-then-suits_id c =
-    let t = sym c.suits_id.ensures ∙ c.if-suits_id.true in
-    let t' = rw (c.word_of-wanted.ensures, c.word_of-id.ensures) at t in
-    named (rw (← c.word_of.ensures, eq-eqb _ 36 c.if-word_of-ne36.false, t') (refl, rw c.cell.ensures at c.put_word.ensures))
+returns-then-not-suits_id c =
+    let t = sym c.suits_id.ensures ∙ c.if-not-suits_id.true in
+    let t' = rw (c.word-wanted.ensures, c.word-id.ensures) at t in
+    named (rw (← c.word.ensures, eq-eqb _ 36 c.if-word-ne36.false, t', c.word-then-not-suits_id.ensures) (refl, refl))
 
 pub returns : goal.returns
 unfolding row_settled
 returns c =
-    let t = sym c.suits_id.ensures ∙ c.if-suits_id.false in
-    let t' = rw (c.word_of-wanted.ensures, c.word_of-id.ensures) at t in
-    named (rw (← c.word_of.ensures, eq-eqb _ 36 c.if-word_of-ne36.false, t', c.word_of-2.ensures) (refl, refl))
+    let t = sym c.suits_id.ensures ∙ c.if-not-suits_id.false in
+    let t' = rw (c.word-wanted.ensures, c.word-id.ensures) at t in
+    named (rw (← c.word.ensures, eq-eqb _ 36 c.if-word-ne36.false, t') (refl, rw c.cell.ensures at c.put_word.ensures))

@@ -16,15 +16,15 @@ named p = record { value = p.0; words_after = p.1 }
 pub loop-i-init : goal.loop-i-init
 loop-i-init c = (refl, refl)
 
-pub returns-in-Wrong : goal.returns-in-Wrong
-returns-in-Wrong c =
-    let j = rw c.in-Wrong.is at (both c.judge_row.ensures.value c.judge_row.ensures.words_after) in
+pub returns-in-Some : goal.returns-in-Some
+returns-in-Some c =
+    let j = rw c.in-Some.is at (both c.judge_row.ensures.value c.judge_row.ensures.words_after) in
     let e = rows-turn _ _ _ _ _ c.loop-i-test.true j.0 j.1 in
     named (rw (sym c.loop-i.invariant.1 ∙ e) (refl, refl))
 
 pub loop-i-preserved : goal.loop-i-preserved
 loop-i-preserved c =
-    let j = rw c.in-Fine.is at (both c.judge_row.ensures.value c.judge_row.ensures.words_after) in
+    let j = rw c.in_default.is at (both c.judge_row.ensures.value c.judge_row.ensures.words_after) in
     let e = rows-turn _ _ _ _ _ c.loop-i-test.true j.0 j.1 in
     (search rules, sym e ∙ c.loop-i.invariant.1)
 

@@ -9,6 +9,3 @@ use Rattle.resources.proofs.judge_rows.Given as goal
 
 abbrev pub invariant-loop-i : goal.invariant-loop-i
 invariant-loop-i l = (length l.words ≡ length l.initial.words) × (rows_settled l.grid (drop 1 l.kinds) (l.used - l.i) l.i l.words ≡ rows_settled l.grid (drop 1 l.kinds) (l.used - l.from) l.from l.initial.words)
-
-abbrev pub decreases-loop-i : goal.decreases-loop-i
-decreases-loop-i l = l.used - l.i

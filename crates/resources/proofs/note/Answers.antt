@@ -6,11 +6,11 @@ use Rattle.resources.proofs.note.Goals as goal
 pub returns-then-n-ge257 : goal.returns-then-n-ge257
 returns-then-n-ge257 c = λ found h few. no_room _ c.if-n-ge257.true h few
 
-pub returns-then-word_of-ne0 : goal.returns-then-word_of-ne0
-returns-then-word_of-ne0 c = λ found h few. rw (← c.word_of.ensures) (no_root _ _ c.if-word_of-ne0.true h few)
+pub returns-then-word-ne0 : goal.returns-then-word-ne0
+returns-then-word-ne0 c = λ found h few. rw (← c.word.ensures) (no_root _ _ c.if-word-ne0.true h few)
 
 pub returns : goal.returns
 returns c =
     λ found h few.
-    rw (← c.word_of.ensures, ← c.word_of-2.ensures)
-    (one_root _ _ c.if-word_of-ne0.false c.if-n-ge257.false h)
+    rw (← c.word.ensures, ← c.word-2.ensures)
+    (one_root _ _ c.if-word-ne0.false c.if-n-ge257.false h)

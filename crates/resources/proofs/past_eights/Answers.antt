@@ -19,7 +19,7 @@ returns-then-any_of_eight c = c.loop-i.invariant.1
 pub loop-i-preserved : goal.loop-i-preserved
 loop-i-preserved c =
     let a = c.args in
-    (omega (arith, c.loop-i-test.true), sym (any_past a.grid a.words.now a.used c.loop-i.i 8 (omega (arith, c.loop-i-test.true)) (c.any_of_eight.ensures c.if-any_of_eight.false)) ∙ c.loop-i.invariant.1)
+    (omega (arith, c.loop-i-test.true), sym (any_past a.table.grid a.table.words.now a.used c.loop-i.i 8 (omega (arith, c.loop-i-test.true)) (c.any_of_eight.ensures c.if-any_of_eight.false)) ∙ c.loop-i.invariant.1)
 
 pub returns : goal.returns
 returns c = c.loop-i.invariant.1

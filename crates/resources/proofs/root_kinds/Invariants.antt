@@ -6,7 +6,4 @@ use borrow.Author.Rules.{rules}
 use Rattle.resources.proofs.root_kinds.Given as goal
 
 abbrev pub invariant-loop-i : goal.invariant-loop-i
-invariant-loop-i l = Found l.grid l.words l.used l.kinds l.n l.i
-
-abbrev pub decreases-loop-i : goal.decreases-loop-i
-decreases-loop-i l = l.used - l.i
+invariant-loop-i l = Found l.table.grid l.table.words.now l.used l.kinds l.n l.i
