@@ -1,5 +1,5 @@
 -- What is known of a file that the plain loader accepted, and what the driver's loader answers then. Assumes nothing.
-use Rattle.std.specs.Prelude.{◌≡◌, ℕ, zero, suc, ◌+◌, ◌*◌, ◌-◌, ◌<◌, ◌≤◌, get_or}
+use Rattle.std.specs.Prelude.{◌≡◌, ℕ, zero, suc, ◌+◌, ◌*◌, ◌-◌, ◌<◌, ◌≤◌, get_or, Ok, Err}
 use Rattle.std.proofs.Math.Path.{refl, sym, ap}
 use Rattle.std.proofs.Common.{◌∙◌, arith}
 use mathlib.Core.List.{List, [], ◌∷◌, ◌++◌}
@@ -28,10 +28,11 @@ use Rattle.enums.specs.Judge.{Judgement, lawful, enums_at}
 use Rattle.enums.specs.Judge.{refused as list-refused}
 use Rattle.enums.specs.Lists.{Bytes, enums-sound}
 use Rattle.readers.specs.Judged.{judged_name, judges}
-use Rattle.load.specs.declared.Loading.{Loading}
-use Rattle.load.specs.declared.Loading.TheVariants.{Refused, Loaded}
+use Rattle.answers.specs.declared.Refusal.{Refusal}
+use Rattle.answers.specs.Refusals.{refusal as broken}
+use Rattle.load.specs.declared.Loaded.{Loaded}
 use Rattle.load.specs.Under.{load_under, load_lawful, accepted-list, load_refused-list}
-use Rattle.load.specs.Loads.{answer_of}
+use Rattle.load.specs.Loads.{Loading, loaded, answer_of}
 use Rattle.profile.specs.Stand.{Stand, file_stand}
 use Rattle.profile.specs.Offences.{fine, fault, fault_of, by_fault, targets_of, profiled, driver_of, Offence}
 use Rattle.used_rows.specs.Held.{word_in, Held}
@@ -132,42 +133,37 @@ module _ (enums file : List ℕ) (n : ℕ) where
     go (list-refused m i) q = sym (load_refused-list enums file n q) ∙ e
     go (lawful es) q = rw (sym (load_lawful enums file n es q) ∙ e)
 
-  pub hand_on : {k p : ℕ} → Refused k p ≡ answer_of file (load_under enums file n)
-      → (Refused k p ≡ answer_of file (driver_under enums file n)) × (table_of (load_under enums file n) n ≡ table_of (driver_under enums file n) n)
-  hand_on {k} {p} e = go (load_under enums file n) refl e where
-    go : (x : Load) → load_under enums file n ≡ x → Refused k p ≡ answer_of file x
-        → (Refused k p ≡ answer_of file (driver_under enums file n)) × (table_of (load_under enums file n) n ≡ table_of (driver_under enums file n) n)
+  pub hand_on : {x : Refusal} → Err x ≡ answer_of file (load_under enums file n)
+      → (Err x ≡ answer_of file (driver_under enums file n)) × (table_of (load_under enums file n) n ≡ table_of (driver_under enums file n) n)
+  hand_on {x} e = go (load_under enums file n) refl e where
+    go : (l : Load) → load_under enums file n ≡ l → Err x ≡ answer_of file l
+        → (Err x ≡ answer_of file (driver_under enums file n)) × (table_of (load_under enums file n) n ≡ table_of (driver_under enums file n) n)
     go (refusal m q) d f =
-        let a : k ≡ m = cc in
-        let b : p ≡ q = cc in
         let r = driver_refused d in
-        (rw (r, a, b), rw (d, r))
+        (rw r f, rw (d, r))
     go (accepted rs rd sh) d f = differ cc
 
-  pub settled : {rows readers shared padding : ℕ} → Small file → Bytes enums → Loaded rows readers shared padding ≡ answer_of file (load_under enums file n) → (entry exit : List ℕ) (r : Loading)
-      → length entry ≡ n → entry ≡ table_of (load_under enums file n) n → Settles (enums_of enums) file entry exit rows readers shared padding r
+  pub settled : {l : Loaded} → Small file → Bytes enums → Ok l ≡ answer_of file (load_under enums file n) → (entry exit : List ℕ) (r : Loading)
+      → length entry ≡ n → entry ≡ table_of (load_under enums file n) n → Settles (enums_of enums) file entry exit l r
       → (r ≡ answer_of file (driver_under enums file n)) × (exit ≡ table_of (driver_under enums file n) n)
   unfolding by_fault table_in driver_under by_list
-  settled {rows} {readers} {shared} {padding} small bytes e entry exit r len en s = go (load_under enums file n) refl e where
-    left_is : (rs : List Row) (rd sh : ℕ) (x : Offence) → Left x entry exit (length rs) rd sh (file_padding file rd rs) r → entry ≡ table_of (accepted rs rd sh) n
+  settled {l} small bytes e entry exit r len en s = go (load_under enums file n) refl e where
+    left_is : (rs : List Row) (rd sh : ℕ) (x : Offence) → Left x entry exit (loaded (length rs) rd sh (file_padding file rd rs)) r → entry ≡ table_of (accepted rs rd sh) n
         → (r ≡ answer_of file (by_fault x (accepted rs rd sh))) × (exit ≡ table_of (by_fault x (accepted rs rd sh)) n)
     left_is rs rd sh fine w t = (w.0, w.1 ∙ t)
     left_is rs rd sh (fault k p) w t = (w.0, w.1 ∙ ap (λ (m : ℕ). replicate m 0) len)
 
-    go : (x : Load) → load_under enums file n ≡ x → Loaded rows readers shared padding ≡ answer_of file x → (r ≡ answer_of file (driver_under enums file n)) × (exit ≡ table_of (driver_under enums file n) n)
+    go : (x : Load) → load_under enums file n ≡ x → Ok l ≡ answer_of file x → (r ≡ answer_of file (driver_under enums file n)) × (exit ≡ table_of (driver_under enums file n) n)
     go (refusal m q) d f = differ cc
     go (accepted rs rd sh) d f =
-        let e₁ : rows ≡ length rs = cc in
-        let e₂ : readers ≡ rd = cc in
-        let e₃ : shared ≡ sh = cc in
-        let e₄ : padding ≡ file_padding file rd rs = cc in
-        let l = accepted-list enums file n rs rd sh d in
-        let es = l.0 in
-        let w = rw l.1 at (enums-sound enums bytes) in
+        let e₁ : l ≡ loaded (length rs) rd sh (file_padding file rd rs) = cc in
+        let a = accepted-list enums file n rs rd sh d in
+        let es = a.0 in
+        let w = rw a.1 at (enums-sound enums bytes) in
         let z : enums_of enums ≡ es = ap enums_of w.1 ∙ enums-written es w.0 in
-        let is : load_of (judged_name es) file n ≡ accepted rs rd sh = sym (load_lawful enums file n es l.1) ∙ d in
+        let is : load_of (judged_name es) file n ≡ accepted rs rd sh = sym (load_lawful enums file n es a.1) ∙ d in
         let t : entry ≡ table_of (accepted rs rd sh) n = en ∙ ap (λ (x : Load). table_of x n) d in
-        let s₁ : Settles es file entry exit (length rs) rd sh (file_padding file rd rs) r = rw (z, e₁, e₂, e₃, e₄) at s in
-        let a : Accepted es file (rows_grid (length entry)) entry (length rs) rd (file_padding file rd rs) (targets es file n small rs rd sh is) rs = rw (len, t) (is_accepted es file n small rs rd sh is (replicate (n - width * length rs) 0)) in
-        let u : driver_under enums file n ≡ by_fault (fault_of file (targets es file n small rs rd sh is) rs) (accepted rs rd sh) = rw l.1 (driver_then es file n small rs rd sh is) in
-        rw u (left_is rs rd sh (fault_of file (targets es file n small rs rd sh is) rs) (s₁ (targets es file n small rs rd sh is) rs a) t)
+        let s₁ : Settles es file entry exit (loaded (length rs) rd sh (file_padding file rd rs)) r = rw (z, e₁) at s in
+        let b : Accepted es file (rows_grid (length entry)) entry (length rs) rd (file_padding file rd rs) (targets es file n small rs rd sh is) rs = rw (len, t) (is_accepted es file n small rs rd sh is (replicate (n - width * length rs) 0)) in
+        let u : driver_under enums file n ≡ by_fault (fault_of file (targets es file n small rs rd sh is) rs) (accepted rs rd sh) = rw a.1 (driver_then es file n small rs rd sh is) in
+        rw u (left_is rs rd sh (fault_of file (targets es file n small rs rd sh is) rs) (s₁ (targets es file n small rs rd sh is) rs b) t)

@@ -3,151 +3,84 @@
 
 ghost use Rattle.std.specs.Prelude.{◌≡◌, length};
 ghost use Rattle.reading.specs.File.{table_of};
+ghost use Rattle.answers.specs.Refusals.{number_of};
 ghost use Rattle.names.specs.Entries.{enums_of};
 ghost use Rattle.load.specs.Loads.{answer_of};
 ghost use Rattle.fault_places.specs.Places.{first_place};
 ghost use Rattle.profile.specs.Offences.{other_platform};
 ghost use Rattle.driver.specs.Under.{driver_under};
-ghost use Rattle.driver.specs.Rules.{From47, From46, From45, From44, From43, From42, From41, NumbersPadded};
+ghost use Rattle.driver.specs.Rules.{kept, From41, NumbersPadded};
 ghost use Rattle.driver.specs.Settled.{Settles};
 
-use fault_places::Place;
-use load::Loading;
-use table::Grid;
-
-// A rule that is broken, and where; or none.
-#[derive(Clone, Copy)]
-enum Broken {
-    None,
-    Rule(u32, usize),
-}
+use answers::{Refusal, Rule};
+use key_repeats::repeated_keys;
+use load::{Loaded, Loading};
+use number_rules::padded_number;
+use page_rules::{nextless, no_page};
+use reader_rules::unused_reader;
+use table::Table;
+use target_rules::doubled_reader;
+use used_rows::UsedRows;
 
 // 41: another platform than `w`.
-fn platform(file: &[u8]) -> Place
+fn platform(file: &[u8]) -> Option<usize>
     ensures { result ≡ first_place (other_platform file.now) }
 {
     if file.len() <= 3 {
-        return Place::At(3);
+        return Some(3);
     }
-    if file[3] == 0x77 {
-        return Place::Fine;
+    if file[3] == b'w' {
+        return None;
     }
-    Place::At(3)
+    Some(3)
 }
 
 // 42: looked for only where the load found padding.
-fn numbers(file: &[u8], words: &[u32], grid: Grid, used: u32, readers: u32, padding: u32) -> Place
-    ensures { NumbersPadded file.now grid words.now used readers padding result }
+fn numbers(file: &[u8], rows: UsedRows, loaded: Loaded) -> Option<usize>
+    ensures { NumbersPadded file.now rows.entry.table.grid rows.entry.table.words.now rows.entry.used loaded.readers loaded.padding result }
 {
-    if padding == 0 {
-        return Place::Fine;
+    if loaded.padding == 0 {
+        return None;
     }
-    number_rules::padded_number(file, words, grid, used, readers)
+    padded_number(file, rows, loaded.readers)
 }
 
-// 47, and each rule before those behind it.
-fn from_47(words: &[u32], grid: Grid, used: u32) -> Broken
-    ensures { From47 grid words.now used result }
+// A rule is kept, or refused at the place where it is broken.
+fn kept(rule: Rule, broken: Option<usize>) -> Result<(), Refusal>
+    ensures { result ≡ kept (number_of rule) broken }
 {
-    match page_rules::nextless(words, grid, used) {
-        Place::At(place) => Broken::Rule(47, place),
-        Place::Fine => Broken::None,
-    }
-}
-
-fn from_46(words: &[u32], grid: Grid, used: u32) -> Broken
-    ensures { From46 grid words.now used result }
-{
-    match page_rules::no_page(words, grid, used) {
-        Place::At(place) => Broken::Rule(46, place),
-        Place::Fine => from_47(words, grid, used),
+    match broken {
+        None => Ok(()),
+        Some(place) => Err(rule.at(place)),
     }
 }
 
-fn from_45(file: &[u8], words: &[u32], grid: Grid, used: u32) -> Broken
-    ensures { From45 file.now grid words.now used result }
+// 41 to 47 of a loaded file, in their order.
+fn rules_kept(file: &[u8], enums: &[u8], rows: UsedRows, loaded: Loaded) -> Result<(), Refusal>
+    ensures { From41 (enums_of enums.now) file.now rows.entry.table.grid rows.entry.table.words.now rows.entry.used loaded.readers loaded.padding result }
 {
-    match key_repeats::repeated_keys(file, words, grid, used) {
-        Place::At(place) => Broken::Rule(45, place),
-        Place::Fine => from_46(words, grid, used),
-    }
-}
-
-fn from_44(file: &[u8], enums: &[u8], words: &[u32], grid: Grid, used: u32) -> Broken
-    ensures { From44 (enums_of enums.now) file.now grid words.now used result }
-{
-    match target_rules::doubled_reader(file, enums) {
-        Place::At(place) => Broken::Rule(44, place),
-        Place::Fine => from_45(file, words, grid, used),
-    }
-}
-
-fn from_43(file: &[u8], enums: &[u8], words: &[u32], grid: Grid, used: u32, readers: u32) -> Broken
-    ensures { From43 (enums_of enums.now) file.now grid words.now used readers result }
-{
-    match reader_rules::unused_reader(file, words, grid, used, readers) {
-        Place::At(place) => Broken::Rule(43, place),
-        Place::Fine => from_44(file, enums, words, grid, used),
-    }
-}
-
-fn from_42(
-    file: &[u8],
-    enums: &[u8],
-    words: &[u32],
-    grid: Grid,
-    used: u32,
-    readers: u32,
-    padding: u32,
-) -> Broken
-    ensures { From42 (enums_of enums.now) file.now grid words.now used readers padding result }
-{
-    match numbers(file, words, grid, used, readers, padding) {
-        Place::At(place) => Broken::Rule(42, place),
-        Place::Fine => from_43(file, enums, words, grid, used, readers),
-    }
-}
-
-fn from_41(
-    file: &[u8],
-    enums: &[u8],
-    words: &[u32],
-    grid: Grid,
-    used: u32,
-    readers: u32,
-    padding: u32,
-) -> Broken
-    ensures { From41 (enums_of enums.now) file.now grid words.now used readers padding result }
-{
-    match platform(file) {
-        Place::At(place) => Broken::Rule(41, place),
-        Place::Fine => from_42(file, enums, words, grid, used, readers, padding),
-    }
+    kept(Rule::NotWindows, platform(file))?;
+    kept(Rule::NotShortest, numbers(file, rows, loaded))?;
+    kept(Rule::UnusedReader, unused_reader(file, rows, loaded.readers))?;
+    kept(Rule::EqualReaders, doubled_reader(file, enums))?;
+    kept(Rule::RepeatedKey, repeated_keys(file, rows))?;
+    kept(Rule::NotPage, no_page(rows))?;
+    kept(Rule::NoNextPage, nextless(rows))
 }
 
 // What is left of a loaded file: its rows, or zeros where a rule is broken.
-fn settle(
-    file: &[u8],
-    enums: &[u8],
-    words: &mut [u32],
-    rows: u32,
-    readers: u32,
-    shared: u32,
-    padding: u32,
-) -> Loading
-    ensures { Settles (enums_of enums.now) file.now words.old words.new rows readers shared padding result }
+fn settle(file: &[u8], enums: &[u8], words: &mut [u32], loaded: Loaded) -> Loading
+    ensures { Settles (enums_of enums.now) file.now words.old words.new loaded result }
 {
-    let grid = table::rows_grid(words.len());
-    match from_41(file, enums, words, grid, rows, readers, padding) {
-        Broken::None => Loading::Loaded {
-            rows,
-            readers,
-            shared,
-            padding,
-        },
-        Broken::Rule(number, place) => {
+    let rows = UsedRows {
+        table: Table::by_rows(words),
+        used: loaded.rows,
+    };
+    match rules_kept(file, enums, rows, loaded) {
+        Ok(()) => Ok(loaded),
+        Err(refusal) => {
             fill::clear(words, 0);
-            Loading::Refused(number, place)
+            Err(refusal)
         }
     }
 }
@@ -158,13 +91,6 @@ pub fn load_driver(file: &[u8], enums: &[u8], words: &mut [u32]) -> Loading
     ensures words_after { words.new
         ≡ table_of (driver_under enums.now file.now (length words.old)) (length words.old) }
 {
-    match load::load(file, enums, words) {
-        Loading::Refused(number, place) => Loading::Refused(number, place),
-        Loading::Loaded {
-            rows,
-            readers,
-            shared,
-            padding,
-        } => settle(file, enums, words, rows, readers, shared, padding),
-    }
+    let loaded = load::load(file, enums, words)?;
+    settle(file, enums, words, loaded)
 }

@@ -24,10 +24,10 @@ use Rattle.reading.proofs.Theorems as T-laws
 use Rattle.branches.specs.Table.{rows_stand, file_skips}
 use Rattle.shortest.specs.Theorems as S
 use Rattle.readers.specs.Judged.{judged_name, judges}
-use Rattle.load.specs.declared.Loading.{Loading}
-use Rattle.load.specs.declared.Loading.TheVariants.{Refused, Loaded}
+use Rattle.std.specs.Prelude.{Ok, Err}
+use Rattle.answers.specs.Refusals.{refusal as broken}
 use Rattle.load.specs.Under.{load_under, load_lawful, load_refused-list}
-use Rattle.load.specs.Loads.{answer_of}
+use Rattle.load.specs.Loads.{Loading, loaded as counts, answer_of}
 use Rattle.profile.specs.Profile.{Profile}
 use Rattle.profile.specs.Offences.{fine, fault, fault_of, by_fault, profiled, driver_of, Offence}
 use Rattle.profile.specs.Passes.{driver_is}
@@ -37,7 +37,6 @@ use Rattle.driver.specs.Facts.{hand_on}
 use Rattle.driver.specs.Under.{by_list, driver_under, passes_under, same_under, none_under}
 use Rattle.layout.specs.Fits.{Fitting, rows_in}
 use Rattle.theorems.specs.Loading.{IsLoaded}
-use Rattle.driver_theorems.specs.declared.LoadedBoth.{LoadedBoth}
 use Rattle.driver_theorems.specs.Driver.{Passes, LoadsForDriver, Beside}
 
 -- ---- A file tree that fits, and the list under which it does
@@ -70,15 +69,15 @@ module _ (enums file : List ℕ) (words : ℕ) {left : List ℕ} {r : Loading} (
   passed f p = same_under enums file words f.es (list_is f) f.fits p ∙ load_is f
 
   loaded : (p : Passes enums file words)
-      → (r ≡ Loaded (length (rows_in p.0.fits)) (length p.0.fits.tree.names) (count (shared_of p.0.fits.tree.objects)) 0) × (left ≡ table by_rows (rows_in p.0.fits) words)
+      → (r ≡ Ok (counts (length (rows_in p.0.fits)) (length p.0.fits.tree.names) (count (shared_of p.0.fits.tree.objects)) 0)) × (left ≡ table by_rows (rows_in p.0.fits) words)
   unfolding table_in
   loaded (f, p) =
       let d = passed f p in
       (answers ∙ rw (d, unpadded f p.shortest), leaves ∙ rw d)
 
-  list_first : Unlawful enums → (place : ℕ) × (r ≡ Refused 32 place) × FirstBad enums place
+  list_first : Unlawful enums → (place : ℕ) × (r ≡ Err (broken 32 place)) × FirstBad enums place
   list_first none = go (enums_at enums) refl (enums-sound enums bytes) where
-    go : (j : Judgement) → enums_at enums ≡ j → Says enums j → (place : ℕ) × (r ≡ Refused 32 place) × FirstBad enums place
+    go : (j : Judgement) → enums_at enums ≡ j → Says enums j → (place : ℕ) × (r ≡ Err (broken 32 place)) × FirstBad enums place
     go (list-refused n i) e w =
         let z : n ≡ 32 = w.0 in
         let d : driver_under enums file words ≡ refusal n i = none_under enums file words e ∙ load_refused-list enums file words e in
@@ -101,31 +100,31 @@ module _ (enums file : List ℕ) (words : ℕ) {left : List ℕ} {r : Loading} (
         let y = (passes_under enums file words es small q).0 (rw e (accepts x a)) in
         (record { es = es; lawful = w.0; listed = w.1; fits = y.0 }, y.1)
 
-  cleared : (number place : ℕ) → r ≡ Refused number place → left ≡ replicate words 0
+  cleared : (number place : ℕ) → r ≡ Err (broken number place) → left ≡ replicate words 0
   unfolding table_in
   cleared number place e = leaves ∙ go (driver_under enums file words) (sym answers ∙ e) where
-    go : (x : Load) → answer_of file x ≡ Refused number place → table_of x words ≡ replicate words 0
+    go : (x : Load) → answer_of file x ≡ Err (broken number place) → table_of x words ≡ replicate words 0
     go (refusal n p) q = refl
     go (accepted rows readers shared) q = differ cc
 
-  placed : (f : Fitting enums file words) (number place : ℕ) → r ≡ Refused number place → FirstBroken f.fits.tree f.fits.lays.readers file (rows_in f.fits) number place
+  placed : (f : Fitting enums file words) (number place : ℕ) → r ≡ Err (broken number place) → FirstBroken f.fits.tree f.fits.lays.readers file (rows_in f.fits) number place
   unfolding by_fault
   placed f number place e =
       first_broken f.es f.fits.tree file small f.fits.lays number place
       (go (fault_of file f.fits.lays.readers (rows_in f.fits)) (ap (answer_of file) (sym (driver_of_lem f)) ∙ sym answers ∙ e)) where
-        go : (x : Offence) → answer_of file (by_fault x (accepted (rows_in f.fits) (length f.fits.tree.names) (count (shared_of f.fits.tree.objects)))) ≡ Refused number place → x ≡ fault number place
+        go : (x : Offence) → answer_of file (by_fault x (accepted (rows_in f.fits) (length f.fits.tree.names) (count (shared_of f.fits.tree.objects)))) ≡ Err (broken number place) → x ≡ fault number place
         go fine q = differ cc
         go (fault n p) q =
             let a : n ≡ number = cc in
             let b : p ≡ place = cc in
             rw (a, b)
 
-  skipped : (used readers shared padding : ℕ) → r ≡ Loaded used readers shared padding → TableSkips by_rows (room_of words) left used
+  skipped : (used readers shared padding : ℕ) → r ≡ Ok (counts used readers shared padding) → TableSkips by_rows (room_of words) left used
   skipped used readers shared padding e = go (fits (driver_under enums file words) refl (rw (sym answers ∙ e) tt)) where
     go : Passes enums file words → TableSkips by_rows (room_of words) left used
     go (f, p) =
         let l = loaded (f, p) in
-        let q : Loaded used readers shared padding ≡ Loaded (length (rows_in f.fits)) (length f.fits.tree.names) (count (shared_of f.fits.tree.objects)) 0 = sym e ∙ l.0 in
+        let q : ◌≡◌ {A = Loading} (Ok (counts used readers shared padding)) (Ok (counts (length (rows_in f.fits)) (length f.fits.tree.names) (count (shared_of f.fits.tree.objects)) 0)) = sym e ∙ l.0 in
         let u : used ≡ length (rows_in f.fits) = cc in
         rw u (table-skips f l.1)
 
@@ -158,8 +157,8 @@ module _ (enums file : List ℕ) where
     go (list-refused n i) e a = absurd a
     go (List-Lawful es) e a = by_load _ (load_of (judged_name es) file words) a ∙ sym (load_lawful enums file words es e)
 
-  module _ (n m : ℕ) {plain_left left : List ℕ} {r : LoadedBoth} (answers : r.plain ≡ answer_of file (load_under enums file n)) (leaves : plain_left ≡ table_of (load_under enums file n) n)
-      (driver_answers : r.driver ≡ answer_of file (driver_under enums file m)) (driver_leaves : left ≡ table_of (driver_under enums file m) m) where
+  module _ (n m : ℕ) {plain_left left : List ℕ} {r : Loading × Loading} (answers : r.0 ≡ answer_of file (load_under enums file n)) (leaves : plain_left ≡ table_of (load_under enums file n) n)
+      (driver_answers : r.1 ≡ answer_of file (driver_under enums file m)) (driver_leaves : left ≡ table_of (driver_under enums file m) m) where
     pub beside : Beside n m plain_left left r
     beside = record {
       refusals = λ e number place q. driver_answers ∙ ap (λ (k : ℕ). answer_of file (driver_under enums file k)) (sym e) ∙ sym (hand_on enums file n (sym q ∙ answers)).0;

@@ -18,23 +18,13 @@ pub fn load_driver_exact(file: &[u8], enums: &[u8], words: &mut [u32]) -> Loadin
     driver::load_driver(file, enums, words)
 }
 
-// The answers of the plain loader and of the driver's.
-#[derive(Clone, Copy)]
-pub struct LoadedBoth {
-    pub plain: Loading,
-    pub driver: Loading,
-}
-
-// A file that both load, under one list of enum types.
-pub fn load_both(file: &[u8], enums: &[u8], plain: &mut [u32], words: &mut [u32]) -> LoadedBoth
+// A file that both load, under one list of enum types: the answer of the plain loader, and that of the driver's.
+pub fn load_both(file: &[u8], enums: &[u8], plain: &mut [u32], words: &mut [u32]) -> (Loading, Loading)
     ensures beside { Beside (length plain.old) (length words.old) plain.new words.new result }
-    ensures plain_value { result.plain ≡ answer_of file.now (load_under enums.now file.now (length plain.old)) }
-    ensures driver_value { result.driver ≡ answer_of file.now (driver_under enums.now file.now (length words.old)) }
+    ensures plain_value { result.0 ≡ answer_of file.now (load_under enums.now file.now (length plain.old)) }
+    ensures driver_value { result.1 ≡ answer_of file.now (driver_under enums.now file.now (length words.old)) }
 {
     let by_plain = load::load(file, enums, plain);
     let by_driver = driver::load_driver(file, enums, words);
-    LoadedBoth {
-        plain: by_plain,
-        driver: by_driver,
-    }
+    (by_plain, by_driver)
 }

@@ -1,36 +1,16 @@
-// Nothing is wrong, or the place of what is.
+// The place of what is wrong, where something is.
 #![tactic(auto)]
 
 ghost use Rattle.std.specs.Prelude.{◌≡◌};
 ghost use Rattle.fault_places.specs.Places.{lower_of};
 
-// Nothing is wrong, or the place of what is.
-#[derive(Clone, Copy)]
-pub enum Place {
-    Fine,
-    At(usize),
-}
-
-// The lower of two places.
-pub fn lower(a: Place, b: Place) -> Place
+// The lower of two places, where there are any.
+pub fn lower(a: Option<usize>, b: Option<usize>) -> Option<usize>
     ensures { result ≡ lower_of a b }
 {
-    match a {
-        Place::Fine => b,
-        Place::At(p) => lower_than(p, b),
-    }
-}
-
-fn lower_than(p: usize, b: Place) -> Place
-    ensures { result ≡ lower_of (Place.At p) b }
-{
-    match b {
-        Place::Fine => Place::At(p),
-        Place::At(q) => {
-            if p < q {
-                return Place::At(p);
-            }
-            Place::At(q)
-        }
+    match (a, b) {
+        (None, other) => other,
+        (Some(p), None) => Some(p),
+        (Some(p), Some(q)) => Some(p.min(q)),
     }
 }

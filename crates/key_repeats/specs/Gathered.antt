@@ -14,7 +14,7 @@ use Rattle.table.specs.declared.Grid.{Grid}
 use Rattle.table.specs.Grids.{cell_of}
 use Rattle.profile.specs.Stand.{text_of}
 use Rattle.profile.specs.Offences.{next, skip, kind_of, key_rows, twins}
-use Rattle.fault_places.specs.declared.Place.{Place}
+use Rattle.std.specs.Prelude.{Option}
 use Rattle.fault_places.specs.Places.{lowest_place, Lowest}
 use Rattle.used_rows.specs.Held.{word_in, Held, Follows, Tells, kind_word, drop_past}
 use Rattle.key_order.specs.Spans.{text_from_lem}
@@ -155,11 +155,11 @@ abbrev pub key_place : Grid → (table keys : List ℕ) → ℕ → ℕ
 key_place g table keys i = get_or table (cell_of g (get_or keys i 0) 1) 0
 
 -- the lowest place of a key that repeats an earlier one, among m
-abbrev pub LowestKey : (file : List ℕ) → Grid → (table keys : List ℕ) (m : ℕ) → Place → Type 0
+abbrev pub LowestKey : (file : List ℕ) → Grid → (table keys : List ℕ) (m : ℕ) → Option ℕ → Type 0
 LowestKey file g table keys m r = Lowest (Pair (key_text file g table keys) (key_place g table keys) m) r
 
 -- the same of the keys of a dictionary
-abbrev pub LowestAmong : (file : List ℕ) → Grid → (table : List ℕ) (used n from : ℕ) → Place → Type 0
+abbrev pub LowestAmong : (file : List ℕ) → Grid → (table : List ℕ) (used n from : ℕ) → Option ℕ → Type 0
 LowestAmong file g table used n from r = (rows : List Row) → Held g table used rows → r ≡ lowest_place (twins file [] (key_rows n (drop from rows)))
 
 string_kind : (l : List Row) (k : ℕ) → k < length (strings l) → (row_at (strings l) k).kind ≡ 13
@@ -208,6 +208,6 @@ module _ (file : List ℕ) (g : Grid) (table : List ℕ) (used n from : ℕ) (ke
         let kind : (row_at (keys_from n from rows) k).kind ≡ 13 = string_kind (key_rows n (drop from rows)) k h in
         (ap (key_text file g table keys) z ∙ rw (one, five) (sym (text_from_lem file (row_at (keys_from n from rows) k) kind)), ap (key_place g table keys) z ∙ one)
 
-  pub gathered-lowest : (r : Place) → LowestKey file g table keys m r → LowestAmong file g table used n from r
+  pub gathered-lowest : (r : Option ℕ) → LowestKey file g table keys m r → LowestAmong file g table used n from r
   unfolding keys_from
   gathered-lowest r l rows held = keys-lowest file (key_text file g table keys) (key_place g table keys) (key_rows n (drop from rows)) m r (gathered rows held).0 (noted_texts rows held) l

@@ -11,8 +11,8 @@ use Rattle.laws.specs.Small.{differ}
 use Rattle.layout.specs.Rows.{Row, words}
 use Rattle.table.specs.declared.Grid.{Grid}
 use Rattle.profile.specs.Offences.{repeated}
-use Rattle.fault_places.specs.declared.Place.{Place}
-use Rattle.fault_places.specs.declared.Place.TheVariants.{Fine, At}
+use Rattle.std.specs.Prelude.{Option}
+use Rattle.std.specs.Prelude.{None, Some}
 use Rattle.fault_places.specs.Places.{lowest_place, lower_of, Lowest, lowest-append, lower_assoc, lower-fine}
 use Rattle.used_rows.specs.Held.{word_in, Held, Tells, drop_past, drop-row}
 use Rattle.used_rows.specs.Steps.{head_kind}
@@ -79,24 +79,24 @@ abbrev pub Few : List Row → Type 0
 Few rows = (i : ℕ) → word_in rows i 3 ≤ 65535
 
 -- what 45 says of a row, and of all
-abbrev pub KeysFault : (file : List ℕ) → Grid → (table : List ℕ) (used row : ℕ) → Place → Type 0
+abbrev pub KeysFault : (file : List ℕ) → Grid → (table : List ℕ) (used row : ℕ) → Option ℕ → Type 0
 KeysFault file g table used row r = (rows : List Row) → Held g table used rows → Few rows → r ≡ lowest_place (keys_fault file (drop row rows))
 
-abbrev pub RepeatedKeys : (file : List ℕ) → Grid → (table : List ℕ) (used : ℕ) → Place → Type 0
+abbrev pub RepeatedKeys : (file : List ℕ) → Grid → (table : List ℕ) (used : ℕ) → Option ℕ → Type 0
 RepeatedKeys file g table used r = (rows : List Row) → Held g table used rows → Few rows → r ≡ lowest_place (repeated file rows)
 
 module _ (file : List ℕ) (g : Grid) (table : List ℕ) (used row : ℕ) (there : row < used) {kind : ℕ} (t : Tells g table used (λ rows. word_in rows row 0) kind) where
-  pub no_dictionary : (kind ≡ 19 → ⊥) → KeysFault file g table used row Fine
+  pub no_dictionary : (kind ≡ 19 → ⊥) → KeysFault file g table used row None
   unfolding keys_fault
   no_dictionary n rows d f =
       let e = head_kind g table used row there rows d t in
       rw (e.1, ne_eqb e.0.kind 19 (λ q. n (sym e.2 ∙ q)))
 
   module _ (is : kind ≡ 19) {children : ℕ} (u : Tells g table used (λ rows. word_in rows row 3) children) where
-    pub too_many : 65535 < children → KeysFault file g table used row Fine
+    pub too_many : 65535 < children → KeysFault file g table used row None
     too_many h rows d f = let e = u rows d in absurd (omega (arith, f row))
 
-    pub keys_found : {r : Place} → LowestAmong file g table used ((children + 1) / 2) (row + 1) r → KeysFault file g table used row r
+    pub keys_found : {r : Option ℕ} → LowestAmong file g table used ((children + 1) / 2) (row + 1) r → KeysFault file g table used row r
     unfolding keys_fault word_in words
     keys_found {r} l rows d f =
         let e = head_kind g table used row there rows d t in
@@ -110,22 +110,22 @@ module _ (file : List ℕ) (g : Grid) (table : List ℕ) (used row : ℕ) (there
           row_children (q ∷ rows) (suc i) r rest e = row_children rows i r rest e
 
 -- the rows from a row on are left, and `best` is the lowest place before
-abbrev pub SoFar : (file : List ℕ) → Grid → (table : List ℕ) (used row : ℕ) → Place → Type 0
+abbrev pub SoFar : (file : List ℕ) → Grid → (table : List ℕ) (used row : ℕ) → Option ℕ → Type 0
 SoFar file g table used row best = (rows : List Row) → Held g table used rows → Few rows → lowest_place (repeated file rows) ≡ lower_of best (lowest_place (repeated file (drop row rows)))
 
 module _ (file : List ℕ) (g : Grid) (table : List ℕ) (used : ℕ) where
-  pub one_dictionary : (row : ℕ) (best here : Place) → row < used → SoFar file g table used row best → KeysFault file g table used row here → SoFar file g table used (row + 1) (lower_of best here)
+  pub one_dictionary : (row : ℕ) (best here : Option ℕ) → row < used → SoFar file g table used row best → KeysFault file g table used row here → SoFar file g table used (row + 1) (lower_of best here)
   unfolding repeated keys_fault
   one_dictionary row best here h s k rows d f =
       let e = drop-row rows row (omega (arith, d.count)) in
       let z : row + 1 ≡ suc row = omega arith in
       let x : repeated file (drop row rows) ≡ keys_fault file (drop row rows) ++ repeated file (drop (suc row) rows) = rw e.1 in
       s rows d f ∙ ap (λ (l : List ℕ). lower_of best (lowest_place l)) x ∙ ap (lower_of best) (lowest-append (keys_fault file (drop row rows)) (repeated file (drop (suc row) rows)))
-      ∙ ap (λ (p : Place). lower_of best (lower_of p (lowest_place (repeated file (drop (suc row) rows))))) (sym (k rows d f))
+      ∙ ap (λ (p : Option ℕ). lower_of best (lower_of p (lowest_place (repeated file (drop (suc row) rows))))) (sym (k rows d f))
       ∙ sym (lower_assoc best here (lowest_place (repeated file (drop (suc row) rows))))
       ∙ ap (λ (i : ℕ). lower_of (lower_of best here) (lowest_place (repeated file (drop i rows)))) (sym z)
 
-  pub all_dictionaries : (row : ℕ) (best : Place) → used ≤ row → SoFar file g table used row best → (rows : List Row) → Held g table used rows → Few rows → best ≡ lowest_place (repeated file rows)
+  pub all_dictionaries : (row : ℕ) (best : Option ℕ) → used ≤ row → SoFar file g table used row best → (rows : List Row) → Held g table used rows → Few rows → best ≡ lowest_place (repeated file rows)
   unfolding repeated
   all_dictionaries row best h s rows d f =
       sym (s rows d f ∙ ap (λ (l : List Row). lower_of best (lowest_place (repeated file l))) (drop_past rows row (omega (arith, d.count))) ∙ lower-fine best)
@@ -133,13 +133,13 @@ module _ (file : List ℕ) (g : Grid) (table : List ℕ) (used : ℕ) where
 -- ---- Neighbours
 
 module _ (file : List ℕ) (g : Grid) (table keys order : List ℕ) (m j : ℕ) where
-  abbrev Turn : Place → Type 0
+  abbrev Turn : Option ℕ → Type 0
   Turn r = Lowest (Next (key_text file g table keys) (key_place g table keys) (λ (k : ℕ). get_or order k 0) m j) r
 
   one_on : j + 1 ≡ suc j
   one_on = omega arith
 
-  pub second-outside : {b : ℕ} → b ≡ get_or order (j + 1) 0 → m ≤ b → Turn Fine
+  pub second-outside : {b : ℕ} → b ≡ get_or order (j + 1) 0 → m ≤ b → Turn None
   second-outside e h =
       let z : get_or order (j + 1) 0 ≡ get_or order (suc j) 0 = ap (λ (k : ℕ). get_or order k 0) one_on in
       next_differs (key_text file g table keys) (key_place g table keys) (λ (k : ℕ). get_or order k 0) m j (λ l _. omega arith)
@@ -147,48 +147,48 @@ module _ (file : List ℕ) (g : Grid) (table keys order : List ℕ) (m j : ℕ) 
   is_next : {b : ℕ} → b ≡ get_or order (j + 1) 0 → b ≡ get_or order (suc j) 0
   is_next e = e ∙ ap (λ (k : ℕ). get_or order k 0) one_on
 
-  pub second_other : {a b : ℕ} {r : Bool} → b ≡ get_or order (j + 1) 0 → a ≡ get_or order j 0 → Alike (key_text file g table keys) a b r → not r ≡ true → Turn Fine
+  pub second_other : {a b : ℕ} {r : Bool} → b ≡ get_or order (j + 1) 0 → a ≡ get_or order j 0 → Alike (key_text file g table keys) a b r → not r ≡ true → Turn None
   second_other {a} {b} e f w t =
       next_differs (key_text file g table keys) (key_place g table keys) (λ (k : ℕ). get_or order k 0) m j
       (λ _ q. w.no (not-true _ t) (ap (key_text file g table keys) f ∙ q ∙ ap (key_text file g table keys) (sym (is_next e))))
 
-  pub second_same : {a b p : ℕ} {r : Bool} → b ≡ get_or order (j + 1) 0 → b < m → a ≡ get_or order j 0 → Alike (key_text file g table keys) a b r → not r ≡ false → p ≡ key_place g table keys b → Turn (At p)
+  pub second_same : {a b p : ℕ} {r : Bool} → b ≡ get_or order (j + 1) 0 → b < m → a ≡ get_or order j 0 → Alike (key_text file g table keys) a b r → not r ≡ false → p ≡ key_place g table keys b → Turn (Some p)
   second_same {a} {b} e h f w t p =
       let z : b ≡ get_or order (suc j) 0 = is_next e in
       next_equal (key_text file g table keys) (key_place g table keys) (λ (k : ℕ). get_or order k 0) m j (omega arith)
       (ap (key_text file g table keys) (sym f) ∙ w.yes (not-false _ t) ∙ ap (key_text file g table keys) z) (ap (key_place g table keys) (sym z) ∙ sym p)
 
-  abbrev UpTo : (n : ℕ) → Place → Type 0
+  abbrev UpTo : (n : ℕ) → Option ℕ → Type 0
   UpTo n r = Lowest (Neighbour (key_text file g table keys) (key_place g table keys) (λ (k : ℕ). get_or order k 0) m n) r
 
-  pub neighbours_more : (a b r : Place) → r ≡ lower_of a b → UpTo (j + 1) a → Turn b → UpTo (j + 1 + 1) r
+  pub neighbours_more : (a b r : Option ℕ) → r ≡ lower_of a b → UpTo (j + 1) a → Turn b → UpTo (j + 1 + 1) r
   neighbours_more a b r e l t =
       let z : j + 1 ≡ suc j = omega arith in
       let y : suc j + 1 ≡ suc (suc j) = omega arith in
       rw (e, z, y) (more_neighbours (key_text file g table keys) (key_place g table keys) (λ (k : ℕ). get_or order k 0) m j a b (rw z at l) t)
 
-  pub neighbours_all : (r : Place) → j + 1 ≡ m → UpTo (j + 1) r → UpTo m r
+  pub neighbours_all : (r : Option ℕ) → j + 1 ≡ m → UpTo (j + 1) r → UpTo m r
   neighbours_all r e l = rw e at l
 
 -- ---- Pairs
 
 module _ (text : ℕ → List ℕ) (place : ℕ → ℕ) (i : ℕ) where
-  pub no_repeat : {r : Bool} → Earlier text i i r → not r ≡ true → Lowest (One text place i) Fine
+  pub no_repeat : {r : Bool} → Earlier text i i r → not r ≡ true → Lowest (One text place i) None
   no_repeat w t = none-repeats text place i (λ x. w.no (not-true _ t) x.0 x.1 x.2)
 
-  pub a_repeat : {r : Bool} {p : ℕ} → Earlier text i i r → not r ≡ false → p ≡ place i → Lowest (One text place i) (At p)
+  pub a_repeat : {r : Bool} {p : ℕ} → Earlier text i i r → not r ≡ false → p ≡ place i → Lowest (One text place i) (Some p)
   a_repeat w t e = one_repeats text place i (w.yes (not-false _ t)) (sym e)
 
-  pub pairs-more : (a b r : Place) → r ≡ lower_of a b → Lowest (Pair text place i) a → Lowest (One text place i) b → Lowest (Pair text place (i + 1)) r
+  pub pairs-more : (a b r : Option ℕ) → r ≡ lower_of a b → Lowest (Pair text place i) a → Lowest (One text place i) b → Lowest (Pair text place (i + 1)) r
   pairs-more a b r e l o = rw e (more-pairs text place i a b l o)
 
-  pub pairs_all : (m : ℕ) (r : Place) → i ≡ m → Lowest (Pair text place i) r → Lowest (Pair text place m) r
+  pub pairs_all : (m : ℕ) (r : Option ℕ) → i ≡ m → Lowest (Pair text place i) r → Lowest (Pair text place m) r
   pairs_all m r e l = rw e at l
 
-pub order_lowest : (file : List ℕ) (g : Grid) (table keys order : List ℕ) (m : ℕ) (r : Place) → KeyCertificate file g table keys m order
+pub order_lowest : (file : List ℕ) (g : Grid) (table keys order : List ℕ) (m : ℕ) (r : Option ℕ) → KeyCertificate file g table keys m order
     → Lowest (Neighbour (key_text file g table keys) (key_place g table keys) (λ (k : ℕ). get_or order k 0) m m) r → LowestKey file g table keys m r
 order_lowest file g table keys order m r c l = by_order (key_text file g table keys) (key_place g table keys) (λ (k : ℕ). get_or order k 0) Less trans irreflexive m c r l
 
-pub one_dictionary_as : (file : List ℕ) (g : Grid) (table : List ℕ) (used row : ℕ) (best here r : Place) → r ≡ lower_of best here → row < used → SoFar file g table used row best
+pub one_dictionary_as : (file : List ℕ) (g : Grid) (table : List ℕ) (used row : ℕ) (best here r : Option ℕ) → r ≡ lower_of best here → row < used → SoFar file g table used row best
     → KeysFault file g table used row here → SoFar file g table used (row + 1) r
 one_dictionary_as file g table used row best here r e h s k = rw e (one_dictionary file g table used row best here h s k)

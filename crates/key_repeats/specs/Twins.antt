@@ -15,7 +15,7 @@ use Rattle.layout.specs.Rows.{Row}
 use Rattle.reading.specs.Same.{same, same_sound, same_complete}
 use Rattle.profile.specs.Stand.{text_of}
 use Rattle.profile.specs.Offences.{wrong_at, key_rows, twin, repeats, twins}
-use Rattle.fault_places.specs.declared.Place.{Place}
+use Rattle.std.specs.Prelude.{Option}
 use Rattle.fault_places.specs.Places.{lowest_place, Lowest, lowest-alike, Among, among-append, append-among, wrong-among, among-wrong, lowest_is}
 use Rattle.key_repeats.specs.Hits.{Repeats, Pair}
 
@@ -142,7 +142,7 @@ module _ (file : List ℕ) where
       go false q f = inr (f (i, omega (arith, eqb-false i n q), omega arith, (k, m, t), e))
 
     -- the lowest place of n texts is that of the String keys whose texts they are
-    pub keys-lowest : (keys : List Row) (n : ℕ) (r : Place) → length (strings keys) ≡ n → Ahead 0 (strings keys) → Lowest (Pair text place n) r → r ≡ lowest_place (twins file [] keys)
+    pub keys-lowest : (keys : List Row) (n : ℕ) (r : Option ℕ) → length (strings keys) ≡ n → Ahead 0 (strings keys) → Lowest (Pair text place n) r → r ≡ lowest_place (twins file [] keys)
     unfolding strings
     keys-lowest keys n r e a l = lowest_is (twins file [] keys) r (lowest-alike (Pair text place n) (λ p. Among p (twins file [] keys)) r (λ p x. to p x) (λ p x. from p x) l) where
       to : (p : ℕ) → Pair text place n p → Among p (twins file [] keys)

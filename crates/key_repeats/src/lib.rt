@@ -9,19 +9,19 @@ ghost use Rattle.key_repeats.specs.Hits.{One, Next, Neighbour};
 ghost use Rattle.key_repeats.specs.Gathered.{Notes, Gathers, key_place, LowestKey, LowestAmong};
 ghost use Rattle.key_repeats.specs.Steps.{Alike, Earlier, KeysFault, RepeatedKeys};
 
-use fault_places::{Place, lower};
-use ids::RowNumber;
-use key_order::{certified, key_order, number_at, ordered_at};
-use table::{Grid, word_of};
-use text_order::Order;
-use used_rows::{next_row, word_in};
+use fault_places::lower;
+use key_order::{Keys, certified};
+use names::kinds;
+use std::cmp::Ordering;
+use used_rows::UsedRows;
 
 // Notes the row of a key, if it is a String.
+// Kept: the first m of `keys` are the noted ones, with m beside them, since a list that grows would need a heap.
 fn note(keys: &mut [u32], m: u32, row: u32, kind: u32) -> u32
     requires { m < 65536 }
     ensures { Notes keys.old keys.new m row kind result }
 {
-    if kind != 13 {
+    if kind != kinds::STRING {
         return m;
     }
     let i = m as usize;
@@ -33,212 +33,182 @@ fn note(keys: &mut [u32], m: u32, row: u32, kind: u32) -> u32
 }
 
 // The rows of the String keys among n, the first of which has this row.
-fn gather(words: &[u32], grid: Grid, used: u32, first: u32, n: u32, keys: &mut [u32]) -> u32
+fn gather(rows: UsedRows, first: u32, n: u32, keys: &mut [u32]) -> u32
     requires { (n ≤ length keys.old) × (n ≤ 32768) }
-    ensures { Gathers grid words.now used n first keys.new result × (length keys.new ≡ length keys.old) }
+    ensures { Gathers rows.entry.table.grid rows.entry.table.words.now rows.entry.used n first keys.new result × (length keys.new ≡ length keys.old) }
 {
     let mut row = first;
-    let mut left = n;
     let mut m: u32 = 0;
-    while 0 < left {
-        if used <= row {
+    for _ in 0..n {
+        if rows.used <= row {
             return m;
         }
-        let kind = word_in(words, grid, used, row, table::KIND);
+        let kind = rows.word(row, table::KIND);
         m = note(keys, m, row, kind);
-        let value = next_row(words, grid, used, row);
-        row = next_row(words, grid, used, value);
-        left -= 1;
+        let value = rows.next(row);
+        row = rows.next(value);
     }
     m
 }
 
 // Two keys have one text.
-fn alike(file: &[u8], words: &[u32], grid: Grid, keys: &[u32], a: u32, b: u32) -> bool
-    ensures { Alike (key_text file.now grid words.now keys.now) a b result }
+fn alike(keys: Keys, a: u32, b: u32) -> bool
+    ensures { Alike (key_text keys.entry.file.now keys.entry.table.grid keys.entry.table.words.now keys.entry.rows.now) a b result }
 {
-    match key_order(file, words, grid, keys, a, b) {
-        Order::Below => false,
-        Order::Same => true,
-        Order::Above => false,
+    match keys.order(a, b) {
+        Ordering::Less => false,
+        Ordering::Equal => true,
+        Ordering::Greater => false,
     }
 }
 
 // The place of a key.
-fn key_place(words: &[u32], grid: Grid, keys: &[u32], key: u32) -> usize
-    ensures { result ≡ key_place grid words.now keys.now key }
+fn key_place(keys: Keys, key: u32) -> usize
+    ensures { result ≡ key_place keys.entry.table.grid keys.entry.table.words.now keys.entry.rows.now key }
 {
-    let row = number_at(keys, key as usize);
-    word_of(words, grid, RowNumber(row), table::FIRST) as usize
+    keys.word(key, table::FIRST) as usize
 }
 
 // A key has the text of an earlier one.
-fn repeats_earlier(file: &[u8], words: &[u32], grid: Grid, keys: &[u32], i: u32) -> bool
-    ensures { Earlier (key_text file.now grid words.now keys.now) i i result }
+fn repeats_earlier(keys: Keys, i: u32) -> bool
+    ensures { Earlier (key_text keys.entry.file.now keys.entry.table.grid keys.entry.table.words.now keys.entry.rows.now) i i result }
 {
-    let mut h: u32 = 0;
-    while h < i {
-        if alike(file, words, grid, keys, h, i) {
+    for h in 0..i {
+        if alike(keys, h, i) {
             return true;
         }
-        h += 1;
     }
     false
 }
 
 // The place of a key that has the text of an earlier one.
-fn repeat_at(file: &[u8], words: &[u32], grid: Grid, keys: &[u32], i: u32) -> Place
-    ensures { Lowest (One (key_text file.now grid words.now keys.now)
-        (key_place grid words.now keys.now) i) result }
+fn repeat_at(keys: Keys, i: u32) -> Option<usize>
+    ensures { Lowest (One (key_text keys.entry.file.now keys.entry.table.grid keys.entry.table.words.now keys.entry.rows.now)
+        (key_place keys.entry.table.grid keys.entry.table.words.now keys.entry.rows.now) i) result }
 {
-    if !repeats_earlier(file, words, grid, keys, i) {
-        return Place::Fine;
+    if !repeats_earlier(keys, i) {
+        return None;
     }
-    Place::At(key_place(words, grid, keys, i))
+    Some(key_place(keys, i))
 }
 
 // The lowest place of a key that has the text of an earlier one, by pairs.
-fn pairs(file: &[u8], words: &[u32], grid: Grid, keys: &[u32], m: u32) -> Place
-    ensures { LowestKey file.now grid words.now keys.now m result }
+fn pairs(keys: Keys, m: u32) -> Option<usize>
+    ensures { LowestKey keys.entry.file.now keys.entry.table.grid keys.entry.table.words.now keys.entry.rows.now m result }
 {
-    let mut best = Place::Fine;
-    let mut i: u32 = 0;
-    while i < m {
-        let here = repeat_at(file, words, grid, keys, i);
-        best = lower(best, here);
-        i += 1;
+    let mut best = None;
+    for i in 0..m {
+        best = lower(best, repeat_at(keys, i));
     }
     best
 }
 
 // The place of the second of two neighbours of one text, in an order of m keys.
-fn neighbour_at(
-    file: &[u8],
-    words: &[u32],
-    grid: Grid,
-    keys: &[u32],
-    order: &[u16],
-    m: u32,
-    j: usize,
-) -> Place
+fn neighbour_at(keys: Keys, order: &[u16], m: u32, j: usize) -> Option<usize>
     requires { j < 4294967296 }
-    ensures { Lowest (Next (key_text file.now grid words.now keys.now)
-        (key_place grid words.now keys.now) (λ k. get_or order.now k 0) m j) result }
+    ensures { Lowest (Next (key_text keys.entry.file.now keys.entry.table.grid keys.entry.table.words.now keys.entry.rows.now)
+        (key_place keys.entry.table.grid keys.entry.table.words.now keys.entry.rows.now) (λ k. get_or order.now k 0) m j) result }
 {
-    let b = ordered_at(order, j + 1) as u32;
+    let b = order.get(j + 1).copied().unwrap_or(0) as u32;
     if m <= b {
-        return Place::Fine;
+        return None;
     }
-    let a = ordered_at(order, j) as u32;
-    if !alike(file, words, grid, keys, a, b) {
-        return Place::Fine;
+    let a = order.get(j).copied().unwrap_or(0) as u32;
+    if !alike(keys, a, b) {
+        return None;
     }
-    Place::At(key_place(words, grid, keys, b))
+    Some(key_place(keys, b))
 }
 
 // The lowest place of the second of two neighbours of one text, in an order of m keys.
-fn neighbours(file: &[u8], words: &[u32], grid: Grid, keys: &[u32], order: &[u16], m: u32) -> Place
-    ensures { Lowest (Neighbour (key_text file.now grid words.now keys.now)
-        (key_place grid words.now keys.now) (λ k. get_or order.now k 0) m m) result }
+fn neighbours(keys: Keys, order: &[u16], m: u32) -> Option<usize>
+    ensures { Lowest (Neighbour (key_text keys.entry.file.now keys.entry.table.grid keys.entry.table.words.now keys.entry.rows.now)
+        (key_place keys.entry.table.grid keys.entry.table.words.now keys.entry.rows.now) (λ k. get_or order.now k 0) m m) result }
 {
     let n = m as usize;
-    let mut best = Place::Fine;
+    let mut best = None;
     if n <= 1 {
         return best;
     }
-    let mut j: usize = 0;
-    while j < n - 1 {
-        let here = neighbour_at(file, words, grid, keys, order, m, j);
-        best = lower(best, here);
-        j += 1;
+    for j in 0..n - 1 {
+        best = lower(best, neighbour_at(keys, order, m, j));
     }
     best
 }
 
 // The lowest place of a key that has the text of an earlier one: by an order of the keys, and by pairs where the order fails its test.
-fn sorted(
-    file: &[u8],
-    words: &[u32],
-    grid: Grid,
-    keys: &[u32],
-    order: &mut [u16],
-    spare: &mut [u16],
-    m: u32,
-) -> Place
-    ensures { LowestKey file.now grid words.now keys.now m result }
+fn sorted(keys: Keys, order: &mut [u16], spare: &mut [u16], m: u32) -> Option<usize>
+    ensures { LowestKey keys.entry.file.now keys.entry.table.grid keys.entry.table.words.now keys.entry.rows.now m result }
 {
-    if !certified(file, words, grid, keys, order, spare, m as usize) {
-        return pairs(file, words, grid, keys, m);
+    if !certified(keys, order, spare, m as usize) {
+        return pairs(keys, m);
     }
-    neighbours(file, words, grid, keys, order, m)
+    neighbours(keys, order, m)
 }
 
-// The keys of a dictionary: at most 16, at most 1,024, and at most 32,768, so that no more room is cleared than so many keys need.
-fn few_keys(file: &[u8], words: &[u32], grid: Grid, used: u32, first: u32, n: u32) -> Place
+// The keys of a dictionary, of which there are at most 16.
+fn few_keys(file: &[u8], rows: UsedRows, first: u32, n: u32) -> Option<usize>
     requires { n ≤ 16 }
-    ensures { LowestAmong file.now grid words.now used n first result }
+    ensures { LowestAmong file.now rows.entry.table.grid rows.entry.table.words.now rows.entry.used n first result }
 {
     let mut keys = [0u32; 16];
-    let m = gather(words, grid, used, first, n, &mut keys);
-    pairs(file, words, grid, &keys, m)
+    let m = gather(rows, first, n, &mut keys);
+    let keys = Keys {
+        file,
+        table: rows.table,
+        rows: &keys,
+    };
+    pairs(keys, m)
 }
 
-fn some_keys(file: &[u8], words: &[u32], grid: Grid, used: u32, first: u32, n: u32) -> Place
-    requires { n ≤ 1024 }
-    ensures { LowestAmong file.now grid words.now used n first result }
+// The same with at most N: no more room is cleared than so many keys need.
+fn many_keys<const N: usize>(file: &[u8], rows: UsedRows, first: u32, n: u32) -> Option<usize>
+    requires { (n ≤ N) × (n ≤ 32768) }
+    ensures { LowestAmong file.now rows.entry.table.grid rows.entry.table.words.now rows.entry.used n first result }
 {
-    let mut keys = [0u32; 1024];
-    let mut order = [0u16; 1024];
-    let mut spare = [0u16; 1024];
-    let m = gather(words, grid, used, first, n, &mut keys);
-    sorted(file, words, grid, &keys, &mut order, &mut spare, m)
-}
-
-fn many_keys(file: &[u8], words: &[u32], grid: Grid, used: u32, first: u32, n: u32) -> Place
-    requires { n ≤ 32768 }
-    ensures { LowestAmong file.now grid words.now used n first result }
-{
-    let mut keys = [0u32; 32768];
-    let mut order = [0u16; 32768];
-    let mut spare = [0u16; 32768];
-    let m = gather(words, grid, used, first, n, &mut keys);
-    sorted(file, words, grid, &keys, &mut order, &mut spare, m)
+    let mut keys = [0u32; N];
+    let mut order = [0u16; N];
+    let mut spare = [0u16; N];
+    let m = gather(rows, first, n, &mut keys);
+    let keys = Keys {
+        file,
+        table: rows.table,
+        rows: &keys,
+    };
+    sorted(keys, &mut order, &mut spare, m)
 }
 
 // The lowest place of a key that repeats an earlier one, if this row is a dictionary.
-fn dictionary(file: &[u8], words: &[u32], grid: Grid, used: u32, row: u32) -> Place
-    requires { row < used }
-    ensures { KeysFault file.now grid words.now used row result }
+fn dictionary(file: &[u8], rows: UsedRows, row: u32) -> Option<usize>
+    requires { row < rows.used }
+    ensures { KeysFault file.now rows.entry.table.grid rows.entry.table.words.now rows.entry.used row result }
 {
-    let kind = word_in(words, grid, used, row, table::KIND);
-    if kind != 19 {
-        return Place::Fine;
+    let kind = rows.word(row, table::KIND);
+    if kind != kinds::DICTIONARY_KIND {
+        return None;
     }
-    let children = word_in(words, grid, used, row, table::CHILDREN);
+    let children = rows.word(row, table::CHILDREN);
     if 65535 < children {
-        return Place::Fine;
+        return None;
     }
     let n = (children + 1) / 2;
     let first = row + 1;
     if n <= 16 {
-        return few_keys(file, words, grid, used, first, n);
+        return few_keys(file, rows, first, n);
     }
     if n <= 1024 {
-        return some_keys(file, words, grid, used, first, n);
+        return many_keys::<1024>(file, rows, first, n);
     }
-    many_keys(file, words, grid, used, first, n)
+    many_keys::<32768>(file, rows, first, n)
 }
 
 // The lowest place of a key that repeats an earlier one of its dictionary.
-pub fn repeated_keys(file: &[u8], words: &[u32], grid: Grid, used: u32) -> Place
-    ensures { RepeatedKeys file.now grid words.now used result }
+pub fn repeated_keys(file: &[u8], rows: UsedRows) -> Option<usize>
+    ensures { RepeatedKeys file.now rows.entry.table.grid rows.entry.table.words.now rows.entry.used result }
 {
-    let mut best = Place::Fine;
-    let mut row: u32 = 0;
-    while row < used {
-        let here = dictionary(file, words, grid, used, row);
-        best = lower(best, here);
-        row += 1;
+    let mut best = None;
+    for row in 0..rows.used {
+        best = lower(best, dictionary(file, rows, row));
     }
     best
 }

@@ -15,17 +15,15 @@ use Rattle.numbers.specs.Padded.{past, pad_of}
 use Rattle.places.specs.Places.{behind_entry, id_places, raw_place, count_places, rows_places, entries_places, entries_end, lists_places, file_places}
 use Rattle.profile.specs.Offences.{wrong_at, kind_of, detail_of, padded}
 use Rattle.profile.specs.Profile.{first_of}
-use Rattle.fault_places.specs.declared.Place.{Place}
-use Rattle.fault_places.specs.declared.Place.TheVariants.{Fine, At}
+use Rattle.std.specs.Prelude.{Option, Result, Ok, Err}
+use Rattle.std.specs.Prelude.{None, Some}
 use Rattle.fault_places.specs.Places.{first_place, or_else, first_append, fine-none}
 use Rattle.used_rows.specs.Held.{word_in, Held, Tells, kind_word, first_word, detail_word, drop_past, drop-row}
 use Rattle.number_rules.specs.declared.Entry.{Entry}
-use Rattle.number_rules.specs.declared.Passed.{Passed}
-use Rattle.number_rules.specs.declared.Passed.TheVariants.{End, At as Wrong}
 use Rattle.number_rules.specs.Entries.{EntryAt}
 
 -- the first of the numbers at some places that is not shortest
-abbrev pub NumbersFound : (file places : List ℕ) → Place → Type 0
+abbrev pub NumbersFound : (file places : List ℕ) → Option ℕ → Type 0
 NumbersFound file places r = r ≡ first_place (padded file places)
 
 -- of a value
@@ -37,25 +35,25 @@ unfoldable pub first_numbers : (file : List ℕ) → List Row → List ℕ
 first_numbers file [] = []
 first_numbers file (r ∷ rows) = row_numbers file r.kind r.first r.detail
 
-abbrev pub RowFound : (file : List ℕ) → Grid → (table : List ℕ) (used row : ℕ) → Place → Type 0
+abbrev pub RowFound : (file : List ℕ) → Grid → (table : List ℕ) (used row : ℕ) → Option ℕ → Type 0
 RowFound file g table used row r = (rows : List Row) → Held g table used rows → r ≡ first_place (padded file (first_numbers file (drop row rows)))
 
-abbrev pub RowsFound : (file : List ℕ) → Grid → (table : List ℕ) (used : ℕ) → Place → Type 0
+abbrev pub RowsFound : (file : List ℕ) → Grid → (table : List ℕ) (used : ℕ) → Option ℕ → Type 0
 RowsFound file g table used r = (rows : List Row) → Held g table used rows → r ≡ first_place (padded file (rows_places file rows))
 
 -- of the lengths of names, in a file of 01's size
-abbrev pub Passes : (file : List ℕ) (readers from : ℕ) → Passed → Type 0
-Passes file readers from (End end) = (padded file (entries_places file readers from) ≡ []) × (end ≡ entries_end file readers from)
-Passes file readers from (Wrong p) = At p ≡ first_place (padded file (entries_places file readers from))
+abbrev pub Passes : (file : List ℕ) (readers from : ℕ) → Result ℕ ℕ → Type 0
+Passes file readers from (Ok end) = (padded file (entries_places file readers from) ≡ []) × (end ≡ entries_end file readers from)
+Passes file readers from (Err p) = Some p ≡ first_place (padded file (entries_places file readers from))
 
-abbrev pub EntriesFound : (file : List ℕ) (readers from : ℕ) → Passed → Type 0
+abbrev pub EntriesFound : (file : List ℕ) (readers from : ℕ) → Result ℕ ℕ → Type 0
 EntriesFound file readers from r = length file ≤ 16777216 → from ≤ 8589934592 → Passes file readers from r
 
-abbrev pub ListsFound : (file : List ℕ) (readers : ℕ) → Place → Type 0
+abbrev pub ListsFound : (file : List ℕ) (readers : ℕ) → Option ℕ → Type 0
 ListsFound file readers r = length file ≤ 16777216 → r ≡ first_place (padded file (lists_places file readers 10))
 
 -- of the whole file
-abbrev pub PaddedNumber : (file : List ℕ) → Grid → (table : List ℕ) (used readers : ℕ) → Place → Type 0
+abbrev pub PaddedNumber : (file : List ℕ) → Grid → (table : List ℕ) (used readers : ℕ) → Option ℕ → Type 0
 PaddedNumber file g table used readers r = length file ≤ 16777216 → (rows : List Row) → Held g table used rows → r ≡ first_place (padded file (file_places file readers rows))
 
 -- ---- Laws
@@ -71,55 +69,55 @@ module _ (file : List ℕ) where
   pub first_of_lem : (a b : List ℕ) → first_place (padded file (a ++ b)) ≡ or_else (first_place (padded file a)) (first_place (padded file b))
   first_of_lem a b = ap first_place (padded_append a b) ∙ first_append (padded file a) (padded file b)
 
-  pub found_first : (a b : List ℕ) {p : ℕ} → At p ≡ first_place (padded file a) → At p ≡ first_place (padded file (a ++ b))
-  found_first a b {p} e = sym (first_of_lem a b ∙ ap (λ (x : Place). or_else x (first_place (padded file b))) (sym e))
+  pub found_first : (a b : List ℕ) {p : ℕ} → Some p ≡ first_place (padded file a) → Some p ≡ first_place (padded file (a ++ b))
+  found_first a b {p} e = sym (first_of_lem a b ∙ ap (λ (x : Option ℕ). or_else x (first_place (padded file b))) (sym e))
 
-  pub found_second : (a b : List ℕ) (r : Place) → Fine ≡ first_place (padded file a) → r ≡ first_place (padded file b) → r ≡ first_place (padded file (a ++ b))
-  found_second a b r e f = f ∙ sym (first_of_lem a b ∙ ap (λ (x : Place). or_else x (first_place (padded file b))) (sym e))
+  pub found_second : (a b : List ℕ) (r : Option ℕ) → None ≡ first_place (padded file a) → r ≡ first_place (padded file b) → r ≡ first_place (padded file (a ++ b))
+  found_second a b r e f = f ∙ sym (first_of_lem a b ∙ ap (λ (x : Option ℕ). or_else x (first_place (padded file b))) (sym e))
 
   module _ (at : ℕ) where
-    none_there : pad_of (seven_at file at) at ≡ 0 → Fine ≡ first_place (padded file (at ∷ []))
+    none_there : pad_of (seven_at file at) at ≡ 0 → None ≡ first_place (padded file (at ∷ []))
     unfolding padded wrong_at
     none_there e = rw (eq-eqb (pad_of (seven_at file at) at) 0 e)
 
-    pub number-missing : {k p : ℕ} → seven_at file at ≡ refused k p → Fine ≡ first_place (padded file (at ∷ []))
+    pub number-missing : {k p : ℕ} → seven_at file at ≡ refused k p → None ≡ first_place (padded file (at ∷ []))
     unfolding pad_of
     number-missing e = none_there (rw e)
 
-    pub number_short : {pad : ℕ} → pad ≡ pad_of (seven_at file at) at → pad ≡ 0 → Fine ≡ first_place (padded file (at ∷ []))
+    pub number_short : {pad : ℕ} → pad ≡ pad_of (seven_at file at) at → pad ≡ 0 → None ≡ first_place (padded file (at ∷ []))
     number_short e z = none_there (sym e ∙ z)
 
-    pub number-long : {pad : ℕ} → pad ≡ pad_of (seven_at file at) at → (pad ≡ 0 → ⊥) → At at ≡ first_place (padded file (at ∷ []))
+    pub number-long : {pad : ℕ} → pad ≡ pad_of (seven_at file at) at → (pad ≡ 0 → ⊥) → Some at ≡ first_place (padded file (at ∷ []))
     unfolding padded wrong_at
     number-long e n = rw (ne_eqb (pad_of (seven_at file at) at) 0 (λ z. n (e ∙ z)))
 
-  pub no_count : (kind at : ℕ) → (kind ≡ 13 → ⊥) → Fine ≡ first_place (padded file (count_places file kind at))
+  pub no_count : (kind at : ℕ) → (kind ≡ 13 → ⊥) → None ≡ first_place (padded file (count_places file kind at))
   unfolding count_places padded
   no_count kind at n = rw (ne_eqb kind 13 n)
 
-  pub a_count : (kind at : ℕ) {r : Place} → kind ≡ 13 → r ≡ first_place (padded file (at ∷ [])) → r ≡ first_place (padded file (count_places file kind at))
+  pub a_count : (kind at : ℕ) {r : Option ℕ} → kind ≡ 13 → r ≡ first_place (padded file (at ∷ [])) → r ≡ first_place (padded file (count_places file kind at))
   unfolding count_places
   a_count kind at e f = rw (eq-eqb kind 13 e) f
 
   module _ (kind first detail : ℕ) where
-    pub without_id : (b : Bool) (r : Place) → b ≡ numbered kind detail → not b ≡ true → r ≡ first_place (padded file (count_places file kind first)) → r ≡ first_place (padded file (row_numbers file kind first detail))
+    pub without_id : (b : Bool) (r : Option ℕ) → b ≡ numbered kind detail → not b ≡ true → r ≡ first_place (padded file (count_places file kind first)) → r ≡ first_place (padded file (row_numbers file kind first detail))
     unfolding row_numbers id_places raw_place
     without_id true r e t f = differ cc
     without_id false r e t f = rw (← e) f
 
-    pub with_id : (b : Bool) (r : Place) → b ≡ numbered kind detail → not b ≡ false → Fine ≡ first_place (padded file (first ∷ []))
+    pub with_id : (b : Bool) (r : Option ℕ) → b ≡ numbered kind detail → not b ≡ false → None ≡ first_place (padded file (first ∷ []))
         → r ≡ first_place (padded file (count_places file kind (past (seven_at file first) first))) → r ≡ first_place (padded file (row_numbers file kind first detail))
     unfolding row_numbers id_places raw_place
     with_id true r e t f h = rw (← e) (found_second (first ∷ []) (count_places file kind (past (seven_at file first) first)) r f h)
     with_id false r e t f h = differ cc
 
-    pub id_wrong : (b : Bool) {p : ℕ} → b ≡ numbered kind detail → not b ≡ false → At p ≡ first_place (padded file (first ∷ [])) → At p ≡ first_place (padded file (row_numbers file kind first detail))
+    pub id_wrong : (b : Bool) {p : ℕ} → b ≡ numbered kind detail → not b ≡ false → Some p ≡ first_place (padded file (first ∷ [])) → Some p ≡ first_place (padded file (row_numbers file kind first detail))
     unfolding row_numbers id_places raw_place
     id_wrong true e t f = rw (← e) (found_first (first ∷ []) (count_places file kind (past (seven_at file first) first)) f)
     id_wrong false e t f = differ cc
 
 module _ (file : List ℕ) (g : Grid) (table : List ℕ) (used row : ℕ) (there : row < used) where
-  pub row_found : {kind first detail : ℕ} (r : Place) → Tells g table used (λ rows. word_in rows row 0) kind → Tells g table used (λ rows. word_in rows row 1) first → Tells g table used (λ rows. word_in rows row 5) detail
+  pub row_found : {kind first detail : ℕ} (r : Option ℕ) → Tells g table used (λ rows. word_in rows row 0) kind → Tells g table used (λ rows. word_in rows row 1) first → Tells g table used (λ rows. word_in rows row 5) detail
       → r ≡ first_place (padded file (row_numbers file kind first detail)) → RowFound file g table used row r
   unfolding first_numbers kind_of first_of detail_of
   row_found {kind} {first} {detail} r t u v e rows d =
@@ -136,18 +134,18 @@ module _ (file : List ℕ) (g : Grid) (table : List ℕ) (used row : ℕ) (there
       rw x.1 (sym (append_assoc (id_places file x.0.kind x.0.first x.0.detail) (count_places file x.0.kind (raw_place file x.0.kind x.0.first x.0.detail)) (rows_places file (drop (suc row) rows))))
 
   -- the rows from this one on
-  pub row_fine : RowFound file g table used row Fine → (rows : List Row) → Held g table used rows
+  pub row_fine : RowFound file g table used row None → (rows : List Row) → Held g table used rows
       → first_place (padded file (rows_places file (drop row rows))) ≡ first_place (padded file (rows_places file (drop (row + 1) rows)))
   row_fine f rows d =
       let z : row + 1 ≡ suc row = omega arith in
       rw z (ap (λ (l : List ℕ). first_place (padded file l)) (rows_step rows d)
       ∙ sym (found_second file (first_numbers file (drop row rows)) (rows_places file (drop (suc row) rows)) (first_place (padded file (rows_places file (drop (suc row) rows)))) (f rows d) refl))
 
-  pub row-wrong : {p : ℕ} → RowFound file g table used row (At p) → (rows : List Row) → Held g table used rows → At p ≡ first_place (padded file (rows_places file (drop row rows)))
+  pub row-wrong : {p : ℕ} → RowFound file g table used row (Some p) → (rows : List Row) → Held g table used rows → Some p ≡ first_place (padded file (rows_places file (drop row rows)))
   row-wrong f rows d =
       found_first file (first_numbers file (drop row rows)) (rows_places file (drop (suc row) rows)) (f rows d) ∙ sym (ap (λ (l : List ℕ). first_place (padded file l)) (rows_step rows d))
 
-pub no_more-rows : (file : List ℕ) (g : Grid) (table : List ℕ) (used row : ℕ) → used ≤ row → (rows : List Row) → Held g table used rows → first_place (padded file (rows_places file (drop row rows))) ≡ Fine
+pub no_more-rows : (file : List ℕ) (g : Grid) (table : List ℕ) (used row : ℕ) → used ≤ row → (rows : List Row) → Held g table used rows → first_place (padded file (rows_places file (drop row rows))) ≡ None
 unfolding rows_places padded
 no_more-rows file g table used row h rows d = ap (λ (l : List Row). first_place (padded file (rows_places file l))) (drop_past rows row (omega (arith, d.count)))
 
@@ -165,7 +163,7 @@ module _ (file : List ℕ) (readers from : ℕ) where
   none_reached h = record { few = omega arith; near = omega arith; same = refl; ends = refl }
 
   module _ (left at : ℕ) (w : Reached file readers from left at) where
-    pub all_reached : left ≤ 0 → Passes file readers from (End at)
+    pub all_reached : left ≤ 0 → Passes file readers from (Ok at)
     unfolding entries_places entries_end padded
     all_reached h =
         let z : left ≡ 0 = omega arith in
@@ -179,11 +177,11 @@ module _ (file : List ℕ) (readers from : ℕ) where
       unfolding entries_places
       places_left = ap (λ (n : ℕ). entries_places file n at) one_left
 
-      pub entry-wrong : {p : ℕ} → At p ≡ first_place (padded file (at ∷ [])) → Passes file readers from (Wrong p)
+      pub entry-wrong : {p : ℕ} → Some p ≡ first_place (padded file (at ∷ [])) → Passes file readers from (Err p)
       entry-wrong e =
           found_first file (at ∷ []) (entries_places file (left - 1) (behind_entry (seven_at file at) at)) e ∙ sym (ap first_place w.same ∙ ap (λ (l : List ℕ). first_place (padded file l)) places_left)
 
-      pub one_reached : (e : Entry) → EntryAt file at e → Fine ≡ first_place (padded file (at ∷ [])) → Reached file readers from (left - 1) e.next
+      pub one_reached : (e : Entry) → EntryAt file at e → None ≡ first_place (padded file (at ∷ [])) → Reached file readers from (left - 1) e.next
       unfolding entries_end
       one_reached e x f = record {
         few = omega (arith, w.few);
@@ -199,18 +197,18 @@ module _ (file : List ℕ) (readers : ℕ) where
   unfolding lists_places
   lists_are = refl
 
-  pub count-wrong : {p : ℕ} → At p ≡ first_place (padded file (10 ∷ [])) → At p ≡ first_place (padded file (lists_places file readers 10))
+  pub count-wrong : {p : ℕ} → Some p ≡ first_place (padded file (10 ∷ [])) → Some p ≡ first_place (padded file (lists_places file readers 10))
   unfolding lists_places
   count-wrong e = found_first file (10 ∷ []) (entries_places file readers (past (seven_at file 10) 10) ++ (entries_end file readers (past (seven_at file 10) 10) ∷ [])) e
 
-  module _ (f : Fine ≡ first_place (padded file (10 ∷ []))) where
-    pub length-wrong : {p : ℕ} → At p ≡ first_place (padded file (entries_places file readers (past (seven_at file 10) 10))) → At p ≡ first_place (padded file (lists_places file readers 10))
+  module _ (f : None ≡ first_place (padded file (10 ∷ []))) where
+    pub length-wrong : {p : ℕ} → Some p ≡ first_place (padded file (entries_places file readers (past (seven_at file 10) 10))) → Some p ≡ first_place (padded file (lists_places file readers 10))
     unfolding lists_places
     length-wrong {p} e =
         let start = past (seven_at file 10) 10 in
-        found_second file (10 ∷ []) (entries_places file readers start ++ (entries_end file readers start ∷ [])) (At p) f (found_first file (entries_places file readers start) (entries_end file readers start ∷ []) e)
+        found_second file (10 ∷ []) (entries_places file readers start ++ (entries_end file readers start ∷ [])) (Some p) f (found_first file (entries_places file readers start) (entries_end file readers start ∷ []) e)
 
-    pub shared_found : {end : ℕ} (r : Place) → (padded file (entries_places file readers (past (seven_at file 10) 10)) ≡ []) → end ≡ entries_end file readers (past (seven_at file 10) 10)
+    pub shared_found : {end : ℕ} (r : Option ℕ) → (padded file (entries_places file readers (past (seven_at file 10) 10)) ≡ []) → end ≡ entries_end file readers (past (seven_at file 10) 10)
         → r ≡ first_place (padded file (end ∷ [])) → r ≡ first_place (padded file (lists_places file readers 10))
     unfolding lists_places
     shared_found r n e g =
@@ -218,24 +216,24 @@ module _ (file : List ℕ) (readers : ℕ) where
         found_second file (10 ∷ []) (entries_places file readers start ++ (entries_end file readers start ∷ [])) r f
         (found_second file (entries_places file readers start) (entries_end file readers start ∷ []) r (sym (ap first_place n)) (g ∙ ap (λ (k : ℕ). first_place (padded file (k ∷ []))) e))
 
-  pub in_lists : (rows : List Row) {p : ℕ} → At p ≡ first_place (padded file (lists_places file readers 10)) → At p ≡ first_place (padded file (file_places file readers rows))
+  pub in_lists : (rows : List Row) {p : ℕ} → Some p ≡ first_place (padded file (lists_places file readers 10)) → Some p ≡ first_place (padded file (file_places file readers rows))
   unfolding file_places
   in_lists rows e = found_first file (lists_places file readers 10) (rows_places file rows) e
 
-  pub in_rows : (rows : List Row) (r : Place) → Fine ≡ first_place (padded file (lists_places file readers 10)) → r ≡ first_place (padded file (rows_places file rows)) → r ≡ first_place (padded file (file_places file readers rows))
+  pub in_rows : (rows : List Row) (r : Option ℕ) → None ≡ first_place (padded file (lists_places file readers 10)) → r ≡ first_place (padded file (rows_places file rows)) → r ≡ first_place (padded file (file_places file readers rows))
   unfolding file_places
   in_rows rows r e f = found_second file (lists_places file readers 10) (rows_places file rows) r e f
 
 -- ---- What passing the readers answered
 
-module _ (file : List ℕ) (readers from : ℕ) (start : from ≡ past (seven_at file 10) 10) (r : Passed) where
-  pub passed-wrong : {p : ℕ} → r ≡ Wrong p → Passes file readers from r → At p ≡ first_place (padded file (entries_places file readers (past (seven_at file 10) 10)))
+module _ (file : List ℕ) (readers from : ℕ) (start : from ≡ past (seven_at file 10) 10) (r : Result ℕ ℕ) where
+  pub passed-wrong : {p : ℕ} → r ≡ Err p → Passes file readers from r → Some p ≡ first_place (padded file (entries_places file readers (past (seven_at file 10) 10)))
   passed-wrong {p} e w =
-      let x : Passes file readers from (Wrong p) = rw e at w in
+      let x : Passes file readers from (Err p) = rw e at w in
       x ∙ ap (λ (k : ℕ). first_place (padded file (entries_places file readers k))) start
 
-  pub passed-end : {end : ℕ} → r ≡ End end → Passes file readers from r
+  pub passed-end : {end : ℕ} → r ≡ Ok end → Passes file readers from r
       → (padded file (entries_places file readers (past (seven_at file 10) 10)) ≡ []) × (end ≡ entries_end file readers (past (seven_at file 10) 10))
   passed-end {end} e w =
-      let x : Passes file readers from (End end) = rw e at w in
+      let x : Passes file readers from (Ok end) = rw e at w in
       (ap (λ (k : ℕ). padded file (entries_places file readers k)) (sym start) ∙ x.0, x.1 ∙ ap (entries_end file readers) start)

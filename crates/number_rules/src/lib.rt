@@ -8,14 +8,12 @@ ghost use Rattle.places.specs.Places.{count_places};
 ghost use Rattle.number_rules.specs.Entries.{EntryIs};
 ghost use Rattle.number_rules.specs.Numbers.{row_numbers, NumbersFound, RowFound, RowsFound, EntriesFound, ListsFound, PaddedNumber};
 
-use answers::Number;
-use fault_places::Place;
-use numbers::seven::{Padded, seven_at, seven_padded};
-use table::Grid;
-use used_rows::word_in;
+use names::kinds;
+use numbers::seven::{seven_at, seven_padded};
+use used_rows::UsedRows;
 
 // A reader: the first byte of its name, and where it ends.
-#[derive(Clone, Copy)]
+#[derive(Clone, Copy, Debug, PartialEq, Eq)]
 pub struct Entry {
     pub name: usize,
     pub next: usize,
@@ -32,13 +30,13 @@ pub fn entry_at(file: &[u8], at: usize) -> Entry
         return Entry { name: at, next: at };
     }
     match seven_at(file, at) {
-        Number::Refused(_, _) => Entry {
+        Err(_) => Entry {
             name: at,
             next: at + 4,
         },
-        Number::Read(n, next) => Entry {
-            name: next,
-            next: next + n as usize + 4,
+        Ok(length) => Entry {
+            name: length.next,
+            next: length.next + length.value as usize + 4,
         },
     }
 }
@@ -48,123 +46,106 @@ pub fn behind(file: &[u8], at: usize) -> usize
     ensures { result ≡ past (seven_at file.now at) at }
 {
     match seven_at(file, at) {
-        Number::Refused(_, _) => at,
-        Number::Read(_, next) => next,
+        Err(_) => at,
+        Ok(number) => number.next,
     }
 }
 
 // A number at a place that is not shortest.
-fn number_at(file: &[u8], at: usize) -> Place
+fn number_at(file: &[u8], at: usize) -> Option<usize>
     ensures { NumbersFound file.now (at ∷ []) result }
 {
     match seven_padded(file, at) {
-        Padded::Refused(_, _) => Place::Fine,
-        Padded::Read(_, _, padding) => {
-            if padding == 0 {
-                return Place::Fine;
+        Ok(number) => {
+            if number.padding == 0 {
+                return None;
             }
-            Place::At(at)
+            Some(at)
         }
+        Err(_) => None,
     }
 }
 
 // The same for a text's count, which stands at a place; other kinds have none.
-fn count_at(file: &[u8], kind: u32, at: usize) -> Place
+fn count_at(file: &[u8], kind: u32, at: usize) -> Option<usize>
     ensures { NumbersFound file.now (count_places file.now kind at) result }
 {
-    if kind != 13 {
-        return Place::Fine;
+    if kind != kinds::STRING {
+        return None;
     }
     number_at(file, at)
 }
 
 // The first of a value's numbers that is not shortest.
-fn value_numbers(file: &[u8], kind: u32, first: usize, detail: u32) -> Place
+fn value_numbers(file: &[u8], kind: u32, first: usize, detail: u32) -> Option<usize>
     ensures { NumbersFound file.now (row_numbers file.now kind first detail) result }
 {
     if !places::numbered(kind, detail) {
         return count_at(file, kind, first);
     }
     match number_at(file, first) {
-        Place::At(place) => Place::At(place),
-        Place::Fine => count_at(file, kind, behind(file, first)),
+        Some(place) => Some(place),
+        None => count_at(file, kind, behind(file, first)),
     }
 }
 
 // The first of a row's numbers that is not shortest.
-fn row_numbers(file: &[u8], words: &[u32], grid: Grid, used: u32, row: u32) -> Place
-    requires { row < used }
-    ensures { RowFound file.now grid words.now used row result }
+fn row_numbers(file: &[u8], rows: UsedRows, row: u32) -> Option<usize>
+    requires { row < rows.used }
+    ensures { RowFound file.now rows.entry.table.grid rows.entry.table.words.now rows.entry.used row result }
 {
-    let kind = word_in(words, grid, used, row, table::KIND);
-    let first = word_in(words, grid, used, row, table::FIRST);
-    let detail = word_in(words, grid, used, row, table::DETAIL);
+    let kind = rows.word(row, table::KIND);
+    let first = rows.word(row, table::FIRST);
+    let detail = rows.word(row, table::DETAIL);
     value_numbers(file, kind, first as usize, detail)
 }
 
 // The first number of the rows that is not shortest.
-fn rows_numbers(file: &[u8], words: &[u32], grid: Grid, used: u32) -> Place
-    ensures { RowsFound file.now grid words.now used result }
+fn rows_numbers(file: &[u8], rows: UsedRows) -> Option<usize>
+    ensures { RowsFound file.now rows.entry.table.grid rows.entry.table.words.now rows.entry.used result }
 {
-    let mut row: u32 = 0;
-    while row < used {
-        match row_numbers(file, words, grid, used, row) {
-            Place::Fine => {}
-            Place::At(place) => {
-                return Place::At(place);
-            }
+    for row in 0..rows.used {
+        let place = row_numbers(file, rows, row);
+        if place.is_some() {
+            return place;
         }
-        row += 1;
     }
-    Place::Fine
+    None
 }
 
-// Where the readers end, or the first length of a name that is not shortest.
-#[derive(Clone, Copy)]
-enum Passed {
-    End(usize),
-    At(usize),
-}
-
-// So many readers, the first of which stands at a place.
-fn entries_numbers(file: &[u8], readers: u32, from: usize) -> Passed
+// Where so many readers end, the first of which stands at a place; or the first length of a name that is not shortest.
+fn entries_numbers(file: &[u8], readers: u32, from: usize) -> Result<usize, usize>
     ensures { EntriesFound file.now readers from result }
 {
     let mut at = from;
-    let mut left = readers;
-    while 0 < left {
-        match number_at(file, at) {
-            Place::Fine => {}
-            Place::At(place) => {
-                return Passed::At(place);
-            }
+    for _ in 0..readers {
+        if let Some(place) = number_at(file, at) {
+            return Err(place);
         }
-        let e = entry_at(file, at);
-        at = e.next;
-        left -= 1;
+        at = entry_at(file, at).next;
     }
-    Passed::End(at)
+    Ok(at)
 }
 
 // The first number of the reader list that is not shortest, or of the shared count.
-fn lists_numbers(file: &[u8], readers: u32) -> Place
+fn lists_numbers(file: &[u8], readers: u32) -> Option<usize>
     ensures { ListsFound file.now readers result }
 {
     match number_at(file, 10) {
-        Place::At(place) => Place::At(place),
-        Place::Fine => match entries_numbers(file, readers, behind(file, 10)) {
-            Passed::At(place) => Place::At(place),
-            Passed::End(end) => number_at(file, end),
+        Some(place) => Some(place),
+        None => match entries_numbers(file, readers, behind(file, 10)) {
+            Err(place) => Some(place),
+            Ok(end) => number_at(file, end),
         },
     }
 }
 
 // The first number of a loaded file that is not shortest.
-pub fn padded_number(file: &[u8], words: &[u32], grid: Grid, used: u32, readers: u32) -> Place
-    ensures { PaddedNumber file.now grid words.now used readers result }
+pub fn padded_number(file: &[u8], rows: UsedRows, readers: u32) -> Option<usize>
+    ensures { PaddedNumber file.now rows.entry.table.grid rows.entry.table.words.now rows.entry.used readers result }
 {
     match lists_numbers(file, readers) {
-        Place::At(place) => Place::At(place),
-        Place::Fine => rows_numbers(file, words, grid, used),
+        Some(place) => Some(place),
+        None => rows_numbers(file, rows),
     }
 }

@@ -6,64 +6,59 @@ ghost use Rattle.profile.specs.Offences.{no_page, nextless};
 ghost use Rattle.used_rows.specs.Held.{Skips, Finds};
 ghost use Rattle.page_rules.specs.Pages.{page_fault};
 
-use fault_places::Place;
-use table::Grid;
-use used_rows::{next_row, word_in};
+use names::kinds;
+use used_rows::UsedRows;
 
 // The first object is a Page.
-pub fn no_page(words: &[u32], grid: Grid, used: u32) -> Place
-    ensures { Finds grid words.now used no_page result }
+pub fn no_page(rows: UsedRows) -> Option<usize>
+    ensures { Finds rows.entry.table.grid rows.entry.table.words.now rows.entry.used no_page result }
 {
-    let kind = word_in(words, grid, used, 0, table::KIND);
-    if kind == 34 {
-        return Place::Fine;
+    let kind = rows.word(0, table::KIND);
+    if kind == kinds::PAGE {
+        return None;
     }
-    let first = word_in(words, grid, used, 0, table::FIRST);
-    Place::At(first as usize)
+    let first = rows.word(0, table::FIRST);
+    Some(first as usize)
 }
 
 // The row of a page's fourth child.
-fn next_of_page(words: &[u32], grid: Grid, used: u32, page: u32) -> u32
-    requires { page < used }
-    ensures { Skips grid words.now used 3 (suc page) result }
+fn next_of_page(rows: UsedRows, page: u32) -> u32
+    requires { page < rows.used }
+    ensures { Skips rows.entry.table.grid rows.entry.table.words.now rows.entry.used 3 (suc page) result }
 {
     let title = page + 1;
-    let area = next_row(words, grid, used, title);
-    let image = next_row(words, grid, used, area);
-    next_row(words, grid, used, image)
+    let area = rows.next(title);
+    let image = rows.next(area);
+    rows.next(image)
 }
 
 // A page's next has resource id 0.
-fn nextless_at(words: &[u32], grid: Grid, used: u32, row: u32) -> Place
-    requires { row < used }
-    ensures { Finds grid words.now used (λ rows. page_fault (drop row rows)) result }
+fn nextless_at(rows: UsedRows, row: u32) -> Option<usize>
+    requires { row < rows.used }
+    ensures { Finds rows.entry.table.grid rows.entry.table.words.now rows.entry.used (λ held. page_fault (drop row held)) result }
 {
-    let kind = word_in(words, grid, used, row, table::KIND);
-    if kind != 34 {
-        return Place::Fine;
+    let kind = rows.word(row, table::KIND);
+    if kind != kinds::PAGE {
+        return None;
     }
-    let next = next_of_page(words, grid, used, row);
-    let detail = word_in(words, grid, used, next, table::DETAIL);
+    let next = next_of_page(rows, row);
+    let detail = rows.word(next, table::DETAIL);
     if detail != 0 {
-        return Place::Fine;
+        return None;
     }
-    let first = word_in(words, grid, used, next, table::FIRST);
-    Place::At(first as usize)
+    let first = rows.word(next, table::FIRST);
+    Some(first as usize)
 }
 
 // The first page whose next has resource id 0.
-pub fn nextless(words: &[u32], grid: Grid, used: u32) -> Place
-    ensures { Finds grid words.now used nextless result }
+pub fn nextless(rows: UsedRows) -> Option<usize>
+    ensures { Finds rows.entry.table.grid rows.entry.table.words.now rows.entry.used nextless result }
 {
-    let mut row: u32 = 0;
-    while row < used {
-        match nextless_at(words, grid, used, row) {
-            Place::Fine => {}
-            Place::At(place) => {
-                return Place::At(place);
-            }
+    for row in 0..rows.used {
+        let place = nextless_at(rows, row);
+        if place.is_some() {
+            return place;
         }
-        row += 1;
     }
-    Place::Fine
+    None
 }

@@ -18,8 +18,8 @@ use Rattle.places.specs.Places.{file_places}
 use Rattle.profile.specs.Stand.{Stand, file_stand}
 use Rattle.profile.specs.Offences.{wrong_at, other_platform, padded, unused, doubled, repeated, no_page, nextless, fine, fault, first, first_lowest, from47, from46, from45, from44, from43, from42, fault_of, Offence}
 use Rattle.profile.specs.Rules.{platform-none, none-platform}
-use Rattle.fault_places.specs.declared.Place.{Place}
-use Rattle.fault_places.specs.declared.Place.TheVariants.{Fine, At}
+use Rattle.std.specs.Prelude.{Option}
+use Rattle.std.specs.Prelude.{None, Some}
 use Rattle.fault_places.specs.Places.{first_place, lowest_place, Lowest}
 use Rattle.profile_places.specs.Broken.{Rule, platform, numbers, used, distinct, keys, page, nexts, refusal_of, PlatformAt, BrokenAt, FirstBroken}
 use Rattle.profile_places.specs.Numbers.{numbers-lowest}
@@ -30,15 +30,15 @@ use Rattle.profile_places.proofs.Values.{keys-lowest}
 
 -- ---- Faults by number, then by place
 
-first_is : (k : ℕ) (l : List ℕ) (x : Offence) {n p : ℕ} → first k l x ≡ fault n p → ((n ≡ k) × (first_place l ≡ At p)) ⊎ ((first_place l ≡ Fine) × (x ≡ fault n p))
+first_is : (k : ℕ) (l : List ℕ) (x : Offence) {n p : ℕ} → first k l x ≡ fault n p → ((n ≡ k) × (first_place l ≡ Some p)) ⊎ ((first_place l ≡ None) × (x ≡ fault n p))
 unfolding first
 first_is k [] x e = inr (refl, e)
-first_is k (q ∷ l) x {n} {p} e = let a : k ≡ n = cc in let b : q ≡ p = cc in inl (sym a, ap At b)
+first_is k (q ∷ l) x {n} {p} e = let a : k ≡ n = cc in let b : q ≡ p = cc in inl (sym a, ap Some b)
 
-lowest_is : (k : ℕ) (l : List ℕ) (x : Offence) {n p : ℕ} → first_lowest k l x ≡ fault n p → ((n ≡ k) × (lowest_place l ≡ At p)) ⊎ ((lowest_place l ≡ Fine) × (x ≡ fault n p))
+lowest_is : (k : ℕ) (l : List ℕ) (x : Offence) {n p : ℕ} → first_lowest k l x ≡ fault n p → ((n ≡ k) × (lowest_place l ≡ Some p)) ⊎ ((lowest_place l ≡ None) × (x ≡ fault n p))
 unfolding first_lowest
 lowest_is k [] x e = inr (refl, e)
-lowest_is k (q ∷ l) x {n} {p} e = inl ((let a : k ≡ n = cc in sym a), ap At cc)
+lowest_is k (q ∷ l) x {n} {p} e = inl ((let a : k ≡ n = cc in sym a), ap Some cc)
 
 rule_of : ℕ → Rule
 rule_of n = get_or (platform ∷ numbers ∷ used ∷ distinct ∷ keys ∷ page ∷ nexts ∷ []) (n - 41) nexts
@@ -55,7 +55,7 @@ rule_is nexts = (refl, omega arith)
 
 module _ (file : List ℕ) (readers : List Target) (rows : List Row) where
   -- where the loader finds that a rule is broken
-  place_of : Rule → Place
+  place_of : Rule → Option ℕ
   place_of platform = first_place (other_platform file)
   place_of numbers = first_place (padded file (file_places file (length readers) rows))
   place_of used = first_place (unused file rows (length readers) 0)
@@ -65,21 +65,21 @@ module _ (file : List ℕ) (readers : List Target) (rows : List Row) where
   place_of nexts = first_place (nextless rows)
 
   abbrev Kept : (below : ℕ) → Type 0
-  Kept below = (r : Rule) → refusal_of r < below → place_of r ≡ Fine
+  Kept below = (r : Rule) → refusal_of r < below → place_of r ≡ None
 
   kept_none : Kept 41
   kept_none r h = let l = (rule_is r).1 in absurd (omega arith)
 
-  kept_more : (r : Rule) → Kept (refusal_of r) → place_of r ≡ Fine → Kept (suc (refusal_of r))
+  kept_more : (r : Rule) → Kept (refusal_of r) → place_of r ≡ None → Kept (suc (refusal_of r))
   kept_more r k e s h = go (eqb (refusal_of s) (refusal_of r)) refl where
-    go : (b : Bool) → eqb (refusal_of s) (refusal_of r) ≡ b → place_of s ≡ Fine
+    go : (b : Bool) → eqb (refusal_of s) (refusal_of r) ≡ b → place_of s ≡ None
     go true q =
         let z : s ≡ r = sym (rule_is s).0 ∙ ap rule_of (eqb-true (refusal_of s) (refusal_of r) q) ∙ (rule_is r).0 in
         ap place_of z ∙ e
     go false q = k s (omega (arith, eqb-false (refusal_of s) (refusal_of r) q))
 
   abbrev Found : (n p : ℕ) → Type 0
-  Found n p = (r : Rule) × (n ≡ refusal_of r) × (place_of r ≡ At p) × Kept (refusal_of r)
+  Found n p = (r : Rule) × (n ≡ refusal_of r) × (place_of r ≡ Some p) × Kept (refusal_of r)
 
   found : (n p : ℕ) → fault_of file readers rows ≡ fault n p → Found n p
   unfolding fault_of from42 from43 from44 from45 from46 from47 place_of refusal_of
@@ -87,8 +87,8 @@ module _ (file : List ℕ) (readers : List Target) (rows : List Row) where
     end : {A : Type 0} → fine ≡ fault n p → A
     end e = differ cc
 
-    Or : (k : ℕ) → Place → Offence → Type 0
-    Or k r x = ((n ≡ k) × (r ≡ At p)) ⊎ ((r ≡ Fine) × (x ≡ fault n p))
+    Or : (k : ℕ) → Option ℕ → Offence → Type 0
+    Or k r x = ((n ≡ k) × (r ≡ Some p)) ⊎ ((r ≡ None) × (x ≡ fault n p))
 
     at_47 : Kept 47 → Or 47 (place_of nexts) fine → Found n p
     at_47 k (inl x) = (nexts, x.0, x.1, k)

@@ -8,8 +8,8 @@ use native.Mathlib.Omega.{arith}
 use Rattle.layout.specs.Rows.{Row}
 use Rattle.table.specs.declared.Grid.{Grid}
 use Rattle.profile.specs.Offences.{wrong_at, kind_of, detail_of, name_start, uses, unused}
-use Rattle.fault_places.specs.declared.Place.{Place}
-use Rattle.fault_places.specs.declared.Place.TheVariants.{Fine, At}
+use Rattle.std.specs.Prelude.{Option}
+use Rattle.std.specs.Prelude.{None, Some}
 use Rattle.fault_places.specs.Places.{first_place}
 use Rattle.used_rows.specs.Held.{word_in, Held, Tells, Tests, kind_word, detail_word, drop_past, drop-row}
 
@@ -18,7 +18,7 @@ abbrev pub names : (id : ℕ) → List Row → Bool
 names id rows = eqb (detail_of rows) id && not (eqb (kind_of rows) 36)
 
 -- the name of the first reader that no type id uses, in a file of 01's size
-abbrev pub UnusedReader : (file : List ℕ) → Grid → (table : List ℕ) (used readers : ℕ) → Place → Type 0
+abbrev pub UnusedReader : (file : List ℕ) → Grid → (table : List ℕ) (used readers : ℕ) → Option ℕ → Type 0
 UnusedReader file g table used readers r = length file ≤ 16777216 → (rows : List Row) → Held g table used rows → r ≡ first_place (unused file rows readers 0)
 
 -- what is left from reader i on
@@ -59,7 +59,7 @@ module _ (file : List ℕ) (g : Grid) (table : List ℕ) (used readers i : ℕ) 
       let y : readers - 0 ≡ readers = omega arith in
       rw (z, y)
 
-  pub none_left : readers ≤ i → LeftOf file g table used readers i → (rows : List Row) → Held g table used rows → Fine ≡ first_place (unused file rows readers 0)
+  pub none_left : readers ≤ i → LeftOf file g table used readers i → (rows : List Row) → Held g table used rows → None ≡ first_place (unused file rows readers 0)
   unfolding unused
   none_left h l rows d =
       let z : readers - i ≡ 0 = omega arith in
@@ -78,7 +78,7 @@ module _ (file : List ℕ) (g : Grid) (table : List ℕ) (used readers i : ℕ) 
     unfolding wrong_at
     reader-used n l rows d = l rows d ∙ ap first_place (here rows d ∙ ap (λ (c : Bool). wrong_at c (name_start file i) ++ unused file rows (readers - (i + 1)) (i + 1)) n)
 
-    pub reader-unused : {p : ℕ} → not b ≡ true → p ≡ name_start file i → LeftOf file g table used readers i → (rows : List Row) → Held g table used rows → At p ≡ first_place (unused file rows readers 0)
+    pub reader-unused : {p : ℕ} → not b ≡ true → p ≡ name_start file i → LeftOf file g table used readers i → (rows : List Row) → Held g table used rows → Some p ≡ first_place (unused file rows readers 0)
     unfolding wrong_at
     reader-unused n e l rows d =
-        sym (l rows d ∙ ap first_place (here rows d ∙ ap (λ (c : Bool). wrong_at c (name_start file i) ++ unused file rows (readers - (i + 1)) (i + 1)) n) ∙ ap At (sym e))
+        sym (l rows d ∙ ap first_place (here rows d ∙ ap (λ (c : Bool). wrong_at c (name_start file i) ++ unused file rows (readers - (i + 1)) (i + 1)) n) ∙ ap Some (sym e))

@@ -23,8 +23,8 @@ use Rattle.readers.specs.Room.{suffice, suffice-refused, all_suffice}
 use Rattle.readers.specs.Whole.{short_file_lem}
 use Rattle.readers.specs.Contract.{lists_of, ListsRead}
 use Rattle.profile.specs.Offences.{wrong_at, name_start, among, doubled}
-use Rattle.fault_places.specs.declared.Place.{Place}
-use Rattle.fault_places.specs.declared.Place.TheVariants.{Fine, At}
+use Rattle.std.specs.Prelude.{Option}
+use Rattle.std.specs.Prelude.{None, Some}
 use Rattle.fault_places.specs.Places.{first_place}
 
 -- the targets of readers stand in the codes
@@ -39,11 +39,11 @@ before readers (suc i) = get_or readers i object ∷ before readers i
 abbrev pub AmongEarlier : (file codes targets : List ℕ) (j : ℕ) → Bool → Type 0
 AmongEarlier file codes targets j r = (readers : List Target) → TargetsStand file codes targets readers → j < length readers → r ≡ among (get_or readers j object) (before readers j)
 
-abbrev pub FirstDouble : (file codes targets : List ℕ) (count : ℕ) → Place → Type 0
+abbrev pub FirstDouble : (file codes targets : List ℕ) (count : ℕ) → Option ℕ → Type 0
 FirstDouble file codes targets count r =
     length file ≤ 16777216 → (readers : List Target) → TargetsStand file codes targets readers → count ≡ length readers → r ≡ first_place (doubled file [] readers 0)
 
-abbrev pub DoubledReader : List EnumEntry → (file : List ℕ) → Place → Type 0
+abbrev pub DoubledReader : List EnumEntry → (file : List ℕ) → Option ℕ → Type 0
 DoubledReader es file r =
     length file ≤ 16777216 → (names : List (List ℕ)) (readers : List Target) (shared next : ℕ) → lists_at (judged_name es) file 10 ≡ read (names, readers, shared) next
     → r ≡ first_place (doubled file [] readers 0)
@@ -101,7 +101,7 @@ module _ (file codes targets : List ℕ) (count : ℕ) where
   unfolding before
   none_passed readers s e = refl
 
-  pub all_passed : (j : ℕ) → count ≤ j → LeftOf file codes targets count j → (readers : List Target) → TargetsStand file codes targets readers → count ≡ length readers → Fine ≡ first_place (doubled file [] readers 0)
+  pub all_passed : (j : ℕ) → count ≤ j → LeftOf file codes targets count j → (readers : List Target) → TargetsStand file codes targets readers → count ≡ length readers → None ≡ first_place (doubled file [] readers 0)
   unfolding doubled
   all_passed j h l readers s e = sym (l readers s e ∙ ap (λ (x : List Target). first_place (doubled file (before readers j) x j)) (nothing readers j (omega arith))) where
     nothing : (l : List Target) (i : ℕ) → length l ≤ i → drop i l ≡ []
@@ -126,27 +126,27 @@ module _ (file codes targets : List ℕ) (count : ℕ) where
         l readers s e ∙ ap first_place (step readers s e ∙ ap (λ (c : Bool). wrong_at c (name_start file j) ++ doubled file (before readers (j + 1)) (drop (j + 1) readers) (j + 1)) n)
 
     pub reader-doubled : {p : ℕ} → b ≡ true → p ≡ name_start file j → LeftOf file codes targets count j
-        → (readers : List Target) → TargetsStand file codes targets readers → count ≡ length readers → At p ≡ first_place (doubled file [] readers 0)
+        → (readers : List Target) → TargetsStand file codes targets readers → count ≡ length readers → Some p ≡ first_place (doubled file [] readers 0)
     unfolding wrong_at
     reader-doubled n q l readers s e =
-        sym (l readers s e ∙ ap first_place (step readers s e ∙ ap (λ (c : Bool). wrong_at c (name_start file j) ++ doubled file (before readers (j + 1)) (drop (j + 1) readers) (j + 1)) n) ∙ ap At (sym q))
+        sym (l readers s e ∙ ap first_place (step readers s e ∙ ap (λ (c : Bool). wrong_at c (name_start file j) ++ doubled file (before readers (j + 1)) (drop (j + 1) readers) (j + 1)) n) ∙ ap Some (sym q))
 
 -- ---- What reading the lists answered
 
 -- where so many codes suffice
-abbrev pub DoubledIn : List EnumEntry → (file : List ℕ) (room : ℕ) → Place → Type 0
+abbrev pub DoubledIn : List EnumEntry → (file : List ℕ) (room : ℕ) → Option ℕ → Type 0
 DoubledIn es file room r = enough file 10 room ≡ true → DoubledReader es file r
 
 module _ (es : List EnumEntry) (file : List ℕ) where
   -- few readers, a count that is refused, and many
-  pub few_readers : {r : Place} {n next : ℕ} → up_to 64 file 10 ≡ read n next → n ≤ 8 → DoubledIn es file 850 r → DoubledReader es file r
+  pub few_readers : {r : Option ℕ} {n next : ℕ} → up_to 64 file 10 ≡ read n next → n ≤ 8 → DoubledIn es file 850 r → DoubledReader es file r
   unfolding codes_for
   few_readers e h f s = f (suffice file 10 8 s e h) s
 
-  pub no_readers : {r : Place} {n p : ℕ} → up_to 64 file 10 ≡ refused n p → DoubledIn es file 850 r → DoubledReader es file r
+  pub no_readers : {r : Option ℕ} {n p : ℕ} → up_to 64 file 10 ≡ refused n p → DoubledIn es file 850 r → DoubledReader es file r
   no_readers e f s = f (suffice-refused file 10 850 s e) s
 
-  pub many_readers : {r : Place} → DoubledIn es file 6058 r → DoubledReader es file r
+  pub many_readers : {r : Option ℕ} → DoubledIn es file 6058 r → DoubledReader es file r
   unfolding codes_for
   many_readers f = f (all_suffice file 10)
 
@@ -157,7 +157,7 @@ module _ (es : List EnumEntry) (file : List ℕ) where
       → (names : List (List ℕ)) (readers : List Target) (shared next : ℕ) → lists_at (judged_name es) file 10 ≡ read (names, readers, shared) next → P
   not_refused h e names readers shared next q = let z = sym e ∙ short_file_lem es file 10 h ∙ q in differ cc
 
-  pub lists_double : {codes codes' targets starts : List ℕ} {count sh nx : ℕ} (r : Place) → ListsRead (lists_of es file 10) file codes codes' targets starts count sh nx
+  pub lists_double : {codes codes' targets starts : List ℕ} {count sh nx : ℕ} (r : Option ℕ) → ListsRead (lists_of es file 10) file codes codes' targets starts count sh nx
       → FirstDouble file codes' targets count r → DoubledReader es file r
   lists_double {codes} {codes'} {targets} r w f h names readers shared next q =
       let z = sym w.answer ∙ short_file_lem es file 10 h ∙ q in

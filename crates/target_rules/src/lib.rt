@@ -5,10 +5,7 @@ ghost use Rattle.std.specs.Prelude.{◌≡◌, ◌<◌, length, get_or};
 ghost use Rattle.names.specs.Entries.{enums_of};
 ghost use Rattle.target_rules.specs.Doubled.{AmongEarlier, FirstDouble, DoubledReader, DoubledIn};
 
-use answers::Number;
-use fault_places::Place;
 use number_rules::{behind, entry_at};
-use readers::Lists;
 
 // The place of a reader's target in the codes.
 fn target_at(targets: &[u16], i: u32) -> usize
@@ -26,73 +23,61 @@ fn among_earlier(file: &[u8], codes: &[u32], targets: &[u16], j: u32) -> bool
     ensures { AmongEarlier file.now codes.now targets.now j result }
 {
     let own = target_at(targets, j);
-    let mut i = j;
-    while 0 < i {
-        let other = target_at(targets, i - 1);
+    for i in (0..j).rev() {
+        let other = target_at(targets, i);
         if targets::equal(file, codes, other, own) {
             return true;
         }
-        i -= 1;
     }
     false
 }
 
 // The name of the first reader whose target is that of an earlier one.
-fn first_double(file: &[u8], codes: &[u32], targets: &[u16], count: u32) -> Place
+fn first_double(file: &[u8], codes: &[u32], targets: &[u16], count: u32) -> Option<usize>
     ensures { FirstDouble file.now codes.now targets.now count result }
 {
     let mut at = behind(file, readers::START);
-    let mut j: u32 = 0;
-    while j < count {
-        let e = entry_at(file, at);
+    for j in 0..count {
+        let reader = entry_at(file, at);
         if among_earlier(file, codes, targets, j) {
-            return Place::At(e.name);
+            return Some(reader.name);
         }
-        at = e.next;
-        j += 1;
+        at = reader.next;
     }
-    Place::Fine
+    None
 }
 
 // The same of a file that the plain loader accepts, under a list of enum types, where the codes suffice for its readers.
-fn doubled_in(file: &[u8], enums: &[u8], codes: &mut [u32]) -> Place
+fn doubled_in(file: &[u8], enums: &[u8], codes: &mut [u32]) -> Option<usize>
     ensures { DoubledIn (enums_of enums.now) file.now (length codes.old) result }
 {
     let mut targets = [0u16; 64];
     let mut starts = [0u16; 64];
     match readers::read_lists(file, enums, codes, &mut targets, &mut starts) {
-        Lists::NoRoom => Place::Fine,
-        Lists::Refused(_, _) => Place::Fine,
-        Lists::Read(count, _, _, _) => first_double(file, codes, &targets, count),
+        Ok(lists) => first_double(file, codes, &targets, lists.readers),
+        Err(_) => None,
     }
 }
 
-// The same with at most 8 readers, and with at most 64: no more codes are cleared than so many readers need.
-fn few_doubled(file: &[u8], enums: &[u8]) -> Place
-    ensures { DoubledIn (enums_of enums.now) file.now 850 result }
+// The same with so many codes: no more are cleared than the readers need.
+fn doubled_with<const CODES: usize>(file: &[u8], enums: &[u8]) -> Option<usize>
+    ensures { DoubledIn (enums_of enums.now) file.now CODES result }
 {
-    let mut codes = [0u32; 850];
+    let mut codes = [0u32; CODES];
     doubled_in(file, enums, &mut codes)
 }
 
-fn many_doubled(file: &[u8], enums: &[u8]) -> Place
-    ensures { DoubledIn (enums_of enums.now) file.now 6058 result }
-{
-    let mut codes = [0u32; 6058];
-    doubled_in(file, enums, &mut codes)
-}
-
-// The same of a file that the plain loader accepts, under a list of enum types.
-pub fn doubled_reader(file: &[u8], enums: &[u8]) -> Place
+// The same of a file that the plain loader accepts, under a list of enum types: 850 codes suffice for 8 readers, and 6058 for 64.
+pub fn doubled_reader(file: &[u8], enums: &[u8]) -> Option<usize>
     ensures { DoubledReader (enums_of enums.now) file.now result }
 {
     match readers::reader_count(file, readers::START) {
-        Number::Refused(_, _) => few_doubled(file, enums),
-        Number::Read(n, _) => {
-            if n <= 8 {
-                return few_doubled(file, enums);
+        Err(_) => doubled_with::<850>(file, enums),
+        Ok(count) => {
+            if count.value <= 8 {
+                return doubled_with::<850>(file, enums);
             }
-            many_doubled(file, enums)
+            doubled_with::<6058>(file, enums)
         }
     }
 }

@@ -7,7 +7,7 @@ use Rattle.table.specs.declared.Grid.{Grid}
 use Rattle.table.specs.Grids.{cell_of}
 use Rattle.profile.specs.Offences.{next, skip, kind_of, detail_of}
 use Rattle.profile.specs.Profile.{first_of}
-use Rattle.fault_places.specs.declared.Place.{Place}
+use Rattle.std.specs.Prelude.{Option}
 use Rattle.fault_places.specs.Places.{first_place}
 
 -- word j of row i; 0 where there is none
@@ -38,7 +38,7 @@ abbrev pub Tests : Grid → (table : List ℕ) (used : ℕ) → (List Row → Bo
 Tests g table used f r = (rows : List Row) → Held g table used rows → r ≡ f rows
 
 -- where the rows of a table first break a rule
-abbrev pub Finds : Grid → (table : List ℕ) (used : ℕ) → (List Row → List ℕ) → Place → Type 0
+abbrev pub Finds : Grid → (table : List ℕ) (used : ℕ) → (List Row → List ℕ) → Option ℕ → Type 0
 Finds g table used f r = (rows : List Row) → Held g table used rows → r ≡ first_place (f rows)
 
 -- ---- Laws

@@ -5,17 +5,17 @@ use Rattle.number_rules.specs.Entries.{past-small}
 use Rattle.number_rules.specs.Numbers.{count-wrong, length-wrong, shared_found, passed-wrong, passed-end}
 use Rattle.number_rules.proofs.lists_numbers.Goals as goal
 
-pub returns-in-At : goal.returns-in-At
-returns-in-At c = let a = c.args in λ h. count-wrong a.file.now a.readers (rw c.in-At.is at c.number_at.ensures)
+pub returns-in-Some : goal.returns-in-Some
+returns-in-Some c = let a = c.args in λ h. count-wrong a.file.now a.readers (rw c.in-Some.is at c.number_at.ensures)
 
-pub returns-in-At-entries_numbers : goal.returns-in-At-entries_numbers
-returns-in-At-entries_numbers c =
+pub returns-in-Some-entries_numbers : goal.returns-in-Some-entries_numbers
+returns-in-Some-entries_numbers c =
     let a = c.args in
     let small = small_by_index a.file.now (λ i h. omega (arith, c.type_inv.file i)) in
     let b = past-small a.file.now 10 small in
     λ h.
     let w = c.entries_numbers.ensures h (omega (arith, c.behind.ensures)) in
-    length-wrong a.file.now a.readers (rw c.in-Fine.is at c.number_at.ensures) (passed-wrong a.file.now a.readers c.behind.result c.behind.ensures c.entries_numbers.result c.in-At-entries_numbers.is w)
+    length-wrong a.file.now a.readers (rw c.in-None.is at c.number_at.ensures) (passed-wrong a.file.now a.readers c.behind.result c.behind.ensures c.entries_numbers.result c.in-Some-entries_numbers.is w)
 
 pub returns-in-End : goal.returns-in-End
 returns-in-End c =
@@ -25,4 +25,4 @@ returns-in-End c =
     λ h.
     let w = c.entries_numbers.ensures h (omega (arith, c.behind.ensures)) in
     let x = passed-end a.file.now a.readers c.behind.result c.behind.ensures c.entries_numbers.result c.in-End.is w in
-    shared_found a.file.now a.readers (rw c.in-Fine.is at c.number_at.ensures) c.number_at-in-End.result x.0 x.1 c.number_at-in-End.ensures
+    shared_found a.file.now a.readers (rw c.in-None.is at c.number_at.ensures) c.number_at-in-End.result x.0 x.1 c.number_at-in-End.ensures

@@ -5,4 +5,4 @@ use Rattle.number_rules.proofs.row_numbers.Goals as goal
 pub returns : goal.returns
 returns c =
     let a = c.args in
-    row_found a.file.now a.grid a.words.now a.used a.row c.requires c.value_numbers.result c.word_in-kind.ensures c.word_in-first.ensures c.word_in-detail.ensures c.value_numbers.ensures
+    row_found a.file.now a.rows.table.grid a.rows.table.words.now a.rows.used a.row c.requires c.value_numbers.result c.word-kind.ensures c.word-first.ensures c.word-detail.ensures c.value_numbers.ensures

@@ -15,16 +15,16 @@ use Rattle.number_rules.proofs.rows_numbers.Goals as goal
 pub loop-row-init : goal.loop-row-init
 loop-row-init c = (omega arith, λ rows d. refl)
 
-pub returns-in-At : goal.returns-in-At
-returns-in-At c =
+pub returns-in-Some : goal.returns-in-Some
+returns-in-Some c =
     let a = c.args in
-    λ rows d. row-wrong a.file.now a.grid a.words.now a.used c.loop-row.row c.loop-row-test.true (rw c.in-At.is at c.row_numbers.ensures) rows d ∙ sym (c.loop-row.invariant.1 rows d)
+    λ rows d. row-wrong a.file.now a.rows.table.grid a.rows.table.words.now a.rows.used c.loop-row.row c.loop-row-test.true (rw c.in-Some.is at c.row_numbers.ensures) rows d ∙ sym (c.loop-row.invariant.1 rows d)
 
 pub loop-row-preserved : goal.loop-row-preserved
 loop-row-preserved c =
     let a = c.args in
-    (search rules, λ rows d. c.loop-row.invariant.1 rows d ∙ row_fine a.file.now a.grid a.words.now a.used c.loop-row.row c.loop-row-test.true (rw c.in-Fine.is at c.row_numbers.ensures) rows d)
+    (search rules, λ rows d. c.loop-row.invariant.1 rows d ∙ row_fine a.file.now a.rows.table.grid a.rows.table.words.now a.rows.used c.loop-row.row c.loop-row-test.true (rw c.in-None.is at c.row_numbers.ensures) rows d)
 
 pub returns : goal.returns
 returns c =
-    let a = c.args in λ rows d. sym (c.loop-row.invariant.1 rows d ∙ no_more-rows a.file.now a.grid a.words.now a.used c.loop-row.row c.loop-row-test.false rows d)
+    let a = c.args in λ rows d. sym (c.loop-row.invariant.1 rows d ∙ no_more-rows a.file.now a.rows.table.grid a.rows.table.words.now a.rows.used c.loop-row.row c.loop-row-test.false rows d)

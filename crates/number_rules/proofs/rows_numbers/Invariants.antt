@@ -13,7 +13,7 @@ use Rattle.number_rules.specs.Numbers.{row_fine, row-wrong, no_more-rows}
 use Rattle.number_rules.proofs.rows_numbers.Given as goal
 
 abbrev pub invariant-loop-row : goal.invariant-loop-row
-invariant-loop-row l = (l.row ≤ l.used) × ((rows : List Row) → Held l.grid l.words l.used rows → first_place (padded l.file (rows_places l.file rows)) ≡ first_place (padded l.file (rows_places l.file (drop l.row rows))))
+invariant-loop-row l = (l.row ≤ l.used) × ((rows : List Row) → Held l.rows.table.grid l.rows.table.words.now l.rows.used rows → first_place (padded l.file (rows_places l.file rows)) ≡ first_place (padded l.file (rows_places l.file (drop l.row rows))))
 
 abbrev pub decreases-loop-row : goal.decreases-loop-row
 decreases-loop-row l = l.used - l.row

@@ -13,7 +13,7 @@ use Rattle.page_rules.specs.Pages.{page-fine, page_found, no_more_pages}
 use Rattle.page_rules.proofs.nextless.Given as goal
 
 abbrev pub invariant-loop-row : goal.invariant-loop-row
-invariant-loop-row l = (l.row ≤ l.used) × ((rows : List Row) → Held l.grid l.words l.used rows → first_place (nextless rows) ≡ first_place (nextless (drop l.row rows)))
+invariant-loop-row l = (l.row ≤ l.used) × ((rows : List Row) → Held l.rows.table.grid l.rows.table.words.now l.rows.used rows → first_place (nextless rows) ≡ first_place (nextless (drop l.row rows)))
 
 abbrev pub decreases-loop-row : goal.decreases-loop-row
 decreases-loop-row l = l.used - l.row

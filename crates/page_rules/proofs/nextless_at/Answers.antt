@@ -6,16 +6,16 @@ use Rattle.page_rules.proofs.nextless_at.Goals as goal
 pub returns-then-kind-ne34 : goal.returns-then-kind-ne34
 returns-then-kind-ne34 c =
     let a = c.args in
-    no_page_there a.grid a.words.now a.used a.row c.requires c.word_in-kind.ensures c.if-kind-ne34.true
+    no_page_there a.rows.table.grid a.rows.table.words.now a.rows.used a.row c.requires c.word-kind.ensures c.if-kind-ne34.true
 
 pub returns-then-detail-ne0 : goal.returns-then-detail-ne0
 returns-then-detail-ne0 c =
     let a = c.args in
-    next_there a.grid a.words.now a.used a.row c.requires c.word_in-kind.ensures
-    c.if-kind-ne34.false c.next_of_page-next.ensures c.word_in-detail.ensures c.if-detail-ne0.true
+    next_there a.rows.table.grid a.rows.table.words.now a.rows.used a.row c.requires c.word-kind.ensures
+    c.if-kind-ne34.false c.next_of_page-next.ensures c.word-detail.ensures c.if-detail-ne0.true
 
 pub returns : goal.returns
 returns c =
     let a = c.args in
-    next_missing a.grid a.words.now a.used a.row c.requires c.word_in-kind.ensures
-    c.if-kind-ne34.false c.next_of_page-next.ensures c.word_in-detail.ensures c.if-detail-ne0.false c.word_in-first.ensures
+    next_missing a.rows.table.grid a.rows.table.words.now a.rows.used a.row c.requires c.word-kind.ensures
+    c.if-kind-ne34.false c.next_of_page-next.ensures c.word-detail.ensures c.if-detail-ne0.false c.word-first.ensures

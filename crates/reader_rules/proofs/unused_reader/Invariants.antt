@@ -8,7 +8,7 @@ use Rattle.reader_rules.specs.Readers.{LeftOf, all_left, none_left, reader-used,
 use Rattle.reader_rules.proofs.unused_reader.Given as goal
 
 abbrev pub invariant-loop-i : goal.invariant-loop-i
-invariant-loop-i l = (l.i ≤ l.readers) × (length l.file ≤ 16777216 → Standing l.file l.i l.at) × LeftOf l.file l.grid l.words l.used l.readers l.i
+invariant-loop-i l = (l.i ≤ l.readers) × (length l.file ≤ 16777216 → Standing l.file l.i l.at) × LeftOf l.file l.rows.table.grid l.rows.table.words.now l.rows.used l.readers l.i
 
 abbrev pub decreases-loop-i : goal.decreases-loop-i
 decreases-loop-i l = l.readers - l.i

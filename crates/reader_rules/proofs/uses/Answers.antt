@@ -18,14 +18,14 @@ loop-row-init c = (omega arith, λ rows d. refl)
 pub returns-then-names : goal.returns-then-names
 returns-then-names c =
     let a = c.args in
-    λ rows d. sym (c.loop-row.invariant.1 rows d ∙ uses-step a.grid a.words.now a.used c.loop-row.row a.id c.loop-row-test.true c.names.ensures rows d ∙ ap (λ b. b || uses a.id (drop (suc c.loop-row.row) rows)) c.if-names.true)
+    λ rows d. sym (c.loop-row.invariant.1 rows d ∙ uses-step a.rows.table.grid a.rows.table.words.now a.rows.used c.loop-row.row a.id c.loop-row-test.true c.names.ensures rows d ∙ ap (λ b. b || uses a.id (drop (suc c.loop-row.row) rows)) c.if-names.true)
 
 pub loop-row-preserved : goal.loop-row-preserved
 loop-row-preserved c =
     let a = c.args in
-    (search rules, λ rows d. rw add-one (c.loop-row.invariant.1 rows d ∙ uses-step a.grid a.words.now a.used c.loop-row.row a.id c.loop-row-test.true c.names.ensures rows d ∙ ap (λ b. b || uses a.id (drop (suc c.loop-row.row) rows)) c.if-names.false))
+    (search rules, λ rows d. rw add-one (c.loop-row.invariant.1 rows d ∙ uses-step a.rows.table.grid a.rows.table.words.now a.rows.used c.loop-row.row a.id c.loop-row-test.true c.names.ensures rows d ∙ ap (λ b. b || uses a.id (drop (suc c.loop-row.row) rows)) c.if-names.false))
 
 pub returns : goal.returns
 returns c =
     let a = c.args in
-    λ rows d. sym (c.loop-row.invariant.1 rows d ∙ no_more-rows a.grid a.words.now a.used c.loop-row.row a.id c.loop-row-test.false rows d)
+    λ rows d. sym (c.loop-row.invariant.1 rows d ∙ no_more-rows a.rows.table.grid a.rows.table.words.now a.rows.used c.loop-row.row a.id c.loop-row-test.false rows d)

@@ -13,7 +13,7 @@ use Rattle.reader_rules.specs.Readers.{uses-step, no_more-rows}
 use Rattle.reader_rules.proofs.uses.Given as goal
 
 abbrev pub invariant-loop-row : goal.invariant-loop-row
-invariant-loop-row l = (l.row ≤ l.used) × ((rows : List Row) → Held l.grid l.words l.used rows → uses l.id rows ≡ uses l.id (drop l.row rows))
+invariant-loop-row l = (l.row ≤ l.used) × ((rows : List Row) → Held l.rows.table.grid l.rows.table.words.now l.rows.used rows → uses l.id rows ≡ uses l.id (drop l.row rows))
 
 abbrev pub decreases-loop-row : goal.decreases-loop-row
 decreases-loop-row l = l.used - l.row
