@@ -1,4 +1,5 @@
 -- What the C entries tell, by what their calls answered. Assumes nothing.
+use Rattle.std.specs.Prelude.{Err, Ok, Result, ℤ}
 use mathlib.Core.Path.{◌≡◌, refl}
 use mathlib.Core.List.{List}
 use Prim.Native.Nat.{ℕ}
@@ -12,33 +13,30 @@ use Rattle.places.specs.Padding.{file_padding}
 use Rattle.reading.specs.File.{Load, refusal, accepted}
 use Rattle.reading.specs.Output as rewritten
 use Rattle.reading.specs.Output.{Rewritten}
-use Rattle.rewrite.specs.declared.Rewriting.TheVariants as rewriting
 use Rattle.rewrite.specs.Contract as rewrite
-use Rattle.load.specs.declared.Loading.TheVariants.{Refused, Loaded}
 use Rattle.load.specs.Loads.{answer_of}
 use Rattle.ticks.specs.declared.Time.{Time}
-use Rattle.lookups.specs.declared.Span.{Span}
-use Rattle.lookups.specs.declared.Span.TheVariants as span
-use Rattle.lookups.specs.declared.Integer.{Integer}
-use Rattle.lookups.specs.declared.Integer.TheVariants as integer
-use Rattle.lookups.specs.declared.Moment.{Moment}
-use Rattle.lookups.specs.declared.Moment.TheVariants as moment
 use Rattle.builder.specs.Packed.{code, packed, rewrite_packed}
 use Rattle.builder.specs.Told.{load_told, span_told, signed_told, time_told}
+use Rattle.load.specs.Loads.{loaded}
+use Rattle.answers.specs.Refusals.{refusal as refusal_at}
+use Rattle.answers.specs.declared.Refusal.{Refusal}
+use Rattle.lookups.specs.declared.Span.{Span}
+use Rattle.lookups.specs.Parts.{span}
 
 -- an answer that refuses is a refusal
-refusal_of : (file : List ℕ) (x : Load) {n p : ℕ} → Refused n p ≡ answer_of file x → x ≡ refusal n p
+refusal_of : (file : List ℕ) (x : Load) {n p : ℕ} → Err (refusal_at n p) ≡ answer_of file x → x ≡ refusal n p
 refusal_of file (refusal m q) {n} {p} e =
     let e₁ : m ≡ n = cc in
     let e₂ : q ≡ p = cc in
     rw (e₁, e₂)
 refusal_of file (accepted rows readers shared) e = differ cc
 
-pub load_refused : (file : List ℕ) (x : Load) {n p c : ℕ} → Refused n p ≡ answer_of file x → c ≡ code n p → ◌≡◌ {A = ℕ × ℕ × ℕ × ℕ} (c, 0, 0, 0) (load_told file x)
+pub load_refused : (file : List ℕ) (x : Load) {n p c : ℕ} → Err (refusal_at n p) ≡ answer_of file x → c ≡ code n p → ◌≡◌ {A = ℕ × ℕ × ℕ × ℕ} (c, 0, 0, 0) (load_told file x)
 unfolding load_told packed
 load_refused file x e q = rw (refusal_of file x e, q)
 
-pub load_accepted : (file : List ℕ) (x : Load) {n r s p : ℕ} → Loaded n r s p ≡ answer_of file x → ◌≡◌ {A = ℕ × ℕ × ℕ × ℕ} (n, r, s, p) (load_told file x)
+pub load_accepted : (file : List ℕ) (x : Load) {n r s p : ℕ} → Ok (loaded n r s p) ≡ answer_of file x → ◌≡◌ {A = ℕ × ℕ × ℕ × ℕ} (n, r, s, p) (load_told file x)
 unfolding load_told packed
 load_accepted file (refusal m q) e = differ cc
 load_accepted file (accepted rows readers shared) {n} {r} {s} {p} e =
@@ -49,18 +47,18 @@ load_accepted file (accepted rows readers shared) {n} {r} {s} {p} e =
     rw (e₄, e₁, e₂, e₃)
 
 -- the same of a rewrite
-rewritten_of : (x : Rewritten) {n p : ℕ} → rewriting.Refused n p ≡ rewrite.answer_of x → x ≡ rewritten.refusal n p
+rewritten_of : (x : Rewritten) {n p : ℕ} → Err (refusal_at n p) ≡ rewrite.answer_of x → x ≡ rewritten.refusal n p
 rewritten_of (rewritten.refusal m q) {n} {p} e =
     let e₁ : m ≡ n = cc in
     let e₂ : q ≡ p = cc in
     rw (e₁, e₂)
 rewritten_of (rewritten.written bytes) e = differ cc
 
-pub rewrite_refused : (x : Rewritten) {n p c : ℕ} → rewriting.Refused n p ≡ rewrite.answer_of x → c ≡ code n p → c ≡ rewrite_packed x
+pub rewrite_refused : (x : Rewritten) {n p c : ℕ} → Err (refusal_at n p) ≡ rewrite.answer_of x → c ≡ code n p → c ≡ rewrite_packed x
 unfolding rewrite_packed
 rewrite_refused x e q = rw (rewritten_of x e, q)
 
-pub rewrite_length : (x : Rewritten) {n : ℕ} → rewriting.Rewritten n ≡ rewrite.answer_of x → n ≡ rewrite_packed x
+pub rewrite_length : (x : Rewritten) {n : ℕ} → Ok n ≡ rewrite.answer_of x → n ≡ rewrite_packed x
 unfolding rewrite_packed
 rewrite_length (rewritten.refusal m q) e = differ cc
 rewrite_length (rewritten.written bytes) {n} e = let q : n ≡ length bytes = cc in q
@@ -71,26 +69,26 @@ unfolding load_told
 load_packed file (refusal number place) = refl
 load_packed file (accepted rows readers shared) = refl
 
-pub span-refused : {x : Span} {n r : ℕ} → x ≡ span.Refused n r → ◌≡◌ {A = ℕ × ℕ × ℕ} (n, 0, 0) (span_told x)
+pub span-refused : {x : Result Span Refusal} {n r : ℕ} → x ≡ Err (refusal_at n r) → ◌≡◌ {A = ℕ × ℕ × ℕ} (n, 0, 0) (span_told x)
 unfolding span_told
 span-refused e = rw e
 
-pub span_found : {x : Span} {first size : ℕ} → x ≡ span.Found first size → ◌≡◌ {A = ℕ × ℕ × ℕ} (0, first, size) (span_told x)
+pub span_found : {x : Result Span Refusal} {first size : ℕ} → x ≡ Ok (span first size) → ◌≡◌ {A = ℕ × ℕ × ℕ} (0, first, size) (span_told x)
 unfolding span_told
 span_found e = rw e
 
-pub signed_refused : {x : Integer} {n r : ℕ} → x ≡ integer.Refused n r → ◌≡◌ {A = ℕ × ℤ} (n, pos 0) (signed_told x)
+pub signed_refused : {x : Result ℤ Refusal} {n r : ℕ} → x ≡ Err (refusal_at n r) → ◌≡◌ {A = ℕ × ℤ} (n, pos 0) (signed_told x)
 unfolding signed_told
 signed_refused e = rw e
 
-pub signed_number : {x : Integer} {z : ℤ} → x ≡ integer.Number z → SFits w64 z → ◌≡◌ {A = ℕ × ℤ} (0, to_z w64 (of_z w64 z)) (signed_told x)
+pub signed_number : {x : Result ℤ Refusal} {z : ℤ} → x ≡ Ok z → SFits w64 z → ◌≡◌ {A = ℕ × ℤ} (0, to_z w64 (of_z w64 z)) (signed_told x)
 unfolding signed_told
 signed_number e f = rw (to_z-of_z {w = w64} f, e)
 
-pub time-refused : {x : Moment} {n r : ℕ} → x ≡ moment.Refused n r → ◌≡◌ {A = ℕ × ℤ × ℕ} (n, pos 0, 0) (time_told x)
+pub time-refused : {x : Result Time Refusal} {n r : ℕ} → x ≡ Err (refusal_at n r) → ◌≡◌ {A = ℕ × ℤ × ℕ} (n, pos 0, 0) (time_told x)
 unfolding time_told
 time-refused e = rw e
 
-pub time_at : {x : Moment} {t : Time} → x ≡ moment.At t → SFits w64 t.seconds → ◌≡◌ {A = ℕ × ℤ × ℕ} (0, to_z w64 (of_z w64 t.seconds), t.ticks) (time_told x)
+pub time_at : {x : Result Time Refusal} {t : Time} → x ≡ Ok t → SFits w64 t.seconds → ◌≡◌ {A = ℕ × ℤ × ℕ} (0, to_z w64 (of_z w64 t.seconds), t.ticks) (time_told x)
 unfolding time_told
 time_at e f = rw (to_z-of_z {w = w64} f, e)

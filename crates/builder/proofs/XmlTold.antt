@@ -1,17 +1,17 @@
 -- The answers of the entries over XML, by their cases. Assumes nothing.
+use Rattle.std.specs.Prelude.{Err, Ok}
 use mathlib.Core.Path.{◌≡◌}
 use Prim.Native.Nat.{ℕ}
 use lib.ListN.{length}
 use Rattle.laws.specs.Small.{differ}
 use Rattle.reading.specs.Output.{Rewritten, refusal, written}
-use Rattle.xml_export.specs.declared.Exporting.TheVariants as exporting
 use Rattle.xml_export.specs.Contract as export
-use Rattle.xml_import.specs.declared.Importing.TheVariants as importing
 use Rattle.xml_import.specs.Puts as import
 use Rattle.builder.specs.Packed.{code, rewrite_packed}
 use Rattle.pack_told.specs.Told.{written_told}
+use Rattle.answers.specs.Refusals.{refusal as refusal_at}
 
-pub not_exported : (x : Rewritten) {number place c : ℕ} → exporting.Refused number place ≡ export.answer_of x → c ≡ code number place → c ≡ rewrite_packed x
+pub not_exported : (x : Rewritten) {number place c : ℕ} → Err (refusal_at number place) ≡ export.answer_of x → c ≡ code number place → c ≡ rewrite_packed x
 unfolding rewrite_packed
 not_exported (refusal n p) {number} {place} e q =
     let a : n ≡ number = cc in
@@ -19,12 +19,12 @@ not_exported (refusal n p) {number} {place} e q =
     rw (a, b) q
 not_exported (written bytes) e q = differ cc
 
-pub all_exported : (x : Rewritten) {size : ℕ} → exporting.Exported size ≡ export.answer_of x → size ≡ rewrite_packed x
+pub all_exported : (x : Rewritten) {size : ℕ} → Ok size ≡ export.answer_of x → size ≡ rewrite_packed x
 unfolding rewrite_packed
 all_exported (refusal n p) e = differ cc
 all_exported (written bytes) {size} e = let a : size ≡ length bytes = cc in a
 
-pub not_imported : (x : Rewritten) {number place : ℕ} → importing.Refused number place ≡ import.answer_of x → ◌≡◌ {A = ℕ × ℕ} (number, place) (written_told x)
+pub not_imported : (x : Rewritten) {number place : ℕ} → Err (refusal_at number place) ≡ import.answer_of x → ◌≡◌ {A = ℕ × ℕ} (number, place) (written_told x)
 unfolding written_told
 not_imported (refusal n p) {number} {place} e =
     let a : number ≡ n = cc in
@@ -32,7 +32,7 @@ not_imported (refusal n p) {number} {place} e =
     rw (a, b)
 not_imported (written bytes) e = differ cc
 
-pub all_imported : (x : Rewritten) {size : ℕ} → importing.Imported size ≡ import.answer_of x → ◌≡◌ {A = ℕ × ℕ} (0, size) (written_told x)
+pub all_imported : (x : Rewritten) {size : ℕ} → Ok size ≡ import.answer_of x → ◌≡◌ {A = ℕ × ℕ} (0, size) (written_told x)
 unfolding written_told
 all_imported (refusal n p) e = differ cc
 all_imported (written bytes) {size} e = let a : size ≡ length bytes = cc in rw a

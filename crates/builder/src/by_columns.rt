@@ -11,6 +11,7 @@ ghost use Rattle.lookups.specs.Times.{columns_time};
 ghost use Rattle.builder.specs.Told.{load_told, span_told, signed_told, time_told};
 
 use ids::RowNumber;
+use table::Table;
 
 // Loads a file into the words in columns, under a list of enum types.
 pub fn xnb_load_columns(
@@ -33,7 +34,7 @@ pub fn xnb_load_columns(
 pub fn xnb_columns_next(words: &[u32], row: u32) -> u32
     ensures { result ≡ columns_next words.now row }
 {
-    branches::next_of(words, table::columns_grid(words.len()), RowNumber(row))
+    branches::next(Table::in_columns(words), RowNumber(row))
 }
 
 // The part of the file that a row names.
@@ -46,9 +47,8 @@ pub fn xnb_columns_part(
 ) -> u32
     ensures { (result, first.new, len.new) ≡ span_told (columns_part file.now words.now row) }
 {
-    let grid = table::columns_grid(words.len());
     crate::tell_span(
-        lookups::part_of(file, words, grid, RowNumber(row)),
+        lookups::part(file, Table::in_columns(words), RowNumber(row)),
         first,
         len,
     )
@@ -64,9 +64,8 @@ pub fn xnb_columns_text(
 ) -> u32
     ensures { (result, first.new, len.new) ≡ span_told (columns_text file.now words.now row) }
 {
-    let grid = table::columns_grid(words.len());
     crate::tell_span(
-        lookups::text_of(file, words, grid, RowNumber(row)),
+        lookups::text(file, Table::in_columns(words), RowNumber(row)),
         first,
         len,
     )
@@ -76,8 +75,7 @@ pub fn xnb_columns_text(
 pub fn xnb_columns_signed(file: &[u8], words: &[u32], row: u32, value: &mut i64) -> u32
     ensures { (result, value.new) ≡ signed_told (columns_signed file.now words.now row) }
 {
-    let grid = table::columns_grid(words.len());
-    crate::tell_signed(lookups::signed_of(file, words, grid, RowNumber(row)), value)
+    crate::tell_signed(lookups::signed(file, Table::in_columns(words), RowNumber(row)), value)
 }
 
 // The time of a row in seconds and ticks.
@@ -90,9 +88,8 @@ pub fn xnb_columns_time(
 ) -> u32
     ensures { (result, seconds.new, ticks.new) ≡ time_told (columns_time file.now words.now row) }
 {
-    let grid = table::columns_grid(words.len());
     crate::tell_time(
-        lookups::time_of(file, words, grid, RowNumber(row)),
+        lookups::time(file, Table::in_columns(words), RowNumber(row)),
         seconds,
         ticks,
     )

@@ -25,15 +25,17 @@ ghost use Rattle.builder.specs.Packed.{code, packed, rewrite_packed};
 ghost use Rattle.builder.specs.Told.{load_told, span_told, signed_told, time_told};
 
 use ids::RowNumber;
+use answers::Refusal;
 use load::Loading;
-use lookups::{Integer, Moment, Span};
-use rewrite::Rewriting;
+use lookups::Span;
+use table::Table;
+use ticks::Time;
 
 // A refusal's number and place as one number; of a place that 32 bits do not hold, the remainder.
-fn refused(number: u32, place: usize) -> u64
-    ensures { result ≡ code number place }
+fn packed(refusal: Refusal) -> u64
+    ensures { result ≡ code refusal.number refusal.place }
 {
-    number as u64 * 4294967296 + (place % 4294967296) as u64
+    refusal.number as u64 * 4294967296 + (refusal.place % 4294967296) as u64
 }
 
 // Loads a file with room for 1,024 rows and no enum types listed: the refusal's number times 2 to the 32 plus its place, or the number of rows.
@@ -58,22 +60,17 @@ pub(crate) fn tell_load(
         → (result, readers.new, shared.new, padding.new) ≡ load_told file x }
 {
     match loading {
-        Loading::Refused(number, place) => {
+        Err(refusal) => {
             *readers = 0;
             *shared = 0;
             *padding = 0;
-            refused(number, place)
+            packed(refusal)
         }
-        Loading::Loaded {
-            rows,
-            readers: readers_count,
-            shared: shared_count,
-            padding: total,
-        } => {
-            *readers = readers_count;
-            *shared = shared_count;
-            *padding = total;
-            rows as u64
+        Ok(loaded) => {
+            *readers = loaded.readers;
+            *shared = loaded.shared;
+            *padding = loaded.padding;
+            loaded.rows as u64
         }
     }
 }
@@ -121,24 +118,24 @@ pub fn xnb_rewrite(file: &[u8], enums: &[u8], words: &mut [u32], out: &mut [u8])
     ensures words_after { words.new ≡ words_left enums.now file.now words.old out.old }
 {
     match rewrite::rewrite(file, enums, words, out) {
-        Rewriting::Refused(number, place) => refused(number, place),
-        Rewriting::Rewritten { length } => length as u64,
+        Err(refusal) => packed(refusal),
+        Ok(length) => length as u64,
     }
 }
 
 // Writes a span's first byte and length, 0 on a refusal: the answer is the refusal's number, or 0.
-pub(crate) fn tell_span(span: Span, first: &mut usize, len: &mut usize) -> u32
-    ensures { (result, first.new, len.new) ≡ span_told span }
+pub(crate) fn tell_span(looked: Result<Span, Refusal>, first: &mut usize, len: &mut usize) -> u32
+    ensures { (result, first.new, len.new) ≡ span_told looked }
 {
-    match span {
-        Span::Refused(number, _) => {
+    match looked {
+        Err(refusal) => {
             *first = 0;
             *len = 0;
-            number
+            refusal.number
         }
-        Span::Found(start, size) => {
-            *first = start;
-            *len = size;
+        Ok(span) => {
+            *first = span.first;
+            *len = span.length;
             0
         }
     }
@@ -148,33 +145,33 @@ pub(crate) fn tell_span(span: Span, first: &mut usize, len: &mut usize) -> u32
 pub fn xnb_part(file: &[u8], words: &[u32], row: u32, first: &mut usize, len: &mut usize) -> u32
     ensures { (result, first.new, len.new) ≡ span_told (rows_part file.now words.now row) }
 {
-    tell_span(lookups::part(file, words, RowNumber(row)), first, len)
+    tell_span(lookups::part(file, Table::by_rows(words), RowNumber(row)), first, len)
 }
 
 // The number of the row behind a row and all below it, 0 where there is none in the room.
 pub fn xnb_next(words: &[u32], row: u32) -> u32
     ensures { result ≡ rows_next words.now row }
 {
-    branches::next(words, RowNumber(row))
+    branches::next(Table::by_rows(words), RowNumber(row))
 }
 
 // The bytes of a text.
 pub fn xnb_text(file: &[u8], words: &[u32], row: u32, first: &mut usize, len: &mut usize) -> u32
     ensures { (result, first.new, len.new) ≡ span_told (rows_text file.now words.now row) }
 {
-    tell_span(lookups::text(file, words, RowNumber(row)), first, len)
+    tell_span(lookups::text(file, Table::by_rows(words), RowNumber(row)), first, len)
 }
 
 // A signed number, 0 on a refusal: the answer is the refusal's number, or 0.
-pub(crate) fn tell_signed(looked: Integer, value: &mut i64) -> u32
+pub(crate) fn tell_signed(looked: Result<i64, Refusal>, value: &mut i64) -> u32
     ensures { (result, value.new) ≡ signed_told looked }
 {
     match looked {
-        Integer::Refused(number, _) => {
+        Err(refusal) => {
             *value = 0;
-            number
+            refusal.number
         }
-        Integer::Number(found) => {
+        Ok(found) => {
             *value = found;
             0
         }
@@ -182,20 +179,18 @@ pub(crate) fn tell_signed(looked: Integer, value: &mut i64) -> u32
 }
 
 // A time in seconds and ticks, 0 on a refusal: the answer is the refusal's number, or 0.
-pub(crate) fn tell_time(looked: Moment, seconds: &mut i64, ticks: &mut u32) -> u32
+pub(crate) fn tell_time(looked: Result<Time, Refusal>, seconds: &mut i64, ticks: &mut u32) -> u32
     ensures { (result, seconds.new, ticks.new) ≡ time_told looked }
 {
     match looked {
-        Moment::Refused(number, _) => {
+        Err(refusal) => {
             *seconds = 0;
             *ticks = 0;
-            number
+            refusal.number
         }
-        Moment::At(time) => {
-            let whole = time.seconds;
-            let rest = time.ticks;
-            *seconds = whole;
-            *ticks = rest;
+        Ok(time) => {
+            *seconds = time.seconds;
+            *ticks = time.ticks;
             0
         }
     }
@@ -205,12 +200,12 @@ pub(crate) fn tell_time(looked: Moment, seconds: &mut i64, ticks: &mut u32) -> u
 pub fn xnb_signed(file: &[u8], words: &[u32], row: u32, value: &mut i64) -> u32
     ensures { (result, value.new) ≡ signed_told (rows_signed file.now words.now row) }
 {
-    tell_signed(lookups::signed(file, words, RowNumber(row)), value)
+    tell_signed(lookups::signed(file, Table::by_rows(words), RowNumber(row)), value)
 }
 
 // The time of a row in seconds and ticks.
 pub fn xnb_time(file: &[u8], words: &[u32], row: u32, seconds: &mut i64, ticks: &mut u32) -> u32
     ensures { (result, seconds.new, ticks.new) ≡ time_told (rows_time file.now words.now row) }
 {
-    tell_time(lookups::time(file, words, RowNumber(row)), seconds, ticks)
+    tell_time(lookups::time(file, Table::by_rows(words), RowNumber(row)), seconds, ticks)
 }

@@ -4,8 +4,6 @@ ghost use Rattle.pack_figures.specs.Report.{sum_of, left, table_left};
 ghost use Rattle.pack_report.specs.Add.{add_under};
 ghost use Rattle.builder.specs.Reports.{add_told, sum_told};
 
-use pack_report::Adding;
-
 // Adds a pack to a report under a list of enum types, and writes a refusal's place, or 0.
 pub fn xnb_report_add(
     pack: &[u8],
@@ -26,11 +24,11 @@ pub fn xnb_report_add(
     ensures words_after { words.new ≡ replicate (length words.old) 0 }
 {
     match pack_report::add(pack, enums, table, words, report) {
-        Adding::Refused(number, place) => {
-            *at = place as u64;
-            number
+        Err(refusal) => {
+            *at = refusal.place as u64;
+            refusal.number
         }
-        Adding::Added => {
+        Ok(()) => {
             *at = 0;
             0
         }

@@ -6,9 +6,6 @@ ghost use Rattle.xml_export.specs.Under.{exported, output_left, words_left};
 ghost use Rattle.builder.specs.Packed.{rewrite_packed};
 ghost use Rattle.pack_told.specs.Told.{written_told};
 
-use xml_export::Exporting;
-use xml_import::Importing;
-
 // Writes the texts of a file as XML into the output, under a list of enum types: a refusal is packed, else the answer is the length of the XML.
 pub fn xnb_export_xml(file: &[u8], enums: &[u8], words: &mut [u32], out: &mut [u8]) -> u64
     ensures value { result ≡ rewrite_packed (exported enums.now file.now words.old out.old) }
@@ -16,8 +13,8 @@ pub fn xnb_export_xml(file: &[u8], enums: &[u8], words: &mut [u32], out: &mut [u
     ensures words_after { words.new ≡ words_left enums.now file.now words.old out.old }
 {
     match xml_export::export(file, enums, words, out) {
-        Exporting::Refused(number, place) => crate::refused(number, place),
-        Exporting::Exported { length: size } => size as u64,
+        Err(refusal) => crate::packed(refusal),
+        Ok(size) => size as u64,
     }
 }
 
@@ -27,11 +24,11 @@ pub fn xnb_import_xml(xml: &[u8], out: &mut [u8], at: &mut u64) -> u32
     ensures out_after { out.new ≡ output_of (import_of xml.now (length out.old)) out.old }
 {
     match xml_import::import(xml, out) {
-        Importing::Refused(number, place) => {
-            *at = place as u64;
-            number
+        Err(refusal) => {
+            *at = refusal.place as u64;
+            refusal.number
         }
-        Importing::Imported { length: size } => {
+        Ok(size) => {
             *at = size as u64;
             0
         }

@@ -1,4 +1,5 @@
 -- From the contracts of the entries to what is demanded of them. Assumes nothing.
+use Rattle.std.specs.Prelude.{Err, Ok, Result}
 use mathlib.Core.Path.{◌≡◌, refl, sym, ap, ◌∙◌}
 use mathlib.Core.Bool.{Bool, true, false}
 use mathlib.Core.List.{List, ◌++◌}
@@ -25,8 +26,6 @@ use Rattle.shortest.specs.Rewrite.{words_of}
 use Rattle.load.specs.Under.{load_under}
 use Rattle.rewrite.specs.Whole.{rewrite_under}
 use Rattle.rewrite.specs.Contract as contract
-use Rattle.rewrite.specs.declared.Rewriting.{Rewriting}
-use Rattle.rewrite.specs.declared.Rewriting.TheVariants as rewriting
 use Rattle.builder.specs.Packed.{code, packed, rewrite_packed}
 use Rattle.builder.specs.Places.{load_exactly, rewrite_exactly}
 use Rattle.builder.specs.Told.{load_told}
@@ -36,6 +35,7 @@ use Rattle.theorems.specs.Fitted.{rows_are, rows_room, padding_is, least}
 use Rattle.theorems.specs.Laws.{Ends, fits, refuses, bad_list, ends, table_in_lem, cleared_in, handed_on, rewrite_exact}
 use Rattle.entry_theorems.specs.Told.{ListTold, TellsLoad, Fills, TellsRewrite}
 use Rattle.entry_theorems.specs.Refusals.{TellsRefusal, TellsRewriteRefusal}
+use Rattle.answers.specs.declared.Refusal.{Refusal}
 
 -- a load's numbers are from 1 on, and none is 32
 some_number : {number : ℕ} → LoadNumber number → (1 ≤ number) × (number ≡ 32 → ⊥)
@@ -124,9 +124,9 @@ module _ (enums file : List ℕ) (words : ℕ) (columns : Bool) (bytes : Bytes e
 -- ---- Rewriting
 
 -- the one number of a rewrite's answer
-abbrev tells : Rewriting → ℕ
-tells (rewriting.Refused number place) = code number place
-tells (rewriting.Rewritten n) = n
+abbrev tells : Result ℕ Refusal → ℕ
+tells (Err e) = code e.number e.place
+tells (Ok n) = n
 
 tells-packed : (x : rewritten.Rewritten) → rewrite_packed x ≡ tells (contract.answer_of x)
 unfolding rewrite_packed
@@ -137,7 +137,7 @@ module _ (enums file : List ℕ) (words : ℕ) (out : List ℕ) (bytes : Bytes e
     (answers : r ≡ rewrite_packed (rewrite_under enums file words (length out)))
     (writes : end ≡ output_of (rewrite_under enums file words (length out)) out)
     (leaves : left ≡ words_of (rewrite_under enums file words (length out)) (table_of (load_under enums file words) words)) where
-  abbrev answer : Rewriting
+  abbrev answer : Result ℕ Refusal
   answer = contract.answer_of (rewrite_under enums file words (length out))
 
   exact : Rewrites enums file words left out end answer

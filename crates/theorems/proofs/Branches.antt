@@ -1,4 +1,5 @@
 -- A file that is loaded, and a row that is skipped with all below it. Assumes nothing.
+use Rattle.std.specs.Prelude.{Ok}
 use mathlib.Core.Path.{◌≡◌, ◌∙◌}
 use mathlib.Core.Bool.{true}
 use mathlib.Core.List.{List}
@@ -10,13 +11,13 @@ use borrow.Author.Tests.{lt-ltb, le-leb}
 use Rattle.layout.specs.Table.{room_of, by_rows, cell}
 use Rattle.branches.specs.Rule.{branch_ends}
 use Rattle.branches.specs.Next.{branch_in, next_of, rows_next}
-use Rattle.load.specs.declared.Loading.{Loading}
-use Rattle.load.specs.declared.Loading.TheVariants.{Loaded}
+use Rattle.load.specs.Loads.{Loading}
 use Rattle.layout.specs.Fits.{rows_in}
 use Rattle.theorems.specs.Loading.{Loads}
 use Rattle.theorems.specs.Fitted.{rows_room}
+use Rattle.load.specs.Loads.{loaded}
 
-module _ {enums file : List ℕ} {words : ℕ} {left : List ℕ} {l : Loading} (x : Loads by_rows enums file words left l) {used readers shared padding : ℕ} (e : l ≡ Loaded used readers shared padding) where
+module _ {enums file : List ℕ} {words : ℕ} {left : List ℕ} {l : Loading} (x : Loads by_rows enums file words left l) {used readers shared padding : ℕ} (e : l ≡ Ok (loaded used readers shared padding)) where
   used_room : used ≤ room_of words
   used_room =
       let f = x.accepts.0 (rw e tt) in

@@ -1,4 +1,5 @@
 -- From the contracts over packs to what is demanded of loading a file of one, and of finding it in the table that reading left. Assumes nothing.
+use Rattle.std.specs.Prelude.{None, Option}
 use mathlib.Core.Path.{◌≡◌, refl, sym, ap, ◌∙◌}
 use mathlib.Core.Bool.{Bool, true, false, cond}
 use mathlib.Core.List.{List, [], ◌∷◌, ◌++◌}
@@ -20,14 +21,12 @@ use Rattle.pack_reading.specs.Lookup as lookup
 use Rattle.pack_reading.specs.Lookup.{wanted, Found, absent, found, find_in, find_of, first_exactly}
 use Rattle.pack_reading.proofs.Lookup.{absent_exactly, looks_up}
 use Rattle.pack_lookup.specs.declared.Found as code
-use Rattle.pack_lookup.specs.declared.Found.TheVariants.{Absent}
 use Rattle.pack_lookup.specs.Lookup.{found_as, data_inside}
-use Rattle.pack_load.specs.declared.Opened.{Opened}
-use Rattle.pack_load.specs.declared.Opened.TheVariants as opened
 use Rattle.pack_load.specs.Opened.{loaded_as, opening, opened_of, leaving, rows_of}
 use Rattle.theorems.specs.Packs.{opened_as, Opens, NotNamed, FirstNamed, Gives}
 use Rattle.theorems.specs.PackLaws.{as_absent, as_found}
 use Rattle.theorems.specs.Laws.{load_exact}
+use Rattle.load.specs.Loads.{Loading}
 
 -- ---- Loading a file
 
@@ -38,15 +37,15 @@ loaded_as_lem : (bytes : List ℕ) (x : reading.Load) → loaded_as bytes x ≡ 
 loaded_as_lem bytes (reading.refusal number place) = refl
 loaded_as_lem bytes (reading.accepted rows readers shared) = refl
 
-not_absent : (bytes : List ℕ) (x : reading.Load) → loaded_as bytes x ≡ opened.Absent → ⊥
+not_absent : (bytes : List ℕ) (x : reading.Load) → loaded_as bytes x ≡ None → ⊥
 not_absent bytes (reading.refusal number place) q = differ cc
 not_absent bytes (reading.accepted rows readers shared) q = differ cc
 
-is_absent : (enums pack : List ℕ) (words : ℕ) (x : Found) → opening enums pack words x ≡ opened.Absent → x ≡ absent
+is_absent : (enums pack : List ℕ) (words : ℕ) (x : Found) → opening enums pack words x ≡ None → x ≡ absent
 is_absent enums pack words absent q = refl
 is_absent enums pack words (found a n) q = absurd (not_absent (take n (drop a pack)) (load_under enums (take n (drop a pack)) words) q)
 
-pub open_exact : (enums pack table path : List ℕ) (words : ℕ) {left : List ℕ} {r : Opened} → Bytes enums → Small pack → r ≡ opened_of enums pack table path words
+pub open_exact : (enums pack table path : List ℕ) (words : ℕ) {left : List ℕ} {r : Option Loading} → Bytes enums → Small pack → r ≡ opened_of enums pack table path words
     → left ≡ rows_of enums pack table path words → Opens enums pack table path words left r
 unfolding find_of
 open_exact enums pack table path words bytes small answers leaves =

@@ -1,5 +1,5 @@
 -- From the contracts of `load` and `rewrite` to what is demanded of them. Assumes nothing.
-use Rattle.std.specs.Prelude.{◌≡◌, refl, Bool, List, ◌++◌, ◌⊎◌, ℕ, suc, ◌+◌, ◌*◌, ◌-◌, ◌<◌, ◌≤◌, take, drop, replicate}
+use Rattle.std.specs.Prelude.{◌≡◌, refl, Bool, List, ◌++◌, ◌⊎◌, ℕ, suc, ◌+◌, ◌*◌, ◌-◌, ◌<◌, ◌≤◌, take, drop, replicate, Err, Ok, Result}
 use Rattle.std.proofs.Common.{ap, ◌∙◌, inl, inr, arith, length-append}
 use Rattle.std.proofs.Math.Bool.{true, false}
 use Rattle.std.proofs.Math.Dec.{leb}
@@ -35,15 +35,15 @@ use Rattle.reading.proofs.Theorems as T
 use Rattle.reading.specs.Output as output
 use Rattle.reading.specs.Output.{fitted, output_of}
 use Rattle.shortest.specs.Rewrite.{by_load, words_of}
-use Rattle.load.specs.declared.Loading.{Loading}
-use Rattle.load.specs.declared.Loading.TheVariants.{Refused, Loaded}
+use Rattle.load.specs.Loads.{Loading}
 use Rattle.load.specs.Loads.{answer_of}
-use Rattle.rewrite.specs.declared.Rewriting.{Rewriting}
-use Rattle.rewrite.specs.declared.Rewriting.TheVariants as rewriting
 use Rattle.rewrite.specs.Contract as contract
 use Rattle.theorems.specs.Loading.{IsLoaded, Loads}
 use Rattle.theorems.specs.Rewriting.{Written, Rewrites, LoadsAgain, RewritesTwice}
 use Rattle.readers.specs.Judged.{judged_name, judges, within-name}
+use Rattle.load.specs.Loads.{loaded}
+use Rattle.answers.specs.Refusals.{refusal as refusal_at}
+use Rattle.answers.specs.declared.Refusal.{Refusal}
 
 -- the range of a refusal under a lawful list
 abbrev Placed : (file : List ℕ) (number place : ℕ) → Type 0
@@ -107,7 +107,7 @@ table-roots {enums} {file} {words} f columns {left} e = file_roots f.es (shape_o
 
 -- what a load answers where a file tree fits
 pub loads : {enums file : List ℕ} {words : ℕ} (f : Fitting enums file words)
-    → answer_of file (load_under enums file words) ≡ Loaded (length (rows_in f.fits)) (length f.fits.tree.names) (count (shared_of f.fits.tree.objects)) (length file - length (short_file f.fits.tree))
+    → answer_of file (load_under enums file words) ≡ Ok (loaded (length (rows_in f.fits)) (length f.fits.tree.names) (count (shared_of f.fits.tree.objects)) (length file - length (short_file f.fits.tree)))
 loads {enums} {file} {words} f =
     let p : file_padding file (length f.fits.tree.names) (rows_in f.fits) ≡ length file - length (short_file f.fits.tree) = omega (arith, padding_is f) in
     rw (rows_are f, p)
@@ -116,11 +116,11 @@ module _ (enums file : List ℕ) (words : ℕ) (columns : Bool) {left : List ℕ
     (answers : r ≡ answer_of file (load_under enums file words))
     (leaves : left ≡ table_in (shape_of columns) (load_under enums file words) words) where
   loaded : (f : Fitting enums file words)
-      → (r ≡ Loaded (length (rows_in f.fits)) (length f.fits.tree.names) (count (shared_of f.fits.tree.objects)) (length file - length (short_file f.fits.tree))) × (left ≡ table (shape_of columns) (rows_in f.fits) words)
+      → (r ≡ Ok (loaded (length (rows_in f.fits)) (length f.fits.tree.names) (count (shared_of f.fits.tree.objects)) (length file - length (short_file f.fits.tree)))) × (left ≡ table (shape_of columns) (rows_in f.fits) words)
   loaded f =
       (answers ∙ loads f, leaves ∙ table_in_lem f columns)
 
-  refused_is : {m q : ℕ} → load_under enums file words ≡ refusal m q → r ≡ Refused m q
+  refused_is : {m q : ℕ} → load_under enums file words ≡ refusal m q → r ≡ Err (refusal_at m q)
   refused_is e = answers ∙ ap (answer_of file) e
 
   only : Ends enums file words → IsLoaded r → Fitting enums file words
@@ -129,45 +129,45 @@ module _ (enums file : List ℕ) (words : ℕ) (columns : Bool) {left : List ℕ
   only (bad_list i b n e) a = absurd (rw (refused_is e) at a)
 
   refused_as : Ends enums file words → (Fitting enums file words → ⊥)
-      → (number : ℕ) × (place : ℕ) × (r ≡ Refused number place) × (left ≡ replicate words 0)
+      → (number : ℕ) × (place : ℕ) × (r ≡ Err (refusal_at number place)) × (left ≡ replicate words 0)
   refused_as (fits f) none = absurd (none f)
   refused_as (refuses es l b m q e i) none = (m, q, refused_is e, leaves ∙ cleared_in enums file words m q e columns)
   refused_as (bad_list i b n e) none = (32, i, refused_is e, leaves ∙ cleared_in enums file words 32 i e columns)
 
-  list_first : Ends enums file words → Unlawful enums → (place : ℕ) × (r ≡ Refused 32 place) × FirstBad enums place
+  list_first : Ends enums file words → Unlawful enums → (place : ℕ) × (r ≡ Err (refusal_at 32 place)) × FirstBad enums place
   list_first (fits f) none = absurd (none f.es f.lawful f.listed)
   list_first (refuses es l b m q e i) none = absurd (none es l b)
   list_first (bad_list i b n e) none = (i, refused_is e, b)
 
-  placed : Ends enums file words → (es : List EnumEntry) → Enums es → enums ≡ write_enums es → (number place : ℕ) → r ≡ Refused number place → Placed file number place
+  placed : Ends enums file words → (es : List EnumEntry) → Enums es → enums ≡ write_enums es → (number place : ℕ) → r ≡ Err (refusal_at number place) → Placed file number place
   placed (fits f) es w b number place e =
       let l = (loaded f).0 in
       differ cc
   placed (refuses fs v c m q g i) es w b number place e =
-      let h : r ≡ Refused m q = refused_is g in
+      let h : r ≡ Err (refusal_at m q) = refused_is g in
       let e₁ : number ≡ m = cc in
       let e₂ : place ≡ q = cc in
       rw (e₁, e₂) i
   placed (bad_list i bad none g) es w b number place e = absurd (none es w b)
 
-  skipped : Ends enums file words → (used readers shared padding : ℕ) → r ≡ Loaded used readers shared padding → TableSkips (shape_of columns) (room_of words) left used
+  skipped : Ends enums file words → (used readers shared padding : ℕ) → r ≡ Ok (loaded used readers shared padding) → TableSkips (shape_of columns) (room_of words) left used
   skipped (refuses es l b m q g i) used readers shared padding e =
-      let h : r ≡ Refused m q = refused_is g in
+      let h : r ≡ Err (refusal_at m q) = refused_is g in
       differ cc
   skipped (bad_list i b n g) used readers shared padding e =
-      let h : r ≡ Refused 32 i = refused_is g in
+      let h : r ≡ Err (refusal_at 32 i) = refused_is g in
       differ cc
   skipped (fits f) used readers shared padding e =
       let l = loaded f in
       let k : length (rows_in f.fits) ≡ used = cc in
       rw k at (table-skips f columns l.1)
 
-  rooted : Ends enums file words → (used readers shared padding : ℕ) → r ≡ Loaded used readers shared padding → TableRoots (shape_of columns) (room_of words) left used (suc shared)
+  rooted : Ends enums file words → (used readers shared padding : ℕ) → r ≡ Ok (loaded used readers shared padding) → TableRoots (shape_of columns) (room_of words) left used (suc shared)
   rooted (refuses es l b m q g i) used readers shared padding e =
-      let h : r ≡ Refused m q = refused_is g in
+      let h : r ≡ Err (refusal_at m q) = refused_is g in
       differ cc
   rooted (bad_list i b n g) used readers shared padding e =
-      let h : r ≡ Refused 32 i = refused_is g in
+      let h : r ≡ Err (refusal_at 32 i) = refused_is g in
       differ cc
   rooted (fits f) used readers shared padding e =
       let l = loaded f in
@@ -197,12 +197,12 @@ handed_on enums file words out n p e = go (file_under enums file (room_of words)
 new_file : {enums file : List ℕ} {words : ℕ} (f : Fitting enums file words) → Written f (short_file f.fits.tree)
 new_file f = record { shortest = least f; again = (again f, refl); stays = stays f }
 
-module _ (enums file : List ℕ) (words : ℕ) (out : List ℕ) {left end : List ℕ} {r : Rewriting} (bytes : Bytes enums) (small : Small file)
+module _ (enums file : List ℕ) (words : ℕ) (out : List ℕ) {left end : List ℕ} {r : Result ℕ Refusal} (bytes : Bytes enums) (small : Small file)
     (answers : r ≡ contract.answer_of (rewrite_under enums file words (length out)))
     (writes : end ≡ output_of (rewrite_under enums file words (length out)) out)
     (leaves : left ≡ words_of (rewrite_under enums file words (length out)) (table_of (load_under enums file words) words)) where
   rewritten : (f : Fitting enums file words) → length (short_file f.fits.tree) ≤ length out
-      → (r ≡ rewriting.Rewritten (length (short_file f.fits.tree))) × (end ≡ short_file f.fits.tree ++ drop (length (short_file f.fits.tree)) out) × (left ≡ table by_rows (rows_in f.fits) words)
+      → (r ≡ Ok (length (short_file f.fits.tree))) × (end ≡ short_file f.fits.tree ++ drop (length (short_file f.fits.tree)) out) × (left ≡ table by_rows (rows_in f.fits) words)
   unfolding fitted output_of words_of
   rewritten f h =
       let is = rewrite_is f (length out) in
@@ -210,7 +210,7 @@ module _ (enums file : List ℕ) (words : ℕ) (out : List ℕ) {left end : List
       (answers ∙ rw (is, t), writes ∙ rw (is, t), leaves ∙ rw (is, t) (table_is f))
 
   too_long : (f : Fitting enums file words) → length out < length (short_file f.fits.tree)
-      → (r ≡ rewriting.Refused 21 (length (short_file f.fits.tree))) × (end ≡ out) × (left ≡ replicate words 0)
+      → (r ≡ Err (refusal_at 21 (length (short_file f.fits.tree)))) × (end ≡ out) × (left ≡ replicate words 0)
   unfolding fitted output_of words_of
   too_long f h =
       let is = rewrite_is f (length out) in
@@ -218,7 +218,7 @@ module _ (enums file : List ℕ) (words : ℕ) (out : List ℕ) {left end : List
       let n : length (table_of (load_under enums file words) words) ≡ words = table-length enums file words small in
       (answers ∙ rw (is, t), writes ∙ rw (is, t), leaves ∙ rw (is, t, n))
 
-  handed : (m q : ℕ) → load_under enums file words ≡ refusal m q → (r ≡ rewriting.Refused m q) × (end ≡ out) × (left ≡ replicate words 0)
+  handed : (m q : ℕ) → load_under enums file words ≡ refusal m q → (r ≡ Err (refusal_at m q)) × (end ≡ out) × (left ≡ replicate words 0)
   unfolding output_of words_of
   handed m q e =
       let h = handed_on enums file words (length out) m q e in
@@ -226,7 +226,7 @@ module _ (enums file : List ℕ) (words : ℕ) (out : List ℕ) {left end : List
       (answers ∙ rw h, writes ∙ rw h, leaves ∙ rw (h, n))
 
   not_rewritten : Ends enums file words → (Fitting enums file words → ⊥)
-      → (number : ℕ) × (place : ℕ) × (r ≡ rewriting.Refused number place) × (end ≡ out) × (left ≡ replicate words 0)
+      → (number : ℕ) × (place : ℕ) × (r ≡ Err (refusal_at number place)) × (end ≡ out) × (left ≡ replicate words 0)
   not_rewritten (fits f) none = absurd (none f)
   not_rewritten (refuses es l b m q e i) none =
       let h = handed m q e in
@@ -235,7 +235,7 @@ module _ (enums file : List ℕ) (words : ℕ) (out : List ℕ) {left end : List
       let h = handed 32 i e in
       (32, i, h.0, h.1, h.2)
 
-  rewrite_list : Ends enums file words → Unlawful enums → (place : ℕ) × (r ≡ rewriting.Refused 32 place) × FirstBad enums place
+  rewrite_list : Ends enums file words → Unlawful enums → (place : ℕ) × (r ≡ Err (refusal_at 32 place)) × FirstBad enums place
   rewrite_list (fits f) none = absurd (none f.es f.lawful f.listed)
   rewrite_list (refuses es l b m q e i) none = absurd (none es l b)
   rewrite_list (bad_list i b n e) none = (i, (handed 32 i e).0, b)
@@ -243,13 +243,13 @@ module _ (enums file : List ℕ) (words : ℕ) (out : List ℕ) {left end : List
   abbrev Rewrite-placed : (number place : ℕ) → Type 0
   Rewrite-placed number place = (LoadNumber number ⊎ (number ≡ 21)) × (place ≤ length file)
 
-  same_refusal : {m q number place : ℕ} → r ≡ rewriting.Refused m q → r ≡ rewriting.Refused number place → Rewrite-placed m q → Rewrite-placed number place
+  same_refusal : {m q number place : ℕ} → r ≡ Err (refusal_at m q) → r ≡ Err (refusal_at number place) → Rewrite-placed m q → Rewrite-placed number place
   same_refusal {m} {q} {number} {place} e g i =
       let e₁ : number ≡ m = cc in
       let e₂ : place ≡ q = cc in
       rw (e₁, e₂) i
 
-  rewrite_placed : Ends enums file words → (es : List EnumEntry) → Enums es → enums ≡ write_enums es → (number place : ℕ) → r ≡ rewriting.Refused number place → Rewrite-placed number place
+  rewrite_placed : Ends enums file words → (es : List EnumEntry) → Enums es → enums ≡ write_enums es → (number place : ℕ) → r ≡ Err (refusal_at number place) → Rewrite-placed number place
   rewrite_placed (refuses fs v c m q g i) es w b number place e = same_refusal (handed m q g).0 e (inl i.0, i.1)
   rewrite_placed (bad_list i bad none g) es w b number place e = absurd (none es w b)
   rewrite_placed (fits f) es w b number place e = go (leb (length (short_file f.fits.tree)) (length out)) refl where
@@ -259,7 +259,7 @@ module _ (enums file : List ℕ) (words : ℕ) (out : List ℕ) {left end : List
         differ cc
     go false t = same_refusal (too_long f (leb-false _ _ t)).0 e (inr refl, (least f file f.fits.lays).no_longer)
 
-  begins : Ends enums file words → (n : ℕ) → r ≡ rewriting.Rewritten n → (f : Fitting enums file words) × (n ≤ length end) × Written f (take n end)
+  begins : Ends enums file words → (n : ℕ) → r ≡ Ok n → (f : Fitting enums file words) × (n ≤ length end) × Written f (take n end)
   begins (refuses es l b m q g i) n e =
       let h = (handed m q g).0 in
       differ cc
@@ -278,7 +278,7 @@ module _ (enums file : List ℕ) (words : ℕ) (out : List ℕ) {left end : List
         let l = (too_long f (leb-false _ _ t)).0 in
         differ cc
 
-  rewrite_skipped : (n : ℕ) → r ≡ rewriting.Rewritten n → (f : Fitting enums file words) → TableSkips by_rows (room_of words) left (length (rows_in f.fits))
+  rewrite_skipped : (n : ℕ) → r ≡ Ok n → (f : Fitting enums file words) → TableSkips by_rows (room_of words) left (length (rows_in f.fits))
   rewrite_skipped n e f = go (leb (length (short_file f.fits.tree)) (length out)) refl where
     go : (t : Bool) → leb (length (short_file f.fits.tree)) (length out) ≡ t → TableSkips by_rows (room_of words) left (length (rows_in f.fits))
     go true t = table-skips f false (rewritten f (leb-true _ _ t)).2
@@ -286,7 +286,7 @@ module _ (enums file : List ℕ) (words : ℕ) (out : List ℕ) {left end : List
         let l = (too_long f (leb-false _ _ t)).0 in
         differ cc
 
-  rewrite_rooted : (n : ℕ) → r ≡ rewriting.Rewritten n → (f : Fitting enums file words) → TableRoots by_rows (room_of words) left (length (rows_in f.fits)) (suc (count (shared_of f.fits.tree.objects)))
+  rewrite_rooted : (n : ℕ) → r ≡ Ok n → (f : Fitting enums file words) → TableRoots by_rows (room_of words) left (length (rows_in f.fits)) (suc (count (shared_of f.fits.tree.objects)))
   rewrite_rooted n e f = go (leb (length (short_file f.fits.tree)) (length out)) refl where
     go : (t : Bool) → leb (length (short_file f.fits.tree)) (length out) ≡ t → TableRoots by_rows (room_of words) left (length (rows_in f.fits)) (suc (count (shared_of f.fits.tree.objects)))
     go true t = table-roots f false (rewritten f (leb-true _ _ t)).2
@@ -301,24 +301,24 @@ module _ (enums file : List ℕ) (words : ℕ) (out : List ℕ) {left end : List
 
 -- ---- A file that is rewritten, and then loaded or rewritten again
 
-module _ {enums file : List ℕ} {words : ℕ} {left out end : List ℕ} {r : Rewriting} (x : Rewrites enums file words left out end r) where
+module _ {enums file : List ℕ} {words : ℕ} {left out end : List ℕ} {r : Result ℕ Refusal} (x : Rewrites enums file words left out end r) where
   -- a first rewrite that is refused is none of a tree that fits
-  first_refused : {number place : ℕ} → r ≡ rewriting.Refused number place → (f : Fitting enums file words) → length (short_file f.fits.tree) ≤ length out → ⊥
+  first_refused : {number place : ℕ} → r ≡ Err (refusal_at number place) → (f : Fitting enums file words) → length (short_file f.fits.tree) ≤ length out → ⊥
   first_refused e f h =
       let l = (x.rewrites f h).0 in
       differ cc
 
   -- what the first rewrite wrote
-  first_wrote : {n : ℕ} → r ≡ rewriting.Rewritten n → (f : Fitting enums file words) → length (short_file f.fits.tree) ≤ length out → take n end ≡ short_file f.fits.tree
+  first_wrote : {n : ℕ} → r ≡ Ok n → (f : Fitting enums file words) → length (short_file f.fits.tree) ≤ length out → take n end ≡ short_file f.fits.tree
   first_wrote {n} e f h =
       let l = x.rewrites f h in
       let k : n ≡ length (short_file f.fits.tree) = cc in
       rw (k, l.1) (take-append_seam (short_file f.fits.tree) (drop (length (short_file f.fits.tree)) out))
 
-  pub not_loaded_again : {number place : ℕ} {left₂ : List ℕ} {r₂ : Loading} → r ≡ rewriting.Refused number place → LoadsAgain enums file words left₂ (length out) r₂
+  pub not_loaded_again : {number place : ℕ} {left₂ : List ℕ} {r₂ : Loading} → r ≡ Err (refusal_at number place) → LoadsAgain enums file words left₂ (length out) r₂
   not_loaded_again e = record { reads = λ f h. absurd (first_refused e f h) }
 
-  pub loaded_again : {n : ℕ} {left₂ : List ℕ} {r₂ : Loading} → r ≡ rewriting.Rewritten n → length left ≡ words → Loads by_rows enums (take n end) (length left) left₂ r₂ → LoadsAgain enums file words left₂ (length out) r₂
+  pub loaded_again : {n : ℕ} {left₂ : List ℕ} {r₂ : Loading} → r ≡ Ok n → length left ≡ words → Loads by_rows enums (take n end) (length left) left₂ r₂ → LoadsAgain enums file words left₂ (length out) r₂
   loaded_again {n} {left₂} {r₂} e l y = record {
     reads = λ f h.
         let g = again f in
@@ -329,10 +329,10 @@ module _ {enums file : List ℕ} {words : ℕ} {left out end : List ℕ} {r : Re
         (g, refl, rw none at a.0, a.1);
   }
 
-  pub not_rewritten_again : {number place : ℕ} {second end₂ : List ℕ} {r₂ : Rewriting} → r ≡ rewriting.Refused number place → RewritesTwice enums file words (length out) second end₂ r₂
+  pub not_rewritten_again : {number place : ℕ} {second end₂ : List ℕ} {r₂ : Result ℕ Refusal} → r ≡ Err (refusal_at number place) → RewritesTwice enums file words (length out) second end₂ r₂
   not_rewritten_again e = record { same = λ f h k. absurd (first_refused e f h); same_refusal = λ f h k. absurd (first_refused e f h) }
 
-  pub rewritten_again : {n : ℕ} {left₂ second end₂ : List ℕ} {r₂ : Rewriting} → r ≡ rewriting.Rewritten n → length left ≡ words → Rewrites enums (take n end) (length left) left₂ second end₂ r₂ → RewritesTwice enums file words (length out) second end₂ r₂
+  pub rewritten_again : {n : ℕ} {left₂ second end₂ : List ℕ} {r₂ : Result ℕ Refusal} → r ≡ Ok n → length left ≡ words → Rewrites enums (take n end) (length left) left₂ second end₂ r₂ → RewritesTwice enums file words (length out) second end₂ r₂
   rewritten_again {n} {left₂} {second} {end₂} {r₂} e l y =
       let z : (f : Fitting enums file words) → length (short_file f.fits.tree) ≤ length out → Rewrites enums (short_file f.fits.tree) words left₂ second end₂ r₂
       = λ f h. let p = first_wrote e f h in rw (l, p) at y in

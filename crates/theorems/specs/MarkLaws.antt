@@ -1,5 +1,5 @@
 -- From the contract of converting to what is demanded of it. Assumes nothing.
-use Rattle.std.specs.Prelude.{◌≡◌, refl, Bool, true, false, not, cond, List, ◌++◌, ◌⊎◌, ℕ, ◌≤◌, leb, length, take, drop}
+use Rattle.std.specs.Prelude.{◌≡◌, refl, Bool, true, false, not, cond, List, ◌++◌, ◌⊎◌, ℕ, ◌≤◌, leb, length, take, drop, Err, Ok, Result}
 use Rattle.std.proofs.Common.{sym, ◌∙◌, inl, inr, arith, length-append, leb-true, le-leb}
 use Rattle.std.proofs.Math.Path.{ap}
 use Rattle.std.proofs.Math.Seq.{take-append_seam}
@@ -16,23 +16,23 @@ use Rattle.pack_reading.specs.Faults.{Keeps}
 use Rattle.pack_reading.proofs.Faults.{no_31}
 use Rattle.pack_writing.specs.Convert.{by_pack, convert_of, other_form}
 use Rattle.pack_writing.specs.Convert as C
-use Rattle.marks.specs.declared.Converting.{Converting}
-use Rattle.marks.specs.declared.Converting.TheVariants.{Refused, Converted}
 use Rattle.marks.specs.Converting.{converted, answer_of}
 use Rattle.theorems.specs.PackLaws.{pack_refusals}
 use Rattle.theorems.specs.Marks.{Given, in_form, Converts}
+use Rattle.answers.specs.Refusals.{refusal as refusal_at}
+use Rattle.answers.specs.declared.Refusal.{Refusal}
 
 -- a refusal leaves the output
-left_alone : (x : Rewritten) (out : List ℕ) {number place : ℕ} → answer_of x ≡ Refused number place → output_of x out ≡ out
+left_alone : (x : Rewritten) (out : List ℕ) {number place : ℕ} → answer_of x ≡ Err (refusal_at number place) → output_of x out ≡ out
 unfolding output_of
 left_alone (refusal n p) out q = refl
 left_alone (written bytes) out q = differ cc
 
-no_room_31 : (t : Bool) (bytes : List ℕ) (m : ℕ) {number place : ℕ} → answer_of (cond t (written bytes) (refusal 21 m)) ≡ Refused number place → number ≡ 31 → ⊥
+no_room_31 : (t : Bool) (bytes : List ℕ) (m : ℕ) {number place : ℕ} → answer_of (cond t (written bytes) (refusal 21 m)) ≡ Err (refusal_at number place) → number ≡ 31 → ⊥
 no_room_31 true bytes m q e = differ cc
 no_room_31 false bytes m {number} q e = let a : 21 ≡ number = cc in absurd (omega arith)
 
-never_31 : (to : List ℕ) (x : Answer (List Stored)) (size out : ℕ) → Keeps (λ n. n ≡ 31 → ⊥) size x → {number place : ℕ} → answer_of (by_pack to x out) ≡ Refused number place → number ≡ 31 → ⊥
+never_31 : (to : List ℕ) (x : Answer (List Stored)) (size out : ℕ) → Keeps (λ n. n ≡ 31 → ⊥) size x → {number place : ℕ} → answer_of (by_pack to x out) ≡ Err (refusal_at number place) → number ≡ 31 → ⊥
 unfolding Keeps by_pack fitted
 never_31 to (refused n p) size out k {number} q e = let a : n ≡ number = cc in k.0 (a ∙ e)
 never_31 to (read fs end) size out k q e = no_room_31 (leb (length (pack_bytes to fs)) out) (pack_bytes to fs) (length (pack_bytes to fs)) q e
@@ -41,11 +41,11 @@ never_31 to (read fs end) size out k q e = no_room_31 (leb (length (pack_bytes t
 abbrev Within : (other : Bool) (size number place : ℕ) → Type 0
 Within other size number place = (number ≡ 21) ⊎ (PackNumber other number × (place ≤ size))
 
-no_room_is : (other : Bool) (size : ℕ) (t : Bool) (bytes : List ℕ) (m : ℕ) {number place : ℕ} → answer_of (cond t (written bytes) (refusal 21 m)) ≡ Refused number place → Within other size number place
+no_room_is : (other : Bool) (size : ℕ) (t : Bool) (bytes : List ℕ) (m : ℕ) {number place : ℕ} → answer_of (cond t (written bytes) (refusal 21 m)) ≡ Err (refusal_at number place) → Within other size number place
 no_room_is other size true bytes m q = differ cc
 no_room_is other size false bytes m {number} q = let a : number ≡ 21 = cc in inl a
 
-refused-within : (other : Bool) (to : List ℕ) (x : Answer (List Stored)) (size out : ℕ) → Keeps (PackNumber other) size x → {number place : ℕ} → answer_of (by_pack to x out) ≡ Refused number place
+refused-within : (other : Bool) (to : List ℕ) (x : Answer (List Stored)) (size out : ℕ) → Keeps (PackNumber other) size x → {number place : ℕ} → answer_of (by_pack to x out) ≡ Err (refusal_at number place)
     → Within other size number place
 unfolding Keeps by_pack fitted
 refused-within other to (refused n p) size out k {number} {place} q =
@@ -55,7 +55,7 @@ refused-within other to (refused n p) size out k {number} {place} q =
 refused-within other to (read fs end) size out k q = no_room_is other size (leb (length (pack_bytes to fs)) out) (pack_bytes to fs) (length (pack_bytes to fs)) q
 
 none-fits : (from to pack : List ℕ) (x : Answer (List Stored)) (out : ℕ) → Ok (λ fs e. PackLays from fs pack × (length fs ≤ 4096)) x → ((fs : List Stored) → PackLays from fs pack → ⊥)
-    → (number : ℕ) × (place : ℕ) × (answer_of (by_pack to x out) ≡ Refused number place)
+    → (number : ℕ) × (place : ℕ) × (answer_of (by_pack to x out) ≡ Err (refusal_at number place))
 unfolding by_pack
 none-fits from to pack (refused n p) out k none = (n, p, refl)
 none-fits from to pack (read fs e) out k none = absurd (none fs (k.got refl).0)
@@ -64,14 +64,14 @@ none-fits from to pack (read fs e) out k none = absurd (none fs (k.got refl).0)
 pub at_start : (new out : List ℕ) → length new ≤ length out → (length new ≤ length (new ++ drop (length new) out)) × (take (length new) (new ++ drop (length new) out) ≡ new)
 at_start new out h = (omega (arith, length-append new (drop (length new) out)), take-append_seam new (drop (length new) out))
 
-fit_written : (new : List ℕ) (out : List ℕ) (t : Bool) → leb (length new) (length out) ≡ t → {n : ℕ} → answer_of (cond t (written new) (refusal 21 (length new))) ≡ Converted n
+fit_written : (new : List ℕ) (out : List ℕ) (t : Bool) → leb (length new) (length out) ≡ t → {n : ℕ} → answer_of (cond t (written new) (refusal 21 (length new))) ≡ Ok n
     → (n ≤ length (output_of (cond t (written new) (refusal 21 (length new))) out)) × (take n (output_of (cond t (written new) (refusal 21 (length new))) out) ≡ new)
 unfolding output_of
 fit_written new out true e {n} q = let a : n ≡ length new = cc in rw a (at_start new out (leb-true (length new) (length out) e))
 fit_written new out false e q = differ cc
 
 was_written : (from to pack : List ℕ) (x : Answer (List Stored)) (out : List ℕ) → Ok (λ fs e. PackLays from fs pack × (length fs ≤ 4096)) x → {n : ℕ}
-    → answer_of (by_pack to x (length out)) ≡ Converted n
+    → answer_of (by_pack to x (length out)) ≡ Ok n
     → (fs : List Stored) × PackLays from fs pack × (n ≤ length (output_of (by_pack to x (length out)) out)) × PackLays to fs (take n (output_of (by_pack to x (length out)) out))
 unfolding by_pack fitted
 was_written from to pack (refused n p) out k q = differ cc
@@ -80,7 +80,7 @@ was_written from to pack (read fs e) out k q =
     let w = fit_written (pack_bytes to fs) out (leb (length (pack_bytes to fs)) (length out)) refl q in
     (fs, v.0, w.0, rw w.1 (other_form from to fs v.0))
 
-module _ (marked : Bool) (pack out : List ℕ) {end : List ℕ} {r : Converting} (answers : r ≡ answer_of (converted marked pack (length out))) (leaves : end ≡ output_of (converted marked pack (length out)) out) where
+module _ (marked : Bool) (pack out : List ℕ) {end : List ℕ} {r : Result ℕ Refusal} (answers : r ≡ answer_of (converted marked pack (length out))) (leaves : end ≡ output_of (converted marked pack (length out)) out) where
   by_files : {words : ℕ} (f : Given marked pack words) → converted marked pack (length out) ≡ fitted (in_form marked f.files) (length out)
   by_files f = C.converts (mark_of (not marked)) (mark_of marked) f.files pack (length out) f.lays
 

@@ -1,5 +1,5 @@
 -- From the contracts of reading a pack and of finding a file to what is demanded of them. Assumes nothing.
-use Rattle.std.specs.Prelude.{◌≡◌, refl, Bool, true, false, List, ℕ, ◌≤◌, length}
+use Rattle.std.specs.Prelude.{◌≡◌, refl, Bool, true, false, List, ℕ, ◌≤◌, length, Err, None, Some, Result}
 use Rattle.std.proofs.Common.{sym, ap, subst, ◌∙◌}
 use Rattle.laws.specs.Small.{differ}
 use Rattle.reading.specs.Answer.{Answer, refused, read}
@@ -15,13 +15,13 @@ use Rattle.pack_reading.specs.Theorems.{Accepts}
 use Rattle.pack_reading.specs.Parts.{names}
 use Rattle.pack_reading.specs.Lookup.{Found, absent, found, find_in, find_of, Says, find_says}
 use Rattle.pack_reading.proofs.Lookup.{absent_exactly}
-use Rattle.packs.specs.declared.Reading.{Reading}
-use Rattle.packs.specs.declared.Reading.TheVariants.{Refused}
 use Rattle.packs.specs.Files.{answer_of}
 use Rattle.pack_lookup.specs.declared.Found as code
-use Rattle.pack_lookup.specs.declared.Found.TheVariants.{Absent, At}
 use Rattle.pack_lookup.specs.Lookup.{found_as}
 use Rattle.theorems.specs.Packs.{IsRead, Reads, Finds}
+use Rattle.answers.specs.Refusals.{refusal as refusal_at}
+use Rattle.answers.specs.declared.Refusal.{Refusal}
+use Rattle.pack_lookup.specs.Found.{part}
 
 -- ---- Reading a pack
 
@@ -40,18 +40,18 @@ pub pack_refusals : (marked : Bool) (pack : List ℕ) (room : ℕ) → Keeps (Pa
 pack_refusals true pack room = marked-refusals pack room
 pack_refusals false pack room = plain-refusals pack room
 
-refused-inside : (marked : Bool) (pack : List ℕ) (words : ℕ) {number place : ℕ} → answer_of (pack_of (mark_of marked) pack words) ≡ Refused number place
+refused-inside : (marked : Bool) (pack : List ℕ) (words : ℕ) {number place : ℕ} → answer_of (pack_of (mark_of marked) pack words) ≡ Err (refusal_at number place)
     → PackNumber marked number × (place ≤ length pack)
 unfolding pack_of to_pack Keeps
 refused-inside marked pack words {number} {place} q = go (pack_at (mark_of marked) pack (files_room words)) (pack_refusals marked pack (files_room words)) q where
-  go : (x : Answer (List Stored)) → Keeps (PackNumber marked) (length pack) x → answer_of (to_pack x) ≡ Refused number place → PackNumber marked number × (place ≤ length pack)
+  go : (x : Answer (List Stored)) → Keeps (PackNumber marked) (length pack) x → answer_of (to_pack x) ≡ Err (refusal_at number place) → PackNumber marked number × (place ≤ length pack)
   go (refused n p) k e =
       let a : n ≡ number = cc in
       let b : p ≡ place = cc in
       rw (← a, ← b) k
   go (read fs e) k r = differ cc
 
-pub read-exact : (marked : Bool) (pack : List ℕ) (words : ℕ) {left : List ℕ} {r : Reading} → Small pack
+pub read-exact : (marked : Bool) (pack : List ℕ) (words : ℕ) {left : List ℕ} {r : Result ℕ Refusal} → Small pack
     → r ≡ answer_of (pack_of (mark_of marked) pack words) → left ≡ table_for (mark_of marked) pack words → Reads marked pack words left r
 read-exact marked pack words {left} {r} small answers leaves =
     let mark = mark_of marked in
@@ -66,11 +66,11 @@ read-exact marked pack words {left} {r} small answers leaves =
 
 -- ---- Finding a file
 
-pub as_absent : (x : Found) → found_as x ≡ Absent → x ≡ absent
+pub as_absent : (x : Found) → found_as x ≡ None → x ≡ absent
 as_absent absent q = refl
 as_absent (found a n) q = differ cc
 
-pub as_found : (x : Found) (a n : ℕ) → found_as x ≡ At a n → x ≡ found a n
+pub as_found : (x : Found) (a n : ℕ) → found_as x ≡ Some (part a n) → x ≡ found a n
 as_found absent a n q = differ cc
 as_found (found b m) a n q =
     let e₁ : b ≡ a = cc in

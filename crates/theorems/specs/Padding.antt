@@ -1,5 +1,5 @@
 -- What is demanded of the padding that a load tells (02, Req 06), beside what a rewrite of the same file saves: the contract of `load_and_rewrite`. `counted` alone has a reading in it. Assumes nothing.
-use Rattle.std.specs.Prelude.{◌≡◌, Bool, List, ◌↔◌, ℕ, ◌+◌, ◌-◌, ◌≤◌, length}
+use Rattle.std.specs.Prelude.{◌≡◌, Bool, List, ◌↔◌, ℕ, ◌+◌, ◌-◌, ◌≤◌, length, Err, Ok}
 use Rattle.layout.specs.File.{FileLays}
 use Rattle.layout.specs.Table.{shape_of}
 use Rattle.layout.specs.Shortest.{short_file}
@@ -7,10 +7,9 @@ use Rattle.places.specs.Padding.{file_padding}
 use Rattle.layout.specs.Fits.{Fitting, rows_in}
 use Rattle.theorems.specs.Loading.{Loads}
 use Rattle.theorems.specs.Rewriting.{Rewrites}
-use Rattle.load.specs.declared.Loading.TheVariants.{Refused, Loaded}
-use Rattle.rewrite.specs.declared.Rewriting.TheVariants.{Rewritten}
-use Rattle.rewrite.specs.declared.Rewriting.TheVariants as rewriting
 use Rattle.theorems.specs.declared.padded.Saved.{Saved}
+use Rattle.load.specs.Loads.{loaded}
+use Rattle.answers.specs.Refusals.{refusal as refusal_at}
 
 -- the file is already shortest: no bytes that its file tree may have are shorter
 abbrev pub Shortest : (enums file : List ℕ) (words : ℕ) → Type 0
@@ -24,13 +23,13 @@ pub record Saves (columns : Bool) (enums file : List ℕ) (words : ℕ) (left ou
   -- the second is a rewrite's
   pub rewrites : Rewrites enums file words left out end r.rewritten
   -- "It is proved equal to the file's length less the rewritten file's length."
-  pub total : (rows readers shared padding n : ℕ) → r.loaded ≡ Loaded rows readers shared padding → r.rewritten ≡ Rewritten n → (n ≤ length file) × (padding ≡ length file - n)
+  pub total : (rows readers shared padding n : ℕ) → r.loaded ≡ Ok (loaded rows readers shared padding) → r.rewritten ≡ Ok n → (n ≤ length file) × (padding ≡ length file - n)
   -- "length of the input = length of the output + the padding total": over every number in the file, as it is read there, its bytes beyond its shortest form
   pub counted : (f : Fitting enums file words) → length file ≡ length (short_file f.fits.tree) + file_padding file (length f.fits.tree.names) (rows_in f.fits)
   -- where the output is too small for the rewritten file, its length is the place of 21
-  pub needed : (rows readers shared padding number place : ℕ) → r.loaded ≡ Loaded rows readers shared padding → r.rewritten ≡ rewriting.Refused number place
+  pub needed : (rows readers shared padding number place : ℕ) → r.loaded ≡ Ok (loaded rows readers shared padding) → r.rewritten ≡ Err (refusal_at number place)
       → (number ≡ 21) × (place ≤ length file) × (padding ≡ length file - place)
   -- it is 0 exactly if the file is already shortest
-  pub none : (rows readers shared padding : ℕ) → r.loaded ≡ Loaded rows readers shared padding → (padding ≡ 0) ↔ Shortest enums file words
+  pub none : (rows readers shared padding : ℕ) → r.loaded ≡ Ok (loaded rows readers shared padding) → (padding ≡ 0) ↔ Shortest enums file words
   -- a refused file has no such number, and is refused by both
-  pub refused : (number place : ℕ) → r.loaded ≡ Refused number place → r.rewritten ≡ rewriting.Refused number place
+  pub refused : (number place : ℕ) → r.loaded ≡ Err (refusal_at number place) → r.rewritten ≡ Err (refusal_at number place)

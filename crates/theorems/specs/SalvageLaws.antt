@@ -1,5 +1,5 @@
 -- From the contract of salvaging to what is demanded of it. Assumes nothing.
-use Rattle.std.specs.Prelude.{◌≡◌, refl, Bool, true, false, ℕ, ◌/◌, ◌≤◌, leb}
+use Rattle.std.specs.Prelude.{◌≡◌, refl, Bool, true, false, ℕ, ◌/◌, ◌≤◌, leb, Err, Ok, Result}
 use Rattle.std.proofs.Math.Path.{sym, ap, subst}
 use Rattle.std.proofs.Common.{◌∙◌}
 use mathlib.Core.List.{List, ◌++◌}
@@ -15,25 +15,27 @@ use Rattle.pack_salvage.proofs.Stretches.{stretches-apart, covers}
 use Rattle.pack_salvage.specs.Salvage as S
 use Rattle.pack_salvage.specs.Salvage.{pieces_of, salvaged, refusal, unless, salvage_of, output_of, list_of, salvage_for, output_for, list_for, pieces_scanned, no_longer, accepted-stays}
 use Rattle.pack_salvage.proofs.Salvage.{pack_written, few_stretches}
-use Rattle.salvage.specs.declared.Salvaging.{Salvaging}
-use Rattle.salvage.specs.declared.Salvaging.TheVariants.{Refused, Salvaged}
 use Rattle.salvage.specs.Salvaging.{answer_of}
 use Rattle.theorems.specs.Salvage.{Scan, new_of, skips_of, Room, Salvages}
 use Rattle.theorems.specs.MarkLaws.{at_start}
+use Rattle.answers.specs.Refusals.{refusal as refusal_at}
+use Rattle.answers.specs.declared.Refusal.{Refusal}
+use Rattle.salvage.specs.declared.Salvaged.{Salvaged}
+use Rattle.salvage.specs.Contract.{salvaged}
 
 -- a refusal leaves the output and the list
-left_alone : (x : S.Salvaged) (out list : List ℕ) {number place : ℕ} → answer_of x ≡ Refused number place → (output_of x out ≡ out) × (list_of x list ≡ list)
+left_alone : (x : S.Salvaged) (out list : List ℕ) {number place : ℕ} → answer_of x ≡ Err (refusal_at number place) → (output_of x out ≡ out) × (list_of x list ≡ list)
 unfolding output_of list_of
 left_alone (refusal n p) out list q = (refl, refl)
 left_alone (salvaged bytes l) out list q = differ cc
 
 -- an answer that is no refusal passed every test
-passed : (b : Bool) (number place : ℕ) (x : S.Salvaged) {n m : ℕ} → answer_of (unless b number place x) ≡ Salvaged n m → (b ≡ true) × (answer_of x ≡ Salvaged n m)
+passed : (b : Bool) (number place : ℕ) (x : S.Salvaged) {n m : ℕ} → answer_of (unless b number place x) ≡ Ok (salvaged n m) → (b ≡ true) × (answer_of x ≡ Ok (salvaged n m))
 unfolding unless
 passed true number place x q = (refl, q)
 passed false number place x q = differ cc
 
-module _ (pack out list : List ℕ) (small : Small pack) {end left : List ℕ} {r : Salvaging} (answers : r ≡ answer_of (salvage_for pack out list)) (leaves : end ≡ output_for pack out list) (lists : left ≡ list_for pack out list) where
+module _ (pack out list : List ℕ) (small : Small pack) {end left : List ℕ} {r : Result Salvaged Refusal} (answers : r ≡ answer_of (salvage_for pack out list)) (leaves : end ≡ output_for pack out list) (lists : left ≡ list_for pack out list) where
   -- the pieces of any scan are those of the definition
   pieces : (ps : List Piece) → Scan pack ps → pieces_of pack ≡ ps
   pieces ps s = scan_is (small-drop 4 pack small) s.scanned
@@ -55,7 +57,7 @@ module _ (pack out list : List ℕ) (small : Small pack) {end left : List ℕ} {
   unfolding unless
   with_room ps s h = given ps s ∙ rw (le-leb (length (new_of ps)) (length out) h.0, le-leb (length (skips_of ps)) (length list / 2) h.1)
 
-  was_written : (n m : ℕ) → r ≡ Salvaged n m
+  was_written : (n m : ℕ) → r ≡ Ok (salvaged n m)
       → (ps : List Piece) × Scan pack ps × Room ps (length out) (length list) × (n ≤ length end) × PackLays marked (kept_of ps) (take n end)
   unfolding salvage_of output_of
   was_written n m q =

@@ -4,9 +4,10 @@ ghost use Rattle.theorems.specs.Branches.{SkipsRow};
 
 use ids::RowNumber;
 use load::Loading;
+use table::Table;
 
 // The answer of a load, and the row behind a row and all below it.
-#[derive(Clone, Copy)]
+#[derive(Clone, Copy, Debug, PartialEq, Eq)]
 pub struct Skipped {
     pub loading: Loading,
     pub next: u32,
@@ -17,6 +18,6 @@ fn load_and_skip(file: &[u8], enums: &[u8], words: &mut [u32], row: RowNumber) -
     ensures { SkipsRow enums.now file.now (length words.old) words.new row.0 result }
 {
     let loading = crate::load_exact(file, enums, words);
-    let next = branches::next(words, row);
+    let next = branches::next(Table::by_rows(words), row);
     Skipped { loading, next }
 }

@@ -5,7 +5,7 @@
 #![tactic(auto)]
 
 mod branched;
-mod columned;
+pub mod columned;
 mod converted;
 mod packed;
 mod padded;
@@ -21,8 +21,15 @@ ghost use Rattle.rewrite.specs.Contract as rewriting;
 ghost use Rattle.theorems.specs.Loading.{Loads};
 ghost use Rattle.theorems.specs.Rewriting.{Rewrites, LoadsAgain, RewritesTwice};
 
+use answers::Refusal;
 use load::Loading;
-use rewrite::Rewriting;
+
+// The answers of two runs.
+#[derive(Clone, Copy, Debug, PartialEq, Eq)]
+pub struct Two<T> {
+    pub first: T,
+    pub second: T,
+}
 
 // Each function that ends in `_exact` has two contracts: the demand, with no reading in it, and the answer of the code that it calls, which fixes a refusal's
 // number and place.
@@ -44,7 +51,7 @@ pub fn load_columns_exact(file: &[u8], enums: &[u8], words: &mut [u32]) -> Loadi
 }
 
 // A file that is rewritten, under a list of enum types.
-pub fn rewrite_exact(file: &[u8], enums: &[u8], words: &mut [u32], out: &mut [u8]) -> Rewriting
+pub fn rewrite_exact(file: &[u8], enums: &[u8], words: &mut [u32], out: &mut [u8]) -> Result<usize, Refusal>
     ensures rewrites { Rewrites enums.now file.now (length words.old) words.new
         out.old out.new result }
     ensures value { result ≡ rewriting.answer_of (rewritten enums.now file.now words.old out.old) }
@@ -57,10 +64,8 @@ fn load_again(file: &[u8], enums: &[u8], words: &mut [u32], out: &mut [u8]) -> L
     ensures { LoadsAgain enums.now file.now (length words.old) words.new
         (length out.old) result }
 {
-    match rewrite_exact(file, enums, words, out) {
-        Rewriting::Refused(number, place) => Loading::Refused(number, place),
-        Rewriting::Rewritten { length: n } => load_exact(&out[..n], enums, words),
-    }
+    let n = rewrite_exact(file, enums, words, out)?;
+    load_exact(&out[..n], enums, words)
 }
 
 // A file that is rewritten and then rewritten again, under one list of enum types, into a second output.
@@ -70,12 +75,10 @@ fn rewrite_twice(
     words: &mut [u32],
     out: &mut [u8],
     second: &mut [u8],
-) -> Rewriting
+) -> Result<usize, Refusal>
     ensures { RewritesTwice enums.now file.now (length words.old) (length out.old)
         second.old second.new result }
 {
-    match rewrite_exact(file, enums, words, out) {
-        Rewriting::Refused(number, place) => Rewriting::Refused(number, place),
-        Rewriting::Rewritten { length: n } => rewrite_exact(&out[..n], enums, words, second),
-    }
+    let n = rewrite_exact(file, enums, words, out)?;
+    rewrite_exact(&out[..n], enums, words, second)
 }

@@ -2,14 +2,14 @@
 ghost use Rattle.std.specs.Prelude.{length};
 ghost use Rattle.theorems.specs.Padding.{Saves};
 
+use answers::Refusal;
 use load::Loading;
-use rewrite::Rewriting;
 
 // The answers of a load and of a rewrite.
-#[derive(Clone, Copy)]
+#[derive(Clone, Copy, Debug, PartialEq, Eq)]
 pub struct Saved {
     pub loaded: Loading,
-    pub rewritten: Rewriting,
+    pub rewritten: Result<usize, Refusal>,
 }
 
 // A file that is loaded, by rows or in columns, and rewritten, under one list of enum types.

@@ -25,12 +25,10 @@ use Rattle.table.specs.Grids.{cell_of, grid_of}
 use Rattle.table.specs.Same.{SameRows}
 use Rattle.load.specs.Under.{load_under, load_lawful, load_refused-list, accepted-list}
 use Rattle.load.specs.Loads.{answer_of}
-use Rattle.load.specs.declared.Loading.TheVariants.{Loaded}
 use Rattle.builder.specs.Packed.{packed}
 use Rattle.rewrite.specs.Whole.{rewrite_under}
 use Rattle.rewrite.specs.Loaded.{rewrite_lawful, rewrite_refused_list}
 use Rattle.rewrite.specs.Contract as rewriting
-use Rattle.rewrite.specs.declared.Rewriting.{Rewriting}
 use Rattle.reading.specs.References.{length-flat}
 use Rattle.retyped.specs.Texts.{Span, FileText, Retyped}
 use Rattle.retyped.proofs.Files.{never_steers}
@@ -40,6 +38,8 @@ use Rattle.retyped.specs.Parts.{Each}
 use Rattle.retyped.specs.Strings.{TextOf}
 use Rattle.retyped.proofs.Strings.{every_string}
 use Rattle.two_runs.specs.Texts.{Read, SameButTexts, plain}
+use Rattle.answers.specs.declared.Refusal.{Refusal}
+use Rattle.std.specs.Prelude.{Result}
 
 -- ---- Under the lent list of enum types
 
@@ -67,7 +67,7 @@ same_answer enums f g n m bytes small small' r room =
           let d = accepted-list enums f n rows readers shared e in
           let es = d.0 in
           let q : load_of (judged_name es) f n ≡ accepted rows readers shared = sym (load_lawful enums f n es d.1) ∙ e in
-          ap (Loaded (length rows) readers shared) (padding_same es (judged_name es) (judges es) f g n small small' (texts enums bytes (room_of n) f g r es d.1) rows readers shared q)
+          ap (λ (p : ℕ). Ok {T = Loaded} {E = Refusal} (loaded (length rows) readers shared p)) (padding_same es (judged_name es) (judges es) f g n small small' (texts enums bytes (room_of n) f g r es d.1) rows readers shared q)
 
 -- "the rewritten length"
 same_rewrite : (enums f g : List ℕ) (n m out : ℕ) → Bytes enums → Small f → SameButTexts enums (room_of n) f g → room_of n ≡ room_of m
@@ -84,7 +84,7 @@ same_rewrite enums f g n m out bytes small r room = go (enums_at enums) refl whe
       ∙ by (rewrite_of (judged_name es) f n out) (rewrite_of (judged_name es) g m out) (rewrites-alike (judged_name es) f g n m out small room (texts enums bytes (room_of n) f g r es e))
       ∙ sym (ap rewriting.answer_of (rewrite_lawful enums g m out es e))
 
-pub rewritten-alike : (enums f g : List ℕ) (n m out other : ℕ) → Bytes enums → Small f → SameButTexts enums (room_of n) f g → room_of n ≡ room_of m → out ≡ other → {x y : Rewriting}
+pub rewritten-alike : (enums f g : List ℕ) (n m out other : ℕ) → Bytes enums → Small f → SameButTexts enums (room_of n) f g → room_of n ≡ room_of m → out ≡ other → {x y : Result ℕ Refusal}
     → x ≡ rewriting.answer_of (rewrite_under enums f n out) → y ≡ rewriting.answer_of (rewrite_under enums g m other) → x ≡ y
 rewritten-alike enums f g n m out other bytes small r room e p q =
     p ∙ same_rewrite enums f g n m out bytes small r room ∙ ap (λ (k : ℕ). rewriting.answer_of (rewrite_under enums g m k)) e ∙ sym q

@@ -1,4 +1,5 @@
 -- The lookups of a row in two files that differ in typed text alone. Assumes nothing.
+use Rattle.std.specs.Prelude.{Err, Ok, Result, ℤ}
 use mathlib.Core.Path.{◌≡◌, refl, sym, ap, ◌∙◌}
 use mathlib.Core.Bool.{Bool, true, false, cond, ◌||◌}
 use mathlib.Core.List.{List}
@@ -26,48 +27,48 @@ use Rattle.lookups.specs.Parts.{or_refused, kind_of, first_of, length_of, part_o
 use Rattle.lookups.specs.Texts.{text_in, text_of}
 use Rattle.lookups.specs.Signs.{last_bytes, signed_in, signed_of}
 use Rattle.lookups.specs.Times.{as_time, time_of}
-use Rattle.lookups.specs.declared.Integer.{Integer}
-use Rattle.lookups.specs.declared.Integer.TheVariants as integer
 use Rattle.branches.specs.Next.{next_of, same_next}
 use Rattle.lookups.specs.declared.Span as lookups
-use Rattle.lookups.specs.declared.Span.TheVariants as span
 use Rattle.retyped.specs.Texts.{Span, FileText, InText}
 use Rattle.retyped.specs.Parts.{each_both, Encloses, is_signed, PartAlike}
 use Rattle.retyped.proofs.Parts.{parts_same}
 use Rattle.retyped.specs.Boxed.{Boxed, strings_boxed}
 use Rattle.two_runs.specs.Texts.{SameButTexts}
 use Rattle.two_runs.specs.Alike.{lookups_of, LookupsAre, PartByte}
-use Rattle.two_runs.specs.declared.Lookups.{Lookups}
+use Rattle.theorems.specs.declared.columned.Lookups.{Lookups}
 use Rattle.two_runs.proofs.Counting.{same_count, text_by}
 use Rattle.two_runs.proofs.Laws.{texts, same_rows, row_there, read-text, table-length}
+use Rattle.answers.specs.Refusals.{refusal as refusal_at}
+use Rattle.answers.specs.declared.Refusal.{Refusal}
+use Rattle.lookups.specs.Parts.{span}
 
-no_part : (grid : Grid) (file v : List ℕ) (row : ℕ) → ltb row grid.room ≡ false → part_of grid file v row ≡ span.Refused 23 row
+no_part : (grid : Grid) (file v : List ℕ) (row : ℕ) → ltb row grid.room ≡ false → part_of grid file v row ≡ Err (refusal_at 23 row)
 unfolding part_of or_refused
 no_part grid file v row e = rw e
 
-no_bytes : (grid : Grid) (file v : List ℕ) (row : ℕ) → ltb 0 (length_of grid v row) ≡ false → part_of grid file v row ≡ span.Refused 23 row
+no_bytes : (grid : Grid) (file v : List ℕ) (row : ℕ) → ltb 0 (length_of grid v row) ≡ false → part_of grid file v row ≡ Err (refusal_at 23 row)
 unfolding part_of or_refused
 no_bytes grid file v row e = rw e (go (ltb row grid.room)) where
-  go : (b : Bool) → cond b (span.Refused 23 row) (span.Refused 23 row) ≡ span.Refused 23 row
+  go : (b : Bool) → cond b (Err (refusal_at 23 row)) (Err (refusal_at 23 row)) ≡ Err (refusal_at 23 row)
   go true = refl
   go false = refl
 
 -- a part that was found has its row's two words
-found_words : (b c d : Bool) (row a k first size : ℕ) → or_refused b 23 row (or_refused c 23 row (or_refused d 23 row (span.Found a k))) ≡ span.Found first size → (a ≡ first) × (k ≡ size)
+found_words : (b c d : Bool) (row a k first size : ℕ) → or_refused b 23 row (or_refused c 23 row (or_refused d 23 row (Ok (span a k)))) ≡ Ok (span first size) → (a ≡ first) × (k ≡ size)
 unfolding or_refused
 found_words true true true row a k first size e = (cc, cc)
 found_words true true false row a k first size e = differ cc
 found_words true false d row a k first size e = differ cc
 found_words false c d row a k first size e = differ cc
 
-part-words : (grid : Grid) (file v : List ℕ) (row first size : ℕ) → part_of grid file v row ≡ span.Found first size → (first_of grid v row ≡ first) × (length_of grid v row ≡ size)
+part-words : (grid : Grid) (file v : List ℕ) (row first size : ℕ) → part_of grid file v row ≡ Ok (span first size) → (first_of grid v row ≡ first) × (length_of grid v row ≡ size)
 unfolding part_of
 part-words grid file v row first size e =
     found_words (ltb row grid.room) (ltb 0 (length_of grid v row)) (leb (first_of grid v row + length_of grid v row) (length file)) row (first_of grid v row) (length_of grid v row) first size e
 
 -- a lookup goes by the part and, where it is found, by what its bytes give
 lookup_file : {A : Type 0} (refuse : ℕ → ℕ → A) (found : List ℕ → ℕ → ℕ → A) (grid : Grid) (f g v : List ℕ) (row : ℕ) → part_of grid f v row ≡ part_of grid g v row
-    → ((first size : ℕ) → part_of grid f v row ≡ span.Found first size → found (take size (drop first f)) first (kind_of grid v row) ≡ found (take size (drop first g)) first (kind_of grid v row))
+    → ((first size : ℕ) → part_of grid f v row ≡ Ok (span first size) → found (take size (drop first f)) first (kind_of grid v row) ≡ found (take size (drop first g)) first (kind_of grid v row))
     → lookup refuse found grid f v row ≡ lookup refuse found grid g v row
 unfolding lookup in_part
 lookup_file {A} refuse found grid f g v row e h = go (part_of grid f v row) refl ∙ ap (λ (s : lookups.Span). by g s) e where
@@ -75,16 +76,16 @@ lookup_file {A} refuse found grid f g v row e h = go (part_of grid f v row) refl
   by file s = in_part refuse s (λ first size. found (take size (drop first file)) first (kind_of grid v row))
 
   go : (s : lookups.Span) → part_of grid f v row ≡ s → by f s ≡ by g s
-  go (span.Refused a b) q = refl
-  go (span.Found first size) q = h first size q
+  go (Err e) q = refl
+  go (Ok r) q = h r.first r.length q
 
 -- a signed lookup goes by the bytes of a signed kind alone
 signed_by : (a b : List ℕ) (kind row : ℕ) → (is_signed kind ≡ true → a ≡ b) → signed_in a kind row ≡ signed_in b kind row
 unfolding signed_in is_signed
 signed_by a b kind row h = go (eqb kind 2) (eqb kind 3) (eqb kind 5) (eqb kind 7) (eqb kind 20) h where
-  told : List ℕ → (two three five seven twenty : Bool) → Integer
+  told : List ℕ → (two three five seven twenty : Bool) → Result ℤ Refusal
   told l two three five seven twenty =
-      cond two (last_bytes l 1 row) (cond three (last_bytes l 2 row) (cond five (last_bytes l 4 row) (cond seven (last_bytes l 8 row) (cond twenty (last_bytes l 8 row) (integer.Refused 24 row)))))
+      cond two (last_bytes l 1 row) (cond three (last_bytes l 2 row) (cond five (last_bytes l 4 row) (cond seven (last_bytes l 8 row) (cond twenty (last_bytes l 8 row) (Err (refusal_at 24 row))))))
 
   go : (two three five seven twenty : Bool) → ((two || (three || (five || (seven || twenty)))) ≡ true → a ≡ b) → told a two three five seven twenty ≡ told b two three five seven twenty
   go true c d e x h = ap (λ (l : List ℕ). last_bytes l 1 row) (h refl)
@@ -112,7 +113,7 @@ module _ (columns : Bool) (enums f g : List ℕ) (n m : ℕ) (bytes : Bytes enum
 
   -- a row of an accepted file, or one without a part in either file
   data At (row : ℕ) : Type 0 where
-    none : part_of grid f v row ≡ span.Refused 23 row → part_of grid g v row ≡ span.Refused 23 row → At row
+    none : part_of grid f v row ≡ Err (refusal_at 23 row) → part_of grid g v row ≡ Err (refusal_at 23 row) → At row
     there : (es : List EnumEntry) → enums_at enums ≡ lawful es → (x : Row) → PartAlike (judged_name es) f g (room_of n) x → Boxed x → length f ≡ length g
         → kind_of grid v row ≡ x.kind → first_of grid v row ≡ x.first → length_of grid v row ≡ x.bytes → At row
 
@@ -142,8 +143,8 @@ module _ (columns : Bool) (enums f g : List ℕ) (n m : ℕ) (bytes : Bytes enum
   signed_file : (row : ℕ) → signed_of grid f v row ≡ signed_of grid g v row
   unfolding signed_of
   signed_file row =
-      lookup_file integer.Refused (λ bs first kind. signed_in bs kind row) grid f g v row (part_file row) (λ first size h. signed_by (take size (drop first f)) (take size (drop first g)) (kind_of grid v row) row (same first size h (at_row row))) where
-        same : (first size : ℕ) → part_of grid f v row ≡ span.Found first size → At row → is_signed (kind_of grid v row) ≡ true → take size (drop first f) ≡ take size (drop first g)
+      lookup_file Err (refusal_at (λ bs first kind. signed_in bs kind row) grid) f g v row (part_file row) (λ first size h. signed_by (take size (drop first f)) (take size (drop first g)) (kind_of grid v row) row (same first size h (at_row row))) where
+        same : (first size : ℕ) → part_of grid f v row ≡ Ok (span first size) → At row → is_signed (kind_of grid v row) ≡ true → take size (drop first f) ≡ take size (drop first g)
         same first size h (none a b) k = differ (cc (sym a ∙ h))
         same first size h (there es l x a o e kind i j) k =
             let b = part-words grid f v row first size h in
@@ -154,8 +155,8 @@ module _ (columns : Bool) (enums f g : List ℕ) (n m : ℕ) (bytes : Bytes enum
   text_file : (row : ℕ) → text_of grid f v row ≡ text_of grid g v row
   unfolding text_of
   text_file row =
-      lookup_file span.Refused (λ bs first kind. text_in bs first kind row) grid f g v row (part_file row) (λ first size h. same first size h (at_row row)) where
-        same : (first size : ℕ) → part_of grid f v row ≡ span.Found first size → At row
+      lookup_file Err (refusal_at (λ bs first kind. text_in bs first kind row) grid) f g v row (part_file row) (λ first size h. same first size h (at_row row)) where
+        same : (first size : ℕ) → part_of grid f v row ≡ Ok (span first size) → At row
             → text_in (take size (drop first f)) first (kind_of grid v row) row ≡ text_in (take size (drop first g)) first (kind_of grid v row) row
         same first size h (none a b) = differ (cc (sym a ∙ h))
         same first size h (there es l x a o e kind i j) =
@@ -167,7 +168,7 @@ module _ (columns : Bool) (enums f g : List ℕ) (n m : ℕ) (bytes : Bytes enum
 
   time_file : (row : ℕ) → time_of grid f v row ≡ time_of grid g v row
   unfolding time_of
-  time_file row = ap (λ (x : Integer). as_time row x (eqb (kind_of grid v row) 20)) (signed_file row)
+  time_file row = ap (λ (x : Result ℤ Refusal). as_time row x (eqb (kind_of grid v row) 20)) (signed_file row)
 
   -- the lookups over both tables
   rows : SameRows grid (grid_of m columns) v w
@@ -192,7 +193,7 @@ module _ (columns : Bool) (enums f g : List ℕ) (n m : ℕ) (bytes : Bytes enum
   next_same row = same_next rows row
 
   -- "the same bytes except where it encloses such a text"
-  part_bytes : (row first size : ℕ) → part_of grid f v row ≡ span.Found first size → (i : ℕ) → first ≤ i → i < first + size → PartByte enums (room_of n) f g first size i
+  part_bytes : (row first size : ℕ) → part_of grid f v row ≡ Ok (span first size) → (i : ℕ) → first ≤ i → i < first + size → PartByte enums (room_of n) f g first size i
   part_bytes row first size h i l k = go (at_row row) where
     by : (es : List EnumEntry) → enums_at enums ≡ lawful es → (x : Row) → x.first ≡ first → x.bytes ≡ size
         → (get_or f i 0 ≡ get_or g i 0) ⊎ ((t : InText (FileText (judged_name es) (room_of n)) f g i) × Encloses x t.span) → PartByte enums (room_of n) f g first size i
@@ -224,7 +225,7 @@ module _ (columns : Bool) (enums f g : List ℕ) (n m : ℕ) (bytes : Bytes enum
   left = ap length p ∙ table-length columns enums f n small
 
   pub lookups_alike : (row : ℕ) {x y : Lookups} → x ≡ lookups_of (grid_of (length v) columns) f v row → y ≡ lookups_of (grid_of (length w) columns) g w row
-      → (x ≡ y) × ((first size : ℕ) → x.part ≡ span.Found first size → (i : ℕ) → first ≤ i → i < first + size → PartByte enums (room_of n) f g first size i)
+      → (x ≡ y) × ((first size : ℕ) → x.part ≡ Ok (span first size) → (i : ℕ) → first ≤ i → i < first + size → PartByte enums (room_of n) f g first size i)
   lookups_alike row {x} {y} c d =
       let a : x ≡ lookups_of grid f v row = c ∙ ap (λ (k : ℕ). lookups_of (grid_of k columns) f v row) left in
       let b : y ≡ lookups_of grid' g w row = d ∙ ap (λ (k : ℕ). lookups_of (grid_of k columns) g w row) (ap length q ∙ table-length columns enums g m small') in

@@ -7,48 +7,12 @@ ghost use Rattle.table.specs.Grids.{grid_of};
 ghost use Rattle.two_runs.specs.Alike.{LoadIs, RewriteIs, NumberIs, LookupsAre};
 ghost use Rattle.two_runs.specs.Alike.{LoadsAlike, RewritesAlike, NumbersAlike, lookups_of, LookupsAlike, EveryString};
 
+use answers::Refusal;
 use ids::RowNumber;
 use load::Loading;
-use lookups::{Integer, Moment, Span};
-use rewrite::Rewriting;
-
-// The answers of two loads.
-#[derive(Clone, Copy)]
-pub struct TwoLoads {
-    pub first: Loading,
-    pub second: Loading,
-}
-
-// The answers of two rewrites.
-#[derive(Clone, Copy)]
-pub struct TwoRewrites {
-    pub first: Rewriting,
-    pub second: Rewriting,
-}
-
-// The numbers of two loads by an asset builder.
-#[derive(Clone, Copy)]
-pub struct TwoNumbers {
-    pub first: u64,
-    pub second: u64,
-}
-
-// The answers of the lookups of a row.
-#[derive(Clone, Copy)]
-pub struct Lookups {
-    pub part: Span,
-    pub text: Span,
-    pub signed: Integer,
-    pub time: Moment,
-    pub next: u32,
-}
-
-// Those in two files.
-#[derive(Clone, Copy)]
-pub struct TwoLookups {
-    pub first: Lookups,
-    pub second: Lookups,
-}
+use table::Table;
+use theorems::Two;
+use theorems::columned::{Lookups, look_up};
 
 // Two files that are loaded, by rows or in columns, under one list of enum types.
 fn load_two(
@@ -58,7 +22,7 @@ fn load_two(
     words: &mut [u32],
     others: &mut [u32],
     columns: bool,
-) -> TwoLoads
+) -> Two<Loading>
     ensures loads_alike { LoadsAlike columns enums.now file.now other.now
         (length words.old) (length others.old) words.new others.new result }
     ensures load_is { LoadIs columns enums.now file.now (length words.old) words.new result.first }
@@ -66,7 +30,7 @@ fn load_two(
 {
     let first = load::load_in(file, enums, words, columns);
     let second = load::load_in(other, enums, others, columns);
-    TwoLoads { first, second }
+    Two { first, second }
 }
 
 // Two files that are rewritten under one list of enum types.
@@ -78,7 +42,7 @@ fn rewrite_two(
     others: &mut [u32],
     out: &mut [u8],
     outs: &mut [u8],
-) -> TwoRewrites
+) -> Two<Result<usize, Refusal>>
     ensures rewrites_alike { RewritesAlike enums.now file.now other.now
         (length words.old) (length others.old) (length out.old) (length outs.old) result }
     ensures rewrite_is { RewriteIs enums.now file.now words.old out.old result.first }
@@ -86,32 +50,18 @@ fn rewrite_two(
 {
     let first = rewrite::rewrite(file, enums, words, out);
     let second = rewrite::rewrite(other, enums, others, outs);
-    TwoRewrites { first, second }
+    Two { first, second }
 }
 
 // Two files that an asset builder loads.
-fn number_two(file: &[u8], other: &[u8]) -> TwoNumbers
+fn number_two(file: &[u8], other: &[u8]) -> Two<u64>
     ensures numbers_alike { NumbersAlike file.now other.now result }
     ensures number_is { NumberIs file.now result.first }
     ensures number_is_2 { NumberIs other.now result.second }
 {
     let first = builder::xnb_load(file);
     let second = builder::xnb_load(other);
-    TwoNumbers { first, second }
-}
-
-// The lookups of a row in a table by rows or in columns.
-fn look_up(file: &[u8], words: &[u32], columns: bool, row: RowNumber) -> Lookups
-    ensures { result ≡ lookups_of (grid_of (length words.now) columns) file.now words.now row.0 }
-{
-    let grid = table::shaped(words.len(), columns);
-    Lookups {
-        part: lookups::part_of(file, words, grid, row),
-        text: lookups::text_of(file, words, grid, row),
-        signed: lookups::signed_of(file, words, grid, row),
-        time: lookups::time_of(file, words, grid, row),
-        next: branches::next_of(words, grid, row),
-    }
+    Two { first, second }
 }
 
 // A row that is looked up in two files, which are loaded first, by rows or in columns, under one list of enum types.
@@ -123,7 +73,7 @@ fn look_up_two(
     others: &mut [u32],
     columns: bool,
     row: RowNumber,
-) -> TwoLookups
+) -> Two<Lookups>
     ensures lookups_alike { LookupsAlike enums.now file.now other.now
         (length words.old) (length others.old) result }
     ensures lookups_are { LookupsAre columns enums.now file.now (length words.old) row.0 result.first }
@@ -131,9 +81,9 @@ fn look_up_two(
 {
     load::load_in(file, enums, words, columns);
     load::load_in(other, enums, others, columns);
-    let first = look_up(file, words, columns, row);
-    let second = look_up(other, others, columns, row);
-    TwoLookups { first, second }
+    let first = look_up(file, Table::shaped(words, columns), row);
+    let second = look_up(other, Table::shaped(others, columns), row);
+    Two { first, second }
 }
 
 // A file that is loaded, by rows or in columns, under a list of enum types.
