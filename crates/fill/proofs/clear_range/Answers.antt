@@ -1,19 +1,14 @@
--- `fill::clear_range` meets its contract: before each turn there are zeros up to `i`. Assumes nothing.
-use mathlib.Core.Path.{◌∙◌}
-use Prim.Native.Nat.{◌-◌, ◌≤◌, min}
-use native.Mathlib.Omega.{arith}
-use lib.ListN.{length}
-use borrow.Author.Rules.{rules}
-use Rattle.fill.proofs.Laws.{Zeroing, zeroing_starts, zeroing_goes_on, zeroed_range}
+-- `fill::clear_range` meets its contract. Assumes nothing.
+use Rattle.std.proofs.Common.{arith, ◌-◌, min, length, drop, length-drop}
+use Rattle.std.proofs.Math.Seq.{length-take-le}
+use Rattle.fill.proofs.Laws.{put_wiped, wiped_none}
 use Rattle.fill.proofs.clear_range.Goals as goal
 
-pub loop-i-init : goal.loop-i-init
-loop-i-init c = (omega arith, zeroing_starts _ _)
-
-pub loop-i-preserved : goal.loop-i-preserved
-loop-i-preserved c = (omega (arith, c.loop-i-test.true), zeroing_goes_on _ _ c.loop-i.invariant.1 (omega (arith, c.loop-i-test.true, c.least-end.ensures)))
-
-pub returns : goal.returns
-returns c =
+pub returns-then-from-end : goal.returns-then-from-end
+returns-then-from-end c =
     let a = c.args in
-    c.loop-i.invariant.1.2 ∙ zeroed_range a.out.now a.from c.loop-i.i (min a.to (length a.out.now)) (omega arith) (omega (arith, c.least-end.ensures, c.loop-i-test.false, c.loop-i.invariant.0))
+    let n = length-take-le (min a.to (length a.out.now) - a.from) (drop a.from a.out.now) (omega (arith, length-drop a.from a.out.now)) in
+    rw c.min-end.ensures (put_wiped a.out.now a.from _ _ (rw (c.min-end.ensures, n) at (c.fill.ensures.after (λ y q. q))))
+
+pub returns-else-from-end : goal.returns-else-from-end
+returns-else-from-end c = wiped_none _ _ _ (omega arith)

@@ -1,8 +1,7 @@
 -- `fill::copy` meets its contract. Assumes nothing.
 use mathlib.Core.Path.{◌∙◌}
 use native.Mathlib.Omega.{arith}
-use borrow.Author.Rules.{rules}
-use Rattle.fill.proofs.Laws.{in_both, not_both}
+use Rattle.fill.proofs.Laws.{put_pasted, in_both, not_both}
 use Rattle.fill.proofs.copy.Goals as goal
 
 named : {A B : Type 0} → A × B → record { value : A; out_after : B }
@@ -24,4 +23,4 @@ pub returns : goal.returns
 returns c =
     let a = c.args in
     let b = in_both a.out.now a.to a.src.now a.from a.n (omega arith) (omega arith) in
-    record { value = b.0; out_after = c.paste.ensures ∙ b.1 }
+    record { value = b.0; out_after = put_pasted a.out.now a.to a.src.now a.from a.n (omega arith) (omega arith) c.copy_from_slice.ensures.after ∙ b.1 }
