@@ -81,7 +81,7 @@ fn add_read(
     if pack_sums::sum(report, &figures) {
         return Ok(());
     }
-    fill::clear64(table, 0);
+    fill::clear(table, 0);
     Err(Rule::FigureTooLarge.at(0))
 }
 
@@ -105,7 +105,7 @@ pub fn add(
 {
     fill::clear(words, 0);
     if table::room(words.len()) < 65536 {
-        fill::clear64(table, 0);
+        fill::clear(table, 0);
         return Err(Rule::NoRowRoom.at(0));
     }
     let files = packs::read(pack, table, false)?;

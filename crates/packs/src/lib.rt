@@ -154,6 +154,6 @@ pub fn read(pack: &[u8], table: &mut [u64], marked: bool) -> Result<usize, Refus
 {
     let read = read_counted(pack, table, marked);
     let files = read.unwrap_or(0);
-    fill::clear64(table, 4 * files);
+    fill::clear(table, 4 * files);
     read
 }

@@ -8,7 +8,7 @@ pub returns-then-room-lt65536 : goal.returns-then-room-lt65536
 returns-then-room-lt65536 c =
     let a = c.args in
     let s = no_room a.enums.now a.pack.now a.report.now (length a.words.now) (length a.table.now) (room_below a.words.now (rw c.clear.ensures at c.room.ensures) c.if-room-lt65536.true) in
-    record { value = s.0; report_after = s.1; table_after = c.clear64.ensures ∙ all_cleared a.table.now ∙ s.2; words_after = c.clear.ensures ∙ all_cleared a.words.now }
+    record { value = s.0; report_after = s.1; table_after = c.clear-then-room-lt65536.ensures ∙ all_cleared a.table.now ∙ s.2; words_after = c.clear.ensures ∙ all_cleared a.words.now }
 
 pub add_read-requires : goal.add_read-requires
 add_read-requires c =

@@ -29,4 +29,4 @@ returns c =
     let h = has a.pack.now small (length a.table.now) c.requires.0.0 in
     let e = c.count_files.ensures.figures_after ∙ pack_figures a.pack.now small a.enums.now a.table.now h c.requires.0.1 in
     let s = is_not_added a.enums.now a.pack.now (length a.table.now) h a.report.now _ e (sym c.sum.ensures.value ∙ c.if-sum.false) in
-    record { value = s.0; report_after = c.sum.ensures.into_after ∙ s.1; table_after = c.clear64.ensures ∙ all_cleared a.table.now ∙ s.2; words_unchanged = c.count_files.ensures.words_unchanged }
+    record { value = s.0; report_after = c.sum.ensures.into_after ∙ s.1; table_after = c.clear.ensures ∙ all_cleared a.table.now ∙ s.2; words_unchanged = c.count_files.ensures.words_unchanged }

@@ -19,7 +19,7 @@ returns-in-Refused c =
     let a = c.args in
     let x = pack_at (mark_of a.marked) a.pack.now (files_room (length a.table.now)) in
     let t = told-refused (mark_of a.marked) x _ (length a.table.now) (search rules) (rw c.in-Refused.is at c.read_counted.ensures) in
-    record { value = t.answers; table_after = rw c.clear64.ensures t.leaves }
+    record { value = t.answers; table_after = rw c.clear.ensures t.leaves }
 
 pub returns-in-Read : goal.returns-in-Read
 unfolding pack_of
@@ -27,4 +27,4 @@ returns-in-Read c =
     let a = c.args in
     let x = pack_at (mark_of a.marked) a.pack.now (files_room (length a.table.now)) in
     let t = told-read (mark_of a.marked) x _ (length a.table.now) (search rules) (rw c.in-Read.is at c.read_counted.ensures) in
-    record { value = t.answers; table_after = rw c.clear64-in-Read.ensures t.leaves }
+    record { value = t.answers; table_after = rw c.clear-in-Read.ensures t.leaves }
