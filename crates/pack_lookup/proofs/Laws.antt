@@ -14,8 +14,8 @@ use Rattle.pack_layout.specs.Lookup.{lower, lowered}
 use Rattle.reading.specs.Same.{same}
 use Rattle.pack_reading.specs.Lookup.{matches, found, find_in, find_of}
 use Rattle.pack_lookup.specs.Compared.{SameAt, Compared}
-use Rattle.pack_lookup.specs.Lookup.{entry_at, found_as}
-use Rattle.pack_lookup.specs.declared.Found.TheVariants.{Absent, At}
+use Rattle.pack_lookup.specs.Lookup.{entry_at, part, found_as}
+use Rattle.std.specs.Prelude.{Some, None}
 
 -- ---- A byte
 
@@ -189,7 +189,7 @@ module _ (file table path : List ℕ) where
   look = record { few = omega arith; rest = refl }
 
   module _ {i : ℕ} (l : Looking i) where
-    pub look_end : length table - i < 4 → Absent ≡ found_as (find_of file table path)
+    pub look_end : length table - i < 4 → None ≡ found_as (find_of file table path)
     unfolding find_in
     look_end h =
         let e : wholes (drop i table) ≡ [] = short (drop i table) (rw length-drop h) in
@@ -200,7 +200,7 @@ module _ (file table path : List ℕ) where
       unfolding find_in
       step_look = sym l.rest ∙ rw (whole table i (omega arith))
 
-      pub look_found : true ≡ matches file path (entry_at table i) → At (get_or table (i + 2) 0) (get_or table (i + 3) 0) ≡ found_as (find_of file table path)
+      pub look_found : true ≡ matches file path (entry_at table i) → Some (part (get_or table (i + 2) 0) (get_or table (i + 3) 0)) ≡ found_as (find_of file table path)
       look_found t = rw (step_look, ← t)
 
       pub look_next : false ≡ matches file path (entry_at table i) → Looking (i + 4)

@@ -33,25 +33,23 @@ first_inside file path [] first count m = absurd m
 first_inside file path (e ∷ es) first count (inl m) = rw (m.1, m.2) m.0.data_inside
 first_inside file path (e ∷ es) first count (inr m) = first_inside file path es first count m.1
 
-says_inside : (file path : List ℕ) (es : List Entry) (x : Found) {first count : ℕ} → Says file path es x → Some (part first count) ≡ found_as x → first + count ≤ length file
+says_inside : (file path : List ℕ) (es : List Entry) (x : Found) {p : Part} → Says file path es x → Some p ≡ found_as x → p.first + p.count ≤ length file
 unfolding Says
 says_inside file path es absent s e = differ cc
-says_inside file path es (found a b) {first} {count} s e =
-    let p : first ≡ a = cc in
-    let r : count ≡ b = cc in
-    rw (p, r) (first_inside file path es a b s)
+says_inside file path es (found a b) {p} s e =
+    let q : p ≡ part a b = cc in
+    rw q (first_inside file path es a b s)
 
-pub data_inside : (file table path : List ℕ) {first count : ℕ} → Some (part first count) ≡ found_as (find_of file table path) → first + count ≤ length file
+pub data_inside : (file table path : List ℕ) {p : Part} → Some p ≡ found_as (find_of file table path) → p.first + p.count ≤ length file
 unfolding find_of
 data_inside file table path q = says_inside file path (wholes table) (find_in file path (wholes table)) (find_says file path (wholes table)) q
 
-pub data_found : (file : List ℕ) (x : Found) {first count : ℕ} → Some (part first count) ≡ found_as x → take (first + count - first) (drop first file) ≡ data_of file x
+pub data_found : (file : List ℕ) (x : Found) {p : Part} → Some p ≡ found_as x → take (p.first + p.count - p.first) (drop p.first file) ≡ data_of file x
 data_found file absent q = differ cc
-data_found file (found a b) {first} {count} q =
-    let p : first ≡ a = cc in
-    let r : count ≡ b = cc in
-    let e : first + count - first ≡ count = omega arith in
-    rw (e, p, r)
+data_found file (found a b) {p} q =
+    let r : p ≡ part a b = cc in
+    let e : a + b - a ≡ b = omega arith in
+    rw (r, e)
 
 pub data_absent : (file : List ℕ) (x : Found) → None ≡ found_as x → [] ≡ data_of file x
 data_absent file absent q = refl

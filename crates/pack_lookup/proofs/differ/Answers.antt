@@ -1,8 +1,6 @@
 -- `pack_lookup::differ` meets its contract: before each turn `other` tells of the first `j` bytes. Assumes nothing.
 use mathlib.Core.Path.{◌≡◌}
-use Prim.Native.Nat.{◌-◌, ◌≤◌}
 use native.Mathlib.Omega.{arith}
-use Rattle.pack_lookup.specs.Compared.{Compared}
 use Rattle.pack_lookup.proofs.Laws.{none_compared, one_more}
 use borrow.Author.Rules.{rules}
 use Rattle.pack_lookup.proofs.differ.Goals as goal

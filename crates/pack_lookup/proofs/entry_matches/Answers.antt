@@ -2,8 +2,6 @@
 use mathlib.Core.Path.{sym, ◌∙◌}
 use native.Mathlib.Omega.{arith}
 use Rattle.pack_lookup.proofs.Laws.{other_size, no_path, path_past, path_other, data_past, path_inside}
-use borrow.Author.Rules.{rules}
-use borrow.Author.Tests.{not-true, not-false}
 use Rattle.pack_lookup.proofs.entry_matches.Goals as goal
 
 pub returns-then-size-path : goal.returns-then-size-path

@@ -1,9 +1,6 @@
 -- `pack_lookup::find` meets its contract: before each turn no entry before word `i` matches. Assumes nothing.
 use mathlib.Core.Path.{sym, ◌∙◌}
-use Prim.Native.Nat.{◌-◌}
-use lib.ListN.{length}
-use Rattle.pack_lookup.proofs.Laws.{Looking, look, look_end, look_found, look_next}
-use borrow.Author.Rules.{rules}
+use Rattle.pack_lookup.proofs.Laws.{look, look_end, look_found, look_next}
 use Rattle.pack_lookup.proofs.find.Goals as goal
 
 pub loop-i-init : goal.loop-i-init

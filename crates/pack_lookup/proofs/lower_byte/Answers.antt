@@ -1,5 +1,4 @@
 use Rattle.pack_lookup.proofs.Laws.{lower_low, lower_high, lower_letter}
-use borrow.Author.Rules.{rules}
 use Rattle.pack_lookup.proofs.lower_byte.Goals as goal
 
 pub returns-then-b-lt65 : goal.returns-then-b-lt65

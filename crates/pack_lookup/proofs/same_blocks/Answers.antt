@@ -1,10 +1,7 @@
 -- `pack_lookup::same_blocks` meets its contract: before each turn the last bytes agree, and those up to `i`. Assumes nothing.
-use mathlib.Core.Path.{◌≡◌, refl}
-use Prim.Native.Nat.{◌-◌}
+use mathlib.Core.Path.{refl}
 use native.Mathlib.Omega.{arith}
-use lib.ListN.{length}
-use Rattle.pack_lookup.proofs.Laws.{Agree, other_block, same_start, same_next, same_end}
-use borrow.Author.Rules.{rules}
+use Rattle.pack_lookup.proofs.Laws.{other_block, same_start, same_next, same_end}
 use Rattle.pack_lookup.proofs.same_blocks.Goals as goal
 
 pub returns-then-differ : goal.returns-then-differ

@@ -1,10 +1,8 @@
 -- `pack_lookup::same_blocks` meets its contract: before each turn the last bytes agree, and those up to `i`. Assumes nothing.
-use mathlib.Core.Path.{◌≡◌, refl}
+use mathlib.Core.Path.{◌≡◌}
 use Prim.Native.Nat.{◌-◌}
-use native.Mathlib.Omega.{arith}
 use lib.ListN.{length}
-use Rattle.pack_lookup.proofs.Laws.{Agree, other_block, same_start, same_next, same_end}
-use borrow.Author.Rules.{rules}
+use Rattle.pack_lookup.proofs.Laws.{Agree}
 use Rattle.pack_lookup.proofs.same_blocks.Given as goal
 
 abbrev pub invariant-loop-i : goal.invariant-loop-i

@@ -1,6 +1,5 @@
 use native.Mathlib.Omega.{arith}
 use Rattle.pack_lookup.proofs.Laws.{alike, other_lengths, other_block}
-use borrow.Author.Rules.{rules}
 use Rattle.pack_lookup.proofs.same_path.Goals as goal
 
 pub returns-then-a-b : goal.returns-then-a-b
