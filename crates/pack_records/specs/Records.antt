@@ -2,21 +2,25 @@
 use Rattle.std.specs.Prelude.{List, ℕ, ◌+◌, length, Result, Ok, Err}
 use Rattle.answers.specs.declared.Refusal.{Refusal}
 use Rattle.answers.specs.Refusals.{refusal}
-use Rattle.reading.specs.Answer.{Answer, refused, read, bind}
+use Rattle.reading.specs.Answer.{Answer, refused, read}
 use Rattle.pack_layout.specs.Pack.{Stored}
 use Rattle.pack_layout.specs.Table.{Entry, entry_of}
-use Rattle.pack_reading.specs.Pack.{mark_at}
 use Rattle.pack_records.specs.declared.Path.{Path}
 use Rattle.pack_records.specs.declared.Record.{Record}
 
 -- where a record's path starts
-abbrev pub start_at : (mark file : List ℕ) (at : ℕ) → Answer ℕ
-start_at mark file at = bind (mark_at mark file at) (λ m start. read 0 start)
+abbrev pub started : Answer (List ℕ) → Result ℕ Refusal
+started (refused number place) = Err (refusal number place)
+started (read mark start) = Ok start
+
+-- a path of so many bytes from a place on
+abbrev pub path_part : (start size : ℕ) → Path
+path_part start size = record { start = start; size = size }
 
 -- a path whose length stands at a place: where its bytes start, and how many they are
 abbrev pub pathed : (at : ℕ) → Answer (List ℕ × List ℕ) → Result Path Refusal
 pathed at (refused number place) = Err (refusal number place)
-pathed at (read p next) = Ok (record { start = at + length p.0; size = length p.1 })
+pathed at (read p next) = Ok (path_part (at + length p.0) (length p.1))
 
 -- a record whose path and data stand so
 abbrev pub stands : (start size first count : ℕ) → Record

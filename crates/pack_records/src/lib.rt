@@ -3,35 +3,27 @@
 
 ghost use Rattle.std.specs.Prelude.{◌≡◌, ◌+◌, ◌≤◌, length};
 ghost use Rattle.pack_layout.specs.Pack.{mark_of};
-ghost use Rattle.answers.specs.Told.{told};
-ghost use Rattle.pack_reading.specs.Pack.{path_at, content_at, record_at};
-ghost use Rattle.pack_records.specs.Records.{start_at, pathed, contented, recorded};
+ghost use Rattle.pack_reading.specs.Pack.{mark_at, path_at, content_at, record_at};
+ghost use Rattle.pack_records.specs.Records.{started, pathed, contented, recorded};
 
-use answers::{Number, Read, Refusal, Rule};
+use answers::{Refusal, Rule};
 use numbers::little::{has_bytes, little};
 use numbers::seven::seven_at;
 
 // Where a record's path starts: behind the mark, where the form has one.
-fn start_at(pack: &[u8], at: usize, marked: bool) -> Number
-    ensures { told result ≡ start_at (mark_of marked) pack.now at }
+fn start_at(pack: &[u8], at: usize, marked: bool) -> Result<usize, Refusal>
+    ensures { result ≡ started (mark_at (mark_of marked) pack.now at) }
 {
     if !marked {
-        return Ok(Read { value: 0, next: at });
+        return Ok(at);
     }
     if !has_bytes(pack, at, 2) {
         return Err(Rule::PastEnd.at(at));
     }
-    if pack[at] != 0xFD {
+    if pack[at] != 0xFD || pack[at + 1] != 0xFE {
         return Err(Rule::MissingMark.at(at));
     }
-    let second = at + 1;
-    if pack[second] != 0xFE {
-        return Err(Rule::MissingMark.at(at));
-    }
-    Ok(Read {
-        value: 0,
-        next: at + 2,
-    })
+    Ok(at + 2)
 }
 
 // Where a path's bytes start, and how many they are.
@@ -94,7 +86,7 @@ fn content_at(pack: &[u8], path: Path) -> Result<Record, Refusal>
 pub fn record_at(pack: &[u8], at: usize, marked: bool) -> Result<Record, Refusal>
     ensures { result ≡ recorded (mark_of marked) at (record_at (mark_of marked) pack.now at) }
 {
-    let mark = start_at(pack, at, marked)?;
-    let path = path_at(pack, mark.next)?;
+    let start = start_at(pack, at, marked)?;
+    let path = path_at(pack, start)?;
     content_at(pack, path)
 }
