@@ -12,7 +12,10 @@ use Rattle.laws.specs.Small.{neither}
 use Rattle.layout.specs.Text.{ascii}
 use Prim.Native.Char.{code}
 use Rattle.layout.specs.Name.{none, some, tail_byte, all}
-use Rattle.names.specs.Parse.{span, starts, common, tail_size, tail_of, wrong_by, behind}
+use Rattle.names.specs.Parse.{span, starts, common, tail_size, tail_of}
+use Rattle.answers.specs.declared.Rule.{Rule}
+use Rattle.answers.specs.declared.Rule.TheVariants.{TailByte, ArgumentBrackets}
+use Rattle.names.specs.Contract.{rule_by, rule_behind}
 use Rattle.names.specs.Common.{starts-common, common_yes, common-none, common-fits, starts-longer}
 use Rattle.names.specs.Sound.{starts_is, span_le}
 use Rattle.names.specs.Complete.{span-past}
@@ -145,32 +148,32 @@ pub tail-fits : (s : List ℕ) (e : ℕ) → e ≤ length s → e + tail_size (d
 tail-fits s e h = tail_bound s e h (starts (ascii ",") (drop e s)) refl
 
 -- perhaps a tail: none if it has no bytes
-pub bare_is : (s : List ℕ) (bare : ℕ) → tail_size s ≡ 0 → bare ≡ wrong_by bare (tail_of s)
-unfolding tail_size tail_of wrong_by
+pub bare_is : (s : List ℕ) (bare : Rule) → tail_size s ≡ 0 → bare ≡ rule_by bare (tail_of s)
+unfolding tail_size tail_of rule_by
 bare_is s bare e = go (starts (ascii ",") s) e where
-  go : (b : Bool) → cond b (suc (span tail_byte (drop 1 s))) 0 ≡ 0 → bare ≡ wrong_by bare (cond b (some (take (span tail_byte (drop 1 s)) (drop 1 s))) none)
+  go : (b : Bool) → cond b (suc (span tail_byte (drop 1 s))) 0 ≡ 0 → bare ≡ rule_by bare (cond b (some (take (span tail_byte (drop 1 s)) (drop 1 s))) none)
   go true e = absurd (omega arith)
   go false e = refl
 
-pub tail_is : (s : List ℕ) (bare : ℕ) → (tail_size s ≡ 0 → ⊥) → 37 ≡ wrong_by bare (tail_of s)
-unfolding tail_size tail_of wrong_by
+pub tail_is : (s : List ℕ) (bare : Rule) → (tail_size s ≡ 0 → ⊥) → TailByte ≡ rule_by bare (tail_of s)
+unfolding tail_size tail_of rule_by
 tail_is s bare e = go (starts (ascii ",") s) e where
-  go : (b : Bool) → (cond b (suc (span tail_byte (drop 1 s))) 0 ≡ 0 → ⊥) → 37 ≡ wrong_by bare (cond b (some (take (span tail_byte (drop 1 s)) (drop 1 s))) none)
+  go : (b : Bool) → (cond b (suc (span tail_byte (drop 1 s))) 0 ≡ 0 → ⊥) → TailByte ≡ rule_by bare (cond b (some (take (span tail_byte (drop 1 s)) (drop 1 s))) none)
   go true e = refl
   go false e = absurd (e refl)
 
 -- behind an argument
-module _ (s : List ℕ) (e other : ℕ) where
-  pub behind_end : length s ≤ e → 36 ≡ behind other (drop e s)
-  unfolding behind
+module _ (s : List ℕ) (e : ℕ) (other : Rule) where
+  pub behind_end : length s ≤ e → ArgumentBrackets ≡ rule_behind other (drop e s)
+  unfolding rule_behind
   behind_end h = rw (drop_of_length-le s h)
 
-  pub behind_bracket : e < length s → get_or s e 0 ≡ code "]" → 36 ≡ behind other (drop e s)
-  unfolding behind
+  pub behind_bracket : e < length s → get_or s e 0 ≡ code "]" → ArgumentBrackets ≡ rule_behind other (drop e s)
+  unfolding rule_behind
   behind_bracket h b = rw (cons_at s e h, eq-eqb (get_or s e 0) (code "]") b)
 
-  pub behind_other : e < length s → (get_or s e 0 ≡ code "]" → ⊥) → other ≡ behind other (drop e s)
-  unfolding behind
+  pub behind_other : e < length s → (get_or s e 0 ≡ code "]" → ⊥) → other ≡ rule_behind other (drop e s)
+  unfolding rule_behind
   behind_other h b = rw (cons_at s e h, ne_eqb (get_or s e 0) (code "]") b)
 
 -- whether a text stands there, by how much of it does

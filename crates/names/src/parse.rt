@@ -120,12 +120,7 @@ fn close(name: &[u8], at: usize, a: usize, argument: Parsed) -> Result<Parsed, R
     ensures { result ≡ closing at name.now a argument }
 {
     let end = past(name, at, a, argument, b"]]")?;
-    Ok(tailed_at(
-        name,
-        end,
-        argument.used,
-        Rule::ArgumentBrackets,
-    ))
+    Ok(tailed_at(name, end, argument.used, Rule::ArgumentBrackets))
 }
 
 // The code of a head with n arguments at a place: its kind, 64 times n and 256 times the place.

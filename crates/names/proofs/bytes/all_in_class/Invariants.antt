@@ -1,12 +1,9 @@
-use borrow.Author.Rules.{rules}
-use mathlib.Core.Path.{◌≡◌, refl, ap, ◌∙◌}
-use mathlib.Core.Bool.{Bool, not, ◌||◌, not-not}
-use Prim.Native.Nat.{ℕ, ◌-◌, ◌≤◌}
-use native.Mathlib.Omega.{arith}
+use mathlib.Core.Path.{◌≡◌}
+use mathlib.Core.Bool.{not}
+use Prim.Native.Nat.{◌-◌, ◌≤◌}
 use lib.ListN.{take, drop}
 use Rattle.layout.specs.Name.{all}
 use Rattle.names.specs.Contract.{class}
-use Rattle.names.proofs.Laws.{other_step}
 use Rattle.names.proofs.bytes.all_in_class.Given as goal
 
 abbrev pub invariant-loop-i : goal.invariant-loop-i

@@ -1,4 +1,3 @@
-use borrow.Author.Rules.{rules}
 use Rattle.names.proofs.bytes.in_class.Goals as goal
 
 pub returns-then-tail : goal.returns-then-tail

@@ -1,10 +1,6 @@
 use borrow.Author.Rules.{rules}
-use mathlib.Core.Path.{◌≡◌, sym, ◌∙◌}
-use Prim.Native.Nat.{◌+◌, ◌-◌, ◌≤◌}
+use mathlib.Core.Path.{sym, ◌∙◌}
 use native.Mathlib.Omega.{arith}
-use lib.ListN.{length, drop}
-use borrow.Author.Tests.{not-false}
-use Rattle.names.specs.Parse.{span}
 use Rattle.names.specs.Sound.{span_le}
 use Rattle.names.specs.Contract.{class}
 use Rattle.names.proofs.Laws.{span-start, span_block, span_rest}

@@ -1,13 +1,8 @@
-use borrow.Author.Rules.{rules}
-use mathlib.Core.Path.{◌≡◌, sym, ◌∙◌}
+use mathlib.Core.Path.{◌≡◌}
 use Prim.Native.Nat.{◌+◌, ◌-◌, ◌≤◌}
-use native.Mathlib.Omega.{arith}
 use lib.ListN.{length, drop}
-use borrow.Author.Tests.{not-false}
 use Rattle.names.specs.Parse.{span}
-use Rattle.names.specs.Sound.{span_le}
 use Rattle.names.specs.Contract.{class}
-use Rattle.names.proofs.Laws.{span-start, span_block, span_rest}
 use Rattle.names.proofs.bytes.long_run.Given as goal
 
 abbrev pub invariant-loop-i : goal.invariant-loop-i

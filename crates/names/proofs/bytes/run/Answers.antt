@@ -1,10 +1,5 @@
 use borrow.Author.Rules.{rules}
-use mathlib.Core.Path.{◌≡◌, sym, ◌∙◌}
-use Prim.Native.Nat.{◌+◌, ◌-◌, ◌≤◌}
-use lib.ListN.{length, drop}
-use borrow.Author.Tests.{not-true, not-false}
-use Rattle.names.specs.Parse.{span}
-use Rattle.names.specs.Contract.{class}
+use mathlib.Core.Path.{sym, ◌∙◌}
 use Rattle.names.proofs.Laws.{span-start, span-end, span-stop, span-step}
 use Rattle.names.proofs.bytes.run.Goals as goal
 

@@ -1,11 +1,8 @@
-use borrow.Author.Rules.{rules}
-use mathlib.Core.Path.{◌≡◌, sym, ◌∙◌}
+use mathlib.Core.Path.{◌≡◌}
 use Prim.Native.Nat.{◌+◌, ◌-◌, ◌≤◌}
 use lib.ListN.{length, drop}
-use borrow.Author.Tests.{not-true, not-false}
 use Rattle.names.specs.Parse.{span}
 use Rattle.names.specs.Contract.{class}
-use Rattle.names.proofs.Laws.{span-start, span-end, span-stop, span-step}
 use Rattle.names.proofs.bytes.run.Given as goal
 
 abbrev pub invariant-loop-i : goal.invariant-loop-i

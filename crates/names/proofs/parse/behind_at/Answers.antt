@@ -1,5 +1,4 @@
 use Rattle.names.proofs.Laws.{behind_end, behind_bracket, behind_other}
-use borrow.Author.Rules.{rules}
 use Rattle.names.proofs.parse.behind_at.Goals as goal
 
 pub returns-then-name-e : goal.returns-then-name-e

@@ -1,20 +1,19 @@
-use mathlib.Core.Path.{sym, ap, ◌∙◌}
+use mathlib.Core.Path.{sym, ap}
+use Rattle.std.proofs.lemmas.Result.{err_from_is_err_and}
 use Rattle.layout.specs.Text.{ascii}
 use Rattle.names.specs.Contract.{tailed_after}
 use Rattle.names.proofs.Steps.{passed-fits}
-use borrow.Author.Rules.{rules}
 use Rattle.names.proofs.parse.close.Goals as goal
 
-pub past-requires : goal.past-requires
-past-requires c = c.requires
-
 pub tailed_at-requires : goal.tailed_at-requires
-tailed_at-requires c = passed-fits _ _ c.args.name.now c.args.a _ _ _ c.args.argument c.requires.0 (sym c.past.ensures ∙ c.in-Name.is)
+tailed_at-requires c = passed-fits _ _ _ _ c.args.argument c.requires.0 (sym c.in_ok-end.ensures)
 
-pub returns-in-Broken : goal.returns-in-Broken
+pub returns-in_err-end : goal.returns-in_err-end
 unfolding ascii
-returns-in-Broken c = sym (ap (tailed_after c.args.name.now) (sym c.past.ensures ∙ c.in-Broken.is))
+returns-in_err-end c =
+    let p = err_from_is_err_and c.from_residual.result c.from_residual.ensures.1 in
+    rw (p.1, p.2) (ap (tailed_after c.args.name.now c.args.argument.used) c.in_err-end.ensures)
 
-pub returns-in-Name : goal.returns-in-Name
+pub returns : goal.returns
 unfolding ascii
-returns-in-Name c = c.tailed_at.ensures ∙ sym (ap (tailed_after c.args.name.now) (sym c.past.ensures ∙ c.in-Name.is))
+returns c = rw c.tailed_at.ensures (ap (tailed_after c.args.name.now c.args.argument.used) c.in_ok-end.ensures)

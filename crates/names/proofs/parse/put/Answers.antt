@@ -1,6 +1,5 @@
 use mathlib.Core.Path.{sym}
 use lib.Seq.{set_out}
-use borrow.Author.Rules.{rules}
 use Rattle.names.proofs.parse.put.Goals as goal
 
 pub returns-else-i-codes : goal.returns-else-i-codes

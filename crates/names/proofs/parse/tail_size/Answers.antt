@@ -1,9 +1,7 @@
-use borrow.Author.Rules.{rules}
 use mathlib.Core.Path.{sym, ap, ◌∙◌}
 use Prim.Native.Nat.{ℕ, ◌+◌}
 use native.Mathlib.Omega.{arith}
 use lib.ListN.{drop, length-drop}
-use borrow.Author.Tests.{not-true, not-false}
 use Rattle.layout.specs.Text.{ascii}
 use Rattle.layout.specs.Name.{tail_byte}
 use Rattle.names.specs.Parse.{span}

@@ -1,7 +1,6 @@
 use native.Mathlib.Omega.{arith}
 use Rattle.names.specs.Entries.{enums_of}
 use Rattle.names.specs.Codes.{kind_is_small}
-use borrow.Author.Rules.{rules}
 use Rattle.names.proofs.parse.word_of.Goals as goal
 
 pub overflow_add-result : goal.overflow_add-result

@@ -2,9 +2,7 @@
 use borrow.Author.Rules.{rules}
 use mathlib.Core.Path.{sym, ◌∙◌}
 use native.Mathlib.Omega.{arith}
-use Prim.Native.Nat.{◌-◌, ◌≤◌}
-use lib.ListN.{length}
-use Rattle.names.proofs.Lookup.{Left, left_start, find_cut, find_this, find_next, find_none}
+use Rattle.names.proofs.Lookup.{left_start, find_cut, find_this, find_next, find_none}
 use Rattle.names.proofs.tables.find.Goals as goal
 
 pub loop-at-init : goal.loop-at-init

@@ -1,10 +1,7 @@
 -- `names::tables::find` meets its contract: the entries from `at` on are as good as all. Assumes nothing.
-use borrow.Author.Rules.{rules}
-use mathlib.Core.Path.{sym, ◌∙◌}
-use native.Mathlib.Omega.{arith}
 use Prim.Native.Nat.{◌-◌, ◌≤◌}
 use lib.ListN.{length}
-use Rattle.names.proofs.Lookup.{Left, left_start, find_cut, find_this, find_next, find_none}
+use Rattle.names.proofs.Lookup.{Left}
 use Rattle.names.proofs.tables.find.Given as goal
 
 abbrev pub invariant-loop-at : goal.invariant-loop-at

@@ -2,7 +2,6 @@ use mathlib.Core.Path.{sym, ap, ◌∙◌}
 use borrow.Author.Tests.{eq-eqb, ne_eqb}
 use Rattle.names.specs.Kind.{listed, enum_kind, kind_in}
 use Rattle.names.specs.EntryLaws.{kind_listed}
-use borrow.Author.Rules.{rules}
 use Rattle.names.proofs.tables.kind_in.Goals as goal
 
 pub returns-then-own : goal.returns-then-own

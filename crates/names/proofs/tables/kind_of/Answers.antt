@@ -1,4 +1,3 @@
-use borrow.Author.Rules.{rules}
 use Rattle.names.specs.Kind.{listed}
 use Rattle.names.proofs.tables.kind_of.Goals as goal
 

@@ -1,5 +1,4 @@
 use mathlib.Core.Path.{sym, ◌∙◌}
-use borrow.Author.Rules.{rules}
 use Rattle.names.proofs.texts.either.Goals as goal
 
 pub returns-then-stands : goal.returns-then-stands

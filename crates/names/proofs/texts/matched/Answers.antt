@@ -1,9 +1,9 @@
 -- `names::texts::matched` meets its contract: the bytes before i stand there. Assumes nothing.
 use borrow.Author.Rules.{rules}
 use mathlib.Core.Path.{◌≡◌, ap}
-use Prim.Native.Nat.{ℕ, ◌+◌, ◌-◌, ◌≤◌}
+use Prim.Native.Nat.{ℕ, ◌+◌}
 use native.Mathlib.Omega.{arith}
-use lib.ListN.{length, drop}
+use lib.ListN.{drop}
 use Rattle.names.specs.Parse.{common}
 use Rattle.names.proofs.Laws.{common-end, common-short, common-stop, common-step}
 use Rattle.names.proofs.texts.matched.Goals as goal

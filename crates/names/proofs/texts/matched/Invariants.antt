@@ -1,11 +1,8 @@
 -- `names::texts::matched` meets its contract: the bytes before i stand there. Assumes nothing.
-use borrow.Author.Rules.{rules}
-use mathlib.Core.Path.{◌≡◌, ap}
-use Prim.Native.Nat.{ℕ, ◌+◌, ◌-◌, ◌≤◌}
-use native.Mathlib.Omega.{arith}
+use mathlib.Core.Path.{◌≡◌}
+use Prim.Native.Nat.{◌+◌, ◌-◌, ◌≤◌}
 use lib.ListN.{length, drop}
 use Rattle.names.specs.Parse.{common}
-use Rattle.names.proofs.Laws.{common-end, common-short, common-stop, common-step}
 use Rattle.names.proofs.texts.matched.Given as goal
 
 abbrev pub invariant-loop-i : goal.invariant-loop-i

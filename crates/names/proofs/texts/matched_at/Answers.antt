@@ -1,5 +1,4 @@
 use Rattle.names.proofs.Laws.{common-past}
-use borrow.Author.Rules.{rules}
 use native.Mathlib.Omega.{arith}
 use Rattle.names.proofs.texts.matched_at.Goals as goal
 

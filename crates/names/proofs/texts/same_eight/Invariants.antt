@@ -1,10 +1,7 @@
-use borrow.Author.Rules.{rules}
-use mathlib.Core.Path.{◌≡◌, refl, ap, ◌∙◌}
-use Prim.Native.Nat.{ℕ, ◌-◌, ◌≤◌}
-use native.Mathlib.Omega.{arith}
+use mathlib.Core.Path.{◌≡◌}
+use Prim.Native.Nat.{◌-◌, ◌≤◌}
 use lib.ListN.{take, drop}
 use Rattle.layout.specs.Kind.{alike}
-use Rattle.names.proofs.Lookup.{alike-step}
 use Rattle.names.proofs.texts.same_eight.Given as goal
 
 abbrev pub invariant-loop-i : goal.invariant-loop-i

@@ -1,11 +1,7 @@
 use borrow.Author.Rules.{rules}
-use mathlib.Core.Path.{◌≡◌, sym, ◌∙◌}
-use Prim.Native.Nat.{◌≤◌}
+use mathlib.Core.Path.{sym, ◌∙◌}
 use native.Mathlib.Omega.{arith}
-use lib.ListN.{length, take}
 use lib.Seq.{length-take-le}
-use borrow.Author.Tests.{not-true, not-false}
-use Rattle.layout.specs.Kind.{alike}
 use Rattle.names.proofs.Lookup.{alike-length, alike-starts, alike-whole, alike_last, takes-long}
 use Rattle.names.proofs.texts.same_text.Goals as goal
 

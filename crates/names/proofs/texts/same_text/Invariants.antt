@@ -1,12 +1,7 @@
-use borrow.Author.Rules.{rules}
-use mathlib.Core.Path.{◌≡◌, sym, ◌∙◌}
+use mathlib.Core.Path.{◌≡◌}
 use Prim.Native.Nat.{◌≤◌}
-use native.Mathlib.Omega.{arith}
 use lib.ListN.{length, take}
-use lib.Seq.{length-take-le}
-use borrow.Author.Tests.{not-true, not-false}
 use Rattle.layout.specs.Kind.{alike}
-use Rattle.names.proofs.Lookup.{alike-length, alike-starts, alike-whole, alike_last, takes-long}
 use Rattle.names.proofs.texts.same_text.Given as goal
 
 abbrev pub invariant-loop-left : goal.invariant-loop-left

@@ -1,5 +1,4 @@
 use Rattle.names.proofs.Laws.{stands_is}
-use borrow.Author.Rules.{rules}
 use Rattle.names.proofs.texts.stands.Goals as goal
 
 pub returns : goal.returns
