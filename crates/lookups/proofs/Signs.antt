@@ -2,6 +2,7 @@
 use mathlib.Core.Path.{◌≡◌, refl, sym, ap, ◌∙◌}
 use mathlib.Core.Bool.{Bool, true, false, cond}
 use mathlib.Core.List.{List}
+use Rattle.std.proofs.Common.{◌⊎◌, inl, inr}
 use Prim.Native.Nat.{ℕ, zero, suc, ◌-◌, ◌^◌, ◌/◌, ◌≤◌, ◌<◌}
 use native.Mathlib.Omega.{arith}
 use lib.Dec.{leb}
@@ -14,7 +15,8 @@ use borrow.Author.Tests.{le-leb, lt-leb, leb-true, leb-false, eq-eqb, ne_eqb}
 use Rattle.reading.specs.Answer.{Answer, refused, read}
 use Rattle.reading.specs.Reads.{Small}
 use Rattle.reading.specs.Little.{little_at, little_next}
-use Rattle.lookups.specs.declared.Integer.TheVariants.{Refused, Number}
+use Rattle.std.specs.Prelude.{Ok, Err}
+use Rattle.answers.specs.Refusals.{refusal}
 use Rattle.lookups.specs.Signs.{twos, Within, signed_from, last_bytes, signed_in}
 
 pub low : (top value : ℕ) → value ≤ top / 2 → twos top value ≡ pos value
@@ -56,10 +58,10 @@ twos-fits top value t = go (leb value (top / 2)) refl where
 
 -- the number that a call gave
 pub from_number : {z : ℤ} {x : Answer ℕ} (top row value next : ℕ) → top < 18446744073709551616 → z ≡ twos top value → x ≡ read value next
-    → Number (to_z w64 (of_z w64 z)) ≡ signed_from top row x
+    → Ok (to_z w64 (of_z w64 z)) ≡ signed_from top row x
 unfolding signed_from
 from_number top row value next t e q =
-    rw (q, e) (ap Number (to_z-of_z {w = w64} (twos-fits top value t)))
+    rw (q, e) (ap Ok (to_z-of_z {w = w64} (twos-fits top value t)))
 
 -- a number of so many bytes is at most the largest of them
 within_of : (bytes : List ℕ) → Small bytes → (k at : ℕ) → 1 ≤ k → (x : Answer ℕ) → little_at bytes k at at ≡ x → Within (256 ^ k - 1) x
@@ -86,14 +88,11 @@ module _ (bytes : List ℕ) (kind row : ℕ) where
   unfolding signed_in
   kind5 e = rw e
 
-  pub kind7 : kind ≡ 7 → last_bytes bytes 8 row ≡ signed_in bytes kind row
+  pub kind8 : (kind ≡ 7) ⊎ (kind ≡ 20) → last_bytes bytes 8 row ≡ signed_in bytes kind row
   unfolding signed_in
-  kind7 e = rw e
+  kind8 (inl e) = rw e
+  kind8 (inr e) = rw e
 
-  pub kind20 : kind ≡ 20 → last_bytes bytes 8 row ≡ signed_in bytes kind row
-  unfolding signed_in
-  kind20 e = rw e
-
-  pub no_kind : (kind ≡ 2 → ⊥) → (kind ≡ 3 → ⊥) → (kind ≡ 5 → ⊥) → (kind ≡ 7 → ⊥) → (kind ≡ 20 → ⊥) → Refused 24 row ≡ signed_in bytes kind row
+  pub no_kind : (kind ≡ 2 → ⊥) → (kind ≡ 3 → ⊥) → (kind ≡ 5 → ⊥) → (kind ≡ 7 → ⊥) → (kind ≡ 20 → ⊥) → Err (refusal 24 row) ≡ signed_in bytes kind row
   unfolding signed_in
   no_kind a b d e f = rw (ne_eqb kind 2 a, ne_eqb kind 3 b, ne_eqb kind 5 d, ne_eqb kind 7 e, ne_eqb kind 20 f)

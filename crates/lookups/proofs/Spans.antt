@@ -7,29 +7,30 @@ use lib.ListN.{length, take, drop}
 use Rattle.reading.specs.Reads.{Small}
 use Rattle.table.specs.declared.Grid.{Grid}
 use Rattle.lookups.specs.declared.Span.{Span}
-use Rattle.lookups.specs.declared.Span.TheVariants.{Refused, Found}
+use Rattle.std.specs.Prelude.{Result, Ok, Err}
+use Rattle.answers.specs.declared.Refusal.{Refusal}
 use Rattle.lookups.specs.Parts.{part_of, in_part, Lies, spanned}
 use Rattle.lookups.specs.Texts.{text_of}
 use Rattle.lookups.specs.Spans.{inside, text-inside}
 
-pub lies_found : {n first size : ℕ} {s : Span} → Lies n s → s ≡ Found first size → first + size ≤ n
+pub lies_found : {n : ℕ} {f : Span} {s : Result Span Refusal} → Lies n s → s ≡ Ok f → f.first + f.length ≤ n
 lies_found {n} h e = subst (Lies n) e h
 
-pub no_bytes : (file : List ℕ) {number row : ℕ} {s : Span} → s ≡ Refused number row → [] ≡ spanned file s
+pub no_bytes : (file : List ℕ) {r : Refusal} {s : Result Span Refusal} → s ≡ Err r → [] ≡ spanned file s
 unfolding spanned in_part
 no_bytes file e = rw e
 
-pub found_bytes : (file : List ℕ) {first size : ℕ} {s : Span} → s ≡ Found first size → take (first + size - first) (drop first file) ≡ spanned file s
+pub found_bytes : (file : List ℕ) {f : Span} {s : Result Span Refusal} → s ≡ Ok f → take (f.first + f.length - f.first) (drop f.first file) ≡ spanned file s
 unfolding spanned in_part
-found_bytes file {first} {size} e =
-    let z : first + size - first ≡ size = omega arith in
+found_bytes file {f} e =
+    let z : f.first + f.length - f.first ≡ f.length = omega arith in
     rw (e, z)
 
 module _ (g : Grid) (file words : List ℕ) (row : ℕ) where
-  pub part_lies : (s : Span) → s ≡ part_of g file words row → Lies (length file) s
-  part_lies (Refused number at) e = tt
-  part_lies (Found first size) e = inside g file words row e
+  pub part_lies : (s : Result Span Refusal) → s ≡ part_of g file words row → Lies (length file) s
+  part_lies (Err r) e = tt
+  part_lies (Ok f) e = inside g file words row e
 
-  pub text_lies : Small file → (s : Span) → s ≡ text_of g file words row → Lies (length file) s
-  text_lies small (Refused number at) e = tt
-  text_lies small (Found first size) e = text-inside g file words row small e
+  pub text_lies : Small file → (s : Result Span Refusal) → s ≡ text_of g file words row → Lies (length file) s
+  text_lies small (Err r) e = tt
+  text_lies small (Ok f) e = text-inside g file words row small e

@@ -5,10 +5,10 @@ use Rattle.fonts.specs.FontWords.{word_at}
 use Rattle.fonts.proofs.Laws.{code_of}
 use Rattle.fonts.proofs.code.Goals as goal
 
-pub returns-in-Refused : goal.returns-in-Refused
+pub returns-in-Err : goal.returns-in-Err
 unfolding value_or word_at
-returns-in-Refused c = code_of _ _ _ _ (sym (ap told c.in-Refused.is) ∙ c.char_at.ensures) c.word_of-first.ensures
+returns-in-Err c = code_of _ _ _ _ (sym (ap told c.in-Err.is) ∙ c.char_at.ensures) c.word-first.ensures
 
-pub returns-in-Read : goal.returns-in-Read
+pub returns-in-Ok : goal.returns-in-Ok
 unfolding value_or word_at
-returns-in-Read c = code_of _ _ _ _ (sym (ap told c.in-Read.is) ∙ c.char_at.ensures) c.word_of-first.ensures
+returns-in-Ok c = code_of _ _ _ _ (sym (ap told c.in-Ok.is) ∙ c.char_at.ensures) c.word-first.ensures

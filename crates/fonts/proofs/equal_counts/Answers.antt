@@ -4,4 +4,4 @@ use Rattle.fonts.proofs.equal_counts.Goals as goal
 
 pub returns : goal.returns
 unfolding equal word_at
-returns c = cc (c.word_of-2.ensures, c.word_of.ensures)
+returns c = cc (c.word-2.ensures, c.word.ensures)

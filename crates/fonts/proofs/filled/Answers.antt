@@ -4,4 +4,4 @@ use Rattle.fonts.proofs.filled.Goals as goal
 
 pub returns : goal.returns
 unfolding some word_at
-returns c = cc c.word_of.ensures
+returns c = cc c.word.ensures

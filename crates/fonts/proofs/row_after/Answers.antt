@@ -4,4 +4,4 @@ use Rattle.fonts.proofs.row_after.Goals as goal
 
 pub returns : goal.returns
 unfolding row_after word_at
-returns c = cc (c.row_beyond.ensures, c.word_of.ensures)
+returns c = cc (c.row_beyond.ensures, c.word.ensures)

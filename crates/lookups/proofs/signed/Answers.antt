@@ -1,10 +1,34 @@
-use mathlib.Core.Path.{ap, ◌∙◌}
-use Rattle.table.specs.declared.Grid.{Grid}
-use Rattle.lookups.specs.Signs.{signed_of}
+use mathlib.Core.Path.{sym, ◌∙◌}
+use native.Mathlib.Omega.{arith}
+use Rattle.std.proofs.lemmas.Result.{err_from_is_err_and}
+use Rattle.lookups.specs.Parts.{refuses}
+use Rattle.lookups.specs.Signs.{signed_in, signed_of}
+use Rattle.lookups.specs.Spans.{inside}
+use Rattle.lookups.proofs.Laws.{lookup-refused, lookup_found, part_length}
 use borrow.Author.Rules.{rules}
 use Rattle.lookups.proofs.signed.Goals as goal
 
+pub overflow_add-end : goal.overflow_add-end
+overflow_add-end c =
+    let a = c.args in
+    let h = inside a.table.grid a.file.now a.table.words.now a.row.0 c.in_ok-first.ensures in
+    omega (arith, h)
+
+pub slice_bounds-signed_in-end : goal.slice_bounds-signed_in-end
+slice_bounds-signed_in-end c =
+    let a = c.args in
+    let h = inside a.table.grid a.file.now a.table.words.now a.row.0 c.in_ok-first.ensures in
+    omega (arith, h)
+
+pub returns-in_err-first : goal.returns-in_err-first
+unfolding signed_of
+returns-in_err-first c =
+    let a = c.args in
+    let p = err_from_is_err_and c.from_residual.result c.from_residual.ensures.1 in
+    rw (p.1, p.2) (lookup-refused a.table.grid a.file.now a.table.words.now a.row.0 refuses (λ bytes first kind. signed_in bytes kind a.row.0) c.in_err-first.ensures)
+
 pub returns : goal.returns
+unfolding signed_of
 returns c =
     let a = c.args in
-    c.signed_of.ensures ∙ ap (λ (g : Grid). signed_of g a.file.now a.words.now a.row.0) c.rows_grid.ensures
+    c.signed_in.ensures ∙ lookup_found a.table.grid a.file.now a.table.words.now a.row.0 refuses (λ bytes first kind. signed_in bytes kind a.row.0) c.in_ok-first.ensures c.word-kind.ensures

@@ -1,17 +1,17 @@
-use mathlib.Core.Path.{ap}
 use native.Mathlib.Omega.{arith}
 use Rattle.answers.specs.Told.{told}
 use Rattle.lookups.specs.Signs.{signed_from}
 use Rattle.lookups.proofs.Signs.{from_number}
+use mathlib.Core.Path.{ap}
 use borrow.Author.Rules.{rules}
 use Rattle.lookups.proofs.signed_from.Goals as goal
 
 pub twos_complement-requires : goal.twos_complement-requires
-twos_complement-requires c = rw (ap told c.in-Read.is) at c.requires
+twos_complement-requires c = rw (ap told c.in-Ok.is) at c.requires
 
-pub returns-in-Refused : goal.returns-in-Refused
+pub returns-in-Err : goal.returns-in-Err
 unfolding signed_from
-returns-in-Refused c = rw c.in-Refused.is
+returns-in-Err c = rw (c.at.ensures, c.in-Err.is)
 
-pub returns-in-Read : goal.returns-in-Read
-returns-in-Read c = from_number c.args.top c.args.row _ _ (omega arith) c.twos_complement.ensures (ap told c.in-Read.is)
+pub returns-in-Ok : goal.returns-in-Ok
+returns-in-Ok c = from_number c.args.top c.args.row _ _ (omega arith) c.twos_complement.ensures (ap told c.in-Ok.is)

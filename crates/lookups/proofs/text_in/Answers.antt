@@ -8,30 +8,32 @@ use borrow.Author.Rules.{rules}
 use Rattle.lookups.proofs.text_in.Goals as goal
 
 pub returns-then-kind-ne13 : goal.returns-then-kind-ne13
-returns-then-kind-ne13 c = other_kind c.args.bytes.now c.args.first c.args.kind c.args.row c.if-kind-ne13.true
+returns-then-kind-ne13 c = rw c.at.ensures (other_kind c.args.bytes.now c.args.first c.args.kind c.args.row c.if-kind-ne13.true)
 
 pub overflow_sub-left : goal.overflow_sub-left
 overflow_sub-left c =
     let s = c.args.bytes.now in
-    (count_next s (small_by_index s (λ i h. omega (arith, c.type_inv.bytes i))) (sym c.count_at.ensures ∙ ap told c.in-Read.is)).0
+    (count_next s (small_by_index s (λ i h. omega (arith, c.type_inv.bytes i))) (sym c.count_at.ensures ∙ ap told c.in-Ok.is)).0
 
 pub returns-then-n-left : goal.returns-then-n-left
 returns-then-n-left c =
     let args = c.args in
-    other_count args.bytes.now args.first args.kind args.row c.if-kind-ne13.false (sym c.count_at.ensures ∙ ap told c.in-Read.is) c.if-n-left.true
+    rw c.at-then-n-left.ensures
+    (other_count args.bytes.now args.first args.kind args.row c.if-kind-ne13.false (sym c.count_at.ensures ∙ ap told c.in-Ok.is) c.if-n-left.true)
 
 pub overflow_add-result : goal.overflow_add-result
 overflow_add-result c =
     let s = c.args.bytes.now in
-    let n = count_next s (small_by_index s (λ i h. omega (arith, c.type_inv.bytes i))) (sym c.count_at.ensures ∙ ap told c.in-Read.is) in
+    let n = count_next s (small_by_index s (λ i h. omega (arith, c.type_inv.bytes i))) (sym c.count_at.ensures ∙ ap told c.in-Ok.is) in
     omega (arith, n.0, c.requires)
 
-pub returns-in-Refused : goal.returns-in-Refused
-returns-in-Refused c =
+pub returns-in_default : goal.returns-in_default
+returns-in_default c =
     let args = c.args in
-    no_count args.bytes.now args.first args.kind args.row c.if-kind-ne13.false (sym c.count_at.ensures ∙ ap told c.in-Refused.is)
+    rw c.at-in_default.ensures
+    (no_count args.bytes.now args.first args.kind args.row c.if-kind-ne13.false (sym c.count_at.ensures ∙ ap told c.in_default.is))
 
-pub returns-else-n-left : goal.returns-else-n-left
-returns-else-n-left c =
+pub returns : goal.returns
+returns c =
     let args = c.args in
-    whole-text args.bytes.now args.first args.kind args.row c.if-kind-ne13.false (sym c.count_at.ensures ∙ ap told c.in-Read.is) c.if-n-left.false
+    whole-text args.bytes.now args.first args.kind args.row c.if-kind-ne13.false (sym c.count_at.ensures ∙ ap told c.in-Ok.is) c.if-n-left.false
