@@ -105,9 +105,8 @@ fn rows_numbers(file: &[u8], rows: UsedRows) -> Option<usize>
     ensures { RowsFound file.now rows.entry.table.grid rows.entry.table.words.now rows.entry.used result }
 {
     for row in 0..rows.used {
-        let place = row_numbers(file, rows, row);
-        if place.is_some() {
-            return place;
+        if let Some(place) = row_numbers(file, rows, row) {
+            return Some(place);
         }
     }
     None

@@ -55,9 +55,8 @@ pub fn nextless(rows: UsedRows) -> Option<usize>
     ensures { Finds rows.entry.table.grid rows.entry.table.words.now rows.entry.used nextless result }
 {
     for row in 0..rows.used {
-        let place = nextless_at(rows, row);
-        if place.is_some() {
-            return place;
+        if let Some(place) = nextless_at(rows, row) {
+            return Some(place);
         }
     }
     None

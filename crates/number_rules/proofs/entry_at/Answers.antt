@@ -1,6 +1,5 @@
-use borrow.Author.Rules.{rules}
-use mathlib.Core.Path.{sym}
-use native.Mathlib.Omega.{arith}
+use Rattle.std.proofs.Common.{sym, ap, ◌∙◌, arith}
+use Rattle.answers.specs.Told.{told}
 use Rattle.reading.specs.Reads.{small_by_index}
 use Rattle.reading.specs.Seven.{seven_next}
 use Rattle.number_rules.specs.Entries.{entry-none, entry_read}
@@ -12,20 +11,22 @@ returns-then-file-gt16777216 c = λ h l. absurd (omega arith)
 pub returns-then-at-gt1099511627776 : goal.returns-then-at-gt1099511627776
 returns-then-at-gt1099511627776 c = λ h l. absurd (omega arith)
 
-pub overflow_add-result-in-Read : goal.overflow_add-result-in-Read
-overflow_add-result-in-Read c =
+pub overflow_add-result-in-Ok : goal.overflow_add-result-in-Ok
+overflow_add-result-in-Ok c =
     let args = c.args in
-    let s = args.file.now in let b = seven_next s (small_by_index s (λ i h. omega (arith, c.type_inv.file i))) args.at (sym (rw c.in-Read.is at c.seven_at.ensures)) in omega (arith, b.1, b.2)
+    let s = args.file.now in
+    let b = seven_next s (small_by_index s (λ i h. omega (arith, c.type_inv.file i))) args.at (sym c.seven_at.ensures ∙ ap told c.in-Ok.is) in omega (arith, b.1, b.2)
 
-pub overflow_add-result-in-Read-2 : goal.overflow_add-result-in-Read-2
-overflow_add-result-in-Read-2 c =
+pub overflow_add-result-in-Ok-2 : goal.overflow_add-result-in-Ok-2
+overflow_add-result-in-Ok-2 c =
     let args = c.args in
-    let s = args.file.now in let b = seven_next s (small_by_index s (λ i h. omega (arith, c.type_inv.file i))) args.at (sym (rw c.in-Read.is at c.seven_at.ensures)) in omega (arith, b.1, b.2)
+    let s = args.file.now in
+    let b = seven_next s (small_by_index s (λ i h. omega (arith, c.type_inv.file i))) args.at (sym c.seven_at.ensures ∙ ap told c.in-Ok.is) in omega (arith, b.1, b.2)
 
-pub returns-in-Refused : goal.returns-in-Refused
-returns-in-Refused c = let a = c.args in λ h l. entry-none a.file.now a.at (sym (rw c.in-Refused.is at c.seven_at.ensures))
+pub returns-in-Err : goal.returns-in-Err
+returns-in-Err c = let a = c.args in λ h l. entry-none a.file.now a.at (sym c.seven_at.ensures ∙ ap told c.in-Err.is)
 
-pub returns-in-Read : goal.returns-in-Read
-returns-in-Read c =
+pub returns-in-Ok : goal.returns-in-Ok
+returns-in-Ok c =
     let a = c.args in
-    λ h l. entry_read a.file.now a.at (small_by_index a.file.now (λ i h. omega (arith, c.type_inv.file i))) h (sym (rw c.in-Read.is at c.seven_at.ensures))
+    λ h l. entry_read a.file.now a.at (small_by_index a.file.now (λ i h. omega (arith, c.type_inv.file i))) h (sym c.seven_at.ensures ∙ ap told c.in-Ok.is)
