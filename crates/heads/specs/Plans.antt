@@ -6,6 +6,8 @@ use Rattle.layout.specs.Slot.{Plan, stop, each, pairs, font_slots, page_slots}
 use Rattle.leaves.specs.declared.plain.Plain.TheVariants.{Fixed, Reference}
 use Rattle.leaves.specs.Like.{Alike}
 use Rattle.leaves.specs.declared.run.Run.{Run}
+use Rattle.meshes.specs.declared.Step.{Step}
+use Rattle.meshes.specs.declared.Step.TheVariants.{End}
 use Rattle.meshes.specs.declared.Stage.{Stage as Fields}
 use Rattle.meshes.specs.declared.Field.{Field}
 use Rattle.meshes.specs.declared.Field.TheVariants.{Plain, Text, Anything, Declaration}
@@ -76,7 +78,7 @@ counted next f = cond (ended f) next (next + 1)
 
 -- the first of so many values, and a field of a mesh
 abbrev pub listed : (count : ℕ) → Stage
-listed count = record { next = 0; count = count; mesh = stage_of 35 0 0 0 }
+listed count = record { next = 0; count = count; mesh = stage_of End 0 0 0 }
 
 abbrev pub standing : (next : ℕ) → Fields → Stage
 standing next f = record { next = next; count = counted next f; mesh = f }
@@ -90,10 +92,10 @@ count_of Page = 4
 count_of (Mesh kind) = counted 0 (first_field kind)
 
 abbrev pub fields_of : Nest → Fields
-fields_of (Each s n) = stage_of 35 0 0 0
-fields_of (Pairs s t n) = stage_of 35 0 0 0
-fields_of Font = stage_of 35 0 0 0
-fields_of Page = stage_of 35 0 0 0
+fields_of (Each s n) = stage_of End 0 0 0
+fields_of (Pairs s t n) = stage_of End 0 0 0
+fields_of Font = stage_of End 0 0 0
+fields_of Page = stage_of End 0 0 0
 fields_of (Mesh kind) = first_field kind
 
 -- where a walk over a nest begins
@@ -170,4 +172,4 @@ BelowPlan file codes (Nested nest) plan = NestIs file codes nest plan
 
 -- the number that a value in a slot tells, if it tells one, is the one that stands at its first byte
 abbrev pub Heard : (file : List ℕ) → L.Slot → (at told : ℕ) → Type 0
-Heard file x at told = (step : ℕ) → Telling x (told_size step) → told_at file step at ≡ told
+Heard file x at told = (step : Step) → Telling x (told_size step) → told_at file step at ≡ told

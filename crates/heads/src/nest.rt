@@ -6,7 +6,8 @@ use crate::prelude;
 use crate::slot::Slot;
 use leaves::plain::Plain;
 use leaves::run::Run;
-use meshes::Field;
+use meshes::{Field, Step};
+use names::kinds;
 
 // n elements that stand alike; n pairs of key and value; the fields of a font; the fields of a page; the fields of a mesh type, by its kind.
 #[derive(Clone, Copy)]
@@ -41,11 +42,10 @@ fn font_child(i: u32) -> Slot
 {
     match i {
         0 => Slot::Object(prelude::TEXTURE_2D),
-        1 => Slot::Object(prelude::RECTANGLES),
-        2 => Slot::Object(prelude::RECTANGLES),
+        1 | 2 => Slot::Object(prelude::RECTANGLES),
         3 => Slot::Object(prelude::CHARS),
-        4 => Slot::Simple(Plain::Fixed(5, 4)),
-        5 => Slot::Simple(Plain::Fixed(9, 4)),
+        4 => Slot::Simple(Plain::Fixed(kinds::INT_32, 4)),
+        5 => Slot::Simple(Plain::Fixed(kinds::SINGLE, 4)),
         6 => Slot::Object(prelude::VECTORS),
         _ => Slot::Raw(prelude::NULLABLE_CHAR),
     }
@@ -57,9 +57,9 @@ fn page_child(i: u32) -> Slot
 {
     match i {
         0 => Slot::Object(prelude::STRING),
-        1 => Slot::Simple(Plain::Fixed(30, 16)),
-        2 => Slot::Simple(Plain::Reference(32)),
-        _ => Slot::Simple(Plain::Reference(34)),
+        1 => Slot::Simple(Plain::Fixed(kinds::RECTANGLE, 16)),
+        2 => Slot::Simple(Plain::Reference(kinds::TEXTURE_2D)),
+        _ => Slot::Simple(Plain::Reference(kinds::PAGE)),
     }
 }
 
@@ -79,7 +79,7 @@ fn field_child(field: Field) -> Slot
 fn first_of(count: u64) -> Stage
     ensures { result ≡ listed count }
 {
-    let mesh = meshes::at_field(meshes::END, 0, 0, 0);
+    let mesh = meshes::at_field(Step::End, 0, 0, 0);
     Stage {
         next: 0,
         count,
@@ -91,18 +91,11 @@ fn first_of(count: u64) -> Stage
 fn field_of(next: u32, mesh: meshes::Stage) -> Stage
     ensures { result ≡ standing next mesh }
 {
-    if mesh.step == meshes::END {
-        return Stage {
-            next,
-            count: next as u64,
-            mesh,
-        };
-    }
-    Stage {
-        next,
-        count: next as u64 + 1,
-        mesh,
-    }
+    let count = match mesh.step {
+        Step::End => next as u64,
+        _ => next as u64 + 1,
+    };
+    Stage { next, count, mesh }
 }
 
 // Where a walk over a nest begins.
@@ -132,10 +125,7 @@ pub fn slot_at(nest: Nest, stage: Stage) -> Slot
         }
         Nest::Font => font_child(stage.next),
         Nest::Page => page_child(stage.next),
-        Nest::Mesh(_) => {
-            let mesh = stage.mesh;
-            field_child(meshes::field_at(mesh))
-        }
+        Nest::Mesh(_) => field_child(meshes::field_at(stage.mesh)),
     }
 }
 
@@ -143,11 +133,9 @@ pub fn slot_at(nest: Nest, stage: Stage) -> Slot
 fn onward(stage: Stage) -> Stage
     ensures { result ≡ onward_of stage }
 {
-    let mesh = stage.mesh;
     Stage {
-        next: std::num::wrapping_add_u32(stage.next, 1),
-        count: stage.count,
-        mesh,
+        next: stage.next.wrapping_add(1),
+        ..stage
     }
 }
 
@@ -156,14 +144,10 @@ pub fn after(file: &[u8], nest: Nest, stage: Stage, at: usize) -> Stage
     ensures { result ≡ after_of file.now at nest stage }
 {
     match nest {
-        Nest::Each(_, _) => onward(stage),
-        Nest::Pairs(_, _, _) => onward(stage),
-        Nest::Font => onward(stage),
-        Nest::Page => onward(stage),
         Nest::Mesh(_) => {
-            let mesh = stage.mesh;
-            let next = std::num::wrapping_add_u32(stage.next, 1);
-            field_of(next, meshes::after(file, mesh, at))
+            let mesh = meshes::after(file, stage.mesh, at);
+            field_of(stage.next.wrapping_add(1), mesh)
         }
+        _ => onward(stage),
     }
 }

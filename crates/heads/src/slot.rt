@@ -4,6 +4,7 @@ ghost use Rattle.targets.specs.Place.{kind_at};
 ghost use Rattle.heads.specs.Placed.{bytes_of, row_kind, plain_of, raw_of, slot_by};
 
 use leaves::plain::Plain;
+use names::kinds;
 
 #[derive(Clone, Copy)]
 pub enum Slot {
@@ -12,15 +13,15 @@ pub enum Slot {
     Object(usize),
 }
 
-// How many bytes a value of a kind has, as a type's code has the kind: 60 to 63 are enums by their sizes. 0 where none is fixed.
+// How many bytes a value of a kind has, as a type's code has the kind: the last four are enums by their sizes. 0 where none is fixed.
 pub fn bytes_of(kind: u32) -> usize
     ensures { result ≡ bytes_of kind }
 {
     match kind {
-        60 => 1,
-        61 => 2,
-        62 => 4,
-        63 => 8,
+        kinds::ENUM_OF_1 => 1,
+        kinds::ENUM_OF_2 => 2,
+        kinds::ENUM_OF_4 => 4,
+        kinds::ENUM_OF_8 => 8,
         _ => values::size_of_kind(kind),
     }
 }
@@ -30,8 +31,8 @@ pub fn row_kind(codes: &[u32], a: usize) -> u32
     ensures { result ≡ row_kind (kind_at codes.now a) }
 {
     let kind = targets::kind_at(codes, a);
-    if 60 <= kind {
-        return 15;
+    if kinds::ENUM_OF_1 <= kind {
+        return kinds::ENUM_KIND;
     }
     kind
 }
@@ -41,7 +42,7 @@ fn plain_of(kind: u32) -> Plain
     ensures { result ≡ plain_of kind }
 {
     let size = bytes_of(kind);
-    if 60 <= kind {
+    if kinds::ENUM_OF_1 <= kind {
         return Plain::Enum(size);
     }
     Plain::Fixed(kind, size)
@@ -52,13 +53,13 @@ pub fn slot_of(codes: &[u32], a: usize) -> Slot
     ensures { result ≡ slot_by (kind_at codes.now a) a }
 {
     let kind = targets::kind_at(codes, a);
-    if kind == 14 {
+    if kind == kinds::OBJECT {
         return Slot::Object(a);
     }
-    if kind == 12 {
+    if kind == kinds::CHAR {
         return Slot::Simple(Plain::Char);
     }
-    if kind == 16 {
+    if kind == kinds::NULLABLE_KIND {
         return Slot::Raw(a);
     }
     if bytes_of(kind) != 0 {
@@ -72,7 +73,7 @@ pub fn raw_of(codes: &[u32], a: usize) -> Slot
     ensures { result ≡ raw_of (kind_at codes.now a) a }
 {
     let kind = targets::kind_at(codes, a);
-    if kind == 12 {
+    if kind == kinds::CHAR {
         return Slot::Simple(Plain::Char);
     }
     if bytes_of(kind) == 0 {

@@ -17,6 +17,8 @@ use Rattle.reading.specs.Reads.{Small}
 use Rattle.reading.specs.Little.{little_at, little_there, little_next}
 use Rattle.reading.specs.Walk.{Taken, walk}
 use Rattle.reading.proofs.Sound.{walk-sound}
+use Rattle.meshes.specs.declared.Step.{Step}
+use Rattle.meshes.specs.declared.Step.TheVariants.{Flag}
 use Rattle.meshes.specs.Stages.{told_size, told_at, word_of}
 use Rattle.meshes.specs.Follows.{Telling, by_flag, by_number, by_size, by_stride}
 
@@ -79,22 +81,22 @@ little_at_lem file at z n bytes rest b e =
     little_there file z at at l ∙ rw (f, b.value)
 
 -- and it fits a word
-word : (b : Bool) (n : ℕ) → n < 256 ^ cond b 1 4 → n % 2 ^ 32 ≡ n
-word true n h = omega arith
-word false n h = omega arith
+word : (step : Step) (n : ℕ) → n < 256 ^ told_size step → n % 2 ^ 32 ≡ n
+word Flag n h = omega arith
+word _ n h = omega arith
 
-some_bytes : (b : Bool) → 1 ≤ cond b 1 4
-some_bytes true = omega arith
-some_bytes false = omega arith
+some_bytes : (step : Step) → 1 ≤ told_size step
+some_bytes Flag = omega arith
+some_bytes _ = omega arith
 
 -- what reading a value that tells a number finds at the value's first byte
 module _ (file : List ℕ) (readers : List Target) (shared room : ℕ) (small : Small file) where
-  pub told_is : {x : Slot} (step : ℕ) → Telling x (told_size step) → (depth at used parent : ℕ) (a : Taken) (e : ℕ)
+  pub told_is : {x : Slot} (step : Step) → Telling x (told_size step) → (depth at used parent : ℕ) (a : Taken) (e : ℕ)
       → walk file readers shared room depth x at used parent ≡ read a e → told_at file step at ≡ told_of a.2
   unfolding told_at told_of
   told_is {x} step t depth at used parent a e q =
       let v = (walk-sound file readers shared room small depth x at used parent).got q in
       let b = tells readers (Within shared) t v.kind v.id v.own v.children v.bytes v.laid in
       let n = little_at_lem file at (told_size step) (told v.kind v.own v.children) v.bytes (drop e file) b v.there in
-      let w = little_next file small (told_size step) at at (some_bytes (step == 0)) n in
-      ap word_of n ∙ word (step == 0) _ w.2 ∙ ap told_of (sym v.tree_is)
+      let w = little_next file small (told_size step) at at (some_bytes step) n in
+      ap word_of n ∙ word step _ w.2 ∙ ap told_of (sym v.tree_is)

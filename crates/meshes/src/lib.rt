@@ -3,94 +3,109 @@
 
 ghost use Rattle.std.specs.Prelude.{◌≡◌};
 ghost use Rattle.answers.specs.Told.{told};
-ghost use Rattle.meshes.specs.Stages.{stage_of, first_field, field_of, onward_of, behind_of, told_at, word_of};
+ghost use Rattle.meshes.specs.Stages.{next_step, stage_of, first_field, field_of, blocks, onward_of, behind_of, told_at, word_of};
 ghost use Rattle.meshes.specs.Stages.{to_elements, to_names, to_parents, to_children, to_meshes, to_parts};
 
 use answers::Number;
 use leaves::plain::Plain;
+use names::kinds;
 
-// The fields of an index buffer.
-const FLAG: u32 = 0;
+// A field of a mesh type, in file order.
+#[derive(Clone, Copy, Debug, PartialEq, Eq)]
+pub enum Step {
+    // The fields of an index buffer.
+    Flag,
+    DataSize,
+    IndexData,
+    // Those of a vertex declaration.
+    Stride,
+    ElementCount,
+    Offset,
+    Format,
+    Usage,
+    UsageIndex,
+    // Those of a vertex buffer.
+    Declaration,
+    VertexCount,
+    VertexData,
+    // Those of a model: of its bones, of its meshes, of their parts, and the last two.
+    BoneCount,
+    BoneName,
+    BoneTransform,
+    BoneParent,
+    ChildCount,
+    Child,
+    MeshCount,
+    MeshName,
+    MeshParent,
+    Center,
+    Radius,
+    MeshTag,
+    PartCount,
+    VertexOffset,
+    Vertices,
+    StartIndex,
+    Primitives,
+    PartTag,
+    VertexBuffer,
+    IndexBuffer,
+    Effect,
+    Root,
+    ModelTag,
+    // Behind the last field.
+    End,
+}
 
-const DATA_SIZE: u32 = 1;
-
-const INDEX_DATA: u32 = 2;
-
-// Those of a vertex declaration.
-const STRIDE: u32 = 3;
-
-const ELEMENT_COUNT: u32 = 4;
-
-const OFFSET: u32 = 5;
-
-const FORMAT: u32 = 6;
-
-const USAGE: u32 = 7;
-
-const USAGE_INDEX: u32 = 8;
-
-// Those of a vertex buffer.
-const DECLARATION: u32 = 9;
-
-const VERTEX_COUNT: u32 = 10;
-
-const VERTEX_DATA: u32 = 11;
-
-// Those of a model: of its bones, of its meshes, of their parts, and the last two.
-const BONE_COUNT: u32 = 12;
-
-const BONE_NAME: u32 = 13;
-
-const BONE_TRANSFORM: u32 = 14;
-
-const BONE_PARENT: u32 = 15;
-
-const CHILD_COUNT: u32 = 16;
-
-const CHILD: u32 = 17;
-
-const MESH_COUNT: u32 = 18;
-
-const MESH_NAME: u32 = 19;
-
-const MESH_PARENT: u32 = 20;
-
-const CENTER: u32 = 21;
-
-const RADIUS: u32 = 22;
-
-const MESH_TAG: u32 = 23;
-
-const PART_COUNT: u32 = 24;
-
-const VERTEX_OFFSET: u32 = 25;
-
-const VERTICES: u32 = 26;
-
-const START_INDEX: u32 = 27;
-
-const PRIMITIVES: u32 = 28;
-
-const PART_TAG: u32 = 29;
-
-const VERTEX_BUFFER: u32 = 30;
-
-const INDEX_BUFFER: u32 = 31;
-
-const EFFECT: u32 = 32;
-
-const ROOT: u32 = 33;
-
-const MODEL_TAG: u32 = 34;
-
-// Behind the last field.
-pub const END: u32 = 35;
+impl Step {
+    // The field behind one, in file order.
+    fn next(self) -> Step
+        ensures { result ≡ next_step self }
+    {
+        match self {
+            Step::Flag => Step::DataSize,
+            Step::DataSize => Step::IndexData,
+            Step::IndexData => Step::Stride,
+            Step::Stride => Step::ElementCount,
+            Step::ElementCount => Step::Offset,
+            Step::Offset => Step::Format,
+            Step::Format => Step::Usage,
+            Step::Usage => Step::UsageIndex,
+            Step::UsageIndex => Step::Declaration,
+            Step::Declaration => Step::VertexCount,
+            Step::VertexCount => Step::VertexData,
+            Step::VertexData => Step::BoneCount,
+            Step::BoneCount => Step::BoneName,
+            Step::BoneName => Step::BoneTransform,
+            Step::BoneTransform => Step::BoneParent,
+            Step::BoneParent => Step::ChildCount,
+            Step::ChildCount => Step::Child,
+            Step::Child => Step::MeshCount,
+            Step::MeshCount => Step::MeshName,
+            Step::MeshName => Step::MeshParent,
+            Step::MeshParent => Step::Center,
+            Step::Center => Step::Radius,
+            Step::Radius => Step::MeshTag,
+            Step::MeshTag => Step::PartCount,
+            Step::PartCount => Step::VertexOffset,
+            Step::VertexOffset => Step::Vertices,
+            Step::Vertices => Step::StartIndex,
+            Step::StartIndex => Step::Primitives,
+            Step::Primitives => Step::PartTag,
+            Step::PartTag => Step::VertexBuffer,
+            Step::VertexBuffer => Step::IndexBuffer,
+            Step::IndexBuffer => Step::Effect,
+            Step::Effect => Step::Root,
+            Step::Root => Step::ModelTag,
+            Step::ModelTag | Step::End => Step::End,
+        }
+    }
+}
 
 // The field that stands next; a number that an earlier field told (a flag, a size, a stride or the bone count);
 // and how many blocks are left behind this one, and blocks of the block that stands in it.
-#[derive(Clone, Copy)]
+#[derive(Clone, Copy, Debug, PartialEq, Eq)]
 pub struct Stage {
-    pub step: u32,
+    pub step: Step,
     pub number: u32,
     pub left: u32,
     pub inner: u32,
@@ -106,7 +121,7 @@ pub enum Field {
 }
 
 // The stage at a field, with its numbers.
-pub fn at_field(step: u32, number: u32, left: u32, inner: u32) -> Stage
+pub fn at_field(step: Step, number: u32, left: u32, inner: u32) -> Stage
     ensures { result ≡ stage_of step number left inner }
 {
     Stage {
@@ -122,10 +137,10 @@ pub fn first_field(kind: u32) -> Stage
     ensures { result ≡ first_field kind }
 {
     match kind {
-        37 => at_field(FLAG, 0, 0, 0),
-        38 => at_field(STRIDE, 0, 0, 0),
-        39 => at_field(DECLARATION, 0, 0, 0),
-        _ => at_field(BONE_COUNT, 0, 0, 0),
+        kinds::INDEX_BUFFER => at_field(Step::Flag, 0, 0, 0),
+        kinds::VERTEX_DECLARATION => at_field(Step::Stride, 0, 0, 0),
+        kinds::VERTEX_BUFFER => at_field(Step::Declaration, 0, 0, 0),
+        _ => at_field(Step::BoneCount, 0, 0, 0),
     }
 }
 
@@ -133,104 +148,90 @@ pub fn first_field(kind: u32) -> Stage
 pub fn field_at(stage: Stage) -> Field
     ensures { result ≡ field_of stage }
 {
-    let step = stage.step;
-    match step {
-        FLAG => Field::Plain(Plain::Fixed(11, 1)),
-        DATA_SIZE => Field::Plain(Plain::DataSize(stage.number)),
-        INDEX_DATA => Field::Plain(Plain::Blob(stage.number as u64)),
-        FORMAT => Field::Plain(Plain::Code(11)),
-        USAGE => Field::Plain(Plain::Code(12)),
-        DECLARATION => Field::Declaration,
-        VERTEX_DATA => Field::Plain(Plain::Blob(stage.left as u64 * stage.number as u64)),
-        BONE_NAME => Field::Text,
-        BONE_TRANSFORM => Field::Plain(Plain::Fixed(26, 64)),
-        BONE_PARENT => Field::Plain(Plain::Bone(stage.number)),
-        CHILD => Field::Plain(Plain::Bone(stage.number)),
-        MESH_NAME => Field::Text,
-        MESH_PARENT => Field::Plain(Plain::Bone(stage.number)),
-        CENTER => Field::Plain(Plain::Fixed(24, 12)),
-        RADIUS => Field::Plain(Plain::Fixed(9, 4)),
-        MESH_TAG => Field::Anything,
-        PART_TAG => Field::Anything,
-        VERTEX_BUFFER => Field::Plain(Plain::Reference(39)),
-        INDEX_BUFFER => Field::Plain(Plain::Reference(37)),
-        EFFECT => Field::Plain(Plain::Reference(0)),
-        ROOT => Field::Plain(Plain::Bone(stage.number)),
-        MODEL_TAG => Field::Anything,
-        _ => Field::Plain(Plain::Fixed(6, 4)),
+    match stage.step {
+        Step::Flag => Field::Plain(Plain::Fixed(kinds::BOOLEAN, 1)),
+        Step::DataSize => Field::Plain(Plain::DataSize(stage.number)),
+        Step::IndexData => Field::Plain(Plain::Blob(stage.number as u64)),
+        Step::Format => Field::Plain(Plain::Code(11)),
+        Step::Usage => Field::Plain(Plain::Code(12)),
+        Step::Declaration => Field::Declaration,
+        Step::VertexData => Field::Plain(Plain::Blob(stage.left as u64 * stage.number as u64)),
+        Step::BoneName | Step::MeshName => Field::Text,
+        Step::BoneTransform => Field::Plain(Plain::Fixed(kinds::MATRIX, 64)),
+        Step::BoneParent | Step::Child | Step::MeshParent | Step::Root => Field::Plain(Plain::Bone(stage.number)),
+        Step::Center => Field::Plain(Plain::Fixed(kinds::VECTOR_3, 12)),
+        Step::Radius => Field::Plain(Plain::Fixed(kinds::SINGLE, 4)),
+        Step::MeshTag | Step::PartTag | Step::ModelTag => Field::Anything,
+        Step::VertexBuffer => Field::Plain(Plain::Reference(kinds::VERTEX_BUFFER)),
+        Step::IndexBuffer => Field::Plain(Plain::Reference(kinds::INDEX_BUFFER)),
+        Step::Effect => Field::Plain(Plain::Reference(0)),
+        _ => Field::Plain(Plain::Fixed(kinds::UINT_32, 4)),
     }
+}
+
+// So many blocks, of which this is the first, and then what follows.
+fn blocks(n: u32, follows: Stage, block: Stage) -> Stage
+    ensures { result ≡ blocks n follows block }
+{
+    if n == 0 {
+        return follows;
+    }
+    block
 }
 
 // So many elements of a declaration.
 fn to_elements(n: u32) -> Stage
     ensures { result ≡ to_elements n }
 {
-    if n == 0 {
-        return at_field(END, 0, 0, 0);
-    }
-    at_field(OFFSET, 0, n - 1, 0)
+    let left = n.saturating_sub(1);
+    blocks(n, at_field(Step::End, 0, 0, 0), at_field(Step::Offset, 0, left, 0))
 }
 
 // So many bones with their parents and children, and then the meshes.
 fn to_parents(bones: u32, n: u32) -> Stage
     ensures { result ≡ to_parents bones n }
 {
-    if n == 0 {
-        return at_field(MESH_COUNT, bones, 0, 0);
-    }
-    at_field(BONE_PARENT, bones, n - 1, 0)
+    let left = n.saturating_sub(1);
+    blocks(n, at_field(Step::MeshCount, bones, 0, 0), at_field(Step::BoneParent, bones, left, 0))
 }
 
 // So many bones with their names and transforms, and then their parents and children.
 fn to_names(bones: u32, n: u32) -> Stage
     ensures { result ≡ to_names bones n }
 {
-    if n == 0 {
-        return to_parents(bones, bones);
-    }
-    at_field(BONE_NAME, bones, n - 1, 0)
+    let left = n.saturating_sub(1);
+    blocks(n, to_parents(bones, bones), at_field(Step::BoneName, bones, left, 0))
 }
 
 // So many children of a bone, and then so many more bones.
 fn to_children(bones: u32, left: u32, n: u32) -> Stage
     ensures { result ≡ to_children bones left n }
 {
-    if n == 0 {
-        return to_parents(bones, left);
-    }
-    at_field(CHILD, bones, left, n - 1)
+    let inner = n.saturating_sub(1);
+    blocks(n, to_parents(bones, left), at_field(Step::Child, bones, left, inner))
 }
 
 // So many meshes, and then the root.
 fn to_meshes(bones: u32, n: u32) -> Stage
     ensures { result ≡ to_meshes bones n }
 {
-    if n == 0 {
-        return at_field(ROOT, bones, 0, 0);
-    }
-    at_field(MESH_NAME, bones, n - 1, 0)
+    let left = n.saturating_sub(1);
+    blocks(n, at_field(Step::Root, bones, 0, 0), at_field(Step::MeshName, bones, left, 0))
 }
 
 // So many parts of a mesh, and then so many more meshes.
 fn to_parts(bones: u32, left: u32, n: u32) -> Stage
     ensures { result ≡ to_parts bones left n }
 {
-    if n == 0 {
-        return to_meshes(bones, left);
-    }
-    at_field(VERTEX_OFFSET, bones, left, n - 1)
+    let inner = n.saturating_sub(1);
+    blocks(n, to_meshes(bones, left), at_field(Step::VertexOffset, bones, left, inner))
 }
 
 // The field behind one that is not the last of its block.
 fn onward(stage: Stage) -> Stage
     ensures { result ≡ onward_of stage }
 {
-    Stage {
-        step: std::num::wrapping_add_u32(stage.step, 1),
-        number: stage.number,
-        left: stage.left,
-        inner: stage.inner,
-    }
+    at_field(stage.step.next(), stage.number, stage.left, stage.inner)
 }
 
 // The number of a field that was read, as a word holds it; 0 if it was not.
@@ -244,44 +245,43 @@ fn number_of(read: Number) -> u32
 }
 
 // The number that the field at `at` tells: a flag's byte, or the four bytes of a count, a size or a stride.
-fn told_at(file: &[u8], step: u32, at: usize) -> u32
+fn told_at(file: &[u8], step: Step, at: usize) -> u32
     ensures { result ≡ told_at file.now step at }
 {
-    if step == FLAG {
-        return number_of(numbers::little::little::<u8>(file, at));
+    match step {
+        Step::Flag => number_of(numbers::little::little::<u8>(file, at)),
+        _ => number_of(numbers::little::little::<u32>(file, at)),
     }
-    number_of(numbers::little::little::<u32>(file, at))
 }
 
 // The stage behind the field at a stage, which begins at `at`. Only where the number that it tells counts is that read.
 pub fn after(file: &[u8], stage: Stage, at: usize) -> Stage
     ensures { result ≡ behind_of stage (told_at file.now stage.step at) }
 {
-    let step = stage.step;
-    match step {
-        FLAG => at_field(DATA_SIZE, told_at(file, FLAG, at), 0, 0),
-        DATA_SIZE => at_field(INDEX_DATA, told_at(file, DATA_SIZE, at), 0, 0),
-        INDEX_DATA => at_field(END, 0, 0, 0),
-        ELEMENT_COUNT => to_elements(told_at(file, ELEMENT_COUNT, at)),
-        USAGE_INDEX => to_elements(stage.left),
-        DECLARATION => at_field(VERTEX_COUNT, told_at(file, DECLARATION, at), 0, 0),
-        VERTEX_COUNT => at_field(
-            VERTEX_DATA,
+    match stage.step {
+        Step::Flag => at_field(Step::DataSize, told_at(file, Step::Flag, at), 0, 0),
+        Step::DataSize => at_field(Step::IndexData, told_at(file, Step::DataSize, at), 0, 0),
+        Step::IndexData => at_field(Step::End, 0, 0, 0),
+        Step::ElementCount => to_elements(told_at(file, Step::ElementCount, at)),
+        Step::UsageIndex => to_elements(stage.left),
+        Step::Declaration => at_field(Step::VertexCount, told_at(file, Step::Declaration, at), 0, 0),
+        Step::VertexCount => at_field(
+            Step::VertexData,
             stage.number,
-            told_at(file, VERTEX_COUNT, at),
+            told_at(file, Step::VertexCount, at),
             0,
         ),
-        VERTEX_DATA => at_field(END, 0, 0, 0),
-        BONE_COUNT => {
-            let bones = told_at(file, BONE_COUNT, at);
+        Step::VertexData => at_field(Step::End, 0, 0, 0),
+        Step::BoneCount => {
+            let bones = told_at(file, Step::BoneCount, at);
             to_names(bones, bones)
         }
-        BONE_TRANSFORM => to_names(stage.number, stage.left),
-        CHILD_COUNT => to_children(stage.number, stage.left, told_at(file, CHILD_COUNT, at)),
-        CHILD => to_children(stage.number, stage.left, stage.inner),
-        MESH_COUNT => to_meshes(stage.number, told_at(file, MESH_COUNT, at)),
-        PART_COUNT => to_parts(stage.number, stage.left, told_at(file, PART_COUNT, at)),
-        EFFECT => to_parts(stage.number, stage.left, stage.inner),
+        Step::BoneTransform => to_names(stage.number, stage.left),
+        Step::ChildCount => to_children(stage.number, stage.left, told_at(file, Step::ChildCount, at)),
+        Step::Child => to_children(stage.number, stage.left, stage.inner),
+        Step::MeshCount => to_meshes(stage.number, told_at(file, Step::MeshCount, at)),
+        Step::PartCount => to_parts(stage.number, stage.left, told_at(file, Step::PartCount, at)),
+        Step::Effect => to_parts(stage.number, stage.left, stage.inner),
         _ => onward(stage),
     }
 }
