@@ -1,5 +1,5 @@
 -- The fields of meshes one by one: where a walk stands, the field there, and where it stands behind it by what the field tells. Assumes nothing.
-use Rattle.std.specs.Prelude.{ℕ, ◌+◌, ◌-◌, ◌*◌, ◌%◌, ◌^◌, ◌<◌, ◌≤◌, cond, List, [], ◌∷◌, ◌==◌}
+use Rattle.std.specs.Prelude.{ℕ, ◌-◌, ◌*◌, ◌%◌, ◌^◌, ◌<◌, ◌≤◌, cond, List, ◌==◌}
 use Rattle.std.proofs.Common.{arith, mul-le-mul}
 use Rattle.reading.specs.Answer.{Answer, refused, read}
 use Rattle.reading.specs.Little.{little_at}

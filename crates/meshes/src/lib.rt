@@ -133,6 +133,7 @@ pub fn at_field(step: Step, number: u32, left: u32, inner: u32) -> Stage
 }
 
 // The field that stands first in a mesh type of a kind: 37 to 40 in 02's order.
+#[tactic(auto, unfolding(crate::specs::Stages::first_field))]
 pub fn first_field(kind: u32) -> Stage
     ensures { result ≡ first_field kind }
 {
@@ -145,6 +146,7 @@ pub fn first_field(kind: u32) -> Stage
 }
 
 // How the field at a stage stands.
+#[tactic(auto, unfolding(crate::specs::Stages::field_of))]
 pub fn field_at(stage: Stage) -> Field
     ensures { result ≡ field_of stage }
 {
@@ -158,7 +160,9 @@ pub fn field_at(stage: Stage) -> Field
         Step::VertexData => Field::Plain(Plain::Blob(stage.left as u64 * stage.number as u64)),
         Step::BoneName | Step::MeshName => Field::Text,
         Step::BoneTransform => Field::Plain(Plain::Fixed(kinds::MATRIX, 64)),
-        Step::BoneParent | Step::Child | Step::MeshParent | Step::Root => Field::Plain(Plain::Bone(stage.number)),
+        Step::BoneParent | Step::Child | Step::MeshParent | Step::Root => Field::Plain(Plain::Bone(
+            stage.number,
+        )),
         Step::Center => Field::Plain(Plain::Fixed(kinds::VECTOR_3, 12)),
         Step::Radius => Field::Plain(Plain::Fixed(kinds::SINGLE, 4)),
         Step::MeshTag | Step::PartTag | Step::ModelTag => Field::Anything,
@@ -184,7 +188,11 @@ fn to_elements(n: u32) -> Stage
     ensures { result ≡ to_elements n }
 {
     let left = n.saturating_sub(1);
-    blocks(n, at_field(Step::End, 0, 0, 0), at_field(Step::Offset, 0, left, 0))
+    blocks(
+        n,
+        at_field(Step::End, 0, 0, 0),
+        at_field(Step::Offset, 0, left, 0),
+    )
 }
 
 // So many bones with their parents and children, and then the meshes.
@@ -192,7 +200,11 @@ fn to_parents(bones: u32, n: u32) -> Stage
     ensures { result ≡ to_parents bones n }
 {
     let left = n.saturating_sub(1);
-    blocks(n, at_field(Step::MeshCount, bones, 0, 0), at_field(Step::BoneParent, bones, left, 0))
+    blocks(
+        n,
+        at_field(Step::MeshCount, bones, 0, 0),
+        at_field(Step::BoneParent, bones, left, 0),
+    )
 }
 
 // So many bones with their names and transforms, and then their parents and children.
@@ -200,7 +212,11 @@ fn to_names(bones: u32, n: u32) -> Stage
     ensures { result ≡ to_names bones n }
 {
     let left = n.saturating_sub(1);
-    blocks(n, to_parents(bones, bones), at_field(Step::BoneName, bones, left, 0))
+    blocks(
+        n,
+        to_parents(bones, bones),
+        at_field(Step::BoneName, bones, left, 0),
+    )
 }
 
 // So many children of a bone, and then so many more bones.
@@ -208,7 +224,11 @@ fn to_children(bones: u32, left: u32, n: u32) -> Stage
     ensures { result ≡ to_children bones left n }
 {
     let inner = n.saturating_sub(1);
-    blocks(n, to_parents(bones, left), at_field(Step::Child, bones, left, inner))
+    blocks(
+        n,
+        to_parents(bones, left),
+        at_field(Step::Child, bones, left, inner),
+    )
 }
 
 // So many meshes, and then the root.
@@ -216,7 +236,11 @@ fn to_meshes(bones: u32, n: u32) -> Stage
     ensures { result ≡ to_meshes bones n }
 {
     let left = n.saturating_sub(1);
-    blocks(n, at_field(Step::Root, bones, 0, 0), at_field(Step::MeshName, bones, left, 0))
+    blocks(
+        n,
+        at_field(Step::Root, bones, 0, 0),
+        at_field(Step::MeshName, bones, left, 0),
+    )
 }
 
 // So many parts of a mesh, and then so many more meshes.
@@ -224,7 +248,11 @@ fn to_parts(bones: u32, left: u32, n: u32) -> Stage
     ensures { result ≡ to_parts bones left n }
 {
     let inner = n.saturating_sub(1);
-    blocks(n, to_meshes(bones, left), at_field(Step::VertexOffset, bones, left, inner))
+    blocks(
+        n,
+        to_meshes(bones, left),
+        at_field(Step::VertexOffset, bones, left, inner),
+    )
 }
 
 // The field behind one that is not the last of its block.
@@ -245,6 +273,7 @@ fn number_of(read: Number) -> u32
 }
 
 // The number that the field at `at` tells: a flag's byte, or the four bytes of a count, a size or a stride.
+#[tactic(auto, unfolding(crate::specs::Stages::told_at))]
 fn told_at(file: &[u8], step: Step, at: usize) -> u32
     ensures { result ≡ told_at file.now step at }
 {
@@ -255,6 +284,7 @@ fn told_at(file: &[u8], step: Step, at: usize) -> u32
 }
 
 // The stage behind the field at a stage, which begins at `at`. Only where the number that it tells counts is that read.
+#[tactic(auto, unfolding(crate::specs::Stages::behind_of))]
 pub fn after(file: &[u8], stage: Stage, at: usize) -> Stage
     ensures { result ≡ behind_of stage (told_at file.now stage.step at) }
 {
@@ -264,7 +294,12 @@ pub fn after(file: &[u8], stage: Stage, at: usize) -> Stage
         Step::IndexData => at_field(Step::End, 0, 0, 0),
         Step::ElementCount => to_elements(told_at(file, Step::ElementCount, at)),
         Step::UsageIndex => to_elements(stage.left),
-        Step::Declaration => at_field(Step::VertexCount, told_at(file, Step::Declaration, at), 0, 0),
+        Step::Declaration => at_field(
+            Step::VertexCount,
+            told_at(file, Step::Declaration, at),
+            0,
+            0,
+        ),
         Step::VertexCount => at_field(
             Step::VertexData,
             stage.number,
@@ -277,7 +312,11 @@ pub fn after(file: &[u8], stage: Stage, at: usize) -> Stage
             to_names(bones, bones)
         }
         Step::BoneTransform => to_names(stage.number, stage.left),
-        Step::ChildCount => to_children(stage.number, stage.left, told_at(file, Step::ChildCount, at)),
+        Step::ChildCount => to_children(
+            stage.number,
+            stage.left,
+            told_at(file, Step::ChildCount, at),
+        ),
         Step::Child => to_children(stage.number, stage.left, stage.inner),
         Step::MeshCount => to_meshes(stage.number, told_at(file, Step::MeshCount, at)),
         Step::PartCount => to_parts(stage.number, stage.left, told_at(file, Step::PartCount, at)),
