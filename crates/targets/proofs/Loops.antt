@@ -15,8 +15,7 @@ use Rattle.names.proofs.Laws.{cons_at, rest}
 use Rattle.targets.specs.Code.{head_at}
 use Rattle.targets.specs.Place.{arity, extent, same_code, agree}
 use Rattle.targets.specs.Judge.{listed_kind, head_ok, value_ok, bad_arguments, bad_enum, bad_reader, complaint}
-use Rattle.targets.specs.declared.Judged.{Judged}
-use Rattle.targets.specs.declared.Judged.TheVariants.{Fine, Wrong}
+use Rattle.std.specs.Prelude.{Option, Some, None}
 use Rattle.targets.specs.Contract.{enum_word}
 use Rattle.targets.specs.Settling.{is_enums, Settles}
 use Rattle.targets.specs.Extent.{no_extent, no_agree}
@@ -75,8 +74,8 @@ module _ (file c : List ℕ) (i j need : ℕ) {all : Bool} (e : all ≡ agree fi
     agree-step g d = compared g ∙ rw d
 
 -- where the codes from i on are still to be judged, and `all` is what comes out
-module _ (s : List ℕ) (i : ℕ) (nullable : Bool) {all : Judged} (e : all ≡ complaint (bad_arguments nullable (drop i s))) where
-  pub arguments_end : length s ≤ i → Fine ≡ all
+module _ (s : List ℕ) (i : ℕ) (nullable : Bool) {all : Option ℕ} (e : all ≡ complaint (bad_arguments nullable (drop i s))) where
+  pub arguments_end : length s ≤ i → None ≡ all
   unfolding bad_arguments
   arguments_end h = sym (e ∙ ap (λ (l : List ℕ). complaint (bad_arguments nullable l)) (drop_of_length-le s h))
 
@@ -87,7 +86,7 @@ module _ (s : List ℕ) (i : ℕ) (nullable : Bool) {all : Judged} (e : all ≡ 
   unfolding bad_arguments
   opened h = e ∙ ap (λ (l : List ℕ). complaint (bad_arguments nullable l)) (cons_at s i h)
 
-  pub arguments_no : i < length s → passes ≡ false → Wrong (get_or s i 0 / 256) ≡ all
+  pub arguments_no : i < length s → passes ≡ false → Some (get_or s i 0 / 256) ≡ all
   unfolding unless
   arguments_no h d = sym (opened h ∙ rw d)
 
@@ -96,7 +95,7 @@ module _ (s : List ℕ) (i : ℕ) (nullable : Bool) {all : Judged} (e : all ≡ 
   arguments_step h d = opened h ∙ rw d
 
 -- a list of codes by its first
-pub enum-none : (s : List ℕ) → length s ≡ 0 → Fine ≡ complaint (bad_enum s)
+pub enum-none : (s : List ℕ) → length s ≡ 0 → None ≡ complaint (bad_enum s)
 unfolding bad_enum
 enum-none [] e = refl
 enum-none (b ∷ s) e = absurd (omega arith)
@@ -106,7 +105,7 @@ unfolding bad_enum
 enum-some [] f = absurd (f refl)
 enum-some (b ∷ s) f = refl
 
-pub reader-none : (s : List ℕ) → length s ≡ 0 → Fine ≡ complaint (bad_reader s)
+pub reader-none : (s : List ℕ) → length s ≡ 0 → None ≡ complaint (bad_reader s)
 unfolding bad_reader
 reader-none [] e = refl
 reader-none (b ∷ s) e = absurd (omega arith)

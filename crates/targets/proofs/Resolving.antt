@@ -13,22 +13,24 @@ use Rattle.layout.specs.Name.{Name, simple, one, two, write}
 use Rattle.layout.specs.EnumList.{EnumEntry, EnumSize, size_in}
 use Rattle.layout.specs.Named.{Typed, unknown, known, reader_of}
 use Rattle.layout.specs.Complaint.{is_known, reader_faults, leftmost}
-use Rattle.names.specs.declared.parse.Named.{Named}
-use Rattle.names.specs.declared.parse.Named.TheVariants.{Codes, Broken as Named-broken, NoRoom as Named-no-room}
+use Rattle.std.specs.Prelude.{Result, Ok as Result-ok, Err, Option, Some, None}
+use Rattle.answers.specs.declared.Refusal.{Refusal}
+use Rattle.answers.specs.Refusals.{refusal}
+use Rattle.names.specs.declared.parse.Unnamed.{Unnamed}
+use Rattle.names.specs.declared.parse.Unnamed.TheVariants.{Broken as Unnamed-broken, NoRoom as Unnamed-no-room}
 use Rattle.names.specs.Parse.{Read, broken, name, name_of}
 use Rattle.names.specs.Laws.{read_is_text}
 use Rattle.names.specs.Contract.{coded, refused, no_room, placed, ending, answer_of, content_of, ReadsName}
 use Rattle.names.specs.Codes.{codes-length}
 use Rattle.names.specs.Heading.{headings}
 use Rattle.names.specs.Kind.{codes}
-use Rattle.targets.specs.declared.Resolved.TheVariants.{Target, Broken, Unknown, NoRoom}
+use Rattle.targets.specs.declared.Unresolved.TheVariants.{Broken, Unknown, NoRoom}
 use Rattle.targets.specs.Code.{code_size}
 use Rattle.targets.specs.Coded.{Ok, Leaves, reader-coded}
 use Rattle.targets.specs.Extent.{code_size_lem}
 use Rattle.targets.specs.Judge.{bad_reader, complaint}
-use Rattle.targets.specs.declared.Judged.TheVariants.{Fine, Wrong}
 use Rattle.targets.specs.Complaints.{fine, reader-fine}
-use Rattle.targets.specs.Contract.{judged, resolution, enum_word, settled, settled_size, left, content, Resolves}
+use Rattle.targets.specs.Contract.{judged, unresolved, resolution, enum_word, settled, settled_size, left, content, Resolves}
 use Rattle.targets.specs.Settling.{is_enums, Settles}
 use Rattle.targets.proofs.Judging.{reader-judged}
 
@@ -85,17 +87,17 @@ some_heads at (one h a t) = omega arith
 some_heads at (two h a b t) = omega arith
 
 module _ (es : List EnumEntry) (sized : (h : List ℕ) → (size_in es h ≡ 0 → ⊥) → EnumSize (size_in es h)) (s : List ℕ) (at : ℕ) (c c' : List ℕ) (used : ℕ) where
-  no_room_as : (b : Bool) (r : Read) → placed s at used ≡ b → name_of at s ≡ r → no_room ≡ answer_of b (length c) at used r → c' ≡ content_of b es c at used r → Resolves es s at c c' used NoRoom
+  no_room_as : (b : Bool) (r : Read) → placed s at used ≡ b → name_of at s ≡ r → no_room ≡ answer_of b (length c) at used r → c' ≡ content_of b es c at used r → Resolves es s at c c' used (Err NoRoom)
   unfolding answer_of content_of resolution content ending
   no_room_as false r q i a w = record { answers = rw q; writes = w ∙ rw q }
   no_room_as true (broken m p hs) q i a w = differ cc
   no_room_as true (name n k) q i a w = go (leb (used + length (headings at n)) (length c)) refl a where
-    go : (b : Bool) → leb (used + length (headings at n)) (length c) ≡ b → no_room ≡ cond b (coded (used + length (headings at n))) no_room → Resolves es s at c c' used NoRoom
+    go : (b : Bool) → leb (used + length (headings at n)) (length c) ≡ b → no_room ≡ cond b (coded (used + length (headings at n))) no_room → Resolves es s at c c' used (Err NoRoom)
     go true d a = differ cc
     go false d a = record { answers = rw (q, i, d); writes = w ∙ rw (q, i, d) }
 
   broken_as : (number place : ℕ) (b : Bool) (r : Read) → placed s at used ≡ b → name_of at s ≡ r → refused number place ≡ answer_of b (length c) at used r → c' ≡ content_of b es c at used r
-      → Resolves es s at c c' used (Broken number place)
+      → Resolves es s at c c' used (Err (Broken (refusal number place)))
   unfolding answer_of content_of resolution content ending
   broken_as number place false r q i a w = differ cc
   broken_as number place true (broken m p hs) q i a w =
@@ -103,7 +105,7 @@ module _ (es : List EnumEntry) (sized : (h : List ℕ) → (size_in es h ≡ 0 �
       let y : place ≡ p = cc in
       record { answers = rw (q, i, x, y); writes = w ∙ rw (q, i) }
   broken_as number place true (name n k) q i a w = go (leb (used + length (headings at n)) (length c)) a where
-    go : (b : Bool) → refused number place ≡ cond b (coded (used + length (headings at n))) no_room → Resolves es s at c c' used (Broken number place)
+    go : (b : Bool) → refused number place ≡ cond b (coded (used + length (headings at n))) no_room → Resolves es s at c c' used (Err (Broken (refusal number place)))
     go true a = differ cc
     go false a = differ cc
 
@@ -152,13 +154,13 @@ module _ (es : List EnumEntry) (sized : (h : List ℕ) → (size_in es h ≡ 0 �
   fits : {end : ℕ} (g : Got end) → leb (used + length (headings at g.n)) (length c) ≡ true
   fits g = le-leb (used + length (headings at g.n)) (length c) (omega (arith, g.ends, g.room))
 
-  unknown_as : {end : ℕ} (g : Got end) (place : ℕ) (r : Typed) → reader_of es g.n ≡ r → is_known r ≡ false → place ≡ leftmost (reader_faults es at g.n) → Resolves es s at c c' used (Unknown place)
+  unknown_as : {end : ℕ} (g : Got end) (place : ℕ) (r : Typed) → reader_of es g.n ≡ r → is_known r ≡ false → place ≡ leftmost (reader_faults es at g.n) → Resolves es s at c c' used (Err (Unknown place))
   unfolding resolution content judged left is_known ending
   unknown_as g place unknown q e l = record { answers = rw (g.there, g.is, fits g, q, l); writes = g.writes ∙ rw (g.there, g.is, fits g, q) }
   unknown_as g place (known t) q e l = differ cc
 
   known_as : {end : ℕ} (g : Got end) (c'' : List ℕ) (r : ℕ) → Settles c' c'' used end r → (x : Typed) → reader_of es g.n ≡ x
-      → (file : List ℕ) → Ok (Leaves file (codes es true (headings at g.n))) x → is_known x ≡ true → Resolves es s at c c'' used (Target r)
+      → (file : List ℕ) → Ok (Leaves file (codes es true (headings at g.n))) x → is_known x ≡ true → Resolves es s at c c'' used (Result-ok r)
   unfolding resolution content judged left is_known ending
   known_as g c'' r v unknown q file o e = differ cc
   known_as {end} g c'' r v (known t) q file o e =
@@ -169,15 +171,12 @@ module _ (es : List EnumEntry) (sized : (h : List ℕ) → (size_in es h ≡ 0 �
       let z : r ≡ used + code_size t = m.1 ∙ ap (λ (k : ℕ). used + k) (sym p.sized ∙ code_size_lem file t p.words p.coded) in
       record { answers = rw (g.there, g.is, fits g, q, z); writes = m.0 ∙ rw (g.there, g.is, fits g, q) }
 
-  module _ {r : Named} (p : ReadsName es s at c c' used r) where
-    pub no_room_is : r ≡ Named-no-room → Resolves es s at c c' used NoRoom
-    no_room_is e = no_room_as (placed s at used) (name_of at s) refl refl (rw e at p.answers) p.writes
+  pub unnamed_is : (e : Unnamed) → ReadsName es s at c c' used (Err e) → Resolves es s at c c' used (Err (unresolved e))
+  unnamed_is (Unnamed-broken x) p = broken_as x.number x.place (placed s at used) (name_of at s) refl refl p.answers p.writes
+  unnamed_is Unnamed-no-room p = no_room_as (placed s at used) (name_of at s) refl refl p.answers p.writes
 
-    pub broken_is : (number place : ℕ) → r ≡ Named-broken number place → Resolves es s at c c' used (Broken number place)
-    broken_is number place e = broken_as number place (placed s at used) (name_of at s) refl refl (rw e at p.answers) p.writes
-
-    pub got_is : (end : ℕ) → r ≡ Codes end → Got end
-    got_is end e = got_as end (placed s at used) (name_of at s) refl refl (rw e at p.answers) p.writes
+  pub got_is : {end : ℕ} → ReadsName es s at c c' used (Result-ok end) → Got end
+  got_is {end} p = got_as end (placed s at used) (name_of at s) refl refl p.answers p.writes
 
   -- a file in which the name stands there
   standing : {end : ℕ} (g : Got end) → drop at (replicate at 0 ++ s) ≡ write g.n []
@@ -187,22 +186,22 @@ module _ (es : List EnumEntry) (sized : (h : List ℕ) → (size_in es h ≡ 0 �
   judge_is : {end : ℕ} (g : Got end) → complaint (bad_reader (take (end - used) (drop used c'))) ≡ complaint (reader_faults es at g.n)
   judge_is g = ap (λ (l : List ℕ). complaint (bad_reader l)) g.part ∙ ap complaint (reader-judged es sized g.n at)
 
-  by_complaint : (ps : List ℕ) (place : ℕ) → complaint ps ≡ Wrong place → (fine ps ≡ false) × (place ≡ leftmost ps)
+  by_complaint : (ps : List ℕ) (place : ℕ) → complaint ps ≡ Some place → (fine ps ≡ false) × (place ≡ leftmost ps)
   unfolding fine leftmost
   by_complaint [] place e = differ cc
   by_complaint (p ∷ ps) place e = (refl, cc)
 
-  no_complaint : (ps : List ℕ) → complaint ps ≡ Fine → fine ps ≡ true
+  no_complaint : (ps : List ℕ) → complaint ps ≡ None → fine ps ≡ true
   unfolding fine
   no_complaint [] e = refl
   no_complaint (p ∷ ps) e = differ cc
 
-  pub unknown_is : {end : ℕ} → Got end → (place : ℕ) → complaint (bad_reader (take (end - used) (drop used c'))) ≡ Wrong place → Resolves es s at c c' used (Unknown place)
+  pub unknown_is : {end : ℕ} → Got end → (place : ℕ) → complaint (bad_reader (take (end - used) (drop used c'))) ≡ Some place → Resolves es s at c c' used (Err (Unknown place))
   unknown_is g place e =
       let x = by_complaint (reader_faults es at g.n) place (sym (judge_is g) ∙ e) in
       unknown_as g place (reader_of es g.n) refl (sym (reader-fine es g.n at) ∙ x.0) x.1
 
-  pub known_is : {end : ℕ} → Got end → complaint (bad_reader (take (end - used) (drop used c'))) ≡ Fine → {c'' : List ℕ} {r : ℕ} → Settles c' c'' used end r → Resolves es s at c c'' used (Target r)
+  pub known_is : {end : ℕ} → Got end → complaint (bad_reader (take (end - used) (drop used c'))) ≡ None → {c'' : List ℕ} {r : ℕ} → Settles c' c'' used end r → Resolves es s at c c'' used (Result-ok r)
   known_is g e {c''} {r} v =
       let file = replicate at 0 ++ s in
       known_as g c'' r v (reader_of es g.n) refl file (reader-coded file es sized 8 at g.n [] (read_is_text at s g.n g.k g.is).0 (standing g))

@@ -13,8 +13,8 @@ ghost use Rattle.targets.specs.Judge.{head_ok, value_ok, bad_arguments, bad_enum
 ghost use Rattle.targets.specs.Settling.{Settles};
 ghost use Rattle.targets.specs.Contract.{enum_word, unresolved, Resolves};
 
-use names::kinds;
 use answers::Refusal;
+use names::kinds;
 use names::parse::Unnamed;
 
 // The types that fonts, pages and meshes declare have so many codes, at the start of the array.
