@@ -7,4 +7,4 @@ use Rattle.page_rules.proofs.next_of_page.Goals as goal
 pub returns : goal.returns
 returns c =
     let a = c.args in
-    skips-three a.rows.table.grid a.rows.table.words.now a.rows.used (suc a.page) (rw add-one at c.next_row-area.ensures) c.next_row-image.ensures c.next_row.ensures
+    skips-three a.rows.table.grid a.rows.table.words.now a.rows.used (suc a.page) (rw add-one at c.next-area.ensures) c.next-image.ensures c.next.ensures
