@@ -1,5 +1,5 @@
 -- The shortest form of a seven-bit number (01: the rewriter changes "these numbers, each to its shortest form"). Assumes nothing.
-use Rattle.std.specs.Prelude.{◌≡◌, Option, None, Some, refl, Bool, true, false, cond, List, ◌∷◌, ◌++◌, ℕ, zero, suc, ◌+◌, ◌*◌, ◌-◌, ◌/◌, ◌%◌, ◌<◌, ◌≤◌, ◌^◌, ltb, leb, length, take, drop, set}
+use Rattle.std.specs.Prelude.{◌≡◌, Option, None, Some, refl, Bool, true, false, cond, List, ◌∷◌, ◌++◌, ℕ, zero, suc, ◌+◌, ◌*◌, ◌/◌, ◌%◌, ◌<◌, ◌≤◌, ◌^◌, ltb, leb, length, take, drop, set}
 use Rattle.std.proofs.Common.{ap, arith, add-one, ltb-true, ltb-false, lt-ltb, le-ltb}
 use Rattle.std.proofs.Math.Nat.{pow-succ'}
 use Rattle.std.proofs.lemmas.List.Edits.{sets}

@@ -1,5 +1,5 @@
 // Reading a seven-bit number in five steps, one for each byte that it may have: each is a turn of 000's loop under "7BitEncodedInt" (docs/SEVEN-BIT.md).
-ghost use Rattle.std.specs.Prelude.{◌≡◌, ◌+◌, ◌*◌, ◌-◌, ◌≤◌, ◌<◌, leb, length};
+ghost use Rattle.std.specs.Prelude.{◌≡◌, ◌+◌, ◌*◌, ◌-◌, ◌≤◌, ◌<◌, slice_get};
 ghost use Rattle.answers.specs.Told.{told};
 ghost use Rattle.reading.specs.Seven.{seven_at};
 ghost use Rattle.numbers.specs.Steps.{hands_on, joined, needed_by, group, step, last_group, last_step};
@@ -125,10 +125,7 @@ fn group_at(
     requires { (k ≤ 3) × (bits_read ≡ 7 * k) }
     ensures { result ≡ group k s.now start low needed }
 {
-    if missing(s, start, k) {
-        return Err(Rule::PastEnd.at(start));
-    }
-    let byte = s[start + k];
+    let byte = byte_at(s, start, k).ok_or(Rule::PastEnd.at(start))?;
     let short = needed_by(k, needed, byte);
     if byte < 0x80 {
         return Ok(Step::Ends(Padded {
@@ -147,10 +144,7 @@ fn group_at(
 fn last_group(s: &[u8], start: usize, low: u64, needed: u32) -> Result<Padded, Refusal>
     ensures { told_padded result ≡ last_group s.now start low needed }
 {
-    if missing(s, start, 4) {
-        return Err(Rule::PastEnd.at(start));
-    }
-    let byte = s[start + 4];
+    let byte = byte_at(s, start, 4).ok_or(Rule::PastEnd.at(start))?;
     if byte <= 0x0F {
         let short = needed_by(4, needed, byte);
         return Ok(Padded {
@@ -185,14 +179,11 @@ fn beyond(k: usize, needed: u32) -> u32
     size - needed
 }
 
-// Whether the file ends before the byte with index k of the number at `start`.
-fn missing(s: &[u8], start: usize, k: usize) -> bool
-    ensures { result ≡ leb (length s.now) (start + k) }
+// The byte with index k of the number at `start`, where the file has it.
+fn byte_at(s: &[u8], start: usize, k: usize) -> Option<u8>
+    ensures { result ≡ slice_get s.now (start + k) }
 {
-    if s.len() <= start {
-        return true;
-    }
-    s.len() - start <= k
+    s.get(start..)?.get(k).copied()
 }
 
 // 000: "result |= (value & 0x7f) << bitsRead", where `bits` are the byte's low seven.

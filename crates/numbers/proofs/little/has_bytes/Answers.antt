@@ -3,7 +3,6 @@ use Prim.Native.Nat.{ℕ, zero, suc}
 use native.Mathlib.Omega.{arith}
 use lib.Dec.{leb, eqb, eqb-suc-zero, leb-suc-zero}
 use lib.ListN.{length-drop, drop_of_length-le}
-use borrow.Author.Rules.{rules}
 use Rattle.numbers.proofs.little.has_bytes.Goals as goal
 
 none : (n : ℕ) → eqb n 0 ≡ leb n 0

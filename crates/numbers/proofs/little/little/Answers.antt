@@ -1,9 +1,5 @@
-use Rattle.std.proofs.Common.{◌≡◌, sym, ◌∙◌, ◌≤◌, ◌+◌, arith, true, leb, length, drop}
-use borrow.Author.Tests.{not-true, not-false}
-use Rattle.reading.specs.Answer.{read, refused}
-use Rattle.reading.specs.Little.{little_at}
-use Rattle.numbers.specs.Bytes.{inside, is_there, is_missing}
-use borrow.Author.Rules.{rules}
+use Rattle.std.proofs.Common.{sym, ◌∙◌}
+use Rattle.numbers.specs.Bytes.{is_there, is_missing}
 use Rattle.numbers.proofs.little.little.Goals as goal
 
 pub returns-then-not-has_bytes : goal.returns-then-not-has_bytes

@@ -1,6 +1,5 @@
 use native.Mathlib.Omega.{arith}
 use Rattle.numbers.specs.Bytes.{one_byte}
-use borrow.Author.Rules.{rules}
 use Rattle.numbers.proofs.little.one.Goals as goal
 
 pub overflow_cast-result : goal.overflow_cast-result

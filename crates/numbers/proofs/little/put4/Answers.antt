@@ -1,5 +1,4 @@
 use Rattle.layout.specs.Number.{little}
-use borrow.Author.Rules.{rules}
 use Rattle.numbers.proofs.little.put4.Goals as goal
 
 pub returns : goal.returns

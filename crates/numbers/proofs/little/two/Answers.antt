@@ -1,6 +1,5 @@
 use native.Mathlib.Omega.{arith}
 use Rattle.numbers.specs.Bytes.{joined}
-use borrow.Author.Rules.{rules}
 use Rattle.numbers.proofs.little.two.Goals as goal
 
 pub returns : goal.returns

@@ -1,6 +1,5 @@
 use mathlib.Core.Path.{◌∙◌, ap}
 use native.Mathlib.Omega.{arith}
-use borrow.Author.Rules.{rules}
 use Rattle.numbers.specs.Steps.{step, last_step}
 use Rattle.numbers.specs.FiveSteps.{five_steps}
 use Rattle.numbers.proofs.seven.all_steps.Goals as goal

@@ -1,14 +1,9 @@
-use mathlib.Core.Path.{◌≡◌, sym, ap, ◌∙◌}
-use mathlib.Core.Bool.{false}
-use Prim.Native.Nat.{ℕ, ◌+◌, ◌*◌, ◌%◌, ◌<◌, ◌^◌}
-use native.Mathlib.Omega.{arith}
-use lib.Bits.{bit_and, bit_or, and_mask, mask_lt}
-use lib.Dec.{leb}
-use lib.ListN.{length, get_or}
-use borrow.Author.Rules.{rules}
-use borrow.Author.Tests.{lt-ltb, le-ltb, leb-false}
+use Rattle.std.proofs.Common.{◌≡◌, sym, ap, ◌∙◌, ℕ, ◌+◌, ◌*◌, ◌%◌, ◌^◌, bit_and, bit_or, arith, lt-ltb, le-ltb}
+use Rattle.std.proofs.lemmas.Result.{err_from_is_err_and}
+use lib.Bits.{and_mask, mask_lt}
 use Rattle.numbers.specs.Steps.{joined, group}
-use Rattle.numbers.proofs.seven.group_at.Goals.{Else-missing}
+use Rattle.numbers.proofs.Found.{Found, cut, found}
+use Rattle.numbers.proofs.seven.group_at.Goals.{In_ok-byte}
 use Rattle.numbers.proofs.seven.group_at.Goals as goal
 
 -- the low seven bits of a byte's low seven bits are those
@@ -18,45 +13,39 @@ masked low bits_read b =
     let r : b % 128 % 128 ≡ b % 128 = omega arith in
     ap (λ (x : ℕ). bit_or low (x % 128 * 2 ^ bits_read)) (and_mask b 7) ∙ rw r
 
--- the file has the byte
-found : (c : Else-missing) → leb (length c.args.s.now) (c.args.start + c.args.k) ≡ false
-found c = sym c.missing.ensures ∙ c.if-missing.false
+there : (c : In_ok-byte) → Found c.args.s.now (c.args.start + c.args.k) c.in_ok-byte.byte
+there c = found _ _ _ (sym c.byte_at.ensures ∙ c.in_ok-byte.ensures.ok_part)
 
-there : (c : Else-missing) → c.args.start + c.args.k < length c.args.s.now
-there c = leb-false _ _ (found c)
-
-pub returns-then-missing : goal.returns-then-missing
+pub returns-in_err-byte : goal.returns-in_err-byte
 unfolding group
-returns-then-missing c = simp (c.at.ensures, sym c.missing.ensures ∙ c.if-missing.true)
-
-pub overflow_add-byte : goal.overflow_add-byte
-overflow_add-byte c = omega (arith, there c)
-
-pub bounds-s-start : goal.bounds-s-start
-bounds-s-start c = omega (arith, there (goal.at.bounds-s-start c).Else-missing)
+returns-in_err-byte c =
+    let p = err_from_is_err_and c.from_residual.result c.from_residual.ensures.1 in
+    let n = c.in_err-byte.ensures in
+    let v = rw n.ok_part at n.value in
+    let z : c.in_err-byte.field-0.0 ≡ c.at.result = cc in
+    rw (p.1, p.2, z, c.at.ensures, cut _ _ (sym c.byte_at.ensures ∙ n.ok_part))
 
 pub overflow_add-result : goal.overflow_add-result
-overflow_add-result c = omega (arith, there (goal.at.overflow_add-result c).Else-missing)
+overflow_add-result c = omega (arith, (there (goal.at.overflow_add-result c).In_ok-byte).inside)
 
 pub overflow_add-result-then-byte-lt128 : goal.overflow_add-result-then-byte-lt128
-overflow_add-result-then-byte-lt128 c = omega (arith, there (goal.at.overflow_add-result-then-byte-lt128 c).Else-missing)
+overflow_add-result-then-byte-lt128 c = omega (arith, (there (goal.at.overflow_add-result-then-byte-lt128 c).In_ok-byte).inside)
 
 pub returns-then-byte-lt128 : goal.returns-then-byte-lt128
 unfolding group
 returns-then-byte-lt128 c =
-    let a = c.args in
-    let t = lt-ltb (get_or a.s.now (a.start + a.k) 0) 128 (omega (arith, c.if-byte-lt128.true)) in
-    simp (found (goal.at.returns-then-byte-lt128 c).Else-missing, t, c.join.ensures, c.requires.1, c.beyond.ensures, c.needed_by-short.ensures)
+    let f = there (goal.at.returns-then-byte-lt128 c).In_ok-byte in
+    let t = lt-ltb c.in_ok-byte.byte 128 (omega (arith, c.if-byte-lt128.true)) in
+    simp (f.not_cut, f.byte, t, c.join.ensures, c.requires.1, c.beyond.ensures, c.needed_by-short.ensures)
 
 pub join-requires-2 : goal.join-requires-2
-join-requires-2 c =
-    let a = c.args in
-    (mask_lt (get_or a.s.now (a.start + a.k) 0) 7, omega arith)
+join-requires-2 c = (mask_lt c.in_ok-byte.byte 7, omega arith)
 
 pub returns : goal.returns
 unfolding group
 returns c =
     let a = c.args in
-    let t = le-ltb (get_or a.s.now (a.start + a.k) 0) 128 (omega (arith, c.if-byte-lt128.false)) in
-    let m = masked a.low a.bits_read (get_or a.s.now (a.start + a.k) 0) in
-    simp (found (goal.at.returns c).Else-missing, t, c.join-2.ensures ∙ m, c.requires.1, c.needed_by-short.ensures)
+    let f = there (goal.at.returns c).In_ok-byte in
+    let t = le-ltb c.in_ok-byte.byte 128 (omega (arith, c.if-byte-lt128.false)) in
+    let m = masked a.low a.bits_read c.in_ok-byte.byte in
+    simp (f.not_cut, f.byte, t, c.join-2.ensures ∙ m, c.requires.1, c.needed_by-short.ensures)

@@ -1,6 +1,5 @@
 use borrow.Author.Tests.{eq-eqb, ne_eqb}
 use Rattle.numbers.specs.Steps.{needed_by}
-use borrow.Author.Rules.{rules}
 use Rattle.numbers.proofs.seven.needed_by.Goals as goal
 
 pub returns-then-byte-eq0 : goal.returns-then-byte-eq0

@@ -1,5 +1,4 @@
 -- `numbers::seven::seven_padded` meets its contract: a number that the first step ends or refuses is what the five steps come to. Assumes nothing.
-use Rattle.std.specs.Prelude.{Err}
 use Rattle.std.proofs.Common.{arith}
 use Rattle.std.proofs.lemmas.Result.{err_from_is_err_and}
 use Rattle.numbers.specs.FiveSteps.{after_first}

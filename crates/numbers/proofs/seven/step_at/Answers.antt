@@ -1,5 +1,4 @@
 use Rattle.std.proofs.lemmas.Result.{err_from_is_err_and}
-use borrow.Author.Rules.{rules}
 use Rattle.numbers.proofs.seven.step_at.Goals as goal
 
 pub returns-in-HandsOn : goal.returns-in-HandsOn

@@ -1,10 +1,8 @@
-use mathlib.Core.Path.{◌≡◌, refl}
-use Prim.Native.Nat.{◌+◌}
+use mathlib.Core.Path.{refl}
 use native.Mathlib.Omega.{arith}
-use lib.ListN.{length, length-set}
-use lib.Seq.{sets}
+use lib.ListN.{length-set}
 use Rattle.layout.specs.Shortest.{shortest}
-use Rattle.numbers.specs.Shortest.{Rest, rest_room, rest_more, rest_last}
+use Rattle.numbers.specs.Shortest.{rest_room, rest_more, rest_last}
 use Rattle.numbers.proofs.shortest.put.Goals as goal
 
 pub loop-x-init : goal.loop-x-init

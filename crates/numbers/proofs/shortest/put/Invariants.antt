@@ -1,10 +1,9 @@
-use mathlib.Core.Path.{◌≡◌, refl}
+use mathlib.Core.Path.{◌≡◌}
 use Prim.Native.Nat.{◌+◌}
-use native.Mathlib.Omega.{arith}
-use lib.ListN.{length, length-set}
+use lib.ListN.{length}
 use lib.Seq.{sets}
 use Rattle.layout.specs.Shortest.{shortest}
-use Rattle.numbers.specs.Shortest.{Rest, rest_room, rest_more, rest_last}
+use Rattle.numbers.specs.Shortest.{Rest}
 use Rattle.numbers.proofs.shortest.put.Given as goal
 
 abbrev pub invariant-loop-x : goal.invariant-loop-x

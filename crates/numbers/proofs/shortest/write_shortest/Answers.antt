@@ -6,7 +6,6 @@ use lib.Dec.{leb}
 use lib.ListN.{length}
 use lib.Seq.{sets-eq}
 use borrow.Author.Tests.{le-leb, lt-leb}
-use borrow.Author.Rules.{rules}
 use Rattle.layout.specs.Shortest.{shortest}
 use Rattle.numbers.proofs.shortest.write_shortest.Goals as goal
 
