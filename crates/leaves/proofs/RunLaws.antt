@@ -21,10 +21,9 @@ use Rattle.reading.specs.Walk.{Outcome, sequence, walk}
 use Rattle.reading.proofs.Bounds.{walk_bounds, walk_single}
 use Rattle.table.specs.declared.Grid.{Grid}
 use Rattle.table.specs.Word.{in_word}
-use Rattle.walked.specs.declared.Walk.{Walk}
-use Rattle.walked.specs.declared.Walk.TheVariants.{Done, Refused}
+use Rattle.std.specs.Prelude.{Ok, Err}
 use Rattle.walked.specs.Written.{written}
-use Rattle.walked.specs.Contract.{seen, reaching, padded, Walked}
+use Rattle.walked.specs.Contract.{Walk, seen, reaching, padded, Walked}
 use Rattle.walked.specs.Leaf.{leaf_answer}
 use Rattle.walked.specs.Loop.{Reading, start, same, turn, ended, give_up, got, lost, refusing, reading, counted-read, counted-refused}
 use Rattle.leaves.specs.Plain.{plain_slot, Lawful, Begin, plain_pad, plain_value, value_left}

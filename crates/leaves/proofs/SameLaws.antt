@@ -17,8 +17,7 @@ use Rattle.table.specs.Word.{in_word, in_word_lem}
 use Rattle.table.specs.Put.{put_row}
 use Rattle.table.specs.Runs.{put_run, has_rows}
 use Rattle.walked.specs.declared.Head.{Head}
-use Rattle.walked.specs.declared.Walk.{Walk}
-use Rattle.walked.specs.Contract.{reaching}
+use Rattle.walked.specs.Contract.{Walk, reaching}
 use Rattle.walked.specs.Leaf.{mute, value_row, leaf_answer, leaf_words}
 use Rattle.leaves.specs.declared.plain.Plain.{Plain}
 use Rattle.leaves.specs.declared.plain.Plain.TheVariants.{Fixed, Enum, Char, Level, Reference, Blob, Bone, Code, DataSize}

@@ -13,12 +13,12 @@ named p = record { value = p.0; words_after = p.1 }
 pub returns-then-depth-eq0 : goal.returns-then-depth-eq0
 returns-then-depth-eq0 c =
     let a = c.args in
-    named (rw (value_deep a.file.now a.grid.room 0 (Fixed a.kind a.size) a.at a.used a.depth c.if-depth-eq0.true) (refl, refl))
+    named (rw (value_deep a.file.now a.grid.room 0 (Fixed a.kind a.size) a.at a.used a.depth c.if-depth-eq0.true, c.at.ensures) (refl, refl))
 
 pub returns-then-grid-used : goal.returns-then-grid-used
 returns-then-grid-used c =
     let a = c.args in
-    named (rw (value-full a.file.now a.grid.room 0 (Fixed a.kind a.size) a.at a.used a.depth c.if-depth-eq0.false c.if-grid-used.true) (refl, refl))
+    named (rw (value-full a.file.now a.grid.room 0 (Fixed a.kind a.size) a.at a.used a.depth c.if-depth-eq0.false c.if-grid-used.true, c.at-then-grid-used.ensures) (refl, refl))
 
 pub returns : goal.returns
 unfolding plain_at

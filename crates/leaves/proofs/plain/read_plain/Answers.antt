@@ -12,12 +12,12 @@ named p = record { value = p.0; words_after = p.1 }
 pub returns-then-depth-eq0 : goal.returns-then-depth-eq0
 returns-then-depth-eq0 c =
     let a = c.args in
-    named (rw (value_deep a.file.now a.grid.room a.shared a.slot a.at a.used a.depth c.if-depth-eq0.true) (refl, sym (kept _ _ a.slot _ 18 a.at)))
+    named (rw (value_deep a.file.now a.grid.room a.shared a.slot a.at a.used a.depth c.if-depth-eq0.true, c.at.ensures) (refl, sym (kept _ _ a.slot _ 18 a.at)))
 
 pub returns-then-grid-used : goal.returns-then-grid-used
 returns-then-grid-used c =
     let a = c.args in
-    named (rw (value-full a.file.now a.grid.room a.shared a.slot a.at a.used a.depth c.if-depth-eq0.false c.if-grid-used.true) (refl, sym (kept _ _ a.slot _ 19 a.at)))
+    named (rw (value-full a.file.now a.grid.room a.shared a.slot a.at a.used a.depth c.if-depth-eq0.false c.if-grid-used.true, c.at-then-grid-used.ensures) (refl, sym (kept _ _ a.slot _ 19 a.at)))
 
 pub returns : goal.returns
 returns c =

@@ -22,10 +22,10 @@ inside c =
 pub returns-then-not-has_bytes : goal.returns-then-not-has_bytes
 returns-then-not-has_bytes c =
     let a = c.args in
-    text-missing a.file.now a.at a.count a.start a.padding (sym c.has_bytes.ensures ∙ c.if-not-has_bytes.true)
+    rw c.at.ensures (text-missing a.file.now a.at a.count a.start a.padding (sym c.has_bytes.ensures ∙ c.if-not-has_bytes.true))
 
-pub overflow_add-end : goal.overflow_add-end
-overflow_add-end c = omega (arith, inside c)
+pub overflow_add-next : goal.overflow_add-next
+overflow_add-next c = omega (arith, inside c)
 
 pub slice_bounds-is_text-end : goal.slice_bounds-is_text-end
 slice_bounds-is_text-end c = omega (arith, inside c)
@@ -40,4 +40,4 @@ pub returns : goal.returns
 returns c =
     let a = c.args in
     let e : a.start + a.count - a.start ≡ a.count = omega arith in
-    text-broken a.file.now a.at a.count a.start a.padding (there (goal.at.returns c).Else-not-has_bytes) (sym (rw e at c.is_text.ensures) ∙ c.if-is_text.false)
+    rw c.at-2.ensures (text-broken a.file.now a.at a.count a.start a.padding (there (goal.at.returns c).Else-not-has_bytes) (sym (rw e at c.is_text.ensures) ∙ c.if-is_text.false))

@@ -1,4 +1,5 @@
 use mathlib.Core.Path.{◌≡◌, refl, sym, ◌∙◌}
+use Rattle.std.proofs.lemmas.Result.{err_from_is_err_and}
 use Prim.Native.Nat.{◌-◌}
 use native.Mathlib.Omega.{arith}
 use borrow.Author.Rules.{rules}
@@ -17,18 +18,19 @@ loop-i-init c =
 pub turn-slot-requires : goal.turn-slot-requires
 turn-slot-requires c = omega (arith, c.loop-i.invariant.0, c.loop-i-test.true)
 
-pub returns-in-Refused : goal.returns-in-Refused
-returns-in-Refused c =
+pub returns-in_err-reached : goal.returns-in_err-reached
+returns-in_err-reached c =
     let a = c.args in
+    let p = err_from_is_err_and c.from_residual.result c.from_residual.ensures.1 in
     let e = run-turn a.grid a.file.now a.shared a.run a.depth a.parent _ _ _ _ _ _ _ _ _ c.loop-i-test.true c.turn-slot.ensures
-    (sym c.in-Refused.is ∙ c.read_plain.ensures.value) c.read_plain.ensures.words_after in
-    named (rw (sym c.loop-i.invariant.2 ∙ e) (refl, refl))
+    c.in_err-reached.ensures.value c.read_plain.ensures.words_after in
+    named (rw (p.1, p.2, sym c.loop-i.invariant.2 ∙ e) (refl, refl))
 
 pub loop-i-preserved : goal.loop-i-preserved
 loop-i-preserved c =
     let a = c.args in
     let e = run-turn a.grid a.file.now a.shared a.run a.depth a.parent _ _ _ _ _ _ _ _ _ c.loop-i-test.true c.turn-slot.ensures
-    (sym c.in-Done.is ∙ c.read_plain.ensures.value) c.read_plain.ensures.words_after in
+    c.in_ok-reached.ensures.value c.read_plain.ensures.words_after in
     (c.loop-i.invariant.0, search rules, rw c.sum-padding.ensures (sym e ∙ c.loop-i.invariant.2))
 
 pub returns : goal.returns

@@ -11,6 +11,3 @@ invariant-loop-i l =
     (l.n ≡ length (run_slots l.run))
     × (length l.words ≡ length l.initial.words)
     × (run_from l.grid l.file l.shared l.run l.depth l.parent (l.n - l.i) l.i l.next l.row l.padding l.words ≡ run_of l.grid l.file l.shared l.run l.depth l.parent l.at l.used l.initial.words)
-
-abbrev pub decreases-loop-i : goal.decreases-loop-i
-decreases-loop-i l = l.n - l.i
