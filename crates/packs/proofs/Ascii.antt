@@ -1,33 +1,14 @@
 -- Bytes below 80 hex are text. Assumes nothing.
 use mathlib.Core.Path.{◌≡◌, refl, ◌∙◌}
-use mathlib.Core.Bool.{Bool, true, false, ◌||◌}
+use mathlib.Core.Bool.{true}
 use mathlib.Core.List.{List, ◌∷◌}
 use Prim.Native.Nat.{ℕ, zero, suc, ◌+◌, ◌-◌, ◌<◌, ◌≤◌}
 use native.Mathlib.Omega.{arith}
 use native.Mathlib.Decide.{dec_lt}
-use lib.Dec.{leb}
 use lib.ListN.{length, get_or, take, drop}
 use lib.Seq.{drop-cons}
-use borrow.Author.Tests.{leb-false}
-use Rattle.laws.specs.Small.{neither}
 use Rattle.reading.specs.Utf8.{size_one, follow, sized, chars, utf8s, utf8s_steps}
 use Rattle.text.specs.Passed.{Ascii}
-
--- one more byte
-one_more : (s : List ℕ) (i j : ℕ) → Ascii s i j → leb 0x80 (get_or s (i + j) 0) ≡ false → Ascii s i (j + 1)
-one_more s i j f e k h = go (dec_lt k j) where
-  go : Dec (k < j) → get_or s (i + k) 0 < 0x80
-  go (yes l) = f k l
-  go (no l) = let z : k ≡ j = omega arith in rw z (leb-false 0x80 (get_or s (i + j) 0) e)
-
--- one more byte of each of two blocks
-pub both-more : (s : List ℕ) (i k j : ℕ) (b : Bool) → (b ≡ false → Ascii s i j × Ascii s k j) → ((b || leb 0x80 (get_or s (i + j) 0)) || leb 0x80 (get_or s (k + j) 0)) ≡ false
-    → Ascii s i (j + 1) × Ascii s k (j + 1)
-both-more s i k j b f e =
-    let v = neither (b || leb 0x80 (get_or s (i + j) 0)) (leb 0x80 (get_or s (k + j) 0)) e in
-    let w = neither b (leb 0x80 (get_or s (i + j) 0)) v.0 in
-    let p = f w.0 in
-    (one_more s i j p.0 w.1, one_more s k j p.1 v.1)
 
 -- two blocks of 16 bytes, at the start and at the end of n, cover all n
 pub covered : (s : List ℕ) (i k n : ℕ) → n ≤ 32 → k + 16 ≡ i + n → Ascii s i 16 × Ascii s k 16 → Ascii s i n

@@ -8,7 +8,9 @@ use lib.Seq.{take-suc-set}
 use Rattle.reading.specs.Answer.{refused}
 use Rattle.pack_layout.specs.Pack.{Stored, record_bytes, records_bytes}
 use Rattle.pack_layout.specs.Table.{Entry, entry, flat, entry_of, entries}
-use Rattle.packs.specs.declared.Reading.TheVariants.{Refused, Read}
+use Rattle.std.specs.Prelude.{Ok, Err}
+use Rattle.answers.specs.Refusals.{refusal}
+use Rattle.pack_records.specs.declared.Record.{Record}
 use Rattle.packs.specs.Files.{files_from, Fills}
 use Rattle.packs.specs.Walk.{Got, Walked, start, turn, ended}
 
@@ -63,14 +65,14 @@ module _ (mark file : List ℕ) (n room : ℕ) where
   unfolding entries flat
   begin table = record { done = []; walked = start mark file n room; words = refl }
 
-  pub fills_refused : (table : List ℕ) {number place : ℕ} → files_from mark file n room ≡ refused number place → Fills mark (files_from mark file n room) table (Refused number place)
+  pub fills_refused : (table : List ℕ) {number place : ℕ} → files_from mark file n room ≡ refused number place → Fills mark (files_from mark file n room) table (Err (refusal number place))
   fills_refused table e = rw e refl
 
   module _ {table : List ℕ} {i at : ℕ} (r : Reached table i at) where
-    pub next : i < n → i < room → {table' : List ℕ} {from size first count : ℕ} → Got mark file at from size first count
-        → take (4 * i + 4) table' ≡ take (4 * i) table ++ flat (entry from size first count ∷ []) → Reached table' (i + 1) (first + count)
+    pub next : i < n → i < room → {table' : List ℕ} {r' : Record} → Got mark file at r'
+        → take (4 * i + 4) table' ≡ take (4 * i) table ++ flat (entry r'.start r'.size r'.first r'.count ∷ []) → Reached table' (i + 1) (r'.first + r'.count)
     unfolding entries
-    next h k {table'} {from} {size} {first} {count} g t =
+    next h k {table'} {r'} g t =
         let f = g.stored in
         let x : 4 * (i + 1) ≡ 4 * i + 4 = omega arith in
         record {
@@ -79,8 +81,8 @@ module _ (mark file : List ℕ) (n room : ℕ) where
           words = rw (x, t, r.words, g.entered, r.walked.place, entries_append mark 4 r.done (f ∷ [])) (sym (flat_append (entries mark 4 r.done) (entry_of mark (4 + length (records_bytes mark r.done)) f ∷ [])));
         }
 
-    pub filled : n ≤ i → at ≡ length file → Fills mark (files_from mark file n room) table (Read n)
+    pub filled : n ≤ i → at ≡ length file → Fills mark (files_from mark file n room) table (Ok n)
     filled h k =
         let e = ended mark file n room r.walked h k in
         let c : length r.done ≡ i = r.walked.count in
-        rw e.1 (ap Read e.0, rw c r.words)
+        rw e.1 (ap (λ (k : ℕ). Ok k) e.0, rw c r.words)

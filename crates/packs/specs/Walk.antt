@@ -8,6 +8,7 @@ use native.Mathlib.Omega.{arith}
 use Rattle.std.proofs.Math.ListN.{length, length-append}
 use borrow.Author.Tests.{le-leb, lt-leb, eq-eqb, ne_eqb}
 use Rattle.laws.specs.Small.{differ}
+use Rattle.answers.specs.declared.Refusal.{Refusal}
 use Rattle.answers.specs.Refusals.{refusal}
 use Rattle.reading.specs.Answer.{Answer, refused, read, bind, check, several}
 use Rattle.reading.specs.Reads.{Small, next_of}
@@ -17,7 +18,8 @@ use Rattle.pack_layout.specs.Table.{entry, entry_of}
 use Rattle.pack_reading.specs.Pack as pack
 use Rattle.pack_reading.specs.Pack.{record_at, records_at, pack_at}
 use Rattle.pack_reading.specs.Laws.{record_reads}
-use Rattle.pack_records.specs.Records.{stands, recorded}
+use Rattle.pack_records.specs.declared.Record.{Record}
+use Rattle.pack_records.specs.Records.{entered, recorded}
 use Rattle.packs.specs.Files.{files_from}
 
 -- ---- A record
@@ -38,42 +40,34 @@ module _ (mark : List ℕ) where
   some_bytes f = rw (length-append, length-append, length-append, length-append, length-little 4 (length f.content)) (omega arith)
 
   -- what a record that was read says of its entry and of where it ends
-  pub record Got (file : List ℕ) (at start size first count : ℕ) : Type 0 where
+  pub record Got (file : List ℕ) (at : ℕ) (r : Record) : Type 0 where
     pub stored : Stored
-    pub is : record_at mark file at ≡ read stored (first + count)
-    pub entered : entry start size first count ≡ entry_of mark at stored
-    pub inside : first + count ≤ length file
-    pub behind : first + count ≡ at + length (record_bytes mark stored)
+    pub is : record_at mark file at ≡ read stored (r.first + r.count)
+    pub entered : entry r.start r.size r.first r.count ≡ entry_of mark at stored
+    pub inside : r.first + r.count ≤ length file
+    pub behind : r.first + r.count ≡ at + length (record_bytes mark stored)
 
-  got_of : (file : List ℕ) (at : ℕ) {start size first count : ℕ} → Small file → (x : Answer Stored) → record_at mark file at ≡ x
-      → Ok (stands start size first count) ≡ recorded mark at x → Got file at start size first count
+  got_of : (file : List ℕ) (at : ℕ) {r : Record} → Small file → (x : Answer Stored) → record_at mark file at ≡ x → Ok r ≡ recorded mark at x → Got file at r
   got_of file at small (refused number place) e q = differ cc
-  got_of file at {start} {size} {first} {count} small (read f next) e q =
-      let e₁ : start ≡ (entry_of mark at f).path_start = cc in
-      let e₂ : size ≡ (entry_of mark at f).path_length = cc in
-      let e₃ : first ≡ (entry_of mark at f).data_start = cc in
-      let e₄ : count ≡ (entry_of mark at f).data_length = cc in
+  got_of file at {r} small (read f next) e q =
+      let z : r ≡ entered (entry_of mark at f) = cc in
       let w = next_of (record_reads mark file) small at e in
       let l : length w.form ≡ length (record_bytes mark f) = ap length w.laid.1 in
-      let b : first + count ≡ at + length (record_bytes mark f) = rw (e₃, e₄) (entry-end at f) in
-      let n : next ≡ first + count = omega (arith, w.behind) in
+      let b : r.first + r.count ≡ at + length (record_bytes mark f) = rw z (entry-end at f) in
+      let n : next ≡ r.first + r.count = omega (arith, w.behind) in
       record {
         stored = f;
         is = rw n at e;
-        entered = rw (e₁, e₂, e₃, e₄);
+        entered = rw z;
         inside = omega (arith, w.within (omega (arith, some_bytes f)));
         behind = b;
       }
 
-  pub got : (file : List ℕ) (at : ℕ) {start size first count : ℕ} → Small file → Ok (stands start size first count) ≡ recorded mark at (record_at mark file at)
-      → Got file at start size first count
+  pub got : (file : List ℕ) (at : ℕ) {r : Record} → Small file → Ok r ≡ recorded mark at (record_at mark file at) → Got file at r
   got file at small q = got_of file at small (record_at mark file at) refl q
 
-  pub none : (at : ℕ) {number place : ℕ} (x : Answer Stored) → Err (refusal number place) ≡ recorded mark at x → x ≡ refused number place
-  none at {number} {place} (refused n p) q =
-      let a : n ≡ number = cc in
-      let b : p ≡ place = cc in
-      rw (a, b)
+  pub none : (at : ℕ) {e : Refusal} (x : Answer Stored) → Err e ≡ recorded mark at x → x ≡ refused e.number e.place
+  none at {e} (refused n p) q = let z : e ≡ refusal n p = cc in rw z
   none at (read f next) q = differ cc
 
 -- ---- The walk
@@ -127,9 +121,9 @@ module _ (mark file : List ℕ) (n room : ℕ) where
         let e : files_at (min n room) 4 ≡ refused number place = r.answer ∙ rw (z, q) in
         rw e
 
-    pub turn : i < n → i < room → {from size first count : ℕ} (g : Got mark file at from size first count) → Walked (done ++ g.stored ∷ []) (i + 1) (first + count)
+    pub turn : i < n → i < room → {entry : Record} (g : Got mark file at entry) → Walked (done ++ g.stored ∷ []) (i + 1) (entry.first + entry.count)
     unfolding several bind records_bytes
-    turn h k {first = first} {count = count} g =
+    turn h k {entry} g =
         let f = g.stored in
         let z : min n room - i ≡ suc (min n room - (i + 1)) = omega arith in
         let p : length (records_bytes mark (done ++ f ∷ [])) ≡ length (records_bytes mark done) + length (record_bytes mark f)
@@ -138,7 +132,7 @@ module _ (mark file : List ℕ) (n room : ℕ) where
           few = omega arith;
           count = length-append done (f ∷ []) ∙ ap (λ (m : ℕ). m + 1) r.count;
           place = omega (arith, p, g.behind, r.place);
-          answer = r.answer ∙ rw (z, g.is) (after_one done f (files_at (min n room - (i + 1)) (first + count)));
+          answer = r.answer ∙ rw (z, g.is) (after_one done f (files_at (min n room - (i + 1)) (entry.first + entry.count)));
         }
 
     every : n ≤ i → records_at mark file n room 4 ≡ read done at

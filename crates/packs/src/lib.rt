@@ -30,16 +30,11 @@ fn ascii_blocks(s: &[u8], i: usize, k: usize) -> bool
     requires { (i + 16 ≤ length s.now) × (k + 16 ≤ length s.now) }
     ensures { result ≡ true → Ascii s.now i 16 × Ascii s.now k 16 }
 {
-    let mut j = 0;
     let mut other = false;
-    while j < 16 {
-        other = other | (0x80 <= s[i + j]) | (0x80 <= s[k + j]);
-        j += 1;
+    for j in 0..16 {
+        other |= (0x80 <= s[i + j]) | (0x80 <= s[k + j]);
     }
-    if other {
-        return false;
-    }
-    true
+    !other
 }
 
 // Whether 16 to 32 bytes stand from `start` to `behind`, and all are ASCII.
@@ -48,14 +43,10 @@ fn is_ascii(pack: &[u8], start: usize, behind: usize) -> bool
     ensures { result ≡ true → (16 ≤ behind - start) × (behind - start ≤ 32) × Ascii pack.now start (behind - start) }
 {
     let size = behind - start;
-    if size < 16 {
+    if size < 16 || 32 < size {
         return false;
     }
-    if 32 < size {
-        return false;
-    }
-    let last = behind - 16;
-    ascii_blocks(pack, start, last)
+    ascii_blocks(pack, start, behind - 16)
 }
 
 // Whether the bytes from `start` to `behind` are a path of up to 127 bytes: 16 to 32 ASCII bytes at once, and others as any short text.
@@ -67,10 +58,7 @@ fn is_path(pack: &[u8], start: usize, behind: usize) -> bool
         return true;
     }
     let size = behind - start;
-    if size == 0 {
-        return false;
-    }
-    if 127 < size {
+    if size == 0 || 127 < size {
         return false;
     }
     text::is_short_utf8(&pack[start..behind])
@@ -147,6 +135,7 @@ fn read_counted(pack: &[u8], table: &mut [u64], marked: bool) -> Result<usize, R
     read_files(pack, table, marked, count.value as usize)
 }
 
+// Kept: the table is words, four for each file, as C lends it; `marked` is one of two forms, which an enum would tell no plainer.
 // Reads a pack into the table, and answers the number of files: four words for each file, then zeros; only zeros after a refusal.
 pub fn read(pack: &[u8], table: &mut [u64], marked: bool) -> Result<usize, Refusal>
     ensures value { result ≡ answer_of (pack_of (mark_of marked) pack.now (length table.old)) }
