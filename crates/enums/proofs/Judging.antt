@@ -15,7 +15,9 @@ use Rattle.seen_names.specs.Laws.{noted_now, noted_still}
 use Rattle.layout.specs.EnumList.{EnumEntry, entry, write_enums, size_in}
 use Rattle.names.specs.Entries.{entries_of}
 use Rattle.names.specs.EntryLaws.{entries-written}
-use Rattle.enums.specs.declared.Judged.TheVariants.{Lawful, Refused}
+use Rattle.std.specs.Prelude.{Result, Ok, Err}
+use Rattle.answers.specs.declared.Refusal.{Refusal}
+use Rattle.answers.specs.Refusals.{refusal}
 use Rattle.enums.specs.Judge.{Judgement, refused, lawful, is_enum_type, check, enums_from, enums_at}
 use Rattle.enums.specs.Laws.{write-append}
 use Rattle.enums.specs.Lists.{first_written}
@@ -101,10 +103,10 @@ unfolding enums_at write_enums AllNoted
 judging_start s seen = record { earlier = []; passed = refl; counted = refl; few = omega arith; left = refl; all_noted = tt }
 
 module _ {s seen : List ℕ} {at count : ℕ} (j : Judging s seen at count) where
-  says : {number : ℕ} → behind j.earlier (drop at s) ≡ refused number (length j.earlier) → Refused number count ≡ answer_of (enums_at s)
+  says : {number : ℕ} → behind j.earlier (drop at s) ≡ refused number (length j.earlier) → Err (refusal number count) ≡ answer_of (enums_at s)
   says {number} e = rw j.counted (ap answer_of (sym (j.left ∙ e)))
 
-  pub judged-end : length s ≤ at → Lawful ≡ answer_of (enums_at s)
+  pub judged-end : length s ≤ at → Ok tt ≡ answer_of (enums_at s)
   unfolding enums_from
   judged-end h =
       let e : behind j.earlier (drop at s) ≡ lawful j.earlier = rw (drop_of_length-le s h) in
@@ -119,21 +121,21 @@ module _ {s seen : List ℕ} {at count : ℕ} (j : Judging s seen at count) wher
   noted_before = rw (j.passed, entries-written j.earlier) j.all_noted
 
   module _ (h : at < length s) where
-    pub judged_cut : length s - (at + 1) ≤ get_or s at 0 → Refused 32 count ≡ answer_of (enums_at s)
+    pub judged_cut : length s - (at + 1) ≤ get_or s at 0 → Err (refusal 32 count) ≡ answer_of (enums_at s)
     judged_cut c = says (rw (at_place s at h) (behind_cut j.earlier (get_or s at 0) (drop (at + 1) s) (omega (arith, length-drop (at + 1) s))))
 
     module _ (c : get_or s at 0 < length s - (at + 1)) where
       inside : get_or s at 0 < length (drop (at + 1) s)
       inside = omega (arith, length-drop (at + 1) s)
 
-      pub judged-bad : is_enum_type (name_at s at) (get_or s (end_at s at) 0) ≡ false → Refused 32 count ≡ answer_of (enums_at s)
+      pub judged-bad : is_enum_type (name_at s at) (get_or s (end_at s at) 0) ≡ false → Err (refusal 32 count) ≡ answer_of (enums_at s)
       judged-bad b = says (rw (at_place s at h) (behind_bad j.earlier (get_or s at 0) (drop (at + 1) s) inside (rw (name_is s at h, size_is s at h) at b)))
 
       module _ (b : is_enum_type (name_at s at) (get_or s (end_at s at) 0) ≡ true) where
         good : is_enum_type (take (get_or s at 0) (drop (at + 1) s)) (get_or (drop (at + 1) s) (get_or s at 0) 0) ≡ true
         good = rw (name_is s at h, size_is s at h) at b
 
-        pub judged_again : (size_in (entries_of (take at s)) (name_at s at) ≡ 0 → ⊥) → Refused 32 count ≡ answer_of (enums_at s)
+        pub judged_again : (size_in (entries_of (take at s)) (name_at s at) ≡ 0 → ⊥) → Err (refusal 32 count) ≡ answer_of (enums_at s)
         judged_again e =
             says (rw (at_place s at h) (behind_again j.earlier (get_or s at 0) (drop (at + 1) s) inside good
             (λ q. e (rw (name_is s at h) (sizes_before (take (get_or s at 0) (drop (at + 1) s)) ∙ q)))))

@@ -1,7 +1,7 @@
 // Lists of enum types that a caller lends: for each a name length byte, the name, a size byte.
 #![tactic(auto)]
 
-ghost use Rattle.std.specs.Prelude.{◌≡◌};
+ghost use Rattle.std.specs.Prelude.{◌≡◌, ◌≤◌};
 ghost use Rattle.names.specs.Entries.{is_size};
 ghost use Rattle.enums.specs.Judge.{is_enum_type, enums_at};
 ghost use Rattle.enums.specs.Contract.{answer_of};
@@ -90,6 +90,7 @@ fn entries_in(enums: &[u8]) -> usize {
 
 // Judges a list by a table of so many cells.
 fn judge_in<const CELLS: usize>(enums: &[u8]) -> Result<(), Refusal>
+    requires { CELLS ≤ 3000 }
     ensures { result ≡ answer_of (enums_at enums.now) }
 {
     let mut seen = [0u64; CELLS];

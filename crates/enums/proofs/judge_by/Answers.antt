@@ -15,12 +15,12 @@ pub overflow_cast-count : goal.overflow_cast-count
 overflow_cast-count c = omega (arith, c.type_inv.enums c.loop-at.at)
 
 pub returns-then-enums-first : goal.returns-then-enums-first
-returns-then-enums-first c = judged_cut c.loop-at.invariant.3 c.loop-at-test.true c.if-enums-first.true
+returns-then-enums-first c = rw c.at.ensures (judged_cut c.loop-at.invariant.3 c.loop-at-test.true c.if-enums-first.true)
 
 pub returns-then-not-is_enum_type : goal.returns-then-not-is_enum_type
 returns-then-not-is_enum_type c =
-    judged-bad c.loop-at.invariant.3 c.loop-at-test.true c.if-enums-first.false
-    (sym c.is_enum_type.ensures ∙ c.if-not-is_enum_type.true)
+    rw c.at-then-not-is_enum_type.ensures (judged-bad c.loop-at.invariant.3 c.loop-at-test.true c.if-enums-first.false
+    (sym c.is_enum_type.ensures ∙ c.if-not-is_enum_type.true))
 
 pub slice_bounds-listed-end : goal.slice_bounds-listed-end
 slice_bounds-listed-end c = sym (length-take-le _ _ c.loop-at.invariant.0)
@@ -29,9 +29,9 @@ pub returns-then-listed : goal.returns-then-listed
 returns-then-listed c =
     let j = c.loop-at.invariant.3 in
     let e = c.listed.ensures.value (noted_before j) in
-    judged_again j c.loop-at-test.true c.if-enums-first.false
+    rw c.at-then-listed.ensures (judged_again j c.loop-at-test.true c.if-enums-first.false
     (sym c.is_enum_type.ensures ∙ c.if-not-is_enum_type.false)
-    (eqb-false _ _ (not-true _ (sym e ∙ c.if-listed.true)))
+    (eqb-false _ _ (not-true _ (sym e ∙ c.if-listed.true))))
 
 pub loop-at-preserved : goal.loop-at-preserved
 loop-at-preserved c =
