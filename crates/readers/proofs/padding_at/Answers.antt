@@ -5,13 +5,13 @@ use Rattle.numbers.specs.Padded.{pad_of, told_padded, number_read, number-refuse
 use borrow.Author.Rules.{rules}
 use Rattle.readers.proofs.padding_at.Goals as goal
 
-pub returns-in-Refused : goal.returns-in-Refused
+pub returns-in-Err : goal.returns-in-Err
 unfolding pad_of
-returns-in-Refused c =
+returns-in-Err c =
     let a = c.args in
-    rw (number-refused a.at (seven_at a.file.now a.at) (sym (ap told_padded c.in-Refused.is) ∙ c.seven_padded.ensures))
+    rw (number-refused a.at (seven_at a.file.now a.at) (sym (ap told_padded c.in-Err.is) ∙ c.seven_padded.ensures))
 
-pub returns-in-Read : goal.returns-in-Read
-returns-in-Read c =
+pub returns-in-Ok : goal.returns-in-Ok
+returns-in-Ok c =
     let a = c.args in
-    (number_read a.at (seven_at a.file.now a.at) (sym (ap told_padded c.in-Read.is) ∙ c.seven_padded.ensures)).1
+    (number_read a.at (seven_at a.file.now a.at) (sym (ap told_padded c.in-Ok.is) ∙ c.seven_padded.ensures)).1

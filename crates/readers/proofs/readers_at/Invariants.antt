@@ -18,6 +18,3 @@ abbrev pub invariant-loop-i : goal.invariant-loop-i
 invariant-loop-i l =
     Underway (enums_of l.enums) l.file l.initial.codes l.codes l.targets l.starts l.n l.at l.i l.used l.next l.padding
     × (readers_from (enums_of l.enums) l.file (l.n - l.i) l.i l.used l.next l.padding l.codes l.targets l.starts ≡ readers_left (enums_of l.enums) l.file l.n l.at l.initial.codes l.initial.targets l.initial.starts)
-
-abbrev pub decreases-loop-i : goal.decreases-loop-i
-decreases-loop-i l = l.n - l.i
