@@ -7,36 +7,18 @@ use Rattle.std.proofs.lemmas.Bool.{eqb-false}
 use Rattle.laws.specs.Small.{differ}
 use Rattle.table.specs.declared.Grid.{Grid}
 use Rattle.table.specs.Grids.{cell_of}
-use Rattle.key_order.specs.declared.spans.Span.{Span}
-use Rattle.text_order.specs.declared.Order.{Order}
-use Rattle.text_order.specs.declared.Order.TheVariants.{Below, Same}
+use Rattle.std.proofs.Common.{Ordering, Less, Equal}
 use Rattle.text_order.specs.Ordered.{order_of, same_means}
-use Rattle.key_order.specs.Spans.{Spans, text_from}
+use Rattle.key_order.specs.RowText.{text_from}
 use Rattle.key_order.specs.Texts.{key_text, KeyBefore, Rises, Covers, KeyCertificate}
 
-pub past_end : (l : List ℕ) (i : ℕ) → length l ≤ i → 0 ≡ get_or l i 0
-past_end [] i h = refl
-past_end (x ∷ l) zero h = absurd (omega arith)
-past_end (x ∷ l) (suc i) h = past_end l i (omega arith)
-
-pub order_of_lem : {r : Order} {a b x y : List ℕ} → r ≡ order_of a b → a ≡ x → b ≡ y → r ≡ order_of x y
-order_of_lem e p q = rw (p, q) at e
-
 module _ (file : List ℕ) (g : Grid) (table keys : List ℕ) where
-  pub key-span : (i : ℕ) {row first detail : ℕ} {r : Span} → row ≡ get_or keys i 0 → first ≡ get_or table (cell_of g row 1) 0 → detail ≡ get_or table (cell_of g row 5) 0
-      → Spans file (text_from file first detail) r → Spans file (key_text file g table keys i) r
-  unfolding key_text
-  key-span i e f d s =
-      let f' : _ ≡ get_or table (cell_of g (get_or keys i 0) 1) 0 = f ∙ ap (λ (k : ℕ). get_or table (cell_of g k 1) 0) e in
-      let d' : _ ≡ get_or table (cell_of g (get_or keys i 0) 5) 0 = d ∙ ap (λ (k : ℕ). get_or table (cell_of g k 5) 0) e in
-      rw (f', d') at s
+  module _ (a b : ℕ) {o : Ordering} (is : o ≡ order_of (key_text file g table keys a) (key_text file g table keys b)) where
+    pub less_before : o ≡ Less → KeyBefore file g table keys a b
+    less_before e = inl (sym is ∙ e)
 
-  module _ (a b : ℕ) {o : Order} (is : o ≡ order_of (key_text file g table keys a) (key_text file g table keys b)) where
-    pub below_before : o ≡ Below → KeyBefore file g table keys a b
-    below_before e = inl (sym is ∙ e)
-
-    pub same_before : o ≡ Same → ltb a b ≡ true → KeyBefore file g table keys a b
-    same_before e h = inr (same_means (key_text file g table keys a) (key_text file g table keys b) (sym is ∙ e), ltb-true a b h)
+    pub equal_before : o ≡ Equal → ltb a b ≡ true → KeyBefore file g table keys a b
+    equal_before e h = inr (same_means (key_text file g table keys a) (key_text file g table keys b) (sym is ∙ e), ltb-true a b h)
 
   pub rise_more : (order : List ℕ) (j : ℕ) {a b : ℕ} → 1 ≤ j → Rises file g table keys order j → a ≡ get_or order (j - 1) 0 → b ≡ get_or order j 0 → KeyBefore file g table keys a b
       → Rises file g table keys order (j + 1)
@@ -49,10 +31,6 @@ module _ (file : List ℕ) (g : Grid) (table keys : List ℕ) where
         let q' : b ≡ get_or order (suc k) 0 = q ∙ ap (λ (i : ℕ). get_or order i 0) (sym z) in
         rw (← p', ← q') s
     go false e = r k (omega (arith, eqb-false (suc k) j e))
-
-pub not_false : (b : Bool) → not b ≡ false → b ≡ true
-not_false true e = refl
-not_false false e = differ cc
 
 pub certificate : (file : List ℕ) (g : Grid) (table keys : List ℕ) (n : ℕ) (order of : List ℕ) → Covers n order of → Rises file g table keys order n → KeyCertificate file g table keys n order
 certificate file g table keys n order of c r = record {

@@ -1,7 +1,7 @@
 // The text of a row as a part of the file.
 ghost use Rattle.std.specs.Prelude.{◌≡◌, take, drop};
 ghost use Rattle.reading.specs.Seven.{seven_at};
-ghost use Rattle.key_order.specs.Spans.{text_from};
+ghost use Rattle.key_order.specs.RowText.{text_from};
 ghost use Rattle.profile.specs.Stand.{counted_text};
 
 use number_rules::behind;

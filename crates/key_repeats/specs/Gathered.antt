@@ -17,7 +17,7 @@ use Rattle.profile.specs.Offences.{next, skip, kind_of, key_rows, twins}
 use Rattle.std.specs.Prelude.{Option}
 use Rattle.fault_places.specs.Places.{lowest_place, Lowest}
 use Rattle.used_rows.specs.Held.{word_in, Held, Follows, Tells, kind_word, drop_past}
-use Rattle.key_order.specs.Spans.{text_from_lem}
+use Rattle.key_order.specs.RowText.{text_from_lem}
 use Rattle.key_order.specs.Texts.{key_text}
 use Rattle.key_repeats.specs.Hits.{Pair}
 use Rattle.key_repeats.specs.Twins.{if_string, strings, Ahead, keys-lowest}
