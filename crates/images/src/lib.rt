@@ -13,39 +13,36 @@ const PIXEL_BYTES: [u8; 19] = [4, 2, 2, 2, 0, 0, 0, 2, 4, 4, 4, 8, 1, 4, 8, 16, 
 pub fn pixel_bytes(format: u32) -> u64
     ensures { result ≡ get_or pixel_bytes format 0 }
 {
-    if 19 <= format {
-        return 0;
+    match PIXEL_BYTES.get(format as usize) {
+        Some(bytes) => wide(*bytes),
+        None => 0,
     }
-    let i = format as usize;
-    wide(PIXEL_BYTES[i])
 }
+
+// The surface formats in blocks.
+const DXT1: u32 = 4;
+
+const DXT3: u32 = 5;
+
+const DXT5: u32 = 6;
 
 // Bytes per block of 4 by 4 pixels, and 0 for the formats in pixels.
 pub fn block_bytes(format: u32) -> u64
     ensures { result ≡ get_or block_bytes format 0 }
 {
     match format {
-        4 => 8,
-        5 => 16,
-        6 => 16,
+        DXT1 => 8,
+        DXT3 => 16,
+        DXT5 => 16,
         _ => 0,
     }
-}
-
-fn larger(a: u32, b: u32) -> u32
-    ensures { result ≡ max a b }
-{
-    if a < b {
-        return b;
-    }
-    a
 }
 
 // The number of binary digits of the larger side.
 pub fn longest_chain(width: u32, height: u32) -> u32
     ensures { result ≡ digits 32 (max width height) }
 {
-    32 - u32::leading_zeros(larger(width, height))
+    32 - width.max(height).leading_zeros()
 }
 
 // A side halved `level` times, rounded down, at least 1.
@@ -53,11 +50,7 @@ fn halved(side: u32, level: u32) -> u64
     requires { level < 32 }
     ensures { result ≡ max 1 (side / 2 ^ level) }
 {
-    let s = side >> level;
-    if s == 0 {
-        return 1;
-    }
-    s as u64
+    u64::from((side >> level).max(1))
 }
 
 // How many blocks a side takes, rounded up.

@@ -2,7 +2,6 @@
 use Prim.Native.Nat.{◌*◌, ◌≤◌}
 use native.Mathlib.Omega.{arith}
 use native.Mathlib.Nat.{mul-le-mul}
-use borrow.Author.Rules.{rules}
 use Rattle.layout.specs.Image.{level_bytes}
 use Rattle.images.proofs.Sizes.{pixel_bound, block_bound}
 use Rattle.images.proofs.level_bytes.Goals.{After-block_bytes, After-in_blocks-2, After-pixel_bytes, Start}

@@ -1,14 +1,12 @@
 -- `images::pixel_bytes` meets its contract: the constant array is the definition's table. Assumes nothing.
-use mathlib.Core.Path.{sym}
-use borrow.Author.Rules.{rules}
-use lib.ListN.{get_or-eq_default}
+use Rattle.std.proofs.Common.{arith, ◌∙◌}
 use Rattle.layout.specs.Image.{pixel_bytes}
 use Rattle.images.proofs.pixel_bytes.Goals as goal
 
-pub returns-then-format-ge19 : goal.returns-then-format-ge19
+pub returns-in-Some : goal.returns-in-Some
 unfolding pixel_bytes
-returns-then-format-ge19 c = sym (get_or-eq_default pixel_bytes 0 c.if-format-ge19.true)
+returns-in-Some c = c.wide.ensures.0 ∙ c.in-Some.ensures.lookup.4 (omega arith) 0
 
-pub returns : goal.returns
+pub returns-in-None : goal.returns-in-None
 unfolding pixel_bytes
-returns c = c.wide.ensures.0
+returns-in-None c = c.in-None.ensures.lookup.4 (omega arith) 0
