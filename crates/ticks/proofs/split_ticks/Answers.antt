@@ -1,65 +1,32 @@
--- `ticks::split_ticks` meets its contract, by the laws of `Floors`. A signed value is read back from its bits, by `to_z-of_z`. Assumes nothing.
-use mathlib.Core.Path.{◌≡◌}
-use mathlib.Core.Bool.{true, false}
-use native.Mathlib.Omega.{arith}
-use lib.IntN.{pos}
-use lib.Signed.{lt_z, rem_z}
+-- `ticks::split_ticks` meets its contract: the library's quotient and rest are those of the definition, and fit. Assumes nothing.
+use Rattle.std.proofs.Common.{◌≡◌, refl, ◌∙◌, arith, ℤ, pos, negsuc}
+use Rattle.std.specs.Int.{int_div_euclid, int_rem_euclid}
 use mir.Facts.{to_z-of_z}
-use Rattle.ticks.specs.Split.{split_of}
-use Rattle.ticks.specs.Laws.{below-second}
-use Rattle.ticks.proofs.Floors.{quot_fits, rem_fits, floor_fits, rest-fits, corrected, exact}
-use Rattle.ticks.proofs.split_ticks.Goals.{Else-r-lt0, Then-r-lt0}
+use mir.Val.{SFits}
+use mir.Syntax.{w64}
+use Rattle.ticks.specs.Split.{floor_div, floor_mod, split_of}
 use Rattle.ticks.proofs.split_ticks.Goals as goal
 
-negative : (c : Then-r-lt0) → lt_z (rem_z c.args.t (pos 10000000)) (pos 0) ≡ true
-negative c = simp (to_z-of_z c.ranges.t, to_z-of_z (rem_fits c.args.t)) at c.if-r-lt0.true
+floors : (t : ℤ) → int_div_euclid t (pos 10000000) ≡ floor_div t 10000000
+floors (pos n) = refl
+floors (negsuc n) = refl
 
-other : (c : Else-r-lt0) → lt_z (rem_z c.args.t (pos 10000000)) (pos 0) ≡ false
-other c = simp (to_z-of_z c.ranges.t, to_z-of_z (rem_fits c.args.t)) at c.if-r-lt0.false
+rests : (t : ℤ) → int_rem_euclid t (pos 10000000) ≡ pos (floor_mod t 10000000)
+rests (pos n) = refl
+rests (negsuc n) = refl
 
-pub nonzero_div-q : goal.nonzero_div-q
-nonzero_div-q c = (omega arith, rw (to_z-of_z c.ranges.t) (quot_fits _ c.ranges.t))
+floor_fits : (t : ℤ) → SFits w64 t → SFits w64 (floor_div t 10000000)
+floor_fits (pos a) f = let h = f.sfits in record { sfits = omega arith }
+floor_fits (negsuc a) f = let h = f.sfits in record { sfits = omega arith }
 
-pub nonzero_rem-r : goal.nonzero_rem-r
-nonzero_rem-r c = nonzero_div-q c
-
-pub overflow_add-rest : goal.overflow_add-rest
-overflow_add-rest c =
-    let t = c.args.t in
-    simp (to_z-of_z c.ranges.t, to_z-of_z (rem_fits t), (corrected t (negative c)).1) (rest-fits t)
-
-pub overflow_sub-result : goal.overflow_sub-result
-overflow_sub-result c =
-    let t = c.args.t in
-    let f = c.ranges.t in
-    simp (to_z-of_z f, to_z-of_z (quot_fits t f), (corrected t (negative c)).0) (floor_fits t f)
-
-pub overflow_cast-result : goal.overflow_cast-result
-unfolding split_of
-overflow_cast-result c =
-    let t = c.args.t in
-    let b = below-second t in
-    simp (to_z-of_z c.ranges.t, to_z-of_z (rem_fits t), (corrected t (negative c)).1, to_z-of_z (rest-fits t)) (tt, record { fits = omega arith })
-
-pub returns-then-r-lt0 : goal.returns-then-r-lt0
-unfolding split_of
-returns-then-r-lt0 c =
-    let t = c.args.t in
-    let f = c.ranges.t in
-    let e = corrected t (negative c) in
-    simp (to_z-of_z f, to_z-of_z (quot_fits t f), to_z-of_z (rem_fits t), e.0, e.1, to_z-of_z (floor_fits t f), to_z-of_z (rest-fits t))
-
-pub overflow_cast-result-2 : goal.overflow_cast-result-2
-unfolding split_of
-overflow_cast-result-2 c =
-    let t = c.args.t in
-    let b = below-second t in
-    simp (to_z-of_z c.ranges.t, (exact t (other c)).1, to_z-of_z (rest-fits t)) (tt, record { fits = omega arith })
+rest_fits : (t : ℤ) → SFits w64 (pos (floor_mod t 10000000))
+rest_fits (pos a) = record { sfits = omega arith }
+rest_fits (negsuc a) = record { sfits = omega arith }
 
 pub returns : goal.returns
 unfolding split_of
 returns c =
-    let t = c.args.t in
-    let f = c.ranges.t in
-    let e = exact t (other c) in
-    simp (to_z-of_z f, e.0, e.1, to_z-of_z (floor_fits t f), to_z-of_z (rest-fits t))
+    let t = to_z-of_z c.ranges.t in
+    let d = (rw t at c.div_euclid.ensures) ∙ floors c.args.t in
+    let m = (rw t at c.rem_euclid.ensures.value) ∙ rests c.args.t in
+    simp (d, m, to_z-of_z (floor_fits c.args.t c.ranges.t), to_z-of_z (rest_fits c.args.t))
