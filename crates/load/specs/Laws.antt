@@ -193,9 +193,9 @@ pub record HeaderRead (file : List ℕ) (at : ℕ) : Type 0 where
   pub inside : at ≤ length file
   pub ten : at ≡ 10
 
-pub header_read : (file : List ℕ) → Small file → {v at : ℕ} → Ok {E = Refusal} (number_read v at) ≡ header_of file → HeaderRead file at
+pub header_read : (file : List ℕ) → Small file → {v at : ℕ} → Ok (number_read v at) ≡ header_of file → HeaderRead file at
 header_read file s {v} {at} e = go (header_at file) refl e where
-  go : (x : Answer (ℕ × ℕ)) → header_at file ≡ x → Ok {E = Refusal} (number_read v at) ≡ to_header x → HeaderRead file at
+  go : (x : Answer (ℕ × ℕ)) → header_at file ≡ x → Ok (number_read v at) ≡ to_header x → HeaderRead file at
   go (refused n p) q e = differ cc
   go (read h f) q e =
       let v = (header-sound file s).got q in
@@ -274,4 +274,4 @@ module _ (enums file entry : List ℕ) (columns : Bool) where
     go : (b : Bool) (x : Answer FileLoaded) → Loads (grid_of (length entry) b) (file_total file) x entry mid (Err y) → (Err y ≡ answer_of file (to_load x)) × (exit ≡ table_in (shape_of b) (to_load x) (length entry))
     go false (refused a b) l = (l, e ∙ none_kept mid (length entry) m)
     go true (refused a b) l = (l, e ∙ none_kept mid (length entry) m)
-    go b (read a f) l = absurd (let q : Err {A = Loaded} y ≡ Ok (loaded (length a.rows) a.readers a.shared (file_total file a.readers (bare a.rows))) = l.0 in differ cc)
+    go b (read a f) l = absurd (let q : ◌≡◌ {A = Loading} (Err y) (Ok (loaded (length a.rows) a.readers a.shared (file_total file a.readers (bare a.rows)))) = l.0 in differ cc)

@@ -33,9 +33,7 @@ use Rattle.leaves.specs.Plain.{Begin, head_of}
 use Rattle.leaves.specs.Run.{begin_on}
 use Rattle.readers.specs.declared.Readers.{Readers}
 use Rattle.readers.specs.Listed.{Listed}
-use Rattle.heads.specs.declared.slot.Slot.{Slot}
 use Rattle.heads.specs.declared.slot.Slot.TheVariants.{Object, Raw}
-use Rattle.heads.specs.declared.nest.Nest.{Nest}
 use Rattle.heads.specs.declared.nest.Nest.TheVariants.{Each}
 use Rattle.heads.specs.declared.nest.Below.TheVariants.{Nothing}
 use Rattle.heads.specs.Placed.{SlotIs}
@@ -72,7 +70,7 @@ list_nullables g file codes readers small shared a n plan i at used depth entry 
       go (refused m p) e w = let z = w.answers in differ cc
       go (read v f) e w =
           let s : count v.2 ≡ n = (slots-counted g file small readers shared depth (replicate n (raw i.are.is.type)) at used used v f e).0 ∙ length-replicate n (raw i.are.is.type) in
-          let y : Ok {E = Refusal} r ≡ Ok (record { used = v.0; padding = padded file v.1; next = f }) = w.answers in
+          let y : ◌≡◌ {A = Result Reached Refusal} (Ok r) (Ok (record { used = v.0; padding = padded file v.1; next = f })) = w.answers in
           let z : ◌≡◌ {A = Reached} r (record { used = v.0; padding = padded file v.1; next = f }) = cc in
           rw (s, z) (record { answers = refl; writes = w.writes })
 
@@ -133,10 +131,9 @@ module _ (g : Grid) (file codes : List ℕ) (rd : Readers) (readers : List Targe
         got_as (got (rw (y.is shared d parent refl) z) (ap (λ (u : ℕ). reaching u (in_word (s.padding + 0)) s.end) fits)) refl refl refl (sym e)
 
     -- an object that was seen is walked
-    seen_got : Looked file codes rd.count target declared at s → (s.end ≡ 0 → ⊥) → GotSeen
-    seen_got (inl z) e = absurd (e z)
-    seen_got (inr (inl v)) e = null_got v
-    seen_got (inr (inr v)) e = leaf_got v
+    seen_got : Looked file codes rd.count target declared at (Some s) → GotSeen
+    seen_got (inl v) = null_got v
+    seen_got (inr v) = leaf_got v
 
 rest-slots : {A : Type 0} (x : A) (n k : ℕ) → drop k (replicate n x) ≡ replicate (n - k) x
 rest-slots x n zero = let z : n ≡ n - 0 = omega arith in ap (λ (m : ℕ). replicate m x) z
@@ -180,7 +177,7 @@ module _ (g : Grid) (file codes : List ℕ) (rd : Readers) (readers : List Targe
       let r = took_reading d k t.first t.had t.old (omega (arith, h)) t.before in
       let r' : Reading g file (one (suc d)) (each slots) w₀ at used t.old (put x (λ m. each (drop (suc k) slots))) t.first (used + k) t.had k =
       subst (λ y. Reading g file (one (suc d)) (each slots) w₀ at used t.old y t.first (used + k) t.had k) (next_is k (omega (arith, h))) r in
-      let y = seen_got g file codes rd readers l small shared d declared x is used t.old (used + k) t.first (begin_on b r) t.free t.seen t.looked (λ z. t.there (sym t.ends ∙ z)) in
+      let y = seen_got g file codes rd readers l small shared d declared x is used t.old (used + k) t.first (begin_on b r) t.free t.seen t.looked in
       let row : ℕ → List ℕ = λ e. put_row g t.old (used + k) (value_row (head_of (used + k) t.first used t.seen.id t.seen.padding) t.seen.kind 0 1 e) in
       let y' : Got g file t.old w (used + k) (one (suc d) x t.first (used + k)) next (used + suc k) t.seen.padding = got_as y (t.puts ∙ ap row (sym t.ends)) (sym t.ends) (omega arith) refl in
       let single = walk_single file readers shared g.room small (suc d) x t.first (used + k) used y'.taken next y'.is in
@@ -244,7 +241,7 @@ module _ (g : Grid) (file codes : List ℕ) (rd : Readers) (readers : List Targe
           → Counts g file w₀ w' used (counted outcome) (Ok (children n (record { used = t.used; padding = in_word (sum + t.padding); next = t.next })))
       go (refused m p) e a = let q = a.answers in differ cc
       go (read v f) e a =
-          let q : Ok {E = Refusal} (children i t) ≡ Ok (children v.2 (record { used = v.0; padding = padded file v.1; next = f })) = a.answers in
+          let q : ◌≡◌ {A = Result Children Refusal} (Ok (children i t)) (Ok (children v.2 (record { used = v.0; padding = padded file v.1; next = f }))) = a.answers in
           let c : children i t ≡ children v.2 (record { used = v.0; padding = padded file v.1; next = f }) = cc in
           let z : ◌≡◌ {A = Reached} t (record { used = v.0; padding = padded file v.1; next = f }) = ap (λ (x : Children). x.reached) c in
           let h : counted outcome ≡ read (v.0, r.rows ++ v.1, k + v.2) f = sym joined ∙ ap (prefixed r.rows k) e in

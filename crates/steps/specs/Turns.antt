@@ -53,7 +53,7 @@ pub counts_walked : {g : Grid} {file entry exit : List ℕ} {used n : ℕ} {r : 
 unfolding seen counted
 counts_walked (refused m p) c = absurd (let q = c.answers in differ cc)
 counts_walked {g} {file} {entry} {exit} {used} {n} {r} (read a f) c =
-    let q : Ok {E = Refusal} (children n r) ≡ Ok (children (count a.2) (record { used = a.0; padding = padded file a.1; next = f })) = c.answers in
+    let q : ◌≡◌ {A = Result Children Refusal} (Ok (children n r)) (Ok (children (count a.2) (record { used = a.0; padding = padded file a.1; next = f }))) = c.answers in
     let y : children n r ≡ children (count a.2) (record { used = a.0; padding = padded file a.1; next = f }) = cc in
     let k : n ≡ count a.2 = ap (λ (x : Children). x.count) y in
     let z : ◌≡◌ {A = Reached} r (record { used = a.0; padding = padded file a.1; next = f }) = ap (λ (x : Children). x.reached) y in
@@ -62,7 +62,7 @@ counts_walked {g} {file} {entry} {exit} {used} {n} {r} (read a f) c =
 pub counts_refused : {g : Grid} {file entry exit : List ℕ} {used n p : ℕ} (o : Outcome) → Counts g file entry exit used (counted o) (Err (refusal n p)) → o ≡ refused n p
 unfolding counted
 counts_refused {n = n} {p = p} (refused m q) c =
-    let z : Err {A = Children} (refusal n p) ≡ Err (refusal m q) = c.answers in
+    let z : ◌≡◌ {A = Result Children Refusal} (Err (refusal n p)) (Err (refusal m q)) = c.answers in
     let e₀ : refusal m q ≡ refusal n p = cc in
     let e₁ : m ≡ n = ap (λ (x : Refusal). x.number) e₀ in
     let e₂ : q ≡ p = ap (λ (x : Refusal). x.place) e₀ in

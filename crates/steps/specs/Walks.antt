@@ -45,7 +45,7 @@ opened_as file codes t at {next} {below} {r} w e p = go (head_at file t at) refl
   go : (x : Answer Opening) → head_at file t at ≡ x → Opens file codes x r → OpenedAs file codes t at next below
   go (refused n q) h w = differ cc
   go (read o f) h w =
-      let q : Ok {E = Refusal} (opened f w.below) ≡ Ok (opened next below) = sym w.is ∙ e in
+      let q : ◌≡◌ {A = Result Opened Refusal} (Ok (opened f w.below)) (Ok (opened next below)) = sym w.is ∙ e in
       let e₀ : opened f w.below ≡ opened next below = cc in
       let e₁ : f ≡ next = ap (λ (o : Opened). o.next) e₀ in
       let e₂ : w.below ≡ below = ap (λ (o : Opened). o.below) e₀ in
@@ -53,13 +53,13 @@ opened_as file codes t at {next} {below} {r} w e p = go (head_at file t at) refl
 
 pub refused_as : (file codes : List ℕ) {n p : ℕ} {r : Result Opened Refusal} (x : Answer Opening) → Opens file codes x r → r ≡ Err (refusal n p) → x ≡ refused n p
 refused_as file codes {n} {p} (refused m q) w e =
-    let z : Err {A = Opened} (refusal m q) ≡ Err (refusal n p) = sym w ∙ e in
+    let z : ◌≡◌ {A = Result Opened Refusal} (Err (refusal m q)) (Err (refusal n p)) = sym w ∙ e in
     let e₀ : refusal m q ≡ refusal n p = cc in
     let e₁ : m ≡ n = ap (λ (y : Refusal). y.number) e₀ in
     let e₂ : q ≡ p = ap (λ (y : Refusal). y.place) e₀ in
     rw (e₁, e₂)
 refused_as file codes {n} {p} (read o f) w e =
-    let q : Ok (opened f w.below) ≡ Err (refusal n p) = sym w.is ∙ e in
+    let q : ◌≡◌ {A = Result Opened Refusal} (Ok (opened f w.below)) (Err (refusal n p)) = sym w.is ∙ e in
     differ cc
 
 -- the children begin inside the file and have rows left
