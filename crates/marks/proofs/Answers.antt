@@ -7,40 +7,39 @@ use native.Mathlib.Omega.{arith}
 use lib.ListN.{length}
 use borrow.Author.Tests.{le-leb, lt-leb}
 use Rattle.laws.specs.Small.{differ}
-use Rattle.reading.specs.Answer.{Answer, refused, read, Ok}
+use Rattle.reading.specs.Answer as answer
+use Rattle.reading.specs.Answer.{Answer, refused, read}
 use Rattle.reading.specs.Reads.{Small}
 use Rattle.reading.specs.Output.{Rewritten, refusal, fitted, output_of}
 use Rattle.pack_layout.specs.Pack.{Stored, PackLays, pack_bytes, mark_of}
 use Rattle.pack_reading.specs.Pack.{pack_at, to_pack}
 use Rattle.pack_reading.proofs.Theorems.{pack_sound}
-use Rattle.packs.specs.declared.Reading.TheVariants.{Refused, Read}
+use Rattle.std.specs.Prelude.{Ok, Err}
+use Rattle.answers.specs.declared.Refusal.{Refusal}
+use Rattle.answers.specs.Refusals as code
 use Rattle.packs.specs.Files as packs
 use Rattle.pack_writing.specs.Convert.{by_pack, convert_of, converts, marked-length}
 use Rattle.marks.specs.Converting.{count_of, size_of, Measured, Fits, converted, answer_of}
-use Rattle.marks.specs.declared.Converting.TheVariants as converting
 
 -- ---- The walk
 
-pub walk_refused : (x : Answer (List Stored)) {number place : ℕ} → x ≡ refused number place → Refused number place ≡ packs.answer_of (to_pack x)
+pub walk_refused : (x : Answer (List Stored)) {number place : ℕ} → x ≡ refused number place → Err (code.refusal number place) ≡ packs.answer_of (to_pack x)
 unfolding to_pack
 walk_refused x e = rw e
 
-pub walk-read : (x : Answer (List Stored)) {n e : ℕ} {fs : List Stored} → (n ≡ length fs) × (x ≡ read fs e) → Read n ≡ packs.answer_of (to_pack x)
+pub walk-read : (x : Answer (List Stored)) {n e : ℕ} {fs : List Stored} → (n ≡ length fs) × (x ≡ read fs e) → Ok n ≡ packs.answer_of (to_pack x)
 unfolding to_pack
 walk-read x h = rw (h.1, h.0)
 
 -- ---- The conversion
 
 module _ (marked : Bool) (pack : List ℕ) (out : ℕ) where
-  no_pack : {number place : ℕ} (x : Answer (List Stored)) → Refused number place ≡ packs.answer_of (to_pack x) → by_pack (mark_of marked) x out ≡ refusal number place
+  no_pack : {e : Refusal} (x : Answer (List Stored)) → Err e ≡ packs.answer_of (to_pack x) → by_pack (mark_of marked) x out ≡ refusal e.number e.place
   unfolding to_pack by_pack
-  no_pack {number} {place} (refused n p) q =
-      let a : n ≡ number = cc in
-      let b : p ≡ place = cc in
-      rw (a, b)
+  no_pack {e} (refused n p) q = let z : e ≡ code.refusal n p = cc in rw z
   no_pack (read fs e) q = differ cc
 
-  pub not_converted : {number place : ℕ} → Refused number place ≡ count_of (not marked) pack → converted marked pack out ≡ refusal number place
+  pub not_converted : {e : Refusal} → Err e ≡ count_of (not marked) pack → converted marked pack out ≡ refusal e.number e.place
   unfolding convert_of
   not_converted q = no_pack (pack_at (mark_of (not marked)) pack 4096) q
 
@@ -51,12 +50,12 @@ pub record Counted (marked : Bool) (pack : List ℕ) (n : ℕ) : Type 0 where
   pub count : length files ≡ n
 
 module _ (marked : Bool) (pack : List ℕ) where
-  counted_of : {n : ℕ} (x : Answer (List Stored)) → Ok (λ fs e. PackLays (mark_of (not marked)) fs pack × (length fs ≤ 4096)) x → Read n ≡ packs.answer_of (to_pack x) → Counted marked pack n
+  counted_of : {n : ℕ} (x : Answer (List Stored)) → answer.Ok (λ fs e. PackLays (mark_of (not marked)) fs pack × (length fs ≤ 4096)) x → Ok n ≡ packs.answer_of (to_pack x) → Counted marked pack n
   unfolding to_pack
   counted_of (refused number place) k q = differ cc
   counted_of {n} (read fs e) k q = let l : n ≡ length fs = cc in record { files = fs; lays = (k.got refl).0; count = sym l }
 
-  pub counted : {n : ℕ} → Small pack → Read n ≡ count_of (not marked) pack → Counted marked pack n
+  pub counted : {n : ℕ} → Small pack → Ok n ≡ count_of (not marked) pack → Counted marked pack n
   counted small q = counted_of (pack_at (mark_of (not marked)) pack 4096) (pack_sound (mark_of (not marked)) pack 4096 small) q
 
 sizes : (marked : Bool) (fs : List Stored) → length (pack_bytes (mark_of marked) fs) ≡ size_of marked (length (pack_bytes (mark_of (not marked)) fs)) (length fs)
@@ -87,11 +86,11 @@ module _ {marked : Bool} {pack : List ℕ} {n : ℕ} (w : Counted marked pack n)
   unfolding fitted
   no_room {out} h = answers out ∙ rw (size_is, lt-leb (size_of marked (length pack) n) out h)
 
-  pub has_room : {out : ℕ} → size_of marked (length pack) n ≤ out → converting.Converted (size_of marked (length pack) n) ≡ answer_of (converted marked pack out)
+  pub has_room : {out : ℕ} → size_of marked (length pack) n ≤ out → Ok (size_of marked (length pack) n) ≡ answer_of (converted marked pack out)
   unfolding fitted
   has_room {out} h = rw (answers out, size_is, le-leb (size_of marked (length pack) n) out h, size_is)
 
 -- a refused conversion
-pub refused-answer : {x : Rewritten} {number place : ℕ} (out : List ℕ) → x ≡ refusal number place → (converting.Refused number place ≡ answer_of x) × (out ≡ output_of x out)
+pub refused-answer : {x : Rewritten} {number place : ℕ} (out : List ℕ) → x ≡ refusal number place → (Err (code.refusal number place) ≡ answer_of x) × (out ≡ output_of x out)
 unfolding output_of
 refused-answer out e = rw e (refl, refl)

@@ -4,6 +4,7 @@ use mathlib.Core.Bool.{Bool, true, false, not}
 use mathlib.Core.List.{List, [], ◌∷◌, ◌++◌, append-nil, append_assoc}
 use Prim.Native.Nat.{ℕ, ◌+◌, ◌-◌, ◌≤◌, ◌<◌}
 use native.Mathlib.Omega.{arith}
+use borrow.Author.Rules.{rules}
 use lib.Dec.{leb}
 use lib.ListN.{length, take, drop, length-append, length-drop}
 use lib.Seq.{drop-drop, take-append_seam, drop-append_seam}
@@ -21,8 +22,10 @@ use Rattle.pack_layout.specs.Pack.{Stored, Lawful, plain, record_bytes, records_
 use Rattle.pack_layout.specs.Table.{entry_of}
 use Rattle.pack_reading.specs.Pack.{record_at}
 use Rattle.pack_reading.specs.Laws.{record_reads}
-use Rattle.pack_records.specs.declared.Record.TheVariants as record'
-use Rattle.pack_records.specs.Records.{recorded}
+use Rattle.std.specs.Prelude.{Result, Ok, Err, IsOk}
+use Rattle.answers.specs.declared.Refusal.{Refusal}
+use Rattle.pack_records.specs.declared.Record.{Record}
+use Rattle.pack_records.specs.Records.{entered, recorded}
 use Rattle.packs.specs.Walk.{records_append, entry-end}
 use Rattle.pack_writing.specs.Convert.{converts}
 use Rattle.marks.specs.Converting.{Placed, placed, Fits, converted}
@@ -122,12 +125,11 @@ module _ (marked : Bool) (pack : List ℕ) (n : ℕ) (base : List ℕ) where
           let l : Lawful w.file = lawful_next r.done w.file w.others (rw all_files at r.fit.lays.lawful) in
           (record_reads from pack).complete w.file (record_bytes from w.file) (records_bytes from w.others) at (l, refl) here
 
-      ends : {start size first count : ℕ} → record'.Read start size first count ≡ recorded from at (record_at from pack at) → first + count ≡ at + length (record_bytes from w.file)
-      ends {start} {size} {first} {count} q =
-          let p : record'.Read start size first count ≡ recorded from at (read w.file (at + length (record_bytes from w.file))) = rw reads at q in
-          let a : first ≡ (entry_of from at w.file).data_start = cc in
-          let b : count ≡ (entry_of from at w.file).data_length = cc in
-          rw (a, b) (entry-end from at w.file)
+      ends : {put : Record} → Ok put ≡ recorded from at (record_at from pack at) → put.first + put.count ≡ at + length (record_bytes from w.file)
+      ends {put} q =
+          let p : Ok put ≡ recorded from at (read w.file (at + length (record_bytes from w.file))) = rw reads at q in
+          let e : put ≡ entered (entry_of from at w.file) = cc in
+          rw e (entry-end from at w.file)
 
       inside_pack : at + length (record_bytes from w.file) ≤ length pack
       inside_pack =
@@ -173,22 +175,23 @@ module _ (marked : Bool) (pack : List ℕ) (n : ℕ) (base : List ℕ) where
           rw (size, mark, rest, whole, end)
 
     module _ (h : i < n) where
-      pub no_refusal : {number place : ℕ} → record'.Refused number place ≡ recorded from at (record_at from pack at) → ⊥
-      no_refusal {number} {place} q =
+      pub is_read : (r : Result Record Refusal) → r ≡ recorded from at (record_at from pack at) → IsOk r
+      is_read (Ok put) q = search rules
+      is_read (Err e) q =
           let w = next_file h in
-          let p : record'.Refused number place ≡ recorded from at (read w.file (at + length (record_bytes from w.file))) = rw (reads w) at q in
+          let p : Err e ≡ recorded from at (read w.file (at + length (record_bytes from w.file))) = rw (reads w) at q in
           differ cc
 
-      module _ {start size first count : ℕ} (q : record'.Read start size first count ≡ recorded from at (record_at from pack at)) where
-        pub ends-inside : first + count ≤ length pack
+      module _ {put : Record} (q : Ok put ≡ recorded from at (record_at from pack at)) where
+        pub ends-inside : put.first + put.count ≤ length pack
         ends-inside = let w = next_file h in omega (arith, ends w q, inside_pack w)
 
-        pub has-place : Placed marked pack out at (first + count) next
+        pub has-place : Placed marked pack out at (put.first + put.count) next
         has-place =
             let w = next_file h in
             (omega (arith, ends w q, from_long w), ends-inside, omega (arith, ends w q, from_long w, to_long w, inside_out w, put-length))
 
-        pub turn : {out' : List ℕ} {next' : ℕ} → (next', out') ≡ placed marked pack out at (first + count) next → Putting out' (i + 1) (first + count) next'
+        pub turn : {out' : List ℕ} {next' : ℕ} → (next', out') ≡ placed marked pack out at (put.first + put.count) next → Putting out' (i + 1) (put.first + put.count) next'
         turn {out'} {next'} e =
             let w = next_file h in
             let p : ◌≡◌ {A = ℕ × List ℕ} (next', out') (next + length (record_bytes to w.file), before to n (r.done ++ w.file ∷ []) ++ drop (next + length (record_bytes to w.file)) base)

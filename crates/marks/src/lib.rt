@@ -41,10 +41,7 @@ fn count(pack: &[u8], marked: bool) -> Result<usize, Refusal>
 fn mark_size(marked: bool) -> usize
     ensures { result ≡ length (mark_of marked) }
 {
-    if marked {
-        return 2;
-    }
-    0
+    if marked { 2 } else { 0 }
 }
 
 // How many bytes the new pack has: a mark more or less for each file.
@@ -53,9 +50,10 @@ fn measure(size: usize, files: usize, marked: bool) -> usize
     ensures { result ≡ size_of marked size files }
 {
     if marked {
-        return size + 2 * files;
+        size + 2 * files
+    } else {
+        size - 2 * files
     }
-    size - 2 * files
 }
 
 // Puts the record that stands from `at` to `end` into the output from `to` on, and answers where it ends.
@@ -83,14 +81,10 @@ fn put_files(pack: &[u8], out: &mut [u8], marked: bool, n: usize)
     let mut at = 4;
     let mut to = 4;
     for _i in 0..n {
-        match record_at(pack, at, !marked) {
-            Err(_) => return,
-            Ok(file) => {
-                let end = file.first + file.count;
-                to = put_record(pack, out, marked, at, end, to);
-                at = end;
-            }
-        }
+        let file = record_at(pack, at, !marked).unwrap();
+        let end = file.first + file.count;
+        to = put_record(pack, out, marked, at, end, to);
+        at = end;
     }
 }
 
