@@ -6,7 +6,7 @@ use mathlib.Core.List.{List, [], ◌∷◌, ◌++◌}
 use Prim.Native.Nat.{ℕ, zero, suc, ◌+◌, ◌-◌, ◌/◌, ◌<◌, ◌≤◌}
 use native.Mathlib.Omega.{arith}
 use Rattle.std.proofs.Math.ListN.{drop}
-use borrow.Author.Tests.{eqb-true, eqb-false, eq-eqb, ne_eqb, not-true, not-false}
+use borrow.Author.Tests.{eqb-true, eqb-false, eq-eqb, ne_eqb}
 use Rattle.laws.specs.Small.{differ}
 use Rattle.layout.specs.Rows.{Row, words}
 use Rattle.table.specs.declared.Grid.{Grid}
@@ -16,8 +16,9 @@ use Rattle.std.specs.Prelude.{None, Some}
 use Rattle.fault_places.specs.Places.{lowest_place, lower_of, Lowest, lowest-append, lower_assoc, lower-fine}
 use Rattle.used_rows.specs.Held.{word_in, Held, Tells, drop_past, drop-row}
 use Rattle.used_rows.specs.Steps.{head_kind}
-use Rattle.text_order.specs.declared.Order.{Order}
-use Rattle.text_order.specs.declared.Order.TheVariants.{Below, Same, Above}
+use Rattle.std.proofs.Common.{Ordering, Equal, Greater}
+use Rattle.std.proofs.Common as std
+use Rattle.std.specs.Ordering.{is_eq}
 use Rattle.text_order.specs.Ordered.{order_of, same_means, equal_first, Less, trans, irreflexive}
 use Rattle.key_order.specs.Texts.{key_text, KeyCertificate}
 use Rattle.key_repeats.specs.Hits.{One, Pair, Next, Neighbour, one_repeats, none-repeats, more-pairs, next_equal, next_differs, more_neighbours, by_order}
@@ -34,29 +35,20 @@ pub record Earlier (text : ℕ → List ℕ) (n i : ℕ) (r : Bool) : Type 0 whe
   pub yes : r ≡ true → (h : ℕ) × (h < n) × (text h ≡ text i)
   pub no : r ≡ false → (h : ℕ) → h < n → text h ≡ text i → ⊥
 
-pub same_self : (t : List ℕ) → order_of t t ≡ Same
+pub same_self : (t : List ℕ) → order_of t t ≡ Equal
 unfolding order_of
 same_self [] = refl
 same_self (x ∷ t) = equal_first x (order_of t t) ∙ same_self t
 
-module _ (text : ℕ → List ℕ) (a b : ℕ) {o : Order} (is : o ≡ order_of (text a) (text b)) where
-  pub alike_same : o ≡ Same → Alike text a b true
-  alike_same e = record { yes = λ _. same_means (text a) (text b) (sym is ∙ e); no = λ f. differ cc }
+pub alike_by : (text : ℕ → List ℕ) (a b : ℕ) (o : Ordering) → o ≡ order_of (text a) (text b) → Alike text a b (is_eq o)
+alike_by text a b o is = go o is where
+  same_text : text a ≡ text b → order_of (text a) (text b) ≡ Equal
+  same_text e = ap (λ (t : List ℕ). order_of (text a) t) (sym e) ∙ same_self (text a)
 
-  pub alike_other : (o ≡ Same → ⊥) → Alike text a b false
-  alike_other n = record { yes = λ f. differ cc; no = λ _ e. n (is ∙ ap (λ (t : List ℕ). order_of (text a) t) (sym e) ∙ same_self (text a)) }
-
-below_other : {o : Order} → o ≡ Below → o ≡ Same → ⊥
-below_other e f = let z : ◌≡◌ {A = ℕ} 0 1 = cc in omega arith
-
-above_other : {o : Order} → o ≡ Above → o ≡ Same → ⊥
-above_other e f = let z : ◌≡◌ {A = ℕ} 0 1 = cc in omega arith
-
-pub alike-below : (text : ℕ → List ℕ) (a b : ℕ) {o : Order} → o ≡ order_of (text a) (text b) → o ≡ Below → Alike text a b false
-alike-below text a b is e = alike_other text a b is (λ f. below_other e f)
-
-pub alike-above : (text : ℕ → List ℕ) (a b : ℕ) {o : Order} → o ≡ order_of (text a) (text b) → o ≡ Above → Alike text a b false
-alike-above text a b is e = alike_other text a b is (λ f. above_other e f)
+  go : (o : Ordering) → o ≡ order_of (text a) (text b) → Alike text a b (is_eq o)
+  go std.Less is = record { yes = λ f. differ cc; no = λ _ e. let q = same_text e in differ cc }
+  go Equal is = record { yes = λ _. same_means (text a) (text b) (sym is); no = λ f. differ cc }
+  go Greater is = record { yes = λ f. differ cc; no = λ _ e. let q = same_text e in differ cc }
 
 -- none of the first h
 abbrev pub NoneOf : (text : ℕ → List ℕ) (h i : ℕ) → Type 0
@@ -147,16 +139,16 @@ module _ (file : List ℕ) (g : Grid) (table keys order : List ℕ) (m j : ℕ) 
   is_next : {b : ℕ} → b ≡ get_or order (j + 1) 0 → b ≡ get_or order (suc j) 0
   is_next e = e ∙ ap (λ (k : ℕ). get_or order k 0) one_on
 
-  pub second_other : {a b : ℕ} {r : Bool} → b ≡ get_or order (j + 1) 0 → a ≡ get_or order j 0 → Alike (key_text file g table keys) a b r → not r ≡ true → Turn None
+  pub second_other : {a b : ℕ} {r : Bool} → b ≡ get_or order (j + 1) 0 → a ≡ get_or order j 0 → Alike (key_text file g table keys) a b r → r ≡ false → Turn None
   second_other {a} {b} e f w t =
       next_differs (key_text file g table keys) (key_place g table keys) (λ (k : ℕ). get_or order k 0) m j
-      (λ _ q. w.no (not-true _ t) (ap (key_text file g table keys) f ∙ q ∙ ap (key_text file g table keys) (sym (is_next e))))
+      (λ _ q. w.no t (ap (key_text file g table keys) f ∙ q ∙ ap (key_text file g table keys) (sym (is_next e))))
 
-  pub second_same : {a b p : ℕ} {r : Bool} → b ≡ get_or order (j + 1) 0 → b < m → a ≡ get_or order j 0 → Alike (key_text file g table keys) a b r → not r ≡ false → p ≡ key_place g table keys b → Turn (Some p)
+  pub second_same : {a b p : ℕ} {r : Bool} → b ≡ get_or order (j + 1) 0 → b < m → a ≡ get_or order j 0 → Alike (key_text file g table keys) a b r → r ≡ true → p ≡ key_place g table keys b → Turn (Some p)
   second_same {a} {b} e h f w t p =
       let z : b ≡ get_or order (suc j) 0 = is_next e in
       next_equal (key_text file g table keys) (key_place g table keys) (λ (k : ℕ). get_or order k 0) m j (omega arith)
-      (ap (key_text file g table keys) (sym f) ∙ w.yes (not-false _ t) ∙ ap (key_text file g table keys) z) (ap (key_place g table keys) (sym z) ∙ sym p)
+      (ap (key_text file g table keys) (sym f) ∙ w.yes t ∙ ap (key_text file g table keys) z) (ap (key_place g table keys) (sym z) ∙ sym p)
 
   abbrev UpTo : (n : ℕ) → Option ℕ → Type 0
   UpTo n r = Lowest (Neighbour (key_text file g table keys) (key_place g table keys) (λ (k : ℕ). get_or order k 0) m n) r
@@ -173,11 +165,11 @@ module _ (file : List ℕ) (g : Grid) (table keys order : List ℕ) (m j : ℕ) 
 -- ---- Pairs
 
 module _ (text : ℕ → List ℕ) (place : ℕ → ℕ) (i : ℕ) where
-  pub no_repeat : {r : Bool} → Earlier text i i r → not r ≡ true → Lowest (One text place i) None
-  no_repeat w t = none-repeats text place i (λ x. w.no (not-true _ t) x.0 x.1 x.2)
+  pub no_repeat : {r : Bool} → Earlier text i i r → r ≡ false → Lowest (One text place i) None
+  no_repeat w t = none-repeats text place i (λ x. w.no t x.0 x.1 x.2)
 
-  pub a_repeat : {r : Bool} {p : ℕ} → Earlier text i i r → not r ≡ false → p ≡ place i → Lowest (One text place i) (Some p)
-  a_repeat w t e = one_repeats text place i (w.yes (not-false _ t)) (sym e)
+  pub a_repeat : {r : Bool} {p : ℕ} → Earlier text i i r → r ≡ true → p ≡ place i → Lowest (One text place i) (Some p)
+  a_repeat w t e = one_repeats text place i (w.yes t) (sym e)
 
   pub pairs-more : (a b r : Option ℕ) → r ≡ lower_of a b → Lowest (Pair text place i) a → Lowest (One text place i) b → Lowest (Pair text place (i + 1)) r
   pairs-more a b r e l o = rw e (more-pairs text place i a b l o)

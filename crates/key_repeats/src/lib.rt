@@ -12,7 +12,6 @@ ghost use Rattle.key_repeats.specs.Steps.{Alike, Earlier, KeysFault, RepeatedKey
 use fault_places::lower;
 use key_order::{Keys, certified};
 use names::kinds;
-use std::cmp::Ordering;
 use used_rows::UsedRows;
 
 // Notes the row of a key, if it is a String.
@@ -55,11 +54,7 @@ fn gather(rows: UsedRows, first: u32, n: u32, keys: &mut [u32]) -> u32
 fn alike(keys: Keys, a: u32, b: u32) -> bool
     ensures { Alike (key_text keys.entry.file.now keys.entry.table.grid keys.entry.table.words.now keys.entry.rows.now) a b result }
 {
-    match keys.order(a, b) {
-        Ordering::Less => false,
-        Ordering::Equal => true,
-        Ordering::Greater => false,
-    }
+    keys.order(a, b).is_eq()
 }
 
 // The place of a key.
@@ -103,17 +98,24 @@ fn pairs(keys: Keys, m: u32) -> Option<usize>
     best
 }
 
+// A number of an order, 0 where there is none.
+fn ordered_at(order: &[u16], j: usize) -> u32
+    ensures { result ≡ get_or order.now j 0 }
+{
+    order.get(j).copied().unwrap_or(0) as u32
+}
+
 // The place of the second of two neighbours of one text, in an order of m keys.
 fn neighbour_at(keys: Keys, order: &[u16], m: u32, j: usize) -> Option<usize>
     requires { j < 4294967296 }
     ensures { Lowest (Next (key_text keys.entry.file.now keys.entry.table.grid keys.entry.table.words.now keys.entry.rows.now)
         (key_place keys.entry.table.grid keys.entry.table.words.now keys.entry.rows.now) (λ k. get_or order.now k 0) m j) result }
 {
-    let b = order.get(j + 1).copied().unwrap_or(0) as u32;
+    let b = ordered_at(order, j + 1);
     if m <= b {
         return None;
     }
-    let a = order.get(j).copied().unwrap_or(0) as u32;
+    let a = ordered_at(order, j);
     if !alike(keys, a, b) {
         return None;
     }
@@ -163,7 +165,7 @@ fn few_keys(file: &[u8], rows: UsedRows, first: u32, n: u32) -> Option<usize>
 
 // The same with at most N: no more room is cleared than so many keys need.
 fn many_keys<const N: usize>(file: &[u8], rows: UsedRows, first: u32, n: u32) -> Option<usize>
-    requires { (n ≤ N) × (n ≤ 32768) }
+    requires { (n ≤ N) × (N ≤ 32768) }
     ensures { LowestAmong file.now rows.entry.table.grid rows.entry.table.words.now rows.entry.used n first result }
 {
     let mut keys = [0u32; N];

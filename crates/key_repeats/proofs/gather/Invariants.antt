@@ -1,16 +1,10 @@
-use borrow.Author.Rules.{rules}
-use mathlib.Core.Path.{◌≡◌, refl, ◌∙◌}
-use mathlib.Core.List.{List}
-use Prim.Native.Nat.{◌+◌, ◌-◌, ◌≤◌}
-use native.Mathlib.Omega.{arith}
-use lib.ListN.{length}
+use Rattle.std.proofs.Common.{◌≡◌, ◌≤◌, ◌-◌, List, length}
 use Rattle.layout.specs.Rows.{Row}
 use Rattle.used_rows.specs.Held.{Held}
-use Rattle.key_repeats.specs.Gathered.{Left, none-gathered, one_gathered, all_gathered, rows-ended}
+use Rattle.key_repeats.specs.Gathered.{Left}
 use Rattle.key_repeats.proofs.gather.Given as goal
 
-abbrev pub invariant-loop-left : goal.invariant-loop-left
-invariant-loop-left l = (l.m + l.left ≤ l.n) × (length l.keys ≡ length l.initial.keys) × ((rows : List Row) → Held l.grid l.words l.used rows → Left l.used l.n l.first rows l.keys l.m l.left l.row)
-
-abbrev pub decreases-loop-left : goal.decreases-loop-left
-decreases-loop-left l = l.left
+abbrev pub invariant-loop : goal.invariant-loop
+invariant-loop l =
+    (l.m ≤ l.counter) × (length l.keys ≡ length l.initial.keys)
+    × ((rows : List Row) → Held l.rows.table.grid l.rows.table.words.now l.rows.used rows → Left l.rows.used l.n l.first rows l.keys l.m (l.n - l.counter) l.row)

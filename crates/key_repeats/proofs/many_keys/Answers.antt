@@ -1,8 +1,7 @@
-use borrow.Author.Rules.{rules}
 use Rattle.key_repeats.specs.Gathered.{gathered-lowest}
 use Rattle.key_repeats.proofs.many_keys.Goals as goal
 
 pub returns : goal.returns
-returns c =
+returns g c =
     let a = c.args in
-    gathered-lowest a.file.now a.grid a.words.now a.used a.n a.first _ _ c.gather-m.ensures.0 c.sorted.result c.sorted.ensures
+    gathered-lowest a.file.now a.rows.table.grid a.rows.table.words.now a.rows.used a.n a.first _ _ c.gather-m.ensures.0 c.sorted.result c.sorted.ensures

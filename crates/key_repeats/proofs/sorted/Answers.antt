@@ -6,4 +6,4 @@ use Rattle.key_repeats.proofs.sorted.Goals as goal
 pub returns : goal.returns
 returns c =
     let a = c.args in
-    order_lowest a.file.now a.grid a.words.now a.keys.now c.certified.new.order a.m c.neighbours.result (c.certified.ensures c.if-not-certified.false) c.neighbours.ensures
+    order_lowest a.keys.file.now a.keys.table.grid a.keys.table.words.now a.keys.rows.now c.certified.new.order a.m c.neighbours.result (c.certified.ensures c.if-not-certified.false) c.neighbours.ensures
