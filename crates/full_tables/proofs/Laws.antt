@@ -19,8 +19,7 @@ use Rattle.reading.proofs.Accepts.{file_complete}
 use Rattle.readers.specs.Judged.{judged_name, judges}
 use Rattle.enums.specs.Lists.{judged-list}
 use Rattle.load.specs.Under.{load_under, load_lawful}
-use Rattle.load.specs.Loads.{answer_of}
-use Rattle.load.specs.declared.Loading.{Loading}
+use Rattle.load.specs.Loads.{Loading, answer_of}
 use Rattle.full_tables.specs.Full.{first_of, Full}
 use Rattle.full_tables.proofs.Short.{first_at, read-bind, read-check, objects-short, objects-count}
 

@@ -1,12 +1,12 @@
 -- What is demanded of 19, which is the contract of `load_full`. No reading is in it. Assumes nothing.
-use Rattle.std.specs.Prelude.{◌≡◌, List, [], ◌∷◌, ℕ, zero, suc, ◌<◌, replicate}
+use Rattle.std.specs.Prelude.{◌≡◌, List, [], ◌∷◌, ℕ, zero, suc, ◌<◌, replicate, Err}
 use Rattle.layout.specs.Tree.{size}
 use Rattle.layout.specs.Rows.{Row}
 use Rattle.layout.specs.File.{FileTree, FileLays, file_rows}
 use Rattle.layout.specs.EnumList.{EnumEntry, write_enums, Enums}
 use Rattle.layout.specs.Table.{room_of}
-use Rattle.load.specs.declared.Loading.{Loading}
-use Rattle.load.specs.declared.Loading.TheVariants.{Refused}
+use Rattle.answers.specs.Refusals.{refusal}
+use Rattle.load.specs.Loads.{Loading}
 
 -- the first byte of row i
 unfoldable pub first_of : List Row → (i : ℕ) → ℕ
@@ -18,4 +18,4 @@ first_of (r ∷ rows) (suc i) = first_of rows i
 pub record Full (enums file : List ℕ) (words : ℕ) (left : List ℕ) (r : Loading) : Type 0 where
   -- where a file tree may have the file as its bytes and the table has no room for a row for each value in it: 19 at the first byte of the row whose number is the room, which is the first that has none, and every word is zero
   pub full : (es : List EnumEntry) → Enums es → enums ≡ write_enums es → (ft : FileTree) (w : FileLays es ft file) → room_of words < size ft.objects
-      → (r ≡ Refused 19 (first_of (file_rows es ft file w) (room_of words))) × (left ≡ replicate words 0)
+      → (r ≡ Err (refusal 19 (first_of (file_rows es ft file w) (room_of words)))) × (left ≡ replicate words 0)

@@ -1,5 +1,6 @@
 // A value that has no children and needs no reader list.
-ghost use Rattle.std.specs.Prelude.{◌≡◌, ltb};
+ghost use Rattle.std.specs.Prelude.{◌≡◌, ltb, IfSome};
+ghost use Rattle.leaves.specs.Same.{Uniform};
 ghost use Rattle.walked.specs.Leaf.{leaf_answer};
 ghost use Rattle.leaves.specs.Plain.{plain_at, plain_pad, plain_value, plain_left, value_left};
 
@@ -22,6 +23,20 @@ pub enum Plain {
     Bone(u32),
     Code(u32),
     DataSize(u32),
+}
+
+impl Plain {
+    // The kind and the size of the values that stand so, where all have the same.
+    pub(crate) fn uniform(self) -> Option<(u32, usize)>
+        ensures { IfSome result (λ p. Uniform self p.0 p.1) }
+    {
+        match self {
+            Plain::Fixed(kind, size) => Some((kind, size)),
+            Plain::Enum(size) => Some((15, size)),
+            Plain::Char => Some((12, 1)),
+            _ => None,
+        }
+    }
 }
 
 // Whether a resource id is above the shared count.

@@ -2,10 +2,10 @@
 ghost use Rattle.std.specs.Prelude.{◌≡◌, true, cond, ◌+◌, ◌*◌, ◌≤◌, ◌<◌, length};
 ghost use Rattle.table.specs.Runs.{put_run};
 ghost use Rattle.leaves.specs.Run.{run_slots, turn_of, run_of};
-ghost use Rattle.leaves.specs.Same.{AtMost, Kept, Uniform};
+ghost use Rattle.leaves.specs.Same.{AtMost, Kept};
 
 use crate::plain::Plain;
-use table::Grid;
+use table::{Grid, Series};
 use walked::{Reached, Walk};
 
 // The same value n times; two in turn, n times; or the n levels of an image.
@@ -87,123 +87,58 @@ fn all_at_most(file: &[u8], at: usize, n: usize, most: u8) -> bool
     ensures { result ≡ true → AtMost file.now at n most }
 {
     let mut over = false;
-    let mut i = 0;
-    while i < n {
+    // Kept: every byte is looked at, so that the compiler takes many at once; `any` would stop at the first.
+    for i in 0..n {
         over = over | (most < file[at + i]);
-        i += 1;
     }
-    if over {
-        return false;
-    }
-    true
+    !over
 }
 
-// Whether n values of a size are there.
-fn all_there(file: &[u8], size: usize, n: u32, at: usize) -> bool
-    ensures { result ≡ true → at + n * size ≤ length file.now }
+// Whether the bytes of a series are there.
+fn all_there(file: &[u8], s: Series) -> bool
+    ensures { result ≡ true → s.first + s.count * s.size ≤ length file.now }
 {
-    if file.len() < at {
+    let Some(all) = (s.count as usize).checked_mul(s.size) else {
         return false;
-    }
-    if 4294967296 <= size {
+    };
+    let Some(end) = s.first.checked_add(all) else {
         return false;
-    }
-    let all = n as usize * size;
-    all <= file.len() - at
+    };
+    end <= file.len()
 }
 
-// Whether n values of a kind and size are there and are seen at once to keep their rule.
-fn all_kept(file: &[u8], kind: u32, size: usize, n: u32, at: usize) -> bool
-    ensures { result ≡ true → Kept file.now kind size at n × (at + n * size ≤ length file.now) }
+// Whether the bytes of a series are there and are seen at once to keep the rule of their kind.
+fn all_kept(file: &[u8], s: Series) -> bool
+    ensures { result ≡ true
+        → Kept file.now s.kind s.size s.first s.count × (s.first + s.count * s.size ≤ length file.now) }
 {
-    if !all_there(file, size, n, at) {
+    if !all_there(file, s) {
         return false;
     }
-    match kind {
-        11 => {
-            if size != 1 {
-                return false;
-            }
-            all_at_most(file, at, n as usize, 1)
-        }
-        12 => {
-            if size != 1 {
-                return false;
-            }
-            all_at_most(file, at, n as usize, 127)
-        }
+    match s.kind {
+        11 => s.size == 1 && all_at_most(file, s.first, s.count as usize, 1),
+        12 => s.size == 1 && all_at_most(file, s.first, s.count as usize, 127),
         21 | 22 => false,
         _ => true,
     }
 }
 
-// Puts the rows of n values of a kind and size at once, if they are seen to be there with room for them; whether they are.
-fn put_kept(
-    file: &[u8],
-    words: &mut [u32],
-    grid: Grid,
-    kind: u32,
-    size: usize,
-    n: u32,
-    at: usize,
-    used: u32,
-    depth: u32,
-    parent: u32,
-) -> bool
-    ensures kept { result ≡ true → Kept file.now kind size at n × (used + n ≤ grid.room) × (0 < depth)
-        × (at + n * size ≤ length file.now) }
-    ensures words_after { words.new ≡ cond result (put_run grid used kind at size parent words.old n) words.old }
+// Puts the rows of a series at once, if its bytes are seen to be there and to keep their rule, with room for the rows; whether they are.
+fn put_kept(file: &[u8], words: &mut [u32], grid: Grid, used: u32, depth: u32, s: Series) -> bool
+    ensures kept { result ≡ true → Kept file.now s.kind s.size s.first s.count × (used + s.count ≤ grid.room) × (0 < depth)
+        × (s.first + s.count * s.size ≤ length file.now) }
+    ensures words_after { words.new ≡ cond result (put_run grid used s.kind s.first s.size s.parent words.old s.count) words.old }
 {
     if depth == 0 {
         return false;
     }
-    if !all_kept(file, kind, size, n, at) {
+    if !all_kept(file, s) {
         return false;
     }
-    table::put_run(words, grid, used, n, kind, at, size, parent)
+    table::put_run(words, grid, used, s)
 }
 
-// n values in the same slot, which are of a kind and size.
-fn read_fixed(
-    file: &[u8],
-    words: &mut [u32],
-    grid: Grid,
-    shared: u32,
-    slot: Plain,
-    kind: u32,
-    size: usize,
-    n: u32,
-    at: usize,
-    used: u32,
-    depth: u32,
-    parent: u32,
-) -> Walk
-    requires { Uniform slot kind size }
-    ensures value { result ≡ (run_of grid file.now shared (Run.Same slot n) depth parent at used words.old).0 }
-    ensures words_after { words.new ≡ (run_of grid file.now shared (Run.Same slot n) depth parent at used words.old).1 }
-{
-    if put_kept(file, words, grid, kind, size, n, at, used, depth, parent) {
-        let next = at + n as usize * size;
-        return Ok(Reached {
-            used: used + n,
-            padding: 0,
-            next,
-        });
-    }
-    read_each(
-        file,
-        words,
-        grid,
-        shared,
-        Run::Same(slot, n),
-        at,
-        used,
-        depth,
-        parent,
-    )
-}
-
-// n values in the same slot.
+// n values in the same slot: at once where they are of one kind and size and are seen to be there, else one after the other.
 fn read_same(
     file: &[u8],
     words: &mut [u32],
@@ -219,28 +154,33 @@ fn read_same(
     ensures value { result ≡ (run_of grid file.now shared (Run.Same slot n) depth parent at used words.old).0 }
     ensures words_after { words.new ≡ (run_of grid file.now shared (Run.Same slot n) depth parent at used words.old).1 }
 {
-    match slot {
-        Plain::Fixed(kind, size) => read_fixed(
-            file, words, grid, shared, slot, kind, size, n, at, used, depth, parent,
-        ),
-        Plain::Enum(size) => read_fixed(
-            file, words, grid, shared, slot, 15, size, n, at, used, depth, parent,
-        ),
-        Plain::Char => read_fixed(
-            file, words, grid, shared, slot, 12, 1, n, at, used, depth, parent,
-        ),
-        _ => read_each(
-            file,
-            words,
-            grid,
-            shared,
-            Run::Same(slot, n),
-            at,
-            used,
-            depth,
+    if let Some((kind, size)) = slot.uniform() {
+        let s = Series {
+            count: n,
+            kind,
+            size,
+            first: at,
             parent,
-        ),
+        };
+        if put_kept(file, words, grid, used, depth, s) {
+            return Ok(Reached {
+                used: used + n,
+                padding: 0,
+                next: at + n as usize * size,
+            });
+        }
     }
+    read_each(
+        file,
+        words,
+        grid,
+        shared,
+        Run::Same(slot, n),
+        at,
+        used,
+        depth,
+        parent,
+    )
 }
 
 // One value as a run of its own.
@@ -292,8 +232,8 @@ pub fn read_run(
                 return read_same(file, words, grid, shared, slot, n, at, used, depth, parent);
             }
             let by_rows = Grid {
-                room: grid.room,
                 columns: false,
+                ..grid
             };
             read_same(
                 file, words, by_rows, shared, slot, n, at, used, depth, parent,

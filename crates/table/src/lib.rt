@@ -31,14 +31,14 @@ pub const DETAIL: u32 = 5;
 pub const BRANCH: u32 = 6;
 
 // The shape of a table: how many rows it has room for, and whether it is in columns.
-#[derive(Clone, Copy)]
+#[derive(Clone, Copy, Debug, PartialEq, Eq)]
 pub struct Grid {
     pub room: u32,
     pub columns: bool,
 }
 
 // The words of a row.
-#[derive(Clone, Copy)]
+#[derive(Clone, Copy, Debug, PartialEq, Eq)]
 pub struct RowWords {
     pub kind: u32,
     pub first: u32,
@@ -53,11 +53,7 @@ pub struct RowWords {
 pub fn room(words: usize) -> u32
     ensures { result ≡ room_of words }
 {
-    let rows = words / WIDTH as usize;
-    if 65536 < rows {
-        return 65536;
-    }
-    rows as u32
+    (words / WIDTH as usize).min(65536) as u32
 }
 
 // A table by rows or in columns, with the room of so many words.
@@ -107,7 +103,7 @@ impl Grid {
 }
 
 // The words of a table that is read, and their shape.
-#[derive(Clone, Copy)]
+#[derive(Clone, Copy, Debug)]
 pub struct Table<'a> {
     pub words: &'a [u32],
     pub grid: Grid,
@@ -141,10 +137,7 @@ impl<'a> Table<'a> {
         ensures { result ≡ slice_index self.entry.words.now (cell_of self.entry.grid row.0 word) }
     {
         let at = self.grid.cell(row, word);
-        if at < self.words.len() {
-            return self.words[at];
-        }
-        0
+        self.words.get(at).copied().unwrap_or(0)
     }
 }
 
@@ -153,20 +146,13 @@ fn store_cells(words: &mut [u32], grid: Grid, row: RowNumber, r: RowWords)
     requires { cell_of grid row.0 6 < length words.old }
     ensures { words.new ≡ put_row grid words.old row.0 (row_of r) }
 {
-    let first = grid.cell(row, KIND);
-    let second = grid.cell(row, FIRST);
-    let third = grid.cell(row, LENGTH);
-    let fourth = grid.cell(row, CHILDREN);
-    let fifth = grid.cell(row, PARENT);
-    let sixth = grid.cell(row, DETAIL);
-    let seventh = grid.cell(row, BRANCH);
-    words[first] = r.kind;
-    words[second] = r.first;
-    words[third] = r.bytes;
-    words[fourth] = r.children;
-    words[fifth] = r.parent;
-    words[sixth] = r.detail;
-    words[seventh] = r.branch;
+    words[grid.cell(row, KIND)] = r.kind;
+    words[grid.cell(row, FIRST)] = r.first;
+    words[grid.cell(row, LENGTH)] = r.bytes;
+    words[grid.cell(row, CHILDREN)] = r.children;
+    words[grid.cell(row, PARENT)] = r.parent;
+    words[grid.cell(row, DETAIL)] = r.detail;
+    words[grid.cell(row, BRANCH)] = r.branch;
 }
 
 // Puts a row into its cells, if the words have them.
@@ -187,8 +173,8 @@ pub fn put_row(words: &mut [u32], grid: Grid, row: RowNumber, r: RowWords)
         return;
     }
     let by_rows = Grid {
-        room: grid.room,
         columns: false,
+        ..grid
     };
     put_cells(words, by_rows, row, r);
 }
@@ -197,12 +183,10 @@ pub fn put_row(words: &mut [u32], grid: Grid, row: RowNumber, r: RowWords)
 fn clear_columns(words: &mut [u32], grid: Grid, used: RowNumber)
     ensures { words.new ≡ columns_cleared grid words.old used.0 }
 {
-    let mut j = 0;
-    while j < WIDTH {
+    for j in 0..WIDTH {
         let from = grid.cell(used, j);
         let to = grid.cell(RowNumber(grid.room), j);
         fill::clear_range(words, from, to);
-        j += 1;
     }
     fill::clear(words, grid.cell(RowNumber(0), WIDTH));
 }
@@ -222,7 +206,7 @@ pub fn clear_behind(words: &mut [u32], grid: Grid, used: RowNumber)
 pub fn sum(a: u32, b: u32) -> u32
     ensures { result ≡ in_word (a + b) }
 {
-    std::num::wrapping_add_u32(a, b)
+    a.wrapping_add(b)
 }
 
 // A number as a word holds it: its remainder by 2 to the 32.
@@ -236,64 +220,51 @@ pub fn word(n: usize) -> u32
 pub fn rows_from(row: RowNumber, used: u32) -> u32
     ensures { result ≡ used - row.0 }
 {
-    if used < row.0 {
-        return 0;
-    }
-    used - row.0
+    used.saturating_sub(row.0)
 }
 
-// Puts the rows of n values of one kind and size that follow each other, where the table has them.
-fn store_run(
-    words: &mut [u32],
-    grid: Grid,
-    used: u32,
-    n: u32,
-    kind: u32,
-    first: usize,
-    size: usize,
-    parent: u32,
-)
-    requires { (used + n ≤ grid.room) × (width * grid.room ≤ length words.old) }
-    ensures { words.new ≡ put_run grid used kind first size parent words.old n }
+// Values without children, of one kind and size, that follow each other: how many, the first one's first byte, and their parent's row number plus 1.
+#[derive(Clone, Copy, Debug, PartialEq, Eq)]
+pub struct Series {
+    pub count: u32,
+    pub kind: u32,
+    pub size: usize,
+    pub first: usize,
+    pub parent: u32,
+}
+
+// Puts the rows of a series, where the table has them.
+fn store_run(words: &mut [u32], grid: Grid, used: u32, s: Series)
+    requires { (used + s.count ≤ grid.room) × (width * grid.room ≤ length words.old) }
+    ensures { words.new ≡ put_run grid used s.kind s.first s.size s.parent words.old s.count }
 {
-    let bytes = word(size);
-    let mut at = word(first);
-    let mut i = 0;
-    while i < n {
+    let bytes = word(s.size);
+    let mut at = word(s.first);
+    for i in 0..s.count {
         let r = RowWords {
-            kind,
+            kind: s.kind,
             first: at,
             bytes,
             children: 0,
-            parent,
+            parent: s.parent,
             detail: 0,
             branch: 1,
         };
-        let row = used + i;
-        store_cells(words, grid, RowNumber(row), r);
+        store_cells(words, grid, RowNumber(used + i), r);
         at = sum(at, bytes);
-        i += 1;
     }
 }
 
-// Puts the rows of n values of one kind and size that follow each other, if the table has them; whether it has.
-pub fn put_run(
-    words: &mut [u32],
-    grid: Grid,
-    used: u32,
-    n: u32,
-    kind: u32,
-    first: usize,
-    size: usize,
-    parent: u32,
-) -> bool
-    ensures value { result ≡ has_rows grid (length words.old) used n }
-    ensures words_after { words.new ≡ (if result then put_run grid used kind first size parent words.old n else words.old) }
+// Puts the rows of a series, if the table has them; whether it has.
+pub fn put_run(words: &mut [u32], grid: Grid, used: u32, s: Series) -> bool
+    ensures value { result ≡ has_rows grid (length words.old) used s.count }
+    ensures words_after { words.new
+        ≡ (if result then put_run grid used s.kind s.first s.size s.parent words.old s.count else words.old) }
 {
     if grid.room < used {
         return false;
     }
-    if grid.room - used < n {
+    if grid.room - used < s.count {
         return false;
     }
     let all = WIDTH as usize * grid.room as usize;
@@ -301,13 +272,13 @@ pub fn put_run(
         return false;
     }
     if grid.columns {
-        store_run(words, grid, used, n, kind, first, size, parent);
+        store_run(words, grid, used, s);
         return true;
     }
     let by_rows = Grid {
-        room: grid.room,
         columns: false,
+        ..grid
     };
-    store_run(words, by_rows, used, n, kind, first, size, parent);
+    store_run(words, by_rows, used, s);
     true
 }

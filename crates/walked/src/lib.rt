@@ -15,7 +15,7 @@ use table::{Grid, RowWords};
 
 // What is known of a value before its bytes are read: its row's number, its first byte, its parent's row number plus 1, its type id or resource id,
 // and how many bytes that id has beyond its shortest form.
-#[derive(Clone, Copy)]
+#[derive(Clone, Copy, Debug, PartialEq, Eq)]
 pub struct Head {
     pub row: RowNumber,
     pub first: usize,
@@ -39,10 +39,7 @@ pub type Walk = Result<Reached, Refusal>;
 fn span(first: usize, next: usize) -> u32
     ensures { result ≡ in_word (next - first) }
 {
-    if next < first {
-        return 0;
-    }
-    table::word(next - first)
+    table::word(next.saturating_sub(first))
 }
 
 // The row of a value that ends before `next` and has so many rows with all below it.
@@ -70,9 +67,8 @@ pub fn leaf(words: &mut [u32], grid: Grid, h: Head, kind: u32, mark: u32, read: 
     let next = read?.next;
     let r = row_words(h, kind, mark, 1, next);
     table::put_row(words, grid, h.row, r);
-    let used = std::num::wrapping_add_u32(h.row.0, 1);
     Ok(Reached {
-        used,
+        used: h.row.0.wrapping_add(1),
         padding: h.padding,
         next,
     })

@@ -5,6 +5,3 @@ use Rattle.table.proofs.clear_columns.Given as goal
 
 abbrev pub invariant-loop-j : goal.invariant-loop-j
 invariant-loop-j l = (l.j ≤ 7) × (length l.words ≡ length l.initial.words) × (l.words ≡ columns_wiped l.grid l.initial.words l.used.0 l.j)
-
-abbrev pub decreases-loop-j : goal.decreases-loop-j
-decreases-loop-j l = 7 - l.j

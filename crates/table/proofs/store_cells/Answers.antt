@@ -10,68 +10,65 @@ use Rattle.table.proofs.store_cells.Goals as goal
 before_last : (g : Grid) (u j : ℕ) → j ≤ 6 → cell_of g u j ≤ cell_of g u 6
 before_last g u j h = cell-grows (shape_of g.columns) g.room u j 6 h
 
-pub offset_bounds-words-first : goal.offset_bounds-words-first
-offset_bounds-words-first c =
+pub offset_bounds-words-cell : goal.offset_bounds-words-cell
+offset_bounds-words-cell c =
     let a = c.args in
-    record { fits = omega (arith, before_last a.grid a.row.0 0 (omega arith), c.cell-first.ensures, c.requires) }
+    record { fits = omega (arith, before_last a.grid a.row.0 0 (omega arith), c.cell.ensures, c.requires) }
 
-pub bounds-words-first : goal.bounds-words-first
-bounds-words-first c =
+pub bounds-words-cell : goal.bounds-words-cell
+bounds-words-cell c =
     let a = c.args in
-    omega (arith, before_last a.grid a.row.0 0 (omega arith), c.cell-first.ensures, c.requires)
+    omega (arith, before_last a.grid a.row.0 0 (omega arith), c.cell.ensures, c.requires)
 
-pub offset_bounds-words-second : goal.offset_bounds-words-second
-offset_bounds-words-second c =
+pub offset_bounds-words-cell-2 : goal.offset_bounds-words-cell-2
+offset_bounds-words-cell-2 c =
     let a = c.args in
-    record { fits = omega (arith, before_last a.grid a.row.0 1 (omega arith), c.cell-second.ensures, c.requires) }
+    record { fits = omega (arith, before_last a.grid a.row.0 1 (omega arith), c.cell-2.ensures, c.requires) }
 
-pub bounds-words-second : goal.bounds-words-second
-bounds-words-second c =
+pub bounds-words-cell-2 : goal.bounds-words-cell-2
+bounds-words-cell-2 c =
     let a = c.args in
-    simp length-set (omega (arith, before_last a.grid a.row.0 1 (omega arith), c.cell-second.ensures, c.requires))
+    simp length-set (omega (arith, before_last a.grid a.row.0 1 (omega arith), c.cell-2.ensures, c.requires))
 
-pub offset_bounds-words-third : goal.offset_bounds-words-third
-offset_bounds-words-third c =
+pub offset_bounds-words-cell-3 : goal.offset_bounds-words-cell-3
+offset_bounds-words-cell-3 c =
     let a = c.args in
-    record { fits = omega (arith, before_last a.grid a.row.0 2 (omega arith), c.cell-third.ensures, c.requires) }
+    record { fits = omega (arith, before_last a.grid a.row.0 2 (omega arith), c.cell-3.ensures, c.requires) }
 
-pub bounds-words-third : goal.bounds-words-third
-bounds-words-third c =
+pub bounds-words-cell-3 : goal.bounds-words-cell-3
+bounds-words-cell-3 c =
     let a = c.args in
-    simp length-set (omega (arith, before_last a.grid a.row.0 2 (omega arith), c.cell-third.ensures, c.requires))
+    simp length-set (omega (arith, before_last a.grid a.row.0 2 (omega arith), c.cell-3.ensures, c.requires))
 
-pub offset_bounds-words-fourth : goal.offset_bounds-words-fourth
-offset_bounds-words-fourth c =
+pub offset_bounds-words-cell-4 : goal.offset_bounds-words-cell-4
+offset_bounds-words-cell-4 c =
     let a = c.args in
-    record { fits = omega (arith, before_last a.grid a.row.0 3 (omega arith), c.cell-fourth.ensures, c.requires) }
+    record { fits = omega (arith, before_last a.grid a.row.0 3 (omega arith), c.cell-4.ensures, c.requires) }
 
-pub bounds-words-fourth : goal.bounds-words-fourth
-bounds-words-fourth c =
+pub bounds-words-cell-4 : goal.bounds-words-cell-4
+bounds-words-cell-4 c =
     let a = c.args in
-    simp length-set (omega (arith, before_last a.grid a.row.0 3 (omega arith), c.cell-fourth.ensures, c.requires))
+    simp length-set (omega (arith, before_last a.grid a.row.0 3 (omega arith), c.cell-4.ensures, c.requires))
 
-pub offset_bounds-words-fifth : goal.offset_bounds-words-fifth
-offset_bounds-words-fifth c =
+pub offset_bounds-words-cell-5 : goal.offset_bounds-words-cell-5
+offset_bounds-words-cell-5 c =
     let a = c.args in
-    record { fits = omega (arith, before_last a.grid a.row.0 4 (omega arith), c.cell-fifth.ensures, c.requires) }
+    record { fits = omega (arith, before_last a.grid a.row.0 4 (omega arith), c.cell-5.ensures, c.requires) }
 
-pub bounds-words-fifth : goal.bounds-words-fifth
-bounds-words-fifth c =
+pub bounds-words-cell-5 : goal.bounds-words-cell-5
+bounds-words-cell-5 c =
     let a = c.args in
-    simp length-set (omega (arith, before_last a.grid a.row.0 4 (omega arith), c.cell-fifth.ensures, c.requires))
+    simp length-set (omega (arith, before_last a.grid a.row.0 4 (omega arith), c.cell-5.ensures, c.requires))
 
-pub offset_bounds-words-sixth : goal.offset_bounds-words-sixth
-offset_bounds-words-sixth c =
+pub offset_bounds-words-cell-6 : goal.offset_bounds-words-cell-6
+offset_bounds-words-cell-6 c =
     let a = c.args in
-    record { fits = omega (arith, before_last a.grid a.row.0 5 (omega arith), c.cell-sixth.ensures, c.requires) }
+    record { fits = omega (arith, before_last a.grid a.row.0 5 (omega arith), c.cell-6.ensures, c.requires) }
 
-pub bounds-words-sixth : goal.bounds-words-sixth
-bounds-words-sixth c =
+pub bounds-words-cell-6 : goal.bounds-words-cell-6
+bounds-words-cell-6 c =
     let a = c.args in
-    simp length-set (omega (arith, before_last a.grid a.row.0 5 (omega arith), c.cell-sixth.ensures, c.requires))
-
-pub bounds-words-seventh : goal.bounds-words-seventh
-bounds-words-seventh c = simp length-set (omega (arith, c.cell-seventh.ensures, c.requires))
+    simp length-set (omega (arith, before_last a.grid a.row.0 5 (omega arith), c.cell-6.ensures, c.requires))
 
 pub shape_of-words : goal.shape_of-words
 shape_of-words c = simp length-set
@@ -81,5 +78,5 @@ unfolding put_row
 returns c =
     let a = c.args in
     let t : ltb (cell_of a.grid a.row.0 6) (length a.words.now) ≡ true = lt-ltb (cell_of a.grid a.row.0 6) (length a.words.now) c.requires in
-    rw (t, c.cell-first.ensures, c.cell-second.ensures, c.cell-third.ensures, c.cell-fourth.ensures, c.cell-fifth.ensures, c.cell-sixth.ensures, c.cell-seventh.ensures)
+    rw (t, c.cell.ensures, c.cell-2.ensures, c.cell-3.ensures, c.cell-4.ensures, c.cell-5.ensures, c.cell-6.ensures, c.cell-7.ensures)
     (seven a.grid a.words.now a.row.0 a.r.kind a.r.first a.r.bytes a.r.children a.r.parent a.r.detail a.r.branch)

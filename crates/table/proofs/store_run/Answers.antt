@@ -10,27 +10,26 @@ pub loop-i-init : goal.loop-i-init
 unfolding put_run
 loop-i-init c =
     let a = c.args in
-    let z : a.first + 0 * a.size ≡ a.first = omega arith in
-    (omega arith, refl, c.word-at.ensures ∙ ap in_word (sym z), c.word-bytes.ensures, refl)
+    let z : a.s.first + 0 * a.s.size ≡ a.s.first = omega arith in
+    (refl, c.word-at.ensures ∙ ap in_word (sym z), c.word-bytes.ensures, refl)
 
 pub store_cells-requires : goal.store_cells-requires
 store_cells-requires c =
     let a = c.args in
     cell-inside (shape_of a.grid.columns) a.grid.room (a.used + c.loop-i.i) 6 (length c.loop-i.words) (omega (arith, c.requires.0, c.loop-i-test.true)) (omega arith)
-    (omega (arith, c.loop-i.invariant.1, c.requires.1))
+    (omega (arith, c.loop-i.invariant.0, c.requires.1))
 
 pub loop-i-preserved : goal.loop-i-preserved
 loop-i-preserved c =
     let a = c.args in (
-      omega (arith, c.loop-i-test.true),
       search rules,
-      c.sum-at.ensures ∙ rw (c.loop-i.invariant.2, c.loop-i.invariant.3) (run_first a.first a.size c.loop-i.i),
-      c.loop-i.invariant.3,
-      run_more a.grid a.used a.kind a.first a.size a.parent c.loop-i.i a.words.now _ _ _ _ c.loop-i.invariant.2 c.loop-i.invariant.3 c.loop-i.invariant.4 c.store_cells.ensures,
+      c.sum-at.ensures ∙ rw (c.loop-i.invariant.1, c.loop-i.invariant.2) (run_first a.s.first a.s.size c.loop-i.i),
+      c.loop-i.invariant.2,
+      run_more a.grid a.used a.s.kind a.s.first a.s.size a.s.parent c.loop-i.i a.words.now _ _ _ _ c.loop-i.invariant.1 c.loop-i.invariant.2 c.loop-i.invariant.3 c.store_cells.ensures,
     )
 
 pub returns : goal.returns
 returns c =
     let a = c.args in
-    let z : c.loop-i.i ≡ a.n = omega (arith, c.loop-i.invariant.0, c.loop-i-test.false) in
-    c.loop-i.invariant.4 ∙ ap (λ (k : ℕ). put_run a.grid a.used a.kind a.first a.size a.parent a.words.now k) z
+    let z : c.loop-i.i ≡ a.s.count = omega (arith, c.loop-i-test.false) in
+    c.loop-i.invariant.3 ∙ ap (λ (k : ℕ). put_run a.grid a.used a.s.kind a.s.first a.s.size a.s.parent a.words.now k) z

@@ -7,7 +7,4 @@ use Rattle.table.specs.Runs.{put_run, run_first, run_more}
 use Rattle.table.proofs.store_run.Given as goal
 
 abbrev pub invariant-loop-i : goal.invariant-loop-i
-invariant-loop-i l = (l.i ≤ l.n) × (length l.words ≡ length l.initial.words) × (l.at ≡ in_word (l.first + l.i * l.size)) × (l.bytes ≡ in_word l.size) × (l.words ≡ put_run l.grid l.used l.kind l.first l.size l.parent l.initial.words l.i)
-
-abbrev pub decreases-loop-i : goal.decreases-loop-i
-decreases-loop-i l = l.n - l.i
+invariant-loop-i l = (length l.words ≡ length l.initial.words) × (l.at ≡ in_word (l.s.first + l.i * l.s.size)) × (l.bytes ≡ in_word l.s.size) × (l.words ≡ put_run l.grid l.used l.s.kind l.s.first l.s.size l.s.parent l.initial.words l.i)

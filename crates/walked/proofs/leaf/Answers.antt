@@ -1,7 +1,6 @@
 use Rattle.std.proofs.Common.{refl, ap, ◌∙◌, rules}
 use Rattle.table.specs.Word.{in_word}
 use Rattle.table.specs.Put.{put_row}
-use Rattle.walked.specs.Contract.{reaching}
 use Rattle.walked.proofs.leaf.Goals as goal
 
 named : {A B : Type 0} → A × B → record { value : A; words_after : B }
@@ -12,6 +11,6 @@ unfolding in_word
 returns c =
     let a = c.args in
     named (rw c.in_ok-next.was (
-      ap (λ u. reaching u a.h.padding c.in_ok-next.field-0.next) c.wrapping_add_u32-used.ensures.value,
+      refl,
       c.put_row.ensures ∙ ap (put_row a.grid a.words.now a.h.row.0) c.row_words-r.ensures,
     ))

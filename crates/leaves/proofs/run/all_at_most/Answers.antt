@@ -8,15 +8,9 @@ use Rattle.leaves.specs.Same.{AtMost, most-more}
 use Rattle.leaves.proofs.run.all_at_most.Goals as goal
 
 pub loop-i-init : goal.loop-i-init
-loop-i-init c = (omega arith, λ h k l. absurd (omega arith))
+loop-i-init c = λ h k l. absurd (omega arith)
 
 pub loop-i-preserved : goal.loop-i-preserved
 loop-i-preserved c =
     let a = c.args in
-    (search rules, most-more a.file.now a.at c.loop-i.i a.most c.loop-i.over c.loop-i.invariant.1)
-
-pub returns-then-over : goal.returns-then-over
-returns-then-over c = λ e. absurd (false≢true e)
-
-pub returns : goal.returns
-returns c = λ e k l. c.loop-i.invariant.1 c.if-over.false k (omega (arith, c.loop-i-test.false))
+    most-more a.file.now a.at c.loop-i.i a.most c.loop-i.over c.loop-i.invariant

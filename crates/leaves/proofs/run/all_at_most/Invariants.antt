@@ -8,7 +8,4 @@ use Rattle.leaves.specs.Same.{AtMost, most-more}
 use Rattle.leaves.proofs.run.all_at_most.Given as goal
 
 abbrev pub invariant-loop-i : goal.invariant-loop-i
-invariant-loop-i l = (l.i ≤ l.n) × (l.over ≡ false → AtMost l.file l.at l.i l.most)
-
-abbrev pub decreases-loop-i : goal.decreases-loop-i
-decreases-loop-i l = l.n - l.i
+invariant-loop-i l = l.over ≡ false → AtMost l.file l.at l.i l.most

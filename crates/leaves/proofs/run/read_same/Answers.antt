@@ -1,18 +1,15 @@
 use mathlib.Core.Path.{refl}
+use native.Mathlib.Omega.{arith}
+use Rattle.leaves.proofs.SameLaws.{same_run}
 use borrow.Author.Rules.{rules}
 use Rattle.leaves.proofs.run.read_same.Goals as goal
-
-both : {A B : Type 0} → A → B → A × B
-both a b = (a, b)
 
 named : {A B : Type 0} → A × B → record { value : A; words_after : B }
 named p = record { value = p.0; words_after = p.1 }
 
-pub read_fixed-requires-in-Char : goal.read_fixed-requires-in-Char
-read_fixed-requires-in-Char c = rw c.in-Char.is (refl, refl)
-
-pub returns-in-Fixed : goal.returns-in-Fixed
-returns-in-Fixed c = named (rw c.in-Fixed.is (both c.read_fixed.ensures.value c.read_fixed.ensures.words_after))
-
-pub returns-in-Enum : goal.returns-in-Enum
-returns-in-Enum c = named (rw c.in-Enum.is (both c.read_fixed-in-Enum.ensures.value c.read_fixed-in-Enum.ensures.words_after))
+pub returns-then-put_kept : goal.returns-then-put_kept
+returns-then-put_kept c =
+    let a = c.args in
+    let k = c.put_kept.ensures.kept c.if-put_kept.true in
+    named (rw (same_run a.grid a.file.now a.shared a.depth a.parent a.slot c.in-Some.kind c.in-Some.size a.n a.at a.used a.words.now c.in-Some.ensures k.0 k.1 (omega arith) k.2)
+    (refl, rw c.if-put_kept.true at c.put_kept.ensures.words_after))
