@@ -8,7 +8,7 @@ use lib.Dec.{eqb, ltb}
 use lib.ListN.{length, get_or}
 use borrow.Author.Tests.{ne_eqb, eqb-false, ltb-false, le-ltb}
 use Rattle.laws.specs.Small.{neither}
-use Rattle.xml_escape.specs.Runs.{all_on}
+use Rattle.xml_escape.specs.Runs.{passed_none}
 use Rattle.xml_escape.specs.Quiet.{Quiet, AllQuiet, Ran, RunEnd}
 
 -- ---- One byte
@@ -45,19 +45,9 @@ by_quiet most b q =
 
 -- ---- Runs
 
-pub ran_none : {most : ℕ} {s : List ℕ} {i : ℕ} → i ≤ length s → Ran most s i i
-ran_none h = record { forward = omega arith; inside = h; quiet = λ k l. absurd (omega arith) }
-
-pub ran_more : {most : ℕ} {s : List ℕ} {from i : ℕ} → Ran most s from i → (n : ℕ) → i + n ≤ length s → AllQuiet most s i n → Ran most s from (i + n)
-ran_more {most} {s} {from} {i} r n h q = record {
-  forward = omega (arith, r.forward);
-  inside = h;
-  quiet = all_on (Quiet most) s from i r.forward r.quiet n q;
-}
-
 -- where a run ends
 pub ends_at : {most : ℕ} {s : List ℕ} {from i : ℕ} → Ran most s from i → (i < length s → Quiet most (get_or s i 0) → ⊥) → RunEnd most s from i
 ends_at {s = s} r f = record { run = λ h. r; other = f; stays = λ h. absurd (omega (arith, r.forward, r.inside)) }
 
 pub past_end : {most : ℕ} {s : List ℕ} {from : ℕ} → length s ≤ from → RunEnd most s from from
-past_end h = record { run = λ k. ran_none k; other = λ k. absurd (omega arith); stays = λ k. refl }
+past_end h = record { run = λ k. passed_none k; other = λ k. absurd (omega arith); stays = λ k. refl }

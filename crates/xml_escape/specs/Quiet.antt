@@ -1,6 +1,6 @@
 -- Bytes that are written as they are, whatever stands around them. Assumes nothing.
 use Rattle.std.specs.Prelude.{◌≡◌, List, ℕ, ◌-◌, ◌≤◌, ◌<◌, length, get_or}
-use Rattle.xml_escape.specs.Runs.{AllOf}
+use Rattle.xml_escape.specs.Runs.{AllOf, Passed}
 
 -- no control character, none of the four, not the first byte of U+FFFE and U+FFFF, and none above `most`
 pub record Quiet (most b : ℕ) : Type 0 where
@@ -17,10 +17,8 @@ abbrev pub AllQuiet : (most : ℕ) (s : List ℕ) (i n : ℕ) → Type 0
 AllQuiet most = AllOf (Quiet most)
 
 -- those from one place to a later one
-pub record Ran (most : ℕ) (s : List ℕ) (from i : ℕ) : Type 0 where
-  pub forward : from ≤ i
-  pub inside : i ≤ length s
-  pub quiet : AllQuiet most s from (i - from)
+abbrev pub Ran : (most : ℕ) (s : List ℕ) (from i : ℕ) → Type 0
+Ran most = Passed (Quiet most)
 
 -- and where such a run ends: at the first other byte or the list's end; a place past the list's end stays
 pub record RunEnd (most : ℕ) (s : List ℕ) (from i : ℕ) : Type 0 where

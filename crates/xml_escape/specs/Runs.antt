@@ -8,6 +8,12 @@ use Rattle.laws.specs.Small.{neither}
 abbrev pub AllOf : (P : ℕ → Type 0) (s : List ℕ) (i n : ℕ) → Type 0
 AllOf P s i n = (k : ℕ) → k < n → P (get_or s (i + k) 0)
 
+-- those from one place to a later one
+pub record Passed (P : ℕ → Type 0) (s : List ℕ) (from i : ℕ) : Type 0 where
+  pub forward : from ≤ i
+  pub inside : i ≤ length s
+  pub all : AllOf P s from (i - from)
+
 -- of the first j of n bytes from i on, those before `first` are of one kind, and the byte there is of the other
 pub record Nearest (P Q : ℕ → Type 0) (s : List ℕ) (i n j first : ℕ) : Type 0 where
   pub seen : j ≤ n
@@ -65,3 +71,10 @@ module _ {P Q : ℕ → Type 0} {s : List ℕ} {i n : ℕ} where
           go : (k : ℕ) → k < j + 1 → k < first → Dec (k < j) → P (get_or s (i + k) 0)
           go k a b (yes h) = r.before k h b
           go k a b (no h) = let y : j ≡ k = omega arith in rw (← y) (p refl)
+
+module _ {P : ℕ → Type 0} {s : List ℕ} where
+  pub passed_none : {i : ℕ} → i ≤ length s → Passed P s i i
+  passed_none h = record { forward = omega arith; inside = h; all = λ k l. absurd (omega arith) }
+
+  pub passed_more : {from i : ℕ} → Passed P s from i → (n : ℕ) → i + n ≤ length s → AllOf P s i n → Passed P s from (i + n)
+  passed_more {from} {i} r n h q = record { forward = omega (arith, r.forward); inside = h; all = all_on P s from i r.forward r.all n q }
