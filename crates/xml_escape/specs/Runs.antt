@@ -14,6 +14,12 @@ pub record Passed (P : ℕ → Type 0) (s : List ℕ) (from i : ℕ) : Type 0 wh
   pub inside : i ≤ length s
   pub all : AllOf P s from (i - from)
 
+-- of n bytes from i on, those before `first` are of one kind, and the byte there, where it is one of them, is of the other
+pub record First (P Q : ℕ → Type 0) (s : List ℕ) (i n first : ℕ) : Type 0 where
+  pub within : first ≤ n
+  pub before : AllOf P s i first
+  pub there : first < n → Q (get_or s (i + first) 0)
+
 -- of the first j of n bytes from i on, those before `first` are of one kind, and the byte there is of the other
 pub record Nearest (P Q : ℕ → Type 0) (s : List ℕ) (i n j first : ℕ) : Type 0 where
   pub seen : j ≤ n
@@ -78,3 +84,15 @@ module _ {P : ℕ → Type 0} {s : List ℕ} where
 
   pub passed_more : {from i : ℕ} → Passed P s from i → (n : ℕ) → i + n ≤ length s → AllOf P s i n → Passed P s from (i + n)
   passed_more {from} {i} r n h q = record { forward = omega (arith, r.forward); inside = h; all = all_on P s from i r.forward r.all n q }
+
+-- the same of other kinds
+module _ {P P' : ℕ → Type 0} {s : List ℕ} {i : ℕ} where
+  pub passed_as : {to : ℕ} → Passed P s i to → ((b : ℕ) → P b → P' b) → Passed P' s i to
+  passed_as r f = record { forward = r.forward; inside = r.inside; all = λ k h. f (get_or s (i + k) 0) (r.all k h) }
+
+  pub first_as : {Q Q' : ℕ → Type 0} {n first : ℕ} → First P Q s i n first → ((b : ℕ) → P b → P' b) → ((b : ℕ) → Q b → Q' b) → First P' Q' s i n first
+  first_as {first = first} r f g = record {
+    within = r.within;
+    before = λ k h. f (get_or s (i + k) 0) (r.before k h);
+    there = λ h. g (get_or s (i + first) 0) (r.there h);
+  }

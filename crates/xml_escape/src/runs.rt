@@ -1,7 +1,7 @@
 // Runs of bytes that are not of a class. A closure tells the class by one expression, so that the compiler compares the bytes of a block at once.
 ghost use Rattle.std.specs.Prelude.{◌≡◌, true, false, ◌+◌, ◌≤◌, ◌<◌, length, take, drop};
 ghost use Rattle.xml_escape.specs.Wrote.{Put};
-ghost use Rattle.xml_escape.specs.Runs.{AllOf, Nearest, Passed};
+ghost use Rattle.xml_escape.specs.Runs.{AllOf, First, Passed};
 
 // Whether none of the 32 bytes from i on is of the class.
 fn none_of<F: Fn(u8) -> bool>(s: &[u8], i: usize, class: &F) -> bool
@@ -33,7 +33,7 @@ pub fn past_blocks<F: Fn(u8) -> bool>(s: &[u8], from: usize, class: &F) -> usize
 // How many of the N bytes from i on stand before the first of the class: all are looked at.
 pub fn first_of<const N: u8, F: Fn(u8) -> bool>(s: &[u8], i: usize, class: &F) -> usize
     requires { (i + N ≤ length s.now) × F.IsAlwaysCallable class.now }
-    ensures { Nearest (λ b. F.post class.now b false) (λ b. F.post class.now b true) s.now i N N result }
+    ensures { First (λ b. F.post class.now b false) (λ b. F.post class.now b true) s.now i N result }
 {
     let mut first = N;
     for j in 0..N {
@@ -46,7 +46,7 @@ pub fn first_of<const N: u8, F: Fn(u8) -> bool>(s: &[u8], i: usize, class: &F) -
 // How many of the n bytes from i on stand before the first of the class, one by one.
 pub fn next_of<F: Fn(u8) -> bool>(s: &[u8], i: usize, n: usize, class: &F) -> usize
     requires { (i + n ≤ length s.now) × F.IsAlwaysCallable class.now }
-    ensures { Nearest (λ b. F.post class.now b false) (λ b. F.post class.now b true) s.now i n n result }
+    ensures { First (λ b. F.post class.now b false) (λ b. F.post class.now b true) s.now i n result }
 {
     for k in 0..n {
         if class(s[i + k]) {
@@ -66,7 +66,7 @@ pub fn put_before<F: Fn(u8) -> bool>(
     class: &F,
 ) -> usize
     requires { (i + n ≤ length s.now) × (to + n ≤ length out.old) × F.IsAlwaysCallable class.now }
-    ensures { Nearest (λ b. F.post class.now b false) (λ b. F.post class.now b true) s.now i n n result
+    ensures { First (λ b. F.post class.now b false) (λ b. F.post class.now b true) s.now i n result
         × Put (take result (drop i s.now)) to out.old out.new }
 {
     for k in 0..n {

@@ -14,12 +14,12 @@ use Rattle.layout.specs.Text.{ascii}
 use Rattle.fill.specs.Fill.{copied}
 use Rattle.xml_layout.specs.Xml.{escaped, escape, item_start, item_end}
 use Rattle.xml_reading.specs.Written.{noncharacter, writable}
-use Rattle.xml_escape.specs.Runs.{AllOf, cons_at, all_on}
+use Rattle.xml_escape.specs.Runs.{AllOf, First, cons_at, passed_none, passed_more}
 use Rattle.xml_escape.specs.Quiet.{Quiet, AllQuiet, Ran}
 use Rattle.xml_escape.specs.Wrote.{Wrote, Put, PutTo, put-none, put_copy, put-more, put_one, put_on, take_more, sets, put-each}
 use Rattle.xml_escape.specs.Sizes.{item, few_bytes, start-long, item-long}
 use Rattle.xml_export.specs.declared.escape.Sizing.TheVariants.{Unwritten, Size}
-use Rattle.xml_export.specs.Escaping.{Alone, byte_size, Grows, Runs, FewPut, RunPut, EntityPut}
+use Rattle.xml_export.specs.Escaping.{Alone, byte_size, Grows, Runs, RunPut, EntityPut}
 use Rattle.xml_export.specs.Gathering.{size_of}
 
 -- ---- What quiet bytes are written as
@@ -62,7 +62,7 @@ pass {most} s (suc n) i h q =
     }
 
 passed : {most : ℕ} {s : List ℕ} {i next : ℕ} → Ran most s i next → Passes s i (next - i)
-passed {s = s} {i = i} {next = next} r = pass s (next - i) i (omega (arith, r.forward, r.inside)) r.quiet
+passed {s = s} {i = i} {next = next} r = pass s (next - i) i (omega (arith, r.forward, r.inside)) r.all
 
 -- ---- The size of a byte
 
@@ -335,14 +335,8 @@ unfolding escape
 escape-least [] = omega arith
 escape-least (b ∷ t) = omega (arith, length-append (escaped b) (escape t), some_bytes b, escape-least t)
 
-pub runs_none : {s : List ℕ} {i : ℕ} → i ≤ length s → Runs s i i
-runs_none h = record { forward = omega arith; inside = h; alone = λ k l. absurd (omega arith) }
-
-pub runs_more : {s : List ℕ} {from i : ℕ} → Runs s from i → (n : ℕ) → i + n ≤ length s → AllOf Alone s i n → Runs s from (i + n)
-runs_more {s} {from} {i} r n h q = record { forward = omega (arith, r.forward); inside = h; alone = all_on Alone s from i r.forward r.alone n q }
-
 pub no_run : {s : List ℕ} {from to : ℕ} {out : List ℕ} → from ≤ length s → RunPut s from to out out from
-no_run {s} {from} h = let z : from - from ≡ 0 = omega arith in record { runs = runs_none h; put = rw z put-none }
+no_run {s} {from} h = let z : from - from ≡ 0 = omega arith in record { runs = passed_none h; put = rw z put-none }
 
 pub copy_run : {s : List ℕ} {from to r : ℕ} {out out' : List ℕ} → Runs s from r → out' ≡ copied out to s from (r - from) → RunPut s from to out out' r
 copy_run {s} {from} {to} {r} u c = record { runs = u; put = put_copy s from (r - from) (omega (arith, u.forward, u.inside)) c }
@@ -411,21 +405,22 @@ module _ (s : List ℕ) (from n k to : ℕ) (f : k ≤ n) (g : n ≤ k + k) (h :
         rw ln (record { long = ap length (sym all) ∙ v.long; stands = v.stands ∙ ap (λ (j : List ℕ). j ++ drop (to + n) o₁) all ∙ ap (λ (j : List ℕ). (done ++ take n l) ++ j) far });
   }
 
-few_runs : {s : List ℕ} {at to n r : ℕ} {out out' : List ℕ} → FewPut s at to n out out' r → at + n ≤ length s → Runs s at (at + r)
-few_runs {s} {at} {r = r} p l = runs_more (runs_none (omega arith)) r (omega (arith, p.within)) p.alone
+module _ {Q : ℕ → Type 0} {s : List ℕ} {at to n r : ℕ} {out out' : List ℕ} (b : First Alone Q s at n r) (p : Put (take r (drop at s)) to out out') (l : at + n ≤ length s) where
+  few_runs : Runs s at (at + r)
+  few_runs = passed_more (passed_none (omega arith)) r (omega (arith, b.within)) b.before
 
-pub few_run : {s : List ℕ} {at to n r : ℕ} {out out' : List ℕ} → FewPut s at to n out out' r → at + n ≤ length s → RunPut s at to out out' (at + r)
-few_run {s} {at} {to} {n} {r} p l = let z : at + r - at ≡ r = omega arith in record { runs = few_runs p l; put = rw z p.put }
+  pub few_run : RunPut s at to out out' (at + r)
+  few_run = let z : at + r - at ≡ r = omega arith in record { runs = few_runs; put = rw z p }
 
-pub run_on : {s : List ℕ} {at to n r run : ℕ} {out mid out' : List ℕ} → FewPut s at to n out mid r → at + n ≤ length s → n ≤ r → RunPut s (at + n) (to + n) mid out' run → RunPut s at to out out' run
-run_on {s} {at} {to} {n} {r} {run} p l h q =
-    let z : r ≡ n = omega (arith, p.within) in
-    let f = q.runs.forward in
-    let y : at + n + (run - (at + n)) ≡ run = omega (arith, f) in
-    record {
-      runs = rw y at (runs_more (rw z at (few_runs p l)) (run - (at + n)) (omega (arith, f, q.runs.inside)) q.runs.alone);
-      put = put_on s at n f q.runs.inside (rw z at p.put) q.put;
-    }
+  pub run_on : {run : ℕ} {end : List ℕ} → n ≤ r → RunPut s (at + n) (to + n) out' end run → RunPut s at to out end run
+  run_on {run} h q =
+      let z : r ≡ n = omega (arith, b.within) in
+      let f = q.runs.forward in
+      let y : at + n + (run - (at + n)) ≡ run = omega (arith, f) in
+      record {
+        runs = rw y at (passed_more (rw z at few_runs) (run - (at + n)) (omega (arith, f, q.runs.inside)) q.runs.all);
+        put = put_on s at n f q.runs.inside (rw z at p) q.put;
+      }
 
 -- the text is put up to its byte i, and the output is written up to j
 pub record Putting (s out₀ : List ℕ) (to : ℕ) (out : List ℕ) (i j : ℕ) : Type 0 where

@@ -2,7 +2,7 @@
 use Rattle.std.specs.Prelude.{◌≡◌, cond, not, ◌&&◌, List, [], ◌∷◌, ℕ, ◌+◌, ◌*◌, ◌-◌, ◌≤◌, leb, length, take, drop}
 use Rattle.xml_layout.specs.Xml.{escaped, escape}
 use Rattle.xml_reading.specs.Written.{noncharacter, writable}
-use Rattle.xml_escape.specs.Runs.{AllOf}
+use Rattle.xml_escape.specs.Runs.{Passed}
 use Rattle.xml_escape.specs.Wrote.{Put}
 
 -- a byte that is written as it is
@@ -22,16 +22,8 @@ pub record Grows (s : List ℕ) (i n size : ℕ) : Type 0 where
   pub bound : size ≤ 6 * n
 
 -- bytes from one place to another are written as they are
-pub record Runs (s : List ℕ) (from i : ℕ) : Type 0 where
-  pub forward : from ≤ i
-  pub inside : i ≤ length s
-  pub alone : AllOf Alone s from (i - from)
-
--- of n bytes from a place on, the first r are, and they are put
-pub record FewPut (s : List ℕ) (at to n : ℕ) (entry exit : List ℕ) (r : ℕ) : Type 0 where
-  pub within : r ≤ n
-  pub alone : AllOf Alone s at r
-  pub put : Put (take r (drop at s)) to entry exit
+abbrev pub Runs : (s : List ℕ) (from i : ℕ) → Type 0
+Runs = Passed Alone
 
 pub record RunPut (s : List ℕ) (from to : ℕ) (entry exit : List ℕ) (r : ℕ) : Type 0 where
   pub runs : Runs s from r

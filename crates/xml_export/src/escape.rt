@@ -7,7 +7,9 @@ ghost use Rattle.xml_escape.specs.Quiet.{AllQuiet};
 ghost use Rattle.xml_escape.specs.Sizes.{item};
 ghost use Rattle.xml_escape.specs.Wrote.{Put, PutTo, sets};
 ghost use Rattle.xml_export.specs.Gathering.{size_of};
-ghost use Rattle.xml_export.specs.Escaping.{Alone, byte_size, Grows, Runs, FewPut, RunPut, EntityPut};
+ghost use Rattle.xml_export.specs.Escaping.{Alone, byte_size, Grows, RunPut, EntityPut};
+
+use xml_escape::{first_of, past_blocks, put_before};
 
 // Whether U+FFFE or U+FFFF stands from `at` on.
 fn noncharacter_at(text: &[u8], at: usize) -> bool
@@ -97,14 +99,12 @@ fn block_size(text: &[u8], i: usize) -> usize
     if text.len() - i < 32 {
         return 0;
     }
-    let mut j = 0;
     let mut more = 0u8;
     let mut other = false;
-    while j < 32 {
+    for j in 0..32 {
         let b = text[i + j];
         more = more + extra(b);
         other = other | unsure(b);
-        j += 1;
     }
     if other {
         return 0;
@@ -196,71 +196,6 @@ fn sign(b: u8) -> bool
     signed(b)
 }
 
-// Whether none of the 32 bytes from i on is.
-fn plain_block(text: &[u8], i: usize) -> bool
-    requires { i + 32 ≤ length text.now }
-    ensures { result ≡ true → AllOf Alone text.now i 32 }
-{
-    let mut j = 0;
-    let mut other = false;
-    while j < 32 {
-        other = other | signed(text[i + j]);
-        j += 1;
-    }
-    if other {
-        return false;
-    }
-    true
-}
-
-// Past the blocks of 32 such bytes from `from` on.
-fn plain_blocks(text: &[u8], from: usize) -> usize
-    requires { from ≤ length text.now }
-    ensures { Runs text.now from result }
-{
-    let mut i = from;
-    while 32 <= text.len() - i {
-        if plain_block(text, i) {
-            i += 32;
-        } else {
-            return i;
-        }
-    }
-    i
-}
-
-// How many of the 32 bytes from i on stand before the first that is.
-fn first_sign(text: &[u8], i: usize) -> usize
-    requires { i + 32 ≤ length text.now }
-    ensures { (result ≤ 32) × AllOf Alone text.now i result }
-{
-    let mut j = 0u8;
-    let mut first = 32u8;
-    while j < 32 {
-        let here = xml_escape::place_if(signed(text[i + j as usize]), j, 32);
-        first = xml_escape::smaller(first, here);
-        j += 1;
-    }
-    first as usize
-}
-
-// Puts such bytes from `at` on, n at most, one by one; answers how many.
-fn put_few(text: &[u8], out: &mut [u8], at: usize, to: usize, n: usize) -> usize
-    requires { (at + n ≤ length text.now) × (to + n ≤ length out.old) }
-    ensures { FewPut text.now at to n out.old out.new result }
-{
-    let mut k = 0;
-    while k < n {
-        let b = text[at + k];
-        if sign(b) {
-            return k;
-        }
-        out[to + k] = b;
-        k += 1;
-    }
-    k
-}
-
 // Four bytes into the output: the compiler stores them at once.
 fn put_four(out: &mut [u8], to: usize, a: u8, b: u8, c: u8, d: u8)
     requires { to + 4 ≤ length out.old }
@@ -324,12 +259,12 @@ fn put_far(text: &[u8], out: &mut [u8], from: usize, to: usize) -> usize
     if text.len() - from < 32 {
         return from;
     }
-    let n = first_sign(text, from);
+    let n = first_of::<32, _>(text, from, &signed);
     if n < 32 {
         put_near(text, out, from, to, n);
         return from + n;
     }
-    let end = plain_blocks(text, from + 32);
+    let end = past_blocks(text, from + 32, &signed);
     fill::copy(out, to, text, from, end - from);
     end
 }
@@ -341,9 +276,9 @@ fn put_run(text: &[u8], out: &mut [u8], from: usize, to: usize) -> usize
 {
     let rest = text.len() - from;
     if rest < 8 {
-        return from + put_few(text, out, from, to, rest);
+        return from + put_before(text, out, from, to, rest, &sign);
     }
-    let n = put_few(text, out, from, to, 8);
+    let n = put_before(text, out, from, to, 8, &sign);
     if n < 8 {
         return from + n;
     }
@@ -417,7 +352,7 @@ fn plain_short(file: &[u8], first: usize, n: usize) -> bool
     if file.len() - first < 32 {
         return false;
     }
-    if n <= first_sign(file, first) {
+    if n <= first_of::<32, _>(file, first, &signed) {
         return true;
     }
     false

@@ -20,9 +20,9 @@ use Rattle.xml_reading.specs.Laid.{short-array}
 use Rattle.xml_reading.specs.Strings.{built_length}
 use Rattle.xml_reading.specs.Answers.{imported, import_of}
 use Rattle.xml_escape.specs.Wrote.{Wrote, wrote-copy}
-use Rattle.xml_import.specs.declared.Importing.TheVariants.{Refused, Imported}
+use Rattle.std.specs.Prelude.{Result, Ok, Err}
+use Rattle.answers.specs.Refusals.{refusal as refused}
 use Rattle.xml_import.specs.declared.Measured.{Measured}
-use Rattle.xml_import.specs.declared.Measured.TheVariants.{Other, Texts}
 use Rattle.xml_import.specs.Places.{Measures}
 use Rattle.xml_import.specs.Puts.{header_bytes, lists_bytes, front_put, Fits, StringsPut, answer_of}
 
@@ -68,13 +68,13 @@ whole_file ts size many es em =
 
 -- ---- The answers
 
-pub refused-answer : {x : Rewritten} {number place : ℕ} (out : List ℕ) → x ≡ refusal number place → (Refused number place ≡ answer_of x) × (out ≡ output_of x out)
+pub refused-answer : {x : Rewritten} {number place : ℕ} (out : List ℕ) → x ≡ refusal number place → (Err (refused number place) ≡ answer_of x) × (out ≡ output_of x out)
 unfolding output_of
 refused-answer out e = rw e (refl, refl)
 
-pub other_form : (xml : List ℕ) (out : ℕ) {place : ℕ} {m : Measured} → Measures xml m → m ≡ Other place → import_of xml out ≡ refusal 64 place
+pub other_form : (xml : List ℕ) (out place : ℕ) → Measures xml (Err place) → import_of xml out ≡ refusal 64 place
 unfolding Measures import_of imported
-other_form xml out {place} h q = let e : texts_of xml ≡ other place = rw q at h in rw e
+other_form xml out place e = rw e
 
 -- the texts that were measured
 pub record Found (xml : List ℕ) (many size : ℕ) : Type 0 where
@@ -83,10 +83,9 @@ pub record Found (xml : List ℕ) (many size : ℕ) : Type 0 where
   pub counted : many ≡ length ts
   pub sized : size ≡ length (short_file (tree_of ts))
 
-pub found : {xml : List ℕ} {many size : ℕ} {m : Measured} → Measures xml m → m ≡ Texts many size → Found xml many size
+pub found : (xml : List ℕ) (m : Measured) → Measures xml (Ok m) → Found xml m.count m.size
 unfolding Measures
-found {xml} {many} {size} h q =
-    let v : (ts : List (List ℕ)) × (texts_of xml ≡ document ts) × (many ≡ length ts) × (size ≡ length (short_file (tree_of ts))) = rw q at h in
+found xml m v =
     record { ts = v.0; is = v.1; counted = v.2; sized = v.3 }
 
 module _ {xml : List ℕ} {many size : ℕ} (f : Found xml many size) (out : ℕ) where
@@ -118,7 +117,7 @@ module _ {xml : List ℕ} {many size : ℕ} (f : Found xml many size) (out : ℕ
 -- the file is written
 pub written-answer : {xml : List ℕ} {many size : ℕ} (f : Found xml many size) (out mid end : List ℕ) → many ≤ 65535 → size ≤ 16777216 → size ≤ length out
     → mid ≡ front_put size many out → StringsPut xml mid end
-    → (Imported size ≡ answer_of (import_of xml (length out))) × (end ≡ output_of (import_of xml (length out)) out)
+    → (Ok size ≡ answer_of (import_of xml (length out))) × (end ≡ output_of (import_of xml (length out)) out)
 unfolding output_of StringsPut
 written-answer {xml} {many} {size} f out mid end few small h e p =
     let b = built_length f.ts in
@@ -126,4 +125,4 @@ written-answer {xml} {many} {size} f out mid end few small h e p =
     let v = p f.ts f.is out (front size many) w (omega (arith, f.sized)) in
     let a = whole_file f.ts size many f.sized f.counted in
     let n : 133 + length (short (text_trees f.ts)) ≡ length (short_file (tree_of f.ts)) = sym b in
-    rw (enough f (length out) few small h) (ap Imported f.sized, v.stands ∙ ap (λ (l : List ℕ). l ++ drop (133 + length (short (text_trees f.ts))) out) a ∙ ap (λ (k : ℕ). short_file (tree_of f.ts) ++ drop k out) n)
+    rw (enough f (length out) few small h) (ap Ok f.sized, v.stands ∙ ap (λ (l : List ℕ). l ++ drop (133 + length (short (text_trees f.ts))) out) a ∙ ap (λ (k : ℕ). short_file (tree_of f.ts) ++ drop k out) n)

@@ -126,7 +126,7 @@ stands_by : {xml : List ℕ} {from to : ℕ} → from ≤ to → to ≤ length x
 stands_by f i s = record { forward = f; inside = i; chars = s.chars; plain = s.plain; parts = s.are }
 
 pub stands-ascii : {xml : List ℕ} {from to : ℕ} → Ran 0x7F xml from to → CharsStand xml from to
-stands-ascii {xml} {from} {to} r = stands_by r.forward r.inside (ascii-standing (part xml from to) (quiets_at xml from (to - from) r.quiet (omega (arith, r.forward, r.inside))))
+stands-ascii {xml} {from} {to} r = stands_by r.forward r.inside (ascii-standing (part xml from to) (quiets_at xml from (to - from) r.all (omega (arith, r.forward, r.inside))))
 
 -- a piece of the XML whose first n bytes are UTF-8
 pub stands_utf8 : {xml piece : List ℕ} {from end n : ℕ} → from ≤ end → end ≤ length xml → piece ≡ take (end - from) (drop from xml) → Ran 0xFF piece 0 n → Utf8s (take n piece) → CharsStand xml from (from + n)
@@ -136,7 +136,7 @@ stands_utf8 {xml} {piece} {from} {end} {n} f h e r u =
     let z : from + n - from ≡ n = omega arith in
     let y : n - 0 ≡ n = omega arith in
     let p : take n piece ≡ part xml from (from + n) = ap (take n) e ∙ taken_twice n (end - from) (drop from xml) m ∙ ap (λ (k : ℕ). take k (drop from xml)) (sym z) in
-    stands_by (omega arith) (omega arith) (subst Standing p (utf8_standing 0xFF u (quiets_of piece n (rw y at r.quiet) (omega (arith, l))))) where
+    stands_by (omega arith) (omega arith) (subst Standing p (utf8_standing 0xFF u (quiets_of piece n (rw y at r.all) (omega (arith, l))))) where
       taken_twice : (n m : ℕ) (s : List ℕ) → n ≤ m → take n (take m s) ≡ take n s
       taken_twice zero m s h = refl
       taken_twice (suc n) zero s h = absurd (omega arith)
@@ -367,7 +367,7 @@ runs_by {xml} {from} {to} r a =
       forward = r.forward;
       inside = r.inside;
       stands = λ k.
-          stands_by r.forward r.inside (whole-standing xml k.0 from (to - from) k.1 (omega (arith, r.forward, r.inside)) r.unmarked (rw z a) k.2);
+          stands_by r.forward r.inside (whole-standing xml k.0 from (to - from) k.1 (omega (arith, r.forward, r.inside)) r.all (rw z a) k.2);
     }
 
 pub runs_none : {xml : List ℕ} {from : ℕ} → from ≤ length xml → Runs xml from from

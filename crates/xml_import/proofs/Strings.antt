@@ -27,8 +27,8 @@ use Rattle.xml_reading.specs.Strings.{short-more, built_length}
 use Rattle.xml_reading.specs.Steps.{first_taken}
 use Rattle.xml_escape.specs.Wrote.{Wrote, Put, wrote_one, put_one}
 use Rattle.xml_import.specs.declared.Texted.{Texted}
-use Rattle.xml_import.specs.declared.Texted.TheVariants as texted
-use Rattle.xml_import.specs.Places.{FailsAt, TakesAt, Known, TextAt, character, text}
+use Rattle.std.specs.Prelude.{Result, Ok, Err}
+use Rattle.xml_import.specs.Places.{FailsAt, TakesAt, Known, TextAt, texted, character, text}
 use Rattle.xml_import.specs.Puts.{taken, text_in, Last, LastIf, Ready, Verbatim, TextPut, string_bytes, StringPut, Fits, StringsPut}
 use Rattle.xml_import.proofs.Whole.{item, texts, short_last}
 use Rattle.xml_import.proofs.Writing.{text-joined}
@@ -138,7 +138,7 @@ unfolding document_end ascii
 end-long = refl
 
 -- the last text ends 21 bytes before the XML does
-pub last_at : {xml : List ℕ} {at bytes r : ℕ} (v : Last xml at bytes) → at ≤ length xml → r ≡ length v.t → (28 ≤ length xml) × TextAt xml at (texted.Ends r (length xml - 21))
+pub last_at : {xml : List ℕ} {at bytes r : ℕ} (v : Last xml at bytes) → at ≤ length xml → r ≡ length v.t → (28 ≤ length xml) × TextAt xml at (texted r (length xml - 21))
 unfolding TextAt
 last_at {xml} {at} {bytes} {r} v h e =
     let f = told_text (drop at xml) v.t document_end v.takes_it in
@@ -230,10 +230,9 @@ module _ {xml out₀ : List ℕ} {count size : ℕ} {out : List ℕ} {i to k : �
           then_them = f.2;
         }
 
-  pub no_failure : (h : k < count) {x : Texted} {place : ℕ} → TextAt xml (i + 6) x → x ≡ texted.Fails place → ⊥
+  pub no_failure : (h : k < count) (place : ℕ) → TextAt xml (i + 6) (Err place) → ⊥
   unfolding TextAt
-  no_failure h {x} {place} v q =
-      let f : FailsAt (text (drop (i + 6) xml)) (i + 6) place = rw q at v in
+  no_failure h place f =
       let n = next_item h in
       let z : fails f.0 ≡ takes n.t n.more = sym f.1 ∙ n.text_is in
       differ cc
@@ -273,10 +272,11 @@ module _ {xml out₀ : List ℕ} {count size : ℕ} {out : List ℕ} {i to k : �
         small = omega (arith, s.fits.short_file_lem);
       }
 
-  pub turn : (h : k < count) {x : Texted} {bytes next : ℕ} → TextAt xml (i + 6) x → x ≡ texted.Ends bytes next → Turned bytes next
+  pub turn : (h : k < count) (r : Texted) → TextAt xml (i + 6) (Ok r) → Turned r.size r.next
   unfolding TextAt StringPut taken
-  turn h {x} {bytes} {next} v q =
-      let u : (t : List ℕ) × (bytes ≡ length t) × TakesAt (text (drop (i + 6) xml)) t xml (i + 6) next × (bytes + 7 ≤ next - (i + 6)) = rw q at v in
+  turn h r u =
+      let bytes = r.size in
+      let next = r.next in
       let n = next_item h in
       let z : takes n.t n.more ≡ takes u.0 (drop next xml) = sym n.text_is ∙ u.2.0 in
       let same_text : n.t ≡ u.0 = cc in

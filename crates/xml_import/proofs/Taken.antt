@@ -17,10 +17,9 @@ use Rattle.xml_reading.specs.Match.{fails, takes, literal, until}
 use Rattle.xml_reading.specs.Text.{Character, character-matches, character-some, character_first, not_first, special_amp}
 use Rattle.xml_reading.specs.Plain.{plain-matches}
 use Rattle.xml_reading.specs.Steps.{first_taken}
-use Rattle.xml_import.specs.declared.character.Piece.{Piece}
-use Rattle.xml_import.specs.declared.character.Piece.TheVariants as piece
-use Rattle.xml_import.specs.declared.Texted.TheVariants as texted
-use Rattle.xml_import.specs.Places.{FailsAt, TakesAt, PieceAt, TextAt, Known, Runs, Unmarked, Marked, Stops, part, character}
+use Rattle.std.specs.Prelude.{Result, Ok, Err}
+use Rattle.xml_import.specs.declared.character.Entity.{Entity}
+use Rattle.xml_import.specs.Places.{FailsAt, TakesAt, EntityAt, TextAt, texted, Known, Runs, Unmarked, Marked, Stops, part, character}
 use Rattle.xml_import.proofs.Literals.{literal-fails}
 use Rattle.xml_import.proofs.Marks.{not_both}
 use Rattle.xml_import.proofs.Texts.{Reading, ends, end-inside, wrong, entity_on, plain_on}
@@ -73,24 +72,6 @@ none-fails : (xml : List ℕ) (i : ℕ) → i < length xml → get_or xml i 0 �
 unfolding item_end ascii
 none-fails xml i h b = literal-fails item_end xml i (none-ends xml i h b) (λ q. omega arith)
 
--- ---- An entity
-
--- it is not taken as it stands
-pub amp_single : (xml : List ℕ) (i : ℕ) → get_or xml i 0 ≡ 0x26 → {x : Piece} {next : ℕ} → PieceAt xml i x → x ≡ piece.Plain next → ⊥
-unfolding PieceAt ascii
-amp_single xml i b {x} {next} p q =
-    let w : TakesAt (character (drop i xml)) (part xml i next) xml i next = rw q at p in
-    let c = told-character (drop i xml) (part xml i next) (drop next xml) w.0 in
-    let l : length (part xml i next) ≡ next - i = length-take-le (next - i) (drop i xml) (omega (arith, length-drop i xml, w.2)) in
-    let n : length c.0 ≡ length (part xml i next) = omega (arith, l, ap length c.2, length-append c.0 (drop next xml), length-drop i xml, length-drop next xml, w.1, w.2) in
-    by (part xml i next) c.0 (drop next xml) c.1 n (first_is xml i (c.0 ++ drop next xml) c.2 ∙ b) where
-      by : (t form more : List ℕ) → Character t form → length form ≡ length t → get_or (form ++ more) 0 0 ≡ 0x26 → ⊥
-      by t form more (inl f) e g = let a = ap length f.0 in let k = ap length f.1 in omega arith
-      by t form more (inr (inl f)) e g = let a = ap length f.0 in let k = ap length f.1 in omega arith
-      by t form more (inr (inr (inl f))) e g = let a = ap length f.0 in let k = ap length f.1 in omega arith
-      by t form more (inr (inr (inr (inl f)))) e g = let a = ap length f.0 in let k = ap length f.1 in omega arith
-      by t form more (inr (inr (inr (inr f)))) e g = not_first more f 0x26 special_amp (omega arith) g
-
 -- ---- A run
 
 run_of : {xml : List ℕ} {i run : ℕ} → Stops xml i run → Runs xml i run
@@ -109,17 +90,12 @@ goes_on {xml} {i} {run} s h u = go (dec_lt i run) where
 -- ---- A text is judged
 
 module _ {xml : List ℕ} {at i size : ℕ} (r : Reading xml at i size) (h : i < length xml) (b : get_or xml i 0 ≡ 0x26) where
-  pub amp_wrong : {x : Piece} {place : ℕ} → PieceAt xml i x → x ≡ piece.Fails place → TextAt xml at (texted.Fails place)
-  unfolding PieceAt
-  amp_wrong {x} {place} p q =
-      let f : FailsAt (character (drop i xml)) i place = rw q at p in
-      wrong r (none-ends xml i h b) (λ z. omega arith) p q (omega (arith, f.2))
+  pub amp_wrong : (place : ℕ) → EntityAt xml i (Err place) → TextAt xml at (Err place)
+  unfolding EntityAt
+  amp_wrong place f = wrong r (none-ends xml i h b) (λ z. omega arith) f (omega (arith, f.2))
 
-  pub amp_entity : {x : Piece} {c next : ℕ} → PieceAt xml i x → x ≡ piece.Entity c next → Reading xml at next (size + 1) × (i < next) × (next ≤ length xml)
-  amp_entity p q = entity_on r (none-ends xml i h b) (λ z. omega arith) p q
-
-  pub amp_plain : {x : Piece} {next : ℕ} → PieceAt xml i x → x ≡ piece.Plain next → Reading xml at next (size + (next - i)) × (i < next) × (next ≤ length xml)
-  amp_plain p q = plain_on r (none-ends xml i h b) (λ z. omega arith) p q
+  pub amp_entity : (e : Entity) → EntityAt xml i (Ok e) → Reading xml at e.next (size + 1) × (i < e.next) × (e.next ≤ length xml)
+  amp_entity e p = entity_on r (none-ends xml i h b) (λ z. omega arith) e p
 
 -- ---- A text is measured
 
@@ -128,7 +104,7 @@ pub known_start : {xml : List ℕ} {at run : ℕ} → at ≤ length xml → Know
 known_start h k s = opened h ((run_of s).stands k)
 
 module _ {xml : List ℕ} {at i size : ℕ} (r : Reading xml at i size) (k : Known xml at) (h : i < length xml) where
-  pub known_ends : get_or xml i 0 ≡ 0x3C → TextAt xml at (texted.Ends size (i + 7)) × (i + 7 ≤ length xml)
+  pub known_ends : get_or xml i 0 ≡ 0x3C → TextAt xml at (texted size (i + 7)) × (i + 7 ≤ length xml)
   known_ends b = let e = known_end xml i (known_on r k) b in (ends r e refl, end-inside r e)
 
   pub known_run : {run : ℕ} → (get_or xml i 0 ≡ 0x26 → ⊥) → (get_or xml i 0 ≡ 0x3C → ⊥) → Stops xml i run → Reading xml at run (size + (run - i)) × (i < run)

@@ -14,10 +14,9 @@ use Rattle.xml_reading.specs.Text as T
 use Rattle.xml_reading.specs.Text.{entity, joined, character-matches, character-some}
 use Rattle.xml_reading.specs.Plain.{plain_character, plain-matches}
 use Rattle.xml_reading.specs.Steps.{Going, going, goes_on, goes-wrong, goes_out}
-use Rattle.xml_import.specs.declared.character.Piece.{Piece}
-use Rattle.xml_import.specs.declared.character.Piece.TheVariants as piece
-use Rattle.xml_import.specs.declared.Texted.TheVariants as texted
-use Rattle.xml_import.specs.Places.{FailsAt, TakesAt, part, PieceAt, TextAt, character, text}
+use Rattle.std.specs.Prelude.{Result, Ok, Err}
+use Rattle.xml_import.specs.declared.character.Entity.{Entity}
+use Rattle.xml_import.specs.Places.{FailsAt, TakesAt, part, EntityAt, TextAt, texted, character, text}
 use Rattle.xml_import.proofs.Literals.{literal-takes, literal-fails, literal-inside}
 
 joined-more : (us : List (List ℕ)) (t : List ℕ) → joined (us ++ t ∷ []) ≡ joined us ++ t
@@ -46,7 +45,7 @@ no_literal = refl
 
 module _ {xml : List ℕ} {at i size : ℕ} (r : Reading xml at i size) where
   -- at the item's end
-  pub ends : {n : ℕ} → n ≡ common item_end (drop i xml) → n ≡ 7 → TextAt xml at (texted.Ends size (i + 7))
+  pub ends : {n : ℕ} → n ≡ common item_end (drop i xml) → n ≡ 7 → TextAt xml at (texted size (i + 7))
   unfolding TextAt T.text mapped item_end ascii
   ends {n} e k =
       let t : literal item_end (drop i xml) ≡ takes tt (drop (i + 7) xml) = rw k at (literal-takes item_end xml i e k) in
@@ -62,10 +61,9 @@ module _ {xml : List ℕ} {at i size : ℕ} (r : Reading xml at i size) where
     not_ended = literal-fails item_end xml i e k
 
     -- where no character stands
-    pub wrong : {x : Piece} {place p : ℕ} → PieceAt xml i x → x ≡ piece.Fails place → p ≡ max (i + n) place → TextAt xml at (texted.Fails p)
-    unfolding TextAt PieceAt T.text mapped
-    wrong {x} {place} {p} h q z =
-        let f : FailsAt (character (drop i xml)) i place = rw q at h in
+    pub wrong : {place p : ℕ} → FailsAt (character (drop i xml)) i place → p ≡ max (i + n) place → TextAt xml at (Err p)
+    unfolding TextAt T.text mapped
+    wrong {place} {p} f z =
         let u : until character item_end (drop at xml) ≡ fails (i - at + max n f.0) = goes-wrong (character-matches plain-matches) character-some r.goes not_ended f.1 in
         (i - at + max n f.0, rw u, z ∙ ap (max (i + n)) f.2 ∙ omega (arith, r.goes.start))
 
@@ -79,21 +77,17 @@ module _ {xml : List ℕ} {at i size : ℕ} (r : Reading xml at i size) where
         bound = omega (arith, r.bound, q, l, w.1);
       }
 
-    pub entity_on : {x : Piece} {b next : ℕ} → PieceAt xml i x → x ≡ piece.Entity b next → Reading xml at next (size + 1) × (i < next) × (next ≤ length xml)
-    unfolding PieceAt
-    entity_on {x} {b} {next} h q =
-        let w : TakesAt (character (drop i xml)) (b ∷ []) xml i next = rw q at h in
-        (more w (omega (arith, w.1)) (omega arith), w.1, w.2)
+    pub entity_on : (e : Entity) → EntityAt xml i (Ok e) → Reading xml at e.next (size + 1) × (i < e.next) × (e.next ≤ length xml)
+    unfolding EntityAt
+    entity_on e w = (more w (omega (arith, w.1)) (omega arith), w.1, w.2)
 
-    pub plain_on : {x : Piece} {next : ℕ} → PieceAt xml i x → x ≡ piece.Plain next → Reading xml at next (size + (next - i)) × (i < next) × (next ≤ length xml)
-    unfolding PieceAt
-    plain_on {x} {next} h q =
-        let w : TakesAt (character (drop i xml)) (part xml i next) xml i next = rw q at h in
+    pub plain_on : {next : ℕ} → TakesAt (character (drop i xml)) (part xml i next) xml i next → Reading xml at next (size + (next - i)) × (i < next) × (next ≤ length xml)
+    plain_on {next} w =
         let l : length (part xml i next) ≡ next - i = length-take-le (next - i) (drop i xml) (omega (arith, length-drop i xml, w.2)) in
         (more w (omega (arith, l)) (omega (arith, l)), w.1, w.2)
 
   -- at the end of the XML
-  pub stops : length xml ≤ i → TextAt xml at (texted.Fails i)
+  pub stops : length xml ≤ i → TextAt xml at (Err i)
   unfolding TextAt T.text mapped
   stops h =
       let d : drop i xml ≡ [] = drop_of_length-le xml h in

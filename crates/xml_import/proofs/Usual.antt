@@ -8,7 +8,7 @@ use lib.Dec.{eqb, leb, ltb}
 use lib.ListN.{length, get_or}
 use borrow.Author.Tests.{eqb-false, ltb-false, leb-true}
 use Rattle.laws.specs.Small.{neither, both}
-use Rattle.xml_escape.specs.Runs.{all_on}
+use Rattle.xml_escape.specs.Runs.{First, all_on}
 use Rattle.xml_escape.specs.Quiet.{Quiet, AllQuiet, Ran}
 use Rattle.xml_import.specs.Places.{stands_alone}
 
@@ -57,14 +57,17 @@ usual_alone b e =
       low = l;
     }
 
+pub quiet_first : {P Q : ℕ → Type 0} {most : ℕ} {s : List ℕ} {i n r : ℕ} → First P Q s i n r → ((b : ℕ) → P b → Quiet most b) → (r ≤ n) × AllQuiet most s i r
+quiet_first {s = s} {i = i} w f = (w.within, λ k h. f (get_or s (i + k) 0) (w.before k h))
+
 pub ran_by : {most : ℕ} {s : List ℕ} {i n : ℕ} → AllQuiet most s i n → i + n ≤ length s → Ran most s i (i + n)
-ran_by {most} {s} {i} {n} q h = let z : i + n - i ≡ n = omega arith in record { forward = omega arith; inside = h; quiet = rw z q }
+ran_by {most} {s} {i} {n} q h = let z : i + n - i ≡ n = omega arith in record { forward = omega arith; inside = h; all = rw z q }
 
 -- a run, and one behind it
 pub ran_on : {most : ℕ} {s : List ℕ} {from i to : ℕ} → Ran most s from i → Ran most s i to → Ran most s from to
 ran_on {most} {s} {from} {i} {to} a b =
     let z : i + (to - i) ≡ to = omega (arith, b.forward) in
-    record { forward = omega (arith, a.forward, b.forward); inside = b.inside; quiet = rw z at (all_on (Quiet most) s from i a.forward a.quiet (to - i) b.quiet) }
+    record { forward = omega (arith, a.forward, b.forward); inside = b.inside; all = rw z at (all_on (Quiet most) s from i a.forward a.all (to - i) b.all) }
 
 -- n quiet bytes, and a run behind them
 pub ran_past : {most : ℕ} {s : List ℕ} {i n r to : ℕ} → (r ≤ n) × AllQuiet most s i r → n ≤ r → i + n ≤ length s → Ran most s (i + n) to → Ran most s i to

@@ -16,9 +16,9 @@ use Rattle.xml_reading.specs.Text.{joined, character-matches, character-some, ch
 use Rattle.xml_reading.specs.Plain.{plain-matches}
 use Rattle.xml_reading.specs.Steps.{first_taken}
 use Rattle.xml_escape.specs.Wrote.{Wrote}
-use Rattle.xml_import.specs.declared.character.Piece.{Piece}
-use Rattle.xml_import.specs.declared.character.Piece.TheVariants as piece
-use Rattle.xml_import.specs.Places.{FailsAt, TakesAt, PieceAt, character, text}
+use Rattle.std.specs.Prelude.{Result, Ok, Err}
+use Rattle.xml_import.specs.declared.character.Entity.{Entity}
+use Rattle.xml_import.specs.Places.{FailsAt, TakesAt, EntityAt, character, text}
 use Rattle.xml_import.specs.Puts.{taken, text_in, Ready, TextPut}
 use Rattle.xml_import.proofs.Texts.{nothing_left}
 
@@ -92,10 +92,9 @@ module _ {xml out₀ : List ℕ} {at to size : ℕ} {out : List ℕ} {i j : ℕ}
         differ cc
     go false q = omega (arith, leb-false (length xml) i q)
 
-  pub no_failure : j < to + size → {x : Piece} {place : ℕ} → PieceAt xml i x → x ≡ piece.Fails place → ⊥
-  unfolding PieceAt
-  no_failure h {x} {place} k q =
-      let f : FailsAt (character (drop i xml)) i place = rw q at k in
+  pub no_failure : j < to + size → (place : ℕ) → EntityAt xml i (Err place) → ⊥
+  unfolding EntityAt
+  no_failure h place f =
       let n = next_character h in
       let z : fails f.0 ≡ takes n.t n.more = sym f.1 ∙ n.first in
       differ cc
@@ -137,9 +136,9 @@ module _ {xml out₀ : List ℕ} {at to size : ℕ} {out : List ℕ} {i j : ℕ}
         };
       }
 
-  pub entity-turn : j < to + size → {x : Piece} {b next : ℕ} → PieceAt xml i x → x ≡ piece.Entity b next → Turned (b ∷ []) 1 next
-  unfolding PieceAt
-  entity-turn h {x} {b} {next} k q = turned h (b ∷ []) 1 next refl (rw q at k)
+  pub entity-turn : j < to + size → (e : Entity) → EntityAt xml i (Ok e) → Turned (e.byte ∷ []) 1 e.next
+  unfolding EntityAt
+  entity-turn h e k = turned h (e.byte ∷ []) 1 e.next refl k
 
   -- all is put
   pub ended : to + size ≤ j → TextPut xml at to size out₀ out

@@ -1,7 +1,7 @@
 -- What matching answers in code, by places in the XML. Assumes nothing.
 use Rattle.std.specs.Prelude.{◌≡◌, Result, Ok, Err, Bool, not, ◌&&◌, List, [], ◌∷◌, ◌⊎◌, ℕ, ◌+◌, ◌-◌, ◌*◌, ◌≤◌, ◌<◌, leb, eqb, length, take, drop, get_or}
 use Rattle.layout.specs.Shortest.{short_file}
-use Rattle.xml_escape.specs.Runs.{AllOf}
+use Rattle.xml_escape.specs.Runs.{AllOf, First, Passed as Passed-of}
 use Rattle.xml_layout.specs.Tree.{tree_of}
 use Rattle.xml_layout.specs.Xml.{item_end}
 use Rattle.xml_reading.specs.Match.{Match, fails, takes, or_else, until, other, document}
@@ -62,6 +62,9 @@ unfoldable pub EntityAt : (xml : List ℕ) (at : ℕ) → Result Entity ℕ → 
 EntityAt xml at (Err place) = FailsAt (character (drop at xml)) at place
 EntityAt xml at (Ok e) = TakesAt (character (drop at xml)) (e.byte ∷ []) xml at e.next
 
+abbrev pub entity : (byte next : ℕ) → Result Entity ℕ
+entity byte next = Ok (record { byte = byte; next = next })
+
 -- characters that stand as they are
 unfoldable pub Chars : List (List ℕ) → Type 0
 Chars [] = Unit {0}
@@ -99,16 +102,12 @@ abbrev pub AllUnmarked : (xml : List ℕ) (i n : ℕ) → Type 0
 AllUnmarked = AllOf Unmarked
 
 -- how many of n bytes stand before the first that is marked
-pub record Before (xml : List ℕ) (i n r : ℕ) : Type 0 where
-  pub within : r ≤ n
-  pub unmarked : AllUnmarked xml i r
-  pub marked : r < n → Marked (get_or xml (i + r) 0)
+abbrev pub Before : (xml : List ℕ) (i n r : ℕ) → Type 0
+Before = First Unmarked Marked
 
 -- those from one place to a later one
-pub record Passed (xml : List ℕ) (from i : ℕ) : Type 0 where
-  pub forward : from ≤ i
-  pub inside : i ≤ length xml
-  pub unmarked : AllUnmarked xml from (i - from)
+abbrev pub Passed : (xml : List ℕ) (from i : ℕ) → Type 0
+Passed = Passed-of Unmarked
 
 -- and no more of them
 pub record Stops (xml : List ℕ) (from i : ℕ) : Type 0 where
@@ -120,17 +119,18 @@ pub record RunPut (xml : List ℕ) (from to : ℕ) (entry exit : List ℕ) (i : 
   pub stops : Stops xml from i
   pub put : Put (part xml from i) to entry exit
 
--- so many of them, up to eight
-pub record StartPut (xml : List ℕ) (from to : ℕ) (entry exit : List ℕ) (r : ℕ) : Type 0 where
-  pub before : Before xml from 8 r
-  pub put : Put (take r (drop from xml)) to entry exit
-
 -- the text of an item, of which so many bytes are taken, and the item's end
 unfoldable pub TextAt : (xml : List ℕ) (at : ℕ) → Result Texted ℕ → Type 0
 TextAt xml at (Err place) = FailsAt (text (drop at xml)) at place
 TextAt xml at (Ok r) = (t : List ℕ) × (r.size ≡ length t) × TakesAt (text (drop at xml)) t xml at r.next × (r.size + 7 ≤ r.next - at)
 
+abbrev pub texted : (size next : ℕ) → Result Texted ℕ
+texted size next = Ok (record { size = size; next = next })
+
 -- the whole XML: how many texts it has, and how many bytes the file built from them
 unfoldable pub Measures : (xml : List ℕ) → Result Measured ℕ → Type 0
 Measures xml (Err place) = texts_of xml ≡ other place
 Measures xml (Ok r) = (ts : List (List ℕ)) × (texts_of xml ≡ document ts) × (r.count ≡ length ts) × (r.size ≡ length (short_file (tree_of ts)))
+
+abbrev pub measured : (count size : ℕ) → Result Measured ℕ
+measured count size = Ok (record { count = count; size = size })

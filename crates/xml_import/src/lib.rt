@@ -305,7 +305,10 @@ pub fn import(xml: &[u8], out: &mut [u8]) -> Result<usize, Refusal>
     ensures value { result ≡ answer_of (import_of xml.now (length out.old)) }
     ensures out_after { out.new ≡ output_of (import_of xml.now (length out.old)) out.old }
 {
-    let texts = measure(xml).map_err(|place| Rule::NotExported.at(place))?;
+    let texts = match measure(xml) {
+        Ok(texts) => texts,
+        Err(place) => return Err(Rule::NotExported.at(place)),
+    };
     if 65535 < texts.count {
         return Err(Rule::TooLarge.at(0));
     }

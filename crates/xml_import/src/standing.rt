@@ -4,6 +4,7 @@ ghost use Rattle.xml_escape.specs.Quiet.{Quiet, AllQuiet, Ran};
 ghost use Rattle.xml_import.specs.Places.{CharsStand};
 
 use crate::character;
+use xml_escape::{first_of, next_of};
 
 // Where a piece of the XML from `from` on ends that is judged at once: at most 1,024 bytes further, where a character starts.
 fn cut(xml: &[u8], from: usize) -> usize
@@ -47,36 +48,6 @@ fn odd(b: u8) -> bool
     (b < 0x20) | (b == 0x22) | (b == 0x26) | (b == 0x3C) | (b == 0x3E) | (0x7F < b)
 }
 
-// How many of the 32 bytes from i on stand before the first such.
-fn first_odd(xml: &[u8], i: usize) -> usize
-    requires { i + 32 ≤ length xml.now }
-    ensures { (result ≤ 32) × AllQuiet 0x7F xml.now i result }
-{
-    let mut j = 0u8;
-    let mut first = 32u8;
-    while j < 32 {
-        let here = xml_escape::place_if(odd(xml[i + j as usize]), j, 32);
-        first = xml_escape::smaller(first, here);
-        j += 1;
-    }
-    first as usize
-}
-
-// How many of the 8 bytes from i on stand before the first such, one by one.
-fn usual_start(xml: &[u8], i: usize) -> usize
-    requires { i + 8 ≤ length xml.now }
-    ensures { (result ≤ 8) × AllQuiet 0x7F xml.now i result }
-{
-    let mut k = 0;
-    while k < 8 {
-        if !character::ordinary(xml[i + k]) {
-            return k;
-        }
-        k += 1;
-    }
-    k
-}
-
 // Past a run of ASCII from `from` on: 32 bytes at once, then blocks, then 32 bytes at once again.
 fn usual_rest(xml: &[u8], from: usize) -> usize
     requires { from ≤ length xml.now }
@@ -85,7 +56,7 @@ fn usual_rest(xml: &[u8], from: usize) -> usize
     if xml.len() - from < 32 {
         return xml_escape::quiet_run(xml, from, 0x7F);
     }
-    let n = first_odd(xml, from);
+    let n = first_of::<32, _>(xml, from, &odd);
     if n < 32 {
         return from + n;
     }
@@ -93,10 +64,17 @@ fn usual_rest(xml: &[u8], from: usize) -> usize
     if xml.len() - i < 32 {
         return xml_escape::quiet_run(xml, i, 0x7F);
     }
-    i + first_odd(xml, i)
+    i + first_of::<32, _>(xml, i, &odd)
 }
 
-// The same: eight bytes one by one, then the rest.
+// The same as `odd`: letters are told by two tests.
+fn unusual(b: u8) -> bool
+    ensures { result ≡ false → Quiet 0x7F b }
+{
+    !character::ordinary(b)
+}
+
+// The same as `usual_rest`: eight bytes one by one, then the rest.
 fn usual_run(xml: &[u8], from: usize) -> usize
     requires { from ≤ length xml.now }
     ensures { Ran 0x7F xml.now from result }
@@ -104,7 +82,7 @@ fn usual_run(xml: &[u8], from: usize) -> usize
     if xml.len() - from < 8 {
         return xml_escape::quiet_run(xml, from, 0x7F);
     }
-    let n = usual_start(xml, from);
+    let n = next_of(xml, from, 8, &unusual);
     if n < 8 {
         return from + n;
     }

@@ -13,5 +13,5 @@ pub returns : goal.returns
 returns c =
     let n = c.next_of.ensures in
     let r = c.quiet_blocks-i.ensures (search rules) in
-    ends_at (passed_more r c.next_of.result (omega (arith, r.inside, n.within)) (λ k l. let q = n.before k (omega (arith, n.within)) l in search rules))
+    ends_at (passed_more r c.next_of.result (omega (arith, r.inside, n.within)) (λ k l. let q = n.before k l in search rules))
     (λ h q. let t = n.there (omega (arith, n.within)) in search rules)

@@ -2,4 +2,4 @@ use Rattle.std.proofs.Common.{arith, rules}
 use Rattle.xml_escape.proofs.quiet_start.Goals as goal
 
 pub returns : goal.returns
-returns c = λ k h. let q = c.first_of.ensures.before k (omega (arith, c.first_of.ensures.within)) h in search rules
+returns c = λ k h. let q = c.first_of.ensures.before k h in search rules

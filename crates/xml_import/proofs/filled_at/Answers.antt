@@ -5,7 +5,9 @@ use native.Mathlib.Omega.{arith}
 use lib.ListN.{length}
 use Rattle.xml_import.proofs.Texts.{Reading, ends, end-inside, wrong, entity_on, plain_on, stops}
 use Rattle.xml_import.proofs.Runs.{run_on, opened}
-use Rattle.xml_import.proofs.Taken.{amp_wrong, amp_entity, amp_plain}
+use Rattle.xml_import.proofs.Taken.{amp_wrong, amp_entity}
+use Rattle.xml_import.proofs.Characters.{plain-fails, plain-takes}
+use Rattle.std.proofs.lemmas.Result.{err_from_is_err_and}
 use Rattle.xml_import.proofs.filled_at.Goals as goal
 
 pub opening-i-requires : goal.opening-i-requires
@@ -20,31 +22,20 @@ loop-i-init c = opened c.requires c.opening-i.ensures
 pub entity_at-requires : goal.entity_at-requires
 entity_at-requires c = (c.loop-i-test.true, c.if-xml-i-eq38.true)
 
-pub returns-in-Fails : goal.returns-in-Fails
-returns-in-Fails c = amp_wrong c.loop-i.invariant c.loop-i-test.true c.if-xml-i-eq38.true c.entity_at.ensures c.in-Fails.is
+pub returns-in_err-entity : goal.returns-in_err-entity
+returns-in_err-entity c =
+    let p = err_from_is_err_and c.from_residual.result c.from_residual.ensures.1 in
+    rw (p.1, p.2) (amp_wrong c.loop-i.invariant c.loop-i-test.true c.if-xml-i-eq38.true _ c.in_err-entity.ensures)
 
 pub overflow_add-size : goal.overflow_add-size
 overflow_add-size c =
-    let v = amp_entity c.loop-i.invariant c.loop-i-test.true c.if-xml-i-eq38.true c.entity_at.ensures c.in-Entity.is in omega (arith, v.0.bound, v.2)
+    let v = amp_entity c.loop-i.invariant c.loop-i-test.true c.if-xml-i-eq38.true _ c.in_ok-entity.ensures in omega (arith, v.0.bound, v.2)
 
-pub loop-i-smaller-in-Entity : goal.loop-i-smaller-in-Entity
-loop-i-smaller-in-Entity c = let v = amp_entity c.loop-i.invariant c.loop-i-test.true c.if-xml-i-eq38.true c.entity_at.ensures c.in-Entity.is in omega (arith, v.1, v.2)
+pub loop-i-smaller-then-xml-i-eq38 : goal.loop-i-smaller-then-xml-i-eq38
+loop-i-smaller-then-xml-i-eq38 c = let v = amp_entity c.loop-i.invariant c.loop-i-test.true c.if-xml-i-eq38.true _ c.in_ok-entity.ensures in omega (arith, v.1, v.2)
 
-pub loop-i-preserved-in-Entity : goal.loop-i-preserved-in-Entity
-loop-i-preserved-in-Entity c = (amp_entity c.loop-i.invariant c.loop-i-test.true c.if-xml-i-eq38.true c.entity_at.ensures c.in-Entity.is).0
-
-pub overflow_sub-size-in-Plain : goal.overflow_sub-size-in-Plain
-overflow_sub-size-in-Plain c = let v = amp_plain c.loop-i.invariant c.loop-i-test.true c.if-xml-i-eq38.true c.entity_at.ensures c.in-Plain.is in omega (arith, v.1)
-
-pub overflow_add-size-in-Plain : goal.overflow_add-size-in-Plain
-overflow_add-size-in-Plain c =
-    let v = amp_plain c.loop-i.invariant c.loop-i-test.true c.if-xml-i-eq38.true c.entity_at.ensures c.in-Plain.is in omega (arith, v.0.bound, v.2)
-
-pub loop-i-smaller-in-Plain : goal.loop-i-smaller-in-Plain
-loop-i-smaller-in-Plain c = let v = amp_plain c.loop-i.invariant c.loop-i-test.true c.if-xml-i-eq38.true c.entity_at.ensures c.in-Plain.is in omega (arith, v.1, v.2)
-
-pub loop-i-preserved-in-Plain : goal.loop-i-preserved-in-Plain
-loop-i-preserved-in-Plain c = (amp_plain c.loop-i.invariant c.loop-i-test.true c.if-xml-i-eq38.true c.entity_at.ensures c.in-Plain.is).0
+pub loop-i-preserved-then-xml-i-eq38 : goal.loop-i-preserved-then-xml-i-eq38
+loop-i-preserved-then-xml-i-eq38 c = (amp_entity c.loop-i.invariant c.loop-i-test.true c.if-xml-i-eq38.true _ c.in_ok-entity.ensures).0
 
 pub standing-run-requires : goal.standing-run-requires
 standing-run-requires c = c.loop-i-test.true
@@ -70,40 +61,30 @@ overflow_add-result c = omega (arith, end-inside c.loop-i.invariant c.end_at-n.e
 pub returns-then-n-eq7 : goal.returns-then-n-eq7
 returns-then-n-eq7 c = ends c.loop-i.invariant c.end_at-n.ensures c.if-n-eq7.true
 
-pub character_at-requires : goal.character_at-requires
-character_at-requires c = c.loop-i-test.true
+pub plain_at-requires : goal.plain_at-requires
+plain_at-requires c = c.loop-i-test.true
 
 pub overflow_add-i : goal.overflow_add-i
 overflow_add-i c = omega (arith, end-inside c.loop-i.invariant c.end_at-n.ensures)
 
-pub returns-in-Fails-character_at : goal.returns-in-Fails-character_at
-returns-in-Fails-character_at c = wrong c.loop-i.invariant c.end_at-n.ensures c.if-n-eq7.false c.character_at.ensures c.in-Fails-character_at.is c.larger.ensures
+pub returns-in-Err : goal.returns-in-Err
+returns-in-Err c =
+    wrong c.loop-i.invariant c.end_at-n.ensures c.if-n-eq7.false (plain-fails _ _ c.loop-i-test.true c.if-xml-i-eq38.false _ c.in-Err.ensures) c.larger.ensures
 
-pub overflow_add-size-in-Entity-character_at : goal.overflow_add-size-in-Entity-character_at
-overflow_add-size-in-Entity-character_at c =
-    let v = entity_on c.loop-i.invariant c.end_at-n.ensures c.if-n-eq7.false c.character_at.ensures c.in-Entity-character_at.is in omega (arith, v.0.bound, v.2)
+pub overflow_sub-size-in-Ok : goal.overflow_sub-size-in-Ok
+overflow_sub-size-in-Ok c =
+    let v = plain_on c.loop-i.invariant c.end_at-n.ensures c.if-n-eq7.false (plain-takes _ _ c.loop-i-test.true c.if-xml-i-eq38.false _ c.in-Ok.ensures) in omega (arith, v.1)
 
-pub loop-i-smaller-in-Entity-character_at : goal.loop-i-smaller-in-Entity-character_at
-loop-i-smaller-in-Entity-character_at c =
-    let v = entity_on c.loop-i.invariant c.end_at-n.ensures c.if-n-eq7.false c.character_at.ensures c.in-Entity-character_at.is in omega (arith, v.1, v.2)
-
-pub loop-i-preserved-in-Entity-character_at : goal.loop-i-preserved-in-Entity-character_at
-loop-i-preserved-in-Entity-character_at c = (entity_on c.loop-i.invariant c.end_at-n.ensures c.if-n-eq7.false c.character_at.ensures c.in-Entity-character_at.is).0
-
-pub overflow_sub-size-in-Plain-character_at : goal.overflow_sub-size-in-Plain-character_at
-overflow_sub-size-in-Plain-character_at c =
-    let v = plain_on c.loop-i.invariant c.end_at-n.ensures c.if-n-eq7.false c.character_at.ensures c.in-Plain-character_at.is in omega (arith, v.1)
-
-pub overflow_add-size-in-Plain-character_at : goal.overflow_add-size-in-Plain-character_at
-overflow_add-size-in-Plain-character_at c =
-    let v = plain_on c.loop-i.invariant c.end_at-n.ensures c.if-n-eq7.false c.character_at.ensures c.in-Plain-character_at.is in omega (arith, v.0.bound, v.2)
+pub overflow_add-size-in-Ok : goal.overflow_add-size-in-Ok
+overflow_add-size-in-Ok c =
+    let v = plain_on c.loop-i.invariant c.end_at-n.ensures c.if-n-eq7.false (plain-takes _ _ c.loop-i-test.true c.if-xml-i-eq38.false _ c.in-Ok.ensures) in omega (arith, v.0.bound, v.2)
 
 pub loop-i-smaller : goal.loop-i-smaller
 loop-i-smaller c =
-    let v = plain_on c.loop-i.invariant c.end_at-n.ensures c.if-n-eq7.false c.character_at.ensures c.in-Plain-character_at.is in omega (arith, v.1, v.2)
+    let v = plain_on c.loop-i.invariant c.end_at-n.ensures c.if-n-eq7.false (plain-takes _ _ c.loop-i-test.true c.if-xml-i-eq38.false _ c.in-Ok.ensures) in omega (arith, v.1, v.2)
 
 pub loop-i-preserved : goal.loop-i-preserved
-loop-i-preserved c = (plain_on c.loop-i.invariant c.end_at-n.ensures c.if-n-eq7.false c.character_at.ensures c.in-Plain-character_at.is).0
+loop-i-preserved c = (plain_on c.loop-i.invariant c.end_at-n.ensures c.if-n-eq7.false (plain-takes _ _ c.loop-i-test.true c.if-xml-i-eq38.false _ c.in-Ok.ensures)).0
 
 pub returns : goal.returns
 returns c = stops c.loop-i.invariant c.loop-i-test.false

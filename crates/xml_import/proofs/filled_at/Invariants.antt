@@ -5,7 +5,6 @@ use native.Mathlib.Omega.{arith}
 use lib.ListN.{length}
 use Rattle.xml_import.proofs.Texts.{Reading, ends, end-inside, wrong, entity_on, plain_on, stops}
 use Rattle.xml_import.proofs.Runs.{run_on, opened}
-use Rattle.xml_import.proofs.Taken.{amp_wrong, amp_entity, amp_plain}
 use Rattle.xml_import.proofs.filled_at.Given as goal
 
 abbrev pub invariant-loop-i : goal.invariant-loop-i

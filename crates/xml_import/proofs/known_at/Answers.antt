@@ -3,7 +3,8 @@ use Prim.Native.Nat.{◌-◌}
 use native.Mathlib.Omega.{arith}
 use lib.ListN.{length}
 use Rattle.xml_import.proofs.Texts.{Reading, start, stops}
-use Rattle.xml_import.proofs.Taken.{amp_wrong, amp_entity, amp_plain, known_start, known_ends, known_run}
+use Rattle.xml_import.proofs.Taken.{amp_wrong, amp_entity, known_start, known_ends, known_run}
+use Rattle.std.proofs.lemmas.Result.{err_from_is_err_and}
 use Rattle.xml_import.proofs.known_at.Goals as goal
 
 pub overflow_add-result : goal.overflow_add-result
@@ -30,37 +31,23 @@ returns-then-b-eq60 c = (known_ends c.loop-i.invariant c.requires.1 c.loop-i-tes
 pub entity_at-requires : goal.entity_at-requires
 entity_at-requires c = (c.loop-i-test.true, c.if-b-eq38.true)
 
-pub returns-in-Fails : goal.returns-in-Fails
-returns-in-Fails c = amp_wrong c.loop-i.invariant c.loop-i-test.true c.if-b-eq38.true c.entity_at.ensures c.in-Fails.is
+pub returns-in_err-entity : goal.returns-in_err-entity
+returns-in_err-entity c =
+    let p = err_from_is_err_and c.from_residual.result c.from_residual.ensures.1 in
+    rw (p.1, p.2) (amp_wrong c.loop-i.invariant c.loop-i-test.true c.if-b-eq38.true _ c.in_err-entity.ensures)
 
 pub overflow_add-size : goal.overflow_add-size
 overflow_add-size c =
-    let v = amp_entity c.loop-i.invariant c.loop-i-test.true c.if-b-eq38.true c.entity_at.ensures c.in-Entity.is in
+    let v = amp_entity c.loop-i.invariant c.loop-i-test.true c.if-b-eq38.true _ c.in_ok-entity.ensures in
     omega (arith, v.0.bound, v.2)
 
-pub loop-i-smaller-in-Entity : goal.loop-i-smaller-in-Entity
-loop-i-smaller-in-Entity c =
-    let v = amp_entity c.loop-i.invariant c.loop-i-test.true c.if-b-eq38.true c.entity_at.ensures c.in-Entity.is in
+pub loop-i-smaller-then-b-eq38 : goal.loop-i-smaller-then-b-eq38
+loop-i-smaller-then-b-eq38 c =
+    let v = amp_entity c.loop-i.invariant c.loop-i-test.true c.if-b-eq38.true _ c.in_ok-entity.ensures in
     omega (arith, v.1, v.2)
 
-pub loop-i-preserved-in-Entity : goal.loop-i-preserved-in-Entity
-loop-i-preserved-in-Entity c = (amp_entity c.loop-i.invariant c.loop-i-test.true c.if-b-eq38.true c.entity_at.ensures c.in-Entity.is).0
-
-pub overflow_sub-size-in-Plain : goal.overflow_sub-size-in-Plain
-overflow_sub-size-in-Plain c = omega (arith, (amp_plain c.loop-i.invariant c.loop-i-test.true c.if-b-eq38.true c.entity_at.ensures c.in-Plain.is).1)
-
-pub overflow_add-size-in-Plain : goal.overflow_add-size-in-Plain
-overflow_add-size-in-Plain c =
-    let v = amp_plain c.loop-i.invariant c.loop-i-test.true c.if-b-eq38.true c.entity_at.ensures c.in-Plain.is in
-    omega (arith, v.0.bound, v.2)
-
-pub loop-i-smaller-in-Plain : goal.loop-i-smaller-in-Plain
-loop-i-smaller-in-Plain c =
-    let v = amp_plain c.loop-i.invariant c.loop-i-test.true c.if-b-eq38.true c.entity_at.ensures c.in-Plain.is in
-    omega (arith, v.1, v.2)
-
-pub loop-i-preserved-in-Plain : goal.loop-i-preserved-in-Plain
-loop-i-preserved-in-Plain c = (amp_plain c.loop-i.invariant c.loop-i-test.true c.if-b-eq38.true c.entity_at.ensures c.in-Plain.is).0
+pub loop-i-preserved-then-b-eq38 : goal.loop-i-preserved-then-b-eq38
+loop-i-preserved-then-b-eq38 c = (amp_entity c.loop-i.invariant c.loop-i-test.true c.if-b-eq38.true _ c.in_ok-entity.ensures).0
 
 pub overflow_sub-size-else-b-eq38 : goal.overflow_sub-size-else-b-eq38
 overflow_sub-size-else-b-eq38 c = c.unmarked_run-run.ensures.passed.forward

@@ -3,7 +3,6 @@ use Prim.Native.Nat.{◌-◌}
 use native.Mathlib.Omega.{arith}
 use lib.ListN.{length}
 use Rattle.xml_import.proofs.Texts.{Reading, start, stops}
-use Rattle.xml_import.proofs.Taken.{amp_wrong, amp_entity, amp_plain, known_start, known_ends, known_run}
 use Rattle.xml_import.proofs.known_at.Given as goal
 
 abbrev pub invariant-loop-i : goal.invariant-loop-i

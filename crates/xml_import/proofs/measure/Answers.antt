@@ -49,53 +49,53 @@ text_at-requires c =
     let a' = c.args in
     item-inside c.loop-i.invariant refl (λ q. start-no_end a'.xml.now c.loop-i.i (sym c.if-s-ne6.false ∙ c.start_at-s.ensures) q) c.start_at-s.ensures c.if-s-ne6.false
 
-pub overflow_add-i-in-Fails : goal.overflow_add-i-in-Fails
+pub overflow_add-i-in-Err : goal.overflow_add-i-in-Err
 unfolding document_start document_end item_start ascii
-overflow_add-i-in-Fails c =
+overflow_add-i-in-Err c =
     let a' = c.args in
-    omega (arith, place_inside c.loop-i.invariant c.matched_at-e-in-Fails.ensures (λ q. start-no_end a'.xml.now c.loop-i.i (sym c.if-s-ne6.false ∙ c.start_at-s.ensures) (sym c.matched_at-e-in-Fails.ensures ∙ q)))
+    omega (arith, place_inside c.loop-i.invariant c.matched_at-e-in-Err.ensures (λ q. start-no_end a'.xml.now c.loop-i.i (sym c.if-s-ne6.false ∙ c.start_at-s.ensures) (sym c.matched_at-e-in-Err.ensures ∙ q)))
 
-pub returns-in-Fails : goal.returns-in-Fails
+pub returns-in-Err : goal.returns-in-Err
 unfolding document_start document_end item_start ascii
-returns-in-Fails c =
+returns-in-Err c =
     let a' = c.args in
-    text-wrong c.loop-i.invariant c.matched_at-e-in-Fails.ensures (λ q. start-no_end a'.xml.now c.loop-i.i (sym c.if-s-ne6.false ∙ c.start_at-s.ensures) (sym c.matched_at-e-in-Fails.ensures ∙ q)) c.start_at-s.ensures c.if-s-ne6.false c.text_at.ensures c.in-Fails.is c.larger-in-Fails.ensures
+    text-wrong c.loop-i.invariant c.matched_at-e-in-Err.ensures (λ q. start-no_end a'.xml.now c.loop-i.i (sym c.if-s-ne6.false ∙ c.start_at-s.ensures) (sym c.matched_at-e-in-Err.ensures ∙ q)) c.start_at-s.ensures c.if-s-ne6.false _ c.in-Err.ensures c.larger-in-Err.ensures
 
 pub overflow_add-count : goal.overflow_add-count
 unfolding document_start document_end item_start ascii
 overflow_add-count c =
     let a' = c.args in
-    let v = turn c.loop-i.invariant refl (λ q. start-no_end a'.xml.now c.loop-i.i (sym c.if-s-ne6.false ∙ c.start_at-s.ensures) q) c.start_at-s.ensures c.if-s-ne6.false c.text_at.ensures c.in-Ends.is in omega (arith, c.loop-i.invariant.few, v.longer, v.inside)
+    let v = turn c.loop-i.invariant refl (λ q. start-no_end a'.xml.now c.loop-i.i (sym c.if-s-ne6.false ∙ c.start_at-s.ensures) q) c.start_at-s.ensures c.if-s-ne6.false _ c.in-Ok.ensures in omega (arith, c.loop-i.invariant.few, v.longer, v.inside)
 
 pub overflow_add-size : goal.overflow_add-size
 unfolding document_start document_end item_start ascii
 overflow_add-size c =
     let a' = c.args in
-    let v = turn c.loop-i.invariant refl (λ q. start-no_end a'.xml.now c.loop-i.i (sym c.if-s-ne6.false ∙ c.start_at-s.ensures) q) c.start_at-s.ensures c.if-s-ne6.false c.text_at.ensures c.in-Ends.is in omega (arith, v.small c.length_size.ensures)
+    let v = turn c.loop-i.invariant refl (λ q. start-no_end a'.xml.now c.loop-i.i (sym c.if-s-ne6.false ∙ c.start_at-s.ensures) q) c.start_at-s.ensures c.if-s-ne6.false _ c.in-Ok.ensures in omega (arith, v.small c.length_size.ensures)
 
-pub overflow_add-size-in-Ends : goal.overflow_add-size-in-Ends
+pub overflow_add-size-in-Ok : goal.overflow_add-size-in-Ok
 unfolding document_start document_end item_start ascii
-overflow_add-size-in-Ends c =
+overflow_add-size-in-Ok c =
     let a' = c.args in
-    let v = turn c.loop-i.invariant refl (λ q. start-no_end a'.xml.now c.loop-i.i (sym c.if-s-ne6.false ∙ c.start_at-s.ensures) q) c.start_at-s.ensures c.if-s-ne6.false c.text_at.ensures c.in-Ends.is in omega (arith, v.small c.length_size.ensures, v.longer, v.inside)
+    let v = turn c.loop-i.invariant refl (λ q. start-no_end a'.xml.now c.loop-i.i (sym c.if-s-ne6.false ∙ c.start_at-s.ensures) q) c.start_at-s.ensures c.if-s-ne6.false _ c.in-Ok.ensures in omega (arith, v.small c.length_size.ensures, v.longer, v.inside)
 
-pub overflow_add-size-in-Ends-2 : goal.overflow_add-size-in-Ends-2
+pub overflow_add-size-in-Ok-2 : goal.overflow_add-size-in-Ok-2
 unfolding document_start document_end item_start ascii
-overflow_add-size-in-Ends-2 c =
+overflow_add-size-in-Ok-2 c =
     let a' = c.args in
-    let v = turn c.loop-i.invariant refl (λ q. start-no_end a'.xml.now c.loop-i.i (sym c.if-s-ne6.false ∙ c.start_at-s.ensures) q) c.start_at-s.ensures c.if-s-ne6.false c.text_at.ensures c.in-Ends.is in omega (arith, v.small c.length_size.ensures, v.longer, v.inside, c.loop-i.invariant.bound)
+    let v = turn c.loop-i.invariant refl (λ q. start-no_end a'.xml.now c.loop-i.i (sym c.if-s-ne6.false ∙ c.start_at-s.ensures) q) c.start_at-s.ensures c.if-s-ne6.false _ c.in-Ok.ensures in omega (arith, v.small c.length_size.ensures, v.longer, v.inside, c.loop-i.invariant.bound)
 
 pub loop-i-smaller : goal.loop-i-smaller
 unfolding document_start document_end item_start ascii
 loop-i-smaller c =
     let a' = c.args in
-    let v = turn c.loop-i.invariant refl (λ q. start-no_end a'.xml.now c.loop-i.i (sym c.if-s-ne6.false ∙ c.start_at-s.ensures) q) c.start_at-s.ensures c.if-s-ne6.false c.text_at.ensures c.in-Ends.is in omega (arith, v.longer, v.inside)
+    let v = turn c.loop-i.invariant refl (λ q. start-no_end a'.xml.now c.loop-i.i (sym c.if-s-ne6.false ∙ c.start_at-s.ensures) q) c.start_at-s.ensures c.if-s-ne6.false _ c.in-Ok.ensures in omega (arith, v.longer, v.inside)
 
 pub loop-i-preserved : goal.loop-i-preserved
 unfolding document_start document_end item_start ascii
 loop-i-preserved c =
     let a' = c.args in
-    (turn c.loop-i.invariant refl (λ q. start-no_end a'.xml.now c.loop-i.i (sym c.if-s-ne6.false ∙ c.start_at-s.ensures) q) c.start_at-s.ensures c.if-s-ne6.false c.text_at.ensures c.in-Ends.is).walking c.length_size.ensures
+    (turn c.loop-i.invariant refl (λ q. start-no_end a'.xml.now c.loop-i.i (sym c.if-s-ne6.false ∙ c.start_at-s.ensures) q) c.start_at-s.ensures c.if-s-ne6.false _ c.in-Ok.ensures).walking c.length_size.ensures
 
 pub returns : goal.returns
 returns c = stops c.loop-i.invariant c.loop-i-test.false

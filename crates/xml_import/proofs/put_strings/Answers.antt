@@ -18,28 +18,25 @@ pub item_at-requires : goal.item_at-requires
 item_at-requires c =
     ((next_item c.loop-k.invariant c.loop-k-test.true).at_text, known_next c.loop-k.invariant c.loop-k-test.true, last_next c.loop-k.invariant c.loop-k-test.true)
 
-pub shape_of-out-in-Fails : goal.shape_of-out-in-Fails
-shape_of-out-in-Fails c = absurd (no_failure c.loop-k.invariant c.loop-k-test.true c.item_at.ensures c.in-Fails.is)
-
-pub returns-in-Fails : goal.returns-in-Fails
-returns-in-Fails c = absurd (no_failure c.loop-k.invariant c.loop-k-test.true c.item_at.ensures c.in-Fails.is)
+pub returns-in_default : goal.returns-in_default
+returns-in_default c = absurd (no_failure c.loop-k.invariant c.loop-k-test.true _ c.in_default.ensures)
 
 pub overflow_sub-plain : goal.overflow_sub-plain
-overflow_sub-plain c = (turn c.loop-k.invariant c.loop-k-test.true c.item_at.ensures c.in-Ends.is).after
+overflow_sub-plain c = (turn c.loop-k.invariant c.loop-k-test.true _ c.in-Ok.ensures).after
 
 pub overflow_add-plain : goal.overflow_add-plain
 overflow_add-plain c =
-    let v = turn c.loop-k.invariant c.loop-k-test.true c.item_at.ensures c.in-Ends.is in
+    let v = turn c.loop-k.invariant c.loop-k-test.true _ c.in-Ok.ensures in
     omega (arith, v.fits_word, v.inside_next)
 
 pub put_string-to-requires : goal.put_string-to-requires
 put_string-to-requires c =
-    let v = turn c.loop-k.invariant c.loop-k-test.true c.item_at.ensures c.in-Ends.is in
+    let v = turn c.loop-k.invariant c.loop-k-test.true _ c.in-Ok.ensures in
     (v.ready, v.small, v.room, λ e. v.whole_if (eqb-true _ _ e))
 
 pub loop-k-preserved : goal.loop-k-preserved
 loop-k-preserved c =
-    let v = turn c.loop-k.invariant c.loop-k-test.true c.item_at.ensures c.in-Ends.is in
+    let v = turn c.loop-k.invariant c.loop-k-test.true _ c.in-Ok.ensures in
     v.turns (search rules) c.put_string-to.ensures
 
 pub shape_of-out : goal.shape_of-out

@@ -6,7 +6,7 @@ use native.Mathlib.Omega.{arith}
 use Rattle.xml_import.proofs.Writing.{Putting, start, before_end, no_failure, entity-turn, ended}
 use Rattle.xml_import.proofs.Runs.{run-turn}
 use Rattle.xml_escape.specs.Wrote.{wrote_one}
-use Rattle.xml_import.proofs.Taken.{amp_single, put_run}
+use Rattle.xml_import.proofs.Taken.{put_run}
 use Rattle.xml_import.proofs.put_text.Goals as goal
 
 pub overflow_add-end : goal.overflow_add-end
@@ -21,11 +21,8 @@ bounds-xml-i c = before_end c.loop-j.invariant c.loop-j-test.true
 pub entity_at-requires : goal.entity_at-requires
 entity_at-requires c = (before_end c.loop-j.invariant c.loop-j-test.true, c.if-xml-i-eq38.true)
 
-pub shape_of-out-in-Fails : goal.shape_of-out-in-Fails
-shape_of-out-in-Fails c = absurd (no_failure c.loop-j.invariant c.loop-j-test.true c.entity_at.ensures c.in-Fails.is)
-
-pub returns-in-Fails : goal.returns-in-Fails
-returns-in-Fails c = absurd (no_failure c.loop-j.invariant c.loop-j-test.true c.entity_at.ensures c.in-Fails.is)
+pub returns-in_default : goal.returns-in_default
+returns-in_default c = absurd (no_failure c.loop-j.invariant c.loop-j-test.true _ c.in_default.ensures)
 
 pub bounds-out-j : goal.bounds-out-j
 bounds-out-j c = omega (arith, c.loop-j.invariant.same_size, c.requires.1, c.loop-j-test.true)
@@ -33,23 +30,13 @@ bounds-out-j c = omega (arith, c.loop-j.invariant.same_size, c.requires.1, c.loo
 pub overflow_add-j : goal.overflow_add-j
 overflow_add-j c = omega (arith, c.requires.1, c.loop-j-test.true)
 
-pub loop-j-smaller-in-Entity : goal.loop-j-smaller-in-Entity
-loop-j-smaller-in-Entity c = omega (arith, c.loop-j-test.true)
+pub loop-j-smaller-then-xml-i-eq38 : goal.loop-j-smaller-then-xml-i-eq38
+loop-j-smaller-then-xml-i-eq38 c = omega (arith, c.loop-j-test.true)
 
-pub loop-j-preserved-in-Entity : goal.loop-j-preserved-in-Entity
-loop-j-preserved-in-Entity c =
-    let v = entity-turn c.loop-j.invariant c.loop-j-test.true c.entity_at.ensures c.in-Entity.is in
+pub loop-j-preserved-then-xml-i-eq38 : goal.loop-j-preserved-then-xml-i-eq38
+loop-j-preserved-then-xml-i-eq38 c =
+    let v = entity-turn c.loop-j.invariant c.loop-j-test.true _ c.in-Ok.ensures in
     v.turns (length-set c.loop-j.out c.loop-j.j _) (λ base done w h. wrote_one _ w h refl)
-
-pub shape_of-out-in-Plain : goal.shape_of-out-in-Plain
-shape_of-out-in-Plain c =
-    let a' = c.args in
-    absurd (amp_single a'.xml.now _ c.if-xml-i-eq38.true c.entity_at.ensures c.in-Plain.is)
-
-pub returns-in-Plain : goal.returns-in-Plain
-returns-in-Plain c =
-    let a' = c.args in
-    absurd (amp_single a'.xml.now _ c.if-xml-i-eq38.true c.entity_at.ensures c.in-Plain.is)
 
 pub put_run-run-requires : goal.put_run-run-requires
 put_run-run-requires c = (c.loop-j.invariant.inside_xml, omega (arith, c.loop-j.invariant.same_size, c.requires.1, c.loop-j-test.true))

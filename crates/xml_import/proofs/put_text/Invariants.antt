@@ -6,7 +6,6 @@ use native.Mathlib.Omega.{arith}
 use Rattle.xml_import.proofs.Writing.{Putting, start, before_end, no_failure, entity-turn, ended}
 use Rattle.xml_import.proofs.Runs.{run-turn}
 use Rattle.xml_escape.specs.Wrote.{wrote_one}
-use Rattle.xml_import.proofs.Taken.{amp_single, put_run}
 use Rattle.xml_import.proofs.put_text.Given as goal
 
 abbrev pub invariant-loop-j : goal.invariant-loop-j

@@ -3,11 +3,11 @@ use Rattle.xml_import.proofs.Bytes.{then_inside, top_first, top_second}
 use borrow.Author.Rules.{rules}
 use Rattle.xml_import.proofs.character.top_at.Goals as goal
 
-pub byte_at-requires-in-Takes : goal.byte_at-requires-in-Takes
-byte_at-requires-in-Takes c = then_inside _ [] _ _ c.byte_at.ensures c.in-Takes.is
+pub byte_at-requires-in-Ok : goal.byte_at-requires-in-Ok
+byte_at-requires-in-Ok c = then_inside _ [] _ _ c.in-Ok.ensures
 
-pub returns-in-Fails : goal.returns-in-Fails
-returns-in-Fails c = top_second _ _ _ c.byte_at.ensures c.in-Fails.is c.two_at.ensures
+pub returns-in-Err : goal.returns-in-Err
+returns-in-Err c = top_second _ _ _ _ c.in-Err.ensures c.two_at.ensures
 
-pub returns-in-Takes : goal.returns-in-Takes
-returns-in-Takes c = top_first _ _ _ c.byte_at.ensures c.in-Takes.is c.byte_at-in-Takes.ensures
+pub returns-in-Ok : goal.returns-in-Ok
+returns-in-Ok c = top_first _ _ _ _ c.in-Ok.ensures c.byte_at-in-Ok.ensures
