@@ -7,6 +7,7 @@ use native.Mathlib.Omega.{arith}
 use lib.Dec.{eqb}
 use lib.ListN.{length, take, drop, get_or, length-drop, length-append, take-append-drop, drop_of_length-le}
 use lib.Seq.{drop-cons, drop-drop, get_or-drop, take_all, take-suc, length-take-le}
+use Rattle.std.specs.List.{prefix_len}
 use borrow.Author.Tests.{eq-eqb, ne_eqb}
 use Rattle.laws.specs.Small.{neither}
 use Rattle.layout.specs.Text.{ascii}
@@ -31,6 +32,12 @@ span_no p b s e = rw (e, span)
 span_yes : (p : ℕ → Bool) (b : ℕ) (s : List ℕ) → p b ≡ true → span p (b ∷ s) ≡ suc (span p s)
 unfolding span
 span_yes p b s e = rw (e, span)
+
+-- a run as the library counts it
+pub span_is_prefix : (p : ℕ → Bool) (s : List ℕ) → prefix_len p s ≡ span p s
+unfolding span
+span_is_prefix p [] = refl
+span_is_prefix p (b ∷ s) = ap (λ (k : ℕ). cond (p b) k 0) (omega (arith, span_is_prefix p s))
 
 module _ (p : ℕ → Bool) (s : List ℕ) (i : ℕ) where
   pub span-start : span p s ≡ 0 + span p (drop 0 s)

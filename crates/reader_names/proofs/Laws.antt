@@ -14,7 +14,8 @@ use Rattle.names.specs.Contract.{refused, placed}
 use Rattle.names.specs.Entries.{entries_in, entries_of, lawfully, enums_of}
 use Rattle.names.proofs.Laws.{cons_at, rest}
 use Rattle.io.specs.Counts.{IsPrefixLen}
-use Rattle.targets.specs.declared.Resolved.{Resolved}
+use Rattle.std.specs.Prelude.{Result}
+use Rattle.targets.specs.declared.Unresolved.{Unresolved}
 use Rattle.targets.specs.Contract.{told, resolution, Resolves}
 use Rattle.targets.specs.Meaning.{refused_is, refusal_bounds}
 use Rattle.reader_names.specs.Lines.{number, refusal, in_line, line_size, refusals, all, Judges}
@@ -29,7 +30,7 @@ unfolding refusal
 long_is s h l = rw (ne_eqb (length s) 0 h, lt-leb (length s) 1024 l)
 
 -- the places of a name that is not too long fit
-pub judged_is : (s enums c c' : List ℕ) (r : Resolved) → (length s ≡ 0 → ⊥) → length s ≤ 1024 → enums ≡ [] → length c ≡ 187 → Resolves (enums_of enums) s 0 c c' 0 r
+pub judged_is : (s enums c c' : List ℕ) (r : Result ℕ Unresolved) → (length s ≡ 0 → ⊥) → length s ≤ 1024 → enums ≡ [] → length c ≡ 187 → Resolves (enums_of enums) s 0 c c' 0 r
     → (k : ℕ) → number (told r) ≡ k → k ≡ refusal s
 unfolding refusal placed enums_of entries_of entries_in lawfully
 judged_is s enums c c' r h m b l w k e =
@@ -39,7 +40,7 @@ judged_is s enums c c' r h m b l w k e =
     sym e ∙ q ∙ sym p
 
 -- a refusal's number and place fit in one number
-pub bounded : (s enums c c' : List ℕ) (r : Resolved) (number place : ℕ) → length s ≤ 1024 → Resolves (enums_of enums) s 0 c c' 0 r → told r ≡ refused number place → (number ≤ 38) × (place ≤ 1024)
+pub bounded : (s enums c c' : List ℕ) (r : Result ℕ Unresolved) (number place : ℕ) → length s ≤ 1024 → Resolves (enums_of enums) s 0 c c' 0 r → told r ≡ refused number place → (number ≤ 38) × (place ≤ 1024)
 bounded s enums c c' r number place h w e =
     let b = refusal_bounds (refused_is (enums_of enums) s 0 c c' 0 number place w e) in
     (small b.0, omega (arith, b.1))

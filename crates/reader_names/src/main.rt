@@ -8,7 +8,7 @@ ghost use Rattle.reader_names.specs.Lines.{refusal, line_size, Judges};
 use std::io::Read;
 use std::rt::Files;
 use std::{fs, io};
-use targets::Resolved;
+use targets::Unresolved;
 
 // A name's refusal in one number: 65536 for each of its number, and its place; or 0.
 fn judge(name: &[u8]) -> u32
@@ -22,10 +22,10 @@ fn judge(name: &[u8]) -> u32
     }
     let mut codes = [0u32; 187];
     match targets::resolve(name, 0, b"", &mut codes, 0) {
-        Resolved::Target(_) => 0,
-        Resolved::Broken(number, place) => 65536 * number + place as u32,
-        Resolved::Unknown(place) => 65536 * 11 + place as u32,
-        Resolved::NoRoom => 65536 * 9,
+        Ok(_) => 0,
+        Err(Unresolved::Broken(refusal)) => 65536 * refusal.number + refusal.place as u32,
+        Err(Unresolved::Unknown(place)) => 65536 * 11 + place as u32,
+        Err(Unresolved::NoRoom) => 65536 * 9,
     }
 }
 
@@ -33,14 +33,7 @@ fn judge(name: &[u8]) -> u32
 fn line_size(s: &[u8]) -> usize
     ensures { result ≡ line_size s.now }
 {
-    let mut i = 0;
-    while i < s.len() {
-        if s[i] == b'\n' {
-            return i;
-        }
-        i += 1;
-    }
-    i
+    s.iter().take_while(|b| **b != b'\n').count()
 }
 
 // Leaves the refusal of each line in `numbers`, and answers how many lines there are.
@@ -71,15 +64,12 @@ fn print_refusal(rt: &impl Print, refusal: u32) -> io::Result<()> {
 }
 
 fn print_numbers(rt: &impl Print, numbers: &[u32]) -> io::Result<()> {
-    let mut i = 0;
-    while i < numbers.len() {
-        print_refusal(rt, numbers[i])?;
-        i += 1;
+    for refusal in numbers {
+        print_refusal(rt, *refusal)?;
     }
     Ok(())
 }
 
-// A file that cannot be opened is told on standard error.
 // Reads until the space is full or the file ends: how many bytes.
 fn read_full(file: &mut impl Read, space: &mut [u8]) -> io::Result<usize>
     ensures { IfOk result (λ n. n ≤ length space.old) }
@@ -95,6 +85,7 @@ fn read_full(file: &mut impl Read, space: &mut [u8]) -> io::Result<usize>
     Ok(done)
 }
 
+// Judges the names in a file. A file that cannot be opened is told on standard error.
 fn judge_file(rt: &(impl Files + Print + Eprint), path: &str) -> io::Result<()> {
     let mut file = match fs::open(rt, path) {
         Ok(file) => file,

@@ -1,19 +1,14 @@
-use borrow.Author.Rules.{rules}
-use Rattle.names.proofs.Laws.{span-start, span-end, span-stop, span-step}
-use Rattle.reader_names.specs.Lines.{line_size}
-use Rattle.reader_names.proofs.Laws.{ends_line, stays-in_line}
+use Rattle.std.proofs.Common.{◌∙◌, rules, tests}
+use Rattle.std.proofs.lemmas.Iterator.{YieldsList-from_slice}
+use Rattle.std.proofs.lemmas.Iterator.Consumers.{count_from_yields_List}
+use Rattle.std.proofs.lemmas.Iterator.Search.{YieldsList-from_take_while}
+use Rattle.std.proofs.lemmas.List.Folds.{length-prefix_len}
+use Rattle.names.proofs.Laws.{span_is_prefix}
+use Rattle.reader_names.specs.Lines.{in_line, line_size}
 use Rattle.reader_names.proofs.line_size.Goals as goal
-
-pub loop-i-init : goal.loop-i-init
-loop-i-init c = (search rules, span-start _ _ 0)
-
-pub returns-then-s-i-eq10 : goal.returns-then-s-i-eq10
-unfolding line_size
-returns-then-s-i-eq10 c = span-stop _ _ _ c.loop-i-test.true (ends_line _ c.if-s-i-eq10.true) c.loop-i.invariant.1
-
-pub loop-i-preserved : goal.loop-i-preserved
-loop-i-preserved c = (search rules, span-step _ _ _ c.loop-i-test.true (stays-in_line _ c.if-s-i-eq10.false) c.loop-i.invariant.1)
 
 pub returns : goal.returns
 unfolding line_size
-returns c = span-end _ _ _ c.loop-i-test.false c.loop-i.invariant.1
+returns c =
+    let s = c.args.s.now in
+    count_from_yields_List c.take_while.result _ c.count.ensures.ran (YieldsList-from_take_while _ in_line (YieldsList-from_slice s cc) c.take_while.ensures.closure c.take_while.ensures.done (λ x b q k. search (rules, tests))) ∙ length-prefix_len in_line s ∙ span_is_prefix in_line s
