@@ -1,5 +1,5 @@
 -- What opening a value answers in code, and the layout's head that it is. Assumes nothing.
-use Rattle.std.specs.Prelude.{◌≡◌, Result, Ok, Err, ℕ, ◌+◌, ◌<◌, max, List, ◌++◌, nat_le, slice_index}
+use Rattle.std.specs.Prelude.{◌≡◌, Result, Ok, Err, ℕ, ◌<◌, max, List, ◌++◌, nat_le, slice_index}
 use Rattle.layout.specs.Number.{little}
 use Rattle.layout.specs.Target.{Target, fixed, char, string, enum}
 use Rattle.layout.specs.EnumList.{EnumSize}

@@ -1,6 +1,5 @@
 -- What stands below a value in code, and the plan that it goes by. Assumes nothing.
 use Rattle.std.specs.Prelude.{◌≡◌, ℕ, ◌+◌, ◌*◌, ◌%◌, ◌^◌, cond, List, [], ◌∷◌, ◌++◌, length, drop, replicate, ◌==◌}
-use Rattle.layout.specs.Target.{mesh}
 use Rattle.layout.specs.Slot as L
 use Rattle.layout.specs.Slot.{Plan, stop, each, pairs, font_slots, page_slots}
 use Rattle.leaves.specs.declared.plain.Plain.TheVariants.{Fixed, Reference}

@@ -10,7 +10,7 @@ use meshes::{Field, Step};
 use names::kinds;
 
 // n elements that stand alike; n pairs of key and value; the fields of a font; the fields of a page; the fields of a mesh type, by its kind.
-#[derive(Clone, Copy)]
+#[derive(Clone, Copy, Debug, PartialEq, Eq)]
 pub enum Nest {
     Each(Slot, u32),
     Pairs(Slot, Slot, u32),
@@ -21,7 +21,7 @@ pub enum Nest {
 
 // How far a walk over a nest is: the number of the value that stands next, and how many values there are, as far as is known:
 // in a mesh up to the value that stands next, which the third number tells.
-#[derive(Clone, Copy)]
+#[derive(Clone, Copy, Debug, PartialEq, Eq)]
 pub struct Stage {
     pub next: u32,
     pub count: u64,
@@ -29,7 +29,7 @@ pub struct Stage {
 }
 
 // Nothing, and the padding of the value's count, which a text alone has; values that need no reader list; or values that do.
-#[derive(Clone, Copy)]
+#[derive(Clone, Copy, Debug, PartialEq, Eq)]
 pub enum Below {
     Nothing(u32),
     Simple(Run),
@@ -37,6 +37,7 @@ pub enum Below {
 }
 
 // Field i of a font.
+#[tactic(auto, unfolding(crate::specs::Plans::font_child))]
 fn font_child(i: u32) -> Slot
     ensures { result ≡ font_child i }
 {
@@ -52,6 +53,7 @@ fn font_child(i: u32) -> Slot
 }
 
 // Field i of a page.
+#[tactic(auto, unfolding(crate::specs::Plans::page_child))]
 fn page_child(i: u32) -> Slot
     ensures { result ≡ page_child i }
 {
@@ -64,6 +66,7 @@ fn page_child(i: u32) -> Slot
 }
 
 // A field of a mesh type.
+#[tactic(auto, unfolding(crate::specs::Plans::field_child))]
 fn field_child(field: Field) -> Slot
     ensures { result ≡ field_child field }
 {

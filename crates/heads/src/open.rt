@@ -16,7 +16,7 @@ use names::kinds;
 use numbers::seven::Padded;
 
 // A head: where it ends, and what stands below it.
-#[derive(Clone, Copy)]
+#[derive(Clone, Copy, Debug, PartialEq, Eq)]
 pub struct Opened {
     pub next: usize,
     pub below: Below,
@@ -46,6 +46,7 @@ fn unpadded(read: Number) -> Result<Padded, Refusal>
 }
 
 // The bytes of a value of a kind without children, and the padding of its count.
+#[tactic(auto, unfolding(crate::specs::Total::leaf_as))]
 fn leaf_at(file: &[u8], kind: u32, at: usize) -> Result<Padded, Refusal>
     ensures { told_padded result ≡ leaf_as file.now kind at }
 {
@@ -192,6 +193,7 @@ fn nested(nest: Nest, at: usize) -> Result<Opened, Refusal>
 }
 
 // The head of a raw value of the type at `t`; Object and Texture have no raw values.
+#[tactic(auto, unfolding(crate::specs::Total::open_as, crate::specs::Total::kind_as))]
 pub fn open(file: &[u8], codes: &[u32], t: usize, at: usize) -> Result<Opened, Refusal>
     ensures { result ≡ open_as file.now codes.now t at }
 {

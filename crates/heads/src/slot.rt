@@ -6,7 +6,7 @@ ghost use Rattle.heads.specs.Placed.{bytes_of, row_kind, plain_of, raw_of, slot_
 use leaves::plain::Plain;
 use names::kinds;
 
-#[derive(Clone, Copy)]
+#[derive(Clone, Copy, Debug, PartialEq, Eq)]
 pub enum Slot {
     Simple(Plain),
     Raw(usize),
@@ -14,6 +14,7 @@ pub enum Slot {
 }
 
 // How many bytes a value of a kind has, as a type's code has the kind: the last four are enums by their sizes. 0 where none is fixed.
+#[tactic(auto, unfolding(crate::specs::Placed::bytes_of))]
 pub fn bytes_of(kind: u32) -> usize
     ensures { result ≡ bytes_of kind }
 {
@@ -27,6 +28,7 @@ pub fn bytes_of(kind: u32) -> usize
 }
 
 // 01's kind of the type at a place: every enum's is 15.
+#[tactic(auto, unfolding(crate::specs::Placed::row_kind))]
 pub fn row_kind(codes: &[u32], a: usize) -> u32
     ensures { result ≡ row_kind (kind_at codes.now a) }
 {
@@ -38,6 +40,7 @@ pub fn row_kind(codes: &[u32], a: usize) -> u32
 }
 
 // A value of such a kind without children.
+#[tactic(auto, unfolding(crate::specs::Placed::plain_of))]
 fn plain_of(kind: u32) -> Plain
     ensures { result ≡ plain_of kind }
 {
@@ -49,6 +52,7 @@ fn plain_of(kind: u32) -> Plain
 }
 
 // An element or a field of the type at a place: raw if it is a value type, else an object. Object itself is tested first, as most lists of objects declare it.
+#[tactic(auto, unfolding(crate::specs::Placed::slot_by))]
 pub fn slot_of(codes: &[u32], a: usize) -> Slot
     ensures { result ≡ slot_by (kind_at codes.now a) a }
 {
@@ -69,6 +73,7 @@ pub fn slot_of(codes: &[u32], a: usize) -> Slot
 }
 
 // A raw value of the type at a place.
+#[tactic(auto, unfolding(crate::specs::Placed::raw_of))]
 pub fn raw_of(codes: &[u32], a: usize) -> Slot
     ensures { result ≡ raw_of (kind_at codes.now a) a }
 {

@@ -112,7 +112,7 @@ pub struct Stage {
 }
 
 // How a field stands: without need of the reader list, as an object declared String or Object, or as a raw vertex declaration.
-#[derive(Clone, Copy)]
+#[derive(Clone, Copy, Debug, PartialEq, Eq)]
 pub enum Field {
     Plain(Plain),
     Text,

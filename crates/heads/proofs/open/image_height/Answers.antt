@@ -1,30 +1,13 @@
-use Rattle.std.proofs.Common.{◌≡◌, sym, ap, ◌∙◌, arith, rules}
-use Rattle.answers.specs.Told.{told}
-use Rattle.reading.specs.Answer.{read}
-use Rattle.heads.specs.Opens.{ranged_at, height_at}
+use Rattle.std.proofs.Common.{sym, arith}
 use Rattle.heads.specs.Images.{ranged_bounds}
-use Rattle.heads.proofs.open.image_height.Goals.{In-Read}
 use Rattle.heads.proofs.open.image_height.Goals as goal
 
-field : (c : In-Read) → ranged_at c.args.file.now 1 4096 c.args.at ≡ read c.in-Read.n c.in-Read.next
-field c = sym c.ranged.ensures ∙ ap told c.in-Read.is
-
-pub overflow_cast-n : goal.overflow_cast-n
-overflow_cast-n c =
-    let a = c.args in
-    let b = ranged_bounds a.file.now 1 4096 a.at (field c) in
+pub overflow_cast-height : goal.overflow_cast-height
+overflow_cast-height c =
+    let b = ranged_bounds c.args.file.now 1 4096 c.args.at (sym c.in_ok-height.ensures) in
     omega arith
 
 pub image_levels-requires : goal.image_levels-requires
 image_levels-requires c =
-    let a = c.args in
-    let b = ranged_bounds a.file.now 1 4096 a.at (field c) in
+    let b = ranged_bounds c.args.file.now 1 4096 c.args.at (sym c.in_ok-height.ensures) in
     (c.requires.0, c.requires.1, c.requires.2, b.0, b.1)
-
-pub returns-in-Refused : goal.returns-in-Refused
-unfolding height_at
-returns-in-Refused c = rw (sym c.ranged.ensures ∙ ap told c.in-Refused.is)
-
-pub returns-in-Read : goal.returns-in-Read
-unfolding height_at
-returns-in-Read c = rw (field (goal.at.returns-in-Read c).In-Read) c.image_levels.ensures

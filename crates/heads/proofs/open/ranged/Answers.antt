@@ -1,31 +1,22 @@
-use Rattle.std.proofs.Common.{◌≡◌, sym, ap, ◌∙◌, arith, rules}
-use Rattle.answers.specs.Told.{told}
-use Rattle.reading.specs.Answer.{read}
-use Rattle.reading.specs.Little.{little_at}
+use Rattle.std.proofs.Common.{sym}
+use Rattle.std.proofs.lemmas.Result.{err_from_is_err_and}
+use mathlib.Core.Logic.{⊎_elim}
 use Rattle.heads.specs.Images.{ranged_refused, ranged_low, ranged_high, ranged_there}
-use Rattle.heads.proofs.open.ranged.Goals.{In-Read}
 use Rattle.heads.proofs.open.ranged.Goals as goal
 
-field : (c : In-Read) → little_at c.args.file.now 4 c.args.at c.args.at
-    ≡ read c.in-Read.n c.in-Read.next
-field c = sym c.little4.ensures ∙ ap told c.in-Read.is
-
-pub returns-then-n-low : goal.returns-then-n-low
-returns-then-n-low c =
+pub returns-in_err-read : goal.returns-in_err-read
+returns-in_err-read c =
     let a = c.args in
-    ranged_low a.file.now a.low a.high a.at (field (goal.at.returns-then-n-low c).In-Read) (omega arith)
+    let p = err_from_is_err_and c.from_residual.result c.from_residual.ensures.1 in
+    rw (p.1, p.2) (ranged_refused a.file.now a.low a.high a.at (sym c.in_err-read.ensures))
 
-pub returns-then-high-n : goal.returns-then-high-n
-returns-then-high-n c =
+pub returns-then-read-low : goal.returns-then-read-low
+returns-then-read-low c =
     let a = c.args in
-    ranged_high a.file.now a.low a.high a.at (field (goal.at.returns-then-high-n c).In-Read) (omega arith) (omega arith)
+    let field = sym c.in_ok-read.ensures in
+    rw c.at.ensures (⊎_elim (λ l. ranged_low a.file.now a.low a.high a.at field l) (λ h. ranged_high a.file.now a.low a.high a.at field h.0 h.1) c.then-read-low.either)
 
-pub returns-in-Refused : goal.returns-in-Refused
-returns-in-Refused c =
+pub returns : goal.returns
+returns c =
     let a = c.args in
-    ranged_refused a.file.now a.low a.high a.at (sym c.little4.ensures ∙ ap told c.in-Refused.is)
-
-pub returns-else-high-n : goal.returns-else-high-n
-returns-else-high-n c =
-    let a = c.args in
-    ranged_there a.file.now a.low a.high a.at (field (goal.at.returns-else-high-n c).In-Read) (omega arith) (omega arith)
+    ranged_there a.file.now a.low a.high a.at (sym c.in_ok-read.ensures) c.if-read-low.false c.if-high-read.false
