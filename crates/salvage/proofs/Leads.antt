@@ -1,14 +1,10 @@
 -- Where no mark can start: parts of a pack without its first byte. Assumes nothing.
-use mathlib.Core.Path.{◌≡◌, subst}
-use mathlib.Core.Bool.{Bool, false, ◌||◌}
+use mathlib.Core.Path.{◌≡◌}
 use mathlib.Core.List.{List}
-use Prim.Native.Nat.{ℕ, ◌+◌, ◌≤◌, ◌<◌}
+use Prim.Native.Nat.{ℕ, ◌+◌, ◌-◌, ◌≤◌, ◌<◌}
 use native.Mathlib.Omega.{arith}
 use native.Mathlib.Decide.{dec_lt}
-use lib.Dec.{eqb}
 use lib.ListN.{length, get_or}
-use borrow.Author.Tests.{eqb-false}
-use Rattle.laws.specs.Small.{neither}
 use Rattle.salvage.specs.Salvaging.{NoLead}
 
 module _ (pack : List ℕ) where
@@ -27,12 +23,10 @@ module _ (pack : List ℕ) where
     here j p q e (yes k) = v.none j p k e
     here j p q e (no k) = w.none j (omega arith) q e
 
-  pub block_step : (from i : ℕ) (b : Bool) → from + i < length pack → (b ≡ false → NoLead pack from (from + i))
-      → (b || eqb (get_or pack (from + i) 0) 0xFD) ≡ false → NoLead pack from (from + (i + 1))
-  block_step from i b h f e =
-      let w = neither b (eqb (get_or pack (from + i) 0) 0xFD) e in
-      let z : from + i + 1 ≡ from + (i + 1) = omega arith in
-      subst (λ (n : ℕ). NoLead pack from n) z (one_more (f w.0) h (eqb-false (get_or pack (from + i) 0) 0xFD w.1))
-
-  pub block : (from i : ℕ) {b : Bool} → i ≤ 32 → 32 ≤ i → (b ≡ false → NoLead pack from (from + i)) → b ≡ false → NoLead pack from (from + 32)
-  block from i h k f e = let z : from + i ≡ from + 32 = omega arith in subst (λ (n : ℕ). NoLead pack from n) z (f e)
+  -- 32 bytes none of which is FD
+  pub block : (from : ℕ) → from + 32 ≤ length pack → ((k : ℕ) → k < 32 → get_or pack (from + k) 0 ≡ 0xFD → ⊥) → NoLead pack from (from + 32)
+  block from h f = record {
+    forward = omega arith;
+    inside = h;
+    none = λ i p q e. let z : i ≡ from + (i - from) = omega arith in f (i - from) (omega arith) (rw z at e);
+  }

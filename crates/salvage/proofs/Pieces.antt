@@ -2,25 +2,28 @@
 use mathlib.Core.Path.{◌≡◌, refl, sym, ap, subst, ◌∙◌}
 use mathlib.Core.List.{List, [], ◌∷◌, ◌++◌}
 use mathlib.Core.Logic.{inl, inr}
-use Prim.Native.Nat.{ℕ, zero, suc, ◌+◌, ◌-◌, ◌≤◌, ◌<◌}
+use Prim.Native.Nat.{ℕ, zero, suc, ◌+◌, ◌≤◌, ◌<◌}
 use native.Mathlib.Omega.{arith}
 use native.Mathlib.Decide.{dec_lt}
 use lib.ListN.{length, drop, get_or}
 use lib.Seq.{drop-cons}
 use borrow.Author.Tests.{eq-eqb, ne_eqb}
 use Rattle.laws.specs.Small.{differ}
-use Rattle.reading.specs.Answer.{Answer, read, Ok}
+use Rattle.reading.specs.Answer as answer
+use Rattle.reading.specs.Answer.{Answer, read}
 use Rattle.reading.specs.Reads.{Small, Spans}
 use Rattle.pack_layout.specs.Pack.{Stored, Lawful, marked, record_bytes}
 use Rattle.pack_reading.specs.Pack.{record_at}
 use Rattle.pack_reading.specs.Laws.{record_reads}
-use Rattle.pack_records.specs.declared.Record.TheVariants as record'
+use Rattle.std.specs.Prelude.{Ok, Err, None}
+use Rattle.answers.specs.declared.Refusal.{Refusal}
+use Rattle.pack_records.specs.declared.Record.{Record}
 use Rattle.pack_records.specs.Records.{recorded}
 use Rattle.packs.specs.Walk.{got}
 use Rattle.pack_salvage.specs.Scan.{Piece, skipped, all_skipped, RecordStands, NoRecordStands, Scanned, at_end, no_more, keeps, goes_on, kept_of}
 use Rattle.pack_salvage.specs.Scanning.{scan, scan-goes_on}
 use Rattle.pack_salvage.specs.Stretches.{Stretch, joined, stretches, Apart}
-use Rattle.salvage.specs.Salvaging.{NoLead, StandsFrom, NextRecord, gap}
+use Rattle.salvage.specs.Salvaging.{NoLead, StandsFrom, NextRecord, Next, gap}
 
 -- ---- Where a record stands, and where none does
 
@@ -30,19 +33,18 @@ unfolding record_bytes
 no_lead pack i h other f rest w = other (ap (λ (l : List ℕ). get_or l 0 0) (sym (drop-cons pack i 0 h) ∙ w.parts))
 
 module _ (pack : List ℕ) (at : ℕ) where
-  pub refused_none : {number place : ℕ} → record'.Refused number place ≡ recorded marked at (record_at marked pack at) → NoRecordStands (drop at pack)
-  refused_none {number} {place} q f rest w =
+  pub refused_none : {e : Refusal} → Err e ≡ recorded marked at (record_at marked pack at) → NoRecordStands (drop at pack)
+  refused_none {e} q f rest w =
       let r : record_at marked pack at ≡ read f (at + length (record_bytes marked f)) = (record_reads marked pack).complete f (record_bytes marked f) rest at (w.lawful, refl) w.parts in
-      let p : record'.Refused number place ≡ recorded marked at (read f (at + length (record_bytes marked f))) = rw r at q in
+      let p : Err e ≡ recorded marked at (read f (at + length (record_bytes marked f))) = rw r at q in
       differ cc
 
-  stands_of : {f : Stored} {e : ℕ} (x : Answer Stored) → Ok (Spans pack (λ f l. Lawful f × (l ≡ record_bytes marked f)) at) x → x ≡ read f e → RecordStands f (drop e pack) (drop at pack)
+  stands_of : {f : Stored} {e : ℕ} (x : Answer Stored) → answer.Ok (Spans pack (λ f l. Lawful f × (l ≡ record_bytes marked f)) at) x → x ≡ read f e → RecordStands f (drop e pack) (drop at pack)
   stands_of {f} {e} x o q =
       let w = o.got q in
       record { lawful = w.1.0; parts = w.2 ∙ ap (λ (l : List ℕ). l ++ drop e pack) w.1.1 }
 
-  pub found_stands : {start size first count : ℕ} → Small pack → record'.Read start size first count ≡ recorded marked at (record_at marked pack at)
-      → (first + count ≤ length pack) × StandsFrom pack at (first + count)
+  pub found_stands : {r : Record} → Small pack → Ok r ≡ recorded marked at (record_at marked pack at) → (r.first + r.count ≤ length pack) × StandsFrom pack at (r.first + r.count)
   found_stands small q =
       let g = got marked pack at small q in
       (g.inside, record { file = g.stored; stands = stands_of (record_at marked pack at) ((record_reads marked pack).sound small at) g.is; behind = g.behind })
@@ -68,11 +70,14 @@ module _ (pack : List ℕ) where
     none : (i : ℕ) → from ≤ i → i < to → NoRecordStands (drop i pack)
     none i p q = here i p q (dec_lt i at) (dec_lt at i)
 
-  pub next_found : {from at end : ℕ} → Past pack from at → (end ≤ length pack) × StandsFrom pack at end → NextRecord pack from at end
-  next_found v w = record { forward = v.forward; onward = omega (arith, w.1.behind); inside = w.0; none = v.none; found = inr w.1 }
+  pub next_found : {from at end : ℕ} → Past pack from at → (end ≤ length pack) × StandsFrom pack at end → NextRecord pack from at end × StandsFrom pack at end
+  next_found v w = (record { forward = v.forward; onward = omega (arith, w.1.behind); inside = w.0; none = v.none; found = inr w.1 }, w.1)
 
-  pub next_none : {from at : ℕ} → Past pack from at → length pack ≤ at → NextRecord pack from at at
-  next_none v h = record { forward = v.forward; onward = omega arith; inside = v.inside; none = v.none; found = inl (refl, omega (arith, v.inside)) }
+  pub next_none : {from at : ℕ} → Past pack from at → length pack ≤ at → Next pack from None
+  next_none {from} {at} v h =
+      let e : at ≡ length pack = omega (arith, v.inside) in
+      let w : Past pack from (length pack) = subst (λ (n : ℕ). Past pack from n) e v in
+      record { forward = w.forward; onward = omega arith; inside = w.inside; none = w.none; found = inl (refl, refl) }
 
 -- ---- Bytes that are skipped one after the other
 

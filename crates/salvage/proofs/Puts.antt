@@ -1,9 +1,9 @@
 -- The records and the stretches put one after the other into the output and the list. Assumes nothing.
 use mathlib.Core.Path.{◌≡◌, refl, sym, ap, subst, ◌∙◌}
 use mathlib.Core.List.{List, [], ◌∷◌, ◌++◌, append-nil, append_assoc}
-use mathlib.Core.Logic.{◌⊎◌, inl, inr}
 use Prim.Native.Nat.{ℕ, ◌+◌, ◌*◌, ◌-◌, ◌/◌, ◌≤◌, ◌<◌}
 use native.Mathlib.Omega.{arith}
+use borrow.Author.Rules.{rules}
 use lib.ListN.{length, take, drop, length-append, length-drop}
 use lib.Seq.{drop-drop, take-append_seam, drop-append-add}
 use borrow.Author.Tests.{le-leb, lt-leb}
@@ -16,8 +16,10 @@ use Rattle.packs.specs.Walk.{records_append}
 use Rattle.pack_salvage.specs.Scan.{kept_of, kept-lawful}
 use Rattle.pack_salvage.specs.Stretches.{Stretch, stretches, words}
 use Rattle.pack_salvage.specs.Salvage.{pieces_of, new_pack, skipped_of, Salvaged, refusal, salvaged, unless, salvage_of, output_of, list_of, salvage_for, output_for, list_for, pieces_scanned}
-use Rattle.salvage.specs.Salvaging.{StandsFrom, NextRecord, gap_of, GapFits, gap_put, count_put, Fits, answer_of}
-use Rattle.salvage.specs.declared.Salvaging.TheVariants as salvaging
+use Rattle.salvage.specs.Salvaging.{StandsFrom, NextRecord, Next, gap_of, GapFits, gap_put, count_put, Fits, answer_of}
+use Rattle.std.specs.Prelude.{Ok, Err, Option, Some, None, IsSome}
+use Rattle.answers.specs.Refusals as code
+use Rattle.salvage.specs.declared.Span.{Span}
 use Rattle.salvage.proofs.Gaps.{one_gap}
 use Rattle.salvage.proofs.Turns.{pack_length, one_more-length, Reached, begin, left_at, turn, Ended, ends_here, ends-counted}
 
@@ -91,16 +93,14 @@ module _ (pack : List ℕ) (records : ℕ) (base list₀ : List ℕ) where
     few : i < records → i < 4096
     few h = omega (arith, p.fit.count, (kept-lawful (pieces_scanned pack small)).1)
 
-    module _ (h : i < records) {start end : ℕ} (next : NextRecord pack at start end) where
-      -- a record stands there, since more are kept
-      found : StandsFrom pack start end
-      found = go next.found where
-        go : ((start ≡ end) × (end ≡ length pack)) ⊎ StandsFrom pack start end → StandsFrom pack start end
-        go (inl e) =
-            let k = ends_here pack p.reached small (few h) next (e.0 ∙ e.1) in
-            absurd (omega (arith, p.fit.count, ap length k.all_files, p.reached.count))
-        go (inr s) = s
+    -- a record stands there, since more are kept
+    pub is_found : i < records → (r : Option Span) → Next pack at r → IsSome r
+    is_found h (Some s) w = search rules
+    is_found h None w =
+        let k = ends_here pack p.reached small (few h) w refl in
+        absurd (omega (arith, p.fit.count, ap length k.all_files, p.reached.count))
 
+    module _ (h : i < records) {start end : ℕ} (next : NextRecord pack at start end) (found : StandsFrom pack start end) where
       onward : Reached pack (p.done ++ found.file ∷ []) (p.gaps ++ gap_of at start) (i + 1) end
       onward = turn pack p.reached small (few h) next found
 
@@ -238,7 +238,7 @@ module _ (pack : List ℕ) (records : ℕ) (out list : List ℕ) (w : Fits pack 
         le-leb (length (skipped_of pack)) (length list / 2) (omega (arith, w.listed)),
       )
 
-  pub put-answer : answer_of (salvage_for pack out list) ≡ salvaging.Salvaged (length (new_pack pack)) (length (skipped_of pack))
+  pub put-answer : answer_of (salvage_for pack out list) ≡ Ok (record { length = length (new_pack pack); stretches = length (skipped_of pack) })
   put-answer = ap answer_of fits_both
 
   pub whole_output : {base end : List ℕ} → base ≡ count_put out records → end ≡ new_pack pack ++ drop (length (new_pack pack)) base → end ≡ output_for pack out list
@@ -256,7 +256,7 @@ module _ (pack : List ℕ) (records : ℕ) (out list : List ℕ) (w : Fits pack 
 
 -- a refused salvage
 pub record Refuses (pack out list : List ℕ) (number place : ℕ) : Type 0 where
-  pub answer : salvaging.Refused number place ≡ answer_of (salvage_for pack out list)
+  pub answer : Err (code.refusal number place) ≡ answer_of (salvage_for pack out list)
   pub same_output : out ≡ output_for pack out list
   pub same_list : list ≡ list_for pack out list
 

@@ -1,7 +1,6 @@
 -- The records of a scan one after the other, and the stretches between them. Assumes nothing.
 use mathlib.Core.Path.{◌≡◌, refl, sym, ap, subst, ◌∙◌}
 use mathlib.Core.List.{List, [], ◌∷◌, ◌++◌, append-nil, append_assoc}
-use mathlib.Core.Logic.{◌⊎◌, inl, inr}
 use Prim.Native.Nat.{ℕ, zero, suc, ◌+◌, ◌-◌, ◌≤◌, ◌<◌}
 use native.Mathlib.Omega.{arith}
 use lib.ListN.{length, take, drop, length-append, length-drop, take-append-drop, drop_of_length-le}
@@ -145,21 +144,6 @@ module _ (pack : List ℕ) where
       empty [] e = refl
       empty (f ∷ fs) e = absurd (omega arith)
 
--- ---- What the next record is
-
-module _ {pack : List ℕ} {at start end : ℕ} (n : NextRecord pack at start end) where
-  pub none_found : start ≡ end → end ≡ length pack
-  none_found e = go n.found where
-    go : ((start ≡ end) × (end ≡ length pack)) ⊎ StandsFrom pack start end → end ≡ length pack
-    go (inl p) = p.1
-    go (inr s) = absurd (omega (arith, s.behind, record_length s.file))
-
-  pub one_found : (start ≡ end → ⊥) → StandsFrom pack start end
-  one_found h = go n.found where
-    go : ((start ≡ end) × (end ≡ length pack)) ⊎ StandsFrom pack start end → StandsFrom pack start end
-    go (inl p) = absurd (h p.0)
-    go (inr s) = s
-
 -- ---- Measuring
 
 module _ (pack : List ℕ) where
@@ -176,10 +160,9 @@ module _ (pack : List ℕ) where
   measure_start h = record { done = []; gaps = []; reached = begin pack h; sized = refl; numbered = refl }
 
   module _ {records bytes skips at : ℕ} (m : Measuring records bytes skips at) where
-    pub measure_turn : Small pack → records < 4096 → {start end : ℕ} → NextRecord pack at start end → (start ≡ end → ⊥) → {more : ℕ} → more ≡ length (gap_of at start)
+    pub measure_turn : Small pack → records < 4096 → {start end : ℕ} → NextRecord pack at start end → StandsFrom pack start end → {more : ℕ} → more ≡ length (gap_of at start)
         → Measuring (records + 1) (bytes + (end - start)) (skips + more) end
-    measure_turn small h {start} {end} n k e =
-        let s = one_found n k in
+    measure_turn small h {start} {end} n s e =
         record {
           done = m.done ++ s.file ∷ [];
           gaps = m.gaps ++ gap_of at start;

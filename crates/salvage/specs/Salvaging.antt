@@ -1,5 +1,5 @@
 -- What salvaging a marked pack answers in code, by the definitions of Req 11. Assumes nothing.
-use Rattle.std.specs.Prelude.{◌≡◌, List, [], ◌∷◌, ◌++◌, ◌⊎◌, ℕ, zero, suc, ◌+◌, ◌*◌, ◌-◌, ◌≤◌, ◌<◌, length, take, drop, get_or, Result, Ok, Err}
+use Rattle.std.specs.Prelude.{◌≡◌, List, [], ◌∷◌, ◌++◌, ◌⊎◌, ℕ, zero, suc, ◌+◌, ◌*◌, ◌-◌, ◌≤◌, ◌<◌, length, take, drop, get_or, Result, Ok, Err, Option, Some, None}
 use Rattle.layout.specs.Number.{little}
 use Rattle.pack_layout.specs.Pack.{Stored, marked, record_bytes}
 use Rattle.pack_salvage.specs.Scan.{RecordStands, NoRecordStands, kept_of}
@@ -7,6 +7,7 @@ use Rattle.pack_salvage.specs.Stretches.{Stretch, words}
 use Rattle.pack_salvage.specs.Salvage as salvage
 use Rattle.pack_salvage.specs.Salvage.{pieces_of, new_pack, skipped_of, salvaged}
 use Rattle.salvage.specs.declared.Size.{Size}
+use Rattle.salvage.specs.declared.Span.{Span}
 use Rattle.salvage.specs.declared.Salvaged.{Salvaged}
 use Rattle.answers.specs.declared.Refusal.{Refusal}
 use Rattle.answers.specs.Refusals as answers
@@ -30,6 +31,11 @@ pub record NextRecord (pack : List ℕ) (from start end : ℕ) : Type 0 where
   pub inside : end ≤ length pack
   pub none : (i : ℕ) → from ≤ i → i < start → NoRecordStands (drop i pack)
   pub found : ((start ≡ end) × (end ≡ length pack)) ⊎ StandsFrom pack start end
+
+-- what is found from a place on: the first record, or none up to the end
+abbrev pub Next : (pack : List ℕ) (from : ℕ) → Option Span → Type 0
+Next pack from None = NextRecord pack from (length pack) (length pack)
+Next pack from (Some s) = NextRecord pack from s.start s.end × StandsFrom pack s.start s.end
 
 -- so many bytes from a place on as a stretch; no stretch where they are none
 abbrev pub gap : (at n : ℕ) → List Stretch

@@ -3,7 +3,7 @@
 
 ghost use Rattle.std.specs.Prelude.{◌≡◌, true, ◌+◌, ◌≤◌, length};
 ghost use Rattle.pack_salvage.specs.Salvage.{salvage_for, output_for, list_for};
-ghost use Rattle.salvage.specs.Salvaging.{NoLead, NextRecord, gap_of, size_of, GapFits, gap_put, count_put, Fits, answer_of};
+ghost use Rattle.salvage.specs.Salvaging.{NoLead, Next, gap_of, size_of, GapFits, gap_put, count_put, Fits, answer_of};
 
 use answers::{Refusal, Rule};
 use pack_records::record_at;
@@ -13,16 +13,11 @@ fn is_clear(pack: &[u8], from: usize) -> bool
     requires { from + 32 ≤ length pack.now }
     ensures { result ≡ true → NoLead pack.now from (from + 32) }
 {
-    let mut i = 0;
     let mut found = false;
-    while i < 32 {
-        found = found | (pack[from + i] == 0xFD);
-        i += 1;
+    for i in 0..32 {
+        found |= pack[from + i] == 0xFD;
     }
-    if found {
-        return false;
-    }
-    true
+    !found
 }
 
 // Past the blocks of 32 bytes from `from` on that have no FD.
@@ -62,10 +57,10 @@ struct Span {
     end: usize,
 }
 
-// The first record with its mark that stands at `from` or behind it; where there is none, nothing at the end of the pack.
-fn next_record(pack: &[u8], from: usize) -> Span
+// The first record with its mark that stands at `from` or behind it.
+fn next_record(pack: &[u8], from: usize) -> Option<Span>
     requires { from ≤ length pack.now }
-    ensures { NextRecord pack.now from result.start result.end }
+    ensures { Next pack.now from result }
 {
     let mut at = next_lead(pack, from);
     while at < pack.len() {
@@ -74,14 +69,14 @@ fn next_record(pack: &[u8], from: usize) -> Span
                 at = next_lead(pack, at + 1);
             }
             Ok(file) => {
-                return Span {
+                return Some(Span {
                     start: at,
                     end: file.first + file.count,
-                };
+                });
             }
         }
     }
-    Span { start: at, end: at }
+    None
 }
 
 // How many stretches are skipped from one place to another: one, or none where nothing stands between.
@@ -89,10 +84,7 @@ fn gap(from: usize, to: usize) -> usize
     ensures value { result ≡ length (gap_of from to) }
     ensures upper_bound { result ≤ 1 }
 {
-    if from < to {
-        return 1;
-    }
-    0
+    if from < to { 1 } else { 0 }
 }
 
 // How many records are kept, how many bytes the new pack has, and how many stretches are skipped.
@@ -108,33 +100,23 @@ fn measure(pack: &[u8]) -> Size
     requires { 4 ≤ length pack.now }
     ensures { result ≡ size_of pack.now }
 {
-    let mut records = 0;
-    let mut bytes = 4;
-    let mut stretches = 0;
+    let mut size = Size {
+        records: 0,
+        bytes: 4,
+        stretches: 0,
+    };
     let mut at = 4;
-    while records < 4096 {
-        let next = next_record(pack, at);
-        let start = next.start;
-        let end = next.end;
-        if start == end {
-            stretches += gap(at, end);
-            return Size {
-                records,
-                bytes,
-                stretches,
-            };
-        }
-        stretches += gap(at, start);
-        bytes += end - start;
-        records += 1;
-        at = end;
+    while size.records < 4096 {
+        let Some(next) = next_record(pack, at) else {
+            break;
+        };
+        size.stretches += gap(at, next.start);
+        size.bytes += next.end - next.start;
+        size.records += 1;
+        at = next.end;
     }
-    stretches += gap(at, pack.len());
-    Size {
-        records,
-        bytes,
-        stretches,
-    }
+    size.stretches += gap(at, pack.len());
+    size
 }
 
 // Puts the stretch from one place to another into the list as number `n`, where anything stands between, and answers how many there are then.
@@ -166,20 +148,16 @@ fn put_pieces(pack: &[u8], out: &mut [u8], list: &mut [u64], records: usize)
     ensures list_after { list.new ≡ list_for pack.now out.old list.old }
 {
     put_count(out, records);
-    let mut i = 0;
     let mut at = 4;
     let mut to = 4;
     let mut n = 0;
-    while i < records {
-        let next = next_record(pack, at);
-        let start = next.start;
-        let end = next.end;
-        let size = end - start;
-        n = put_gap(list, n, at, start);
-        fill::copy(out, to, pack, start, size);
+    for _i in 0..records {
+        let next = next_record(pack, at).unwrap();
+        let size = next.end - next.start;
+        n = put_gap(list, n, at, next.start);
+        fill::copy(out, to, pack, next.start, size);
         to += size;
-        at = end;
-        i += 1;
+        at = next.end;
     }
     put_gap(list, n, at, pack.len());
 }
@@ -201,17 +179,15 @@ pub fn salvage(pack: &[u8], out: &mut [u8], list: &mut [u64]) -> Result<Salvaged
         return Err(Rule::PastEnd.at(0));
     }
     let size = measure(pack);
-    let bytes = size.bytes;
-    let stretches = size.stretches;
-    if out.len() < bytes {
-        return Err(Rule::OutputTooSmall.at(bytes));
+    if out.len() < size.bytes {
+        return Err(Rule::OutputTooSmall.at(size.bytes));
     }
-    if list.len() / 2 < stretches {
-        return Err(Rule::ListTooShort.at(stretches));
+    if list.len() / 2 < size.stretches {
+        return Err(Rule::ListTooShort.at(size.stretches));
     }
     put_pieces(pack, out, list, size.records);
     Ok(Salvaged {
-        length: bytes,
-        stretches,
+        length: size.bytes,
+        stretches: size.stretches,
     })
 }

@@ -1,15 +1,6 @@
--- `salvage::is_clear` meets its contract: where nothing is found, the first `i` bytes have no FD. Assumes nothing.
-use mathlib.Core.Path.{◌≡◌, subst}
-use mathlib.Core.Bool.{false, false≢true}
-use Prim.Native.Nat.{ℕ, ◌+◌, ◌-◌, ◌≤◌}
-use native.Mathlib.Omega.{arith}
-use Rattle.salvage.specs.Salvaging.{NoLead}
-use Rattle.salvage.proofs.Leads.{none_yet, block_step, block}
-use borrow.Author.Rules.{rules}
+-- `salvage::is_clear` meets its contract: where nothing is found, the bytes so far are not FD. Assumes nothing.
+use Rattle.std.specs.Prelude.{◌≡◌, ◌≢◌, false, ℕ, ◌+◌, ◌<◌, slice_index_or}
 use Rattle.salvage.proofs.is_clear.Given as goal
 
 abbrev pub invariant-loop-i : goal.invariant-loop-i
-invariant-loop-i l = (l.i ≤ 32) × (l.found ≡ false → NoLead l.pack l.from (l.from + l.i))
-
-abbrev pub decreases-loop-i : goal.decreases-loop-i
-decreases-loop-i l = 32 - l.i
+invariant-loop-i l = l.found ≡ false → (k : ℕ) → k < l.i → slice_index_or l.pack (l.from + k) 0 ≢ 0xFD

@@ -1,8 +1,4 @@
-use Prim.Native.Nat.{◌-◌}
-use lib.ListN.{length}
-use Rattle.salvage.specs.Salvaging.{NoLead}
 use Rattle.salvage.proofs.Leads.{one_more}
-use borrow.Author.Rules.{rules}
 use Rattle.salvage.proofs.next_lead.Goals as goal
 
 pub loop-at-init : goal.loop-at-init

@@ -1,8 +1,6 @@
 use Prim.Native.Nat.{◌-◌}
 use lib.ListN.{length}
 use Rattle.salvage.specs.Salvaging.{NoLead}
-use Rattle.salvage.proofs.Leads.{one_more}
-use borrow.Author.Rules.{rules}
 use Rattle.salvage.proofs.next_lead.Given as goal
 
 abbrev pub invariant-loop-at : goal.invariant-loop-at

@@ -1,6 +1,5 @@
 use mathlib.Core.Path.{◌∙◌}
 use Rattle.salvage.proofs.Gaps.{count_put_lem}
-use borrow.Author.Rules.{rules}
 use Rattle.salvage.proofs.put_count.Goals as goal
 
 pub returns : goal.returns
