@@ -1,5 +1,5 @@
 -- What 44 says of the readers of a loaded file, and the steps of the test. Assumes nothing.
-use Rattle.std.specs.Prelude.{◌≡◌, Bool, true, false, ◌||◌, get_or}
+use Rattle.std.specs.Prelude.{◌≡◌, Bool, true, false, ◌||◌, get_or, Option, None, Some, Err}
 use Rattle.std.proofs.Math.Path.{refl, sym, ap}
 use Rattle.std.proofs.Common.{subst, ◌∙◌}
 use mathlib.Core.List.{List, [], ◌∷◌, ◌++◌}
@@ -21,10 +21,10 @@ use Rattle.readers.specs.Parts.{up_to}
 use Rattle.readers.specs.Left.{codes_for, enough}
 use Rattle.readers.specs.Room.{suffice, suffice-refused, all_suffice}
 use Rattle.readers.specs.Whole.{short_file_lem}
-use Rattle.readers.specs.Contract.{lists_of, ListsRead}
+use Rattle.readers.specs.declared.Unlisted.{Unlisted}
+use Rattle.readers.specs.declared.Unlisted.TheVariants.{Refused, NoRoom}
+use Rattle.readers.specs.Contract.{lists_of, ListsRead, ReadsLists}
 use Rattle.profile.specs.Offences.{wrong_at, name_start, among, doubled}
-use Rattle.std.specs.Prelude.{Option}
-use Rattle.std.specs.Prelude.{None, Some}
 use Rattle.fault_places.specs.Places.{first_place}
 
 -- the targets of readers stand in the codes
@@ -150,12 +150,10 @@ module _ (es : List EnumEntry) (file : List ℕ) where
   unfolding codes_for
   many_readers f = f (all_suffice file 10)
 
-  pub no_room : {P : Type 0} (room : ℕ) → enough file 10 room ≡ true → enough file 10 room ≡ false → P
-  no_room room h e = let n : true ≡ false = sym h ∙ e in differ cc
-
-  pub not_refused : {P : Type 0} {k p : ℕ} → length file ≤ 16777216 → lists_of es file 10 ≡ refused k p
-      → (names : List (List ℕ)) (readers : List Target) (shared next : ℕ) → lists_at (judged_name es) file 10 ≡ read (names, readers, shared) next → P
-  not_refused h e names readers shared next q = let z = sym e ∙ short_file_lem es file 10 h ∙ q in differ cc
+  pub no_lists : (codes codes' targets starts : List ℕ) (total : ℕ → ℕ) (room : ℕ) (x : Unlisted) → ReadsLists (lists_of es file 10) total (enough file 10 room) file codes codes' targets starts (Err x)
+      → DoubledIn es file room None
+  no_lists codes codes' targets starts total room NoRoom w t h names readers shared next q = let n : true ≡ false = sym t ∙ w in differ cc
+  no_lists codes codes' targets starts total room (Refused e) w t h names readers shared next q = let z = sym w.1 ∙ short_file_lem es file 10 h ∙ q in differ cc
 
   pub lists_double : {codes codes' targets starts : List ℕ} {count sh nx : ℕ} (r : Option ℕ) → ListsRead (lists_of es file 10) file codes codes' targets starts count sh nx
       → FirstDouble file codes' targets count r → DoubledReader es file r
@@ -166,8 +164,3 @@ module _ (es : List EnumEntry) (file : List ℕ) where
         targets_read : Answer (List (List ℕ) × List Target × ℕ) → List Target
         targets_read (refused k p) = []
         targets_read (read l n) = l.1
-
-pub past_end : (l : List ℕ) (i : ℕ) → length l ≤ i → 0 ≡ get_or l i 0
-past_end [] i h = refl
-past_end (x ∷ l) zero h = absurd (omega arith)
-past_end (x ∷ l) (suc i) h = past_end l i (omega arith)

@@ -1,7 +1,7 @@
 // 44 over a loaded file (02, Req 07): two readers with equal targets, at the name of the later.
 #![tactic(auto)]
 
-ghost use Rattle.std.specs.Prelude.{◌≡◌, ◌<◌, length, get_or};
+ghost use Rattle.std.specs.Prelude.{◌≡◌, ◌≤◌, length, get_or};
 ghost use Rattle.names.specs.Entries.{enums_of};
 ghost use Rattle.target_rules.specs.Doubled.{AmongEarlier, FirstDouble, DoubledReader, DoubledIn};
 
@@ -11,11 +11,7 @@ use number_rules::{behind, entry_at};
 fn target_at(targets: &[u16], i: u32) -> usize
     ensures { result ≡ get_or targets.now i 0 }
 {
-    let k = i as usize;
-    if k < targets.len() {
-        return targets[k] as usize;
-    }
-    0
+    targets.get(i as usize).copied().unwrap_or(0) as usize
 }
 
 // A reader's target is that of an earlier one, the nearest first.
@@ -61,6 +57,7 @@ fn doubled_in(file: &[u8], enums: &[u8], codes: &mut [u32]) -> Option<usize>
 
 // The same with so many codes: no more are cleared than the readers need.
 fn doubled_with<const CODES: usize>(file: &[u8], enums: &[u8]) -> Option<usize>
+    requires { CODES ≤ 6058 }
     ensures { DoubledIn (enums_of enums.now) file.now CODES result }
 {
     let mut codes = [0u32; CODES];
