@@ -1,16 +1,17 @@
 // What programs print.
 #![tactic(auto)]
 
+use answers::Refusal;
 use std::io;
 
 // Prints a refusal's line to standard output (01: "A refusal prints one line, as `refused 7 at 6`").
-pub fn print_refusal(rt: &(impl Print + Eprint), number: u32, place: usize) -> io::Result<()> {
-    tell_unless(rt, refusal(rt, number, place))
+pub fn print_refusal(rt: &(impl Print + Eprint), refusal: Refusal) -> io::Result<()> {
+    tell_unless(rt, put_refusal(rt, refusal))
 }
 
 // Prints a refusal's line to standard error, where standard output holds a file.
-pub fn tell_refusal(rt: &HostRuntime, number: u32, place: usize) -> io::Result<()> {
-    refusal(&rt.stderr(), number, place)
+pub fn tell_refusal(rt: &HostRuntime, refusal: Refusal) -> io::Result<()> {
+    put_refusal(&rt.stderr(), refusal)
 }
 
 // Writes the first bytes of a buffer to standard output; nothing where it has fewer. A failure is told.
@@ -22,8 +23,8 @@ pub fn write_start(rt: &(impl Print + Eprint), buffer: &[u8], n: usize) -> io::R
 }
 
 // A refusal's line, and whether all of it was written.
-fn refusal(to: &impl Print, number: u32, place: usize) -> io::Result<()> {
-    println!(to; "refused {number} at {place}")
+fn put_refusal(to: &impl Print, refusal: Refusal) -> io::Result<()> {
+    println!(to; "{refusal}")
 }
 
 // Tells on standard error that standard output failed.

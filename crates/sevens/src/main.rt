@@ -2,8 +2,8 @@
 // where the number ends, with its padding: how many bytes it has beyond its shortest form.
 #![tactic(auto)]
 
-use answers::Number;
-use numbers::seven::{Padded, Step};
+use answers::Refusal;
+use numbers::seven::Step;
 
 fn print_byte(rt: &impl Print, byte: u8) -> std::io::Result<()> {
     print!(rt; "byte {byte:02x}")
@@ -34,20 +34,25 @@ fn show_said(
     start: usize,
     k: u8,
     low: u64,
-    said: Step,
+    said: Result<Step, Refusal>,
 ) -> std::io::Result<()> {
     match said {
-        Step::Ends(value, _, padding) => {
-            print_taken(rt, s, start, k, value)?;
-            println!(rt; "ends, padding {padding}")
+        Ok(Step::Ends(number)) => {
+            print_taken(rt, s, start, k, number.value)?;
+            println!(rt; "ends, padding {}", number.padding)
         }
-        Step::HandsOn(value, _) => {
+        Ok(
+            Step::HandsOn {
+                low: value,
+                needed: _,
+            },
+        ) => {
             print_taken(rt, s, start, k, value)?;
             println!(rt; "hands on")
         }
-        Step::Refused(number, place) => {
+        Err(refusal) => {
             print_taken(rt, s, start, k, low)?;
-            printing::print_refusal(rt, number, place)
+            printing::print_refusal(rt, refusal)
         }
     }
 }
@@ -58,21 +63,13 @@ fn show_step(
     s: &[u8],
     start: usize,
     k: u8,
-    before: Step,
-    said: Step,
+    before: Result<Step, Refusal>,
+    said: Result<Step, Refusal>,
 ) -> std::io::Result<()> {
-    match before {
-        Step::HandsOn(low, _) => show_said(rt, s, start, k, low, said),
-        Step::Ends(_, _, _) => Ok(()),
-        Step::Refused(_, _) => Ok(()),
-    }
-}
-
-fn as_step(said: Padded) -> Step {
-    match said {
-        Padded::Read(value, next, padding) => Step::Ends(value, next, padding),
-        Padded::Refused(number, place) => Step::Refused(number, place),
-    }
+    let Ok(Step::HandsOn { low, needed: _ }) = before else {
+        return Ok(());
+    };
+    show_said(rt, s, start, k, low, said)
 }
 
 // The number at a place, step by step.
@@ -81,13 +78,15 @@ fn show(rt: &(impl Print + Eprint), s: &[u8], start: usize) -> std::io::Result<(
     let two = numbers::seven::second(s, start, one);
     let three = numbers::seven::third(s, start, two);
     let four = numbers::seven::fourth(s, start, three);
-    let five = as_step(numbers::seven::fifth(s, start, four));
+    let five = numbers::seven::fifth(s, start, four).map(Step::Ends);
     println!(rt; "number at {start}")?;
-    show_step(rt, s, start, 0, Step::HandsOn(0, 1), one)?;
-    show_step(rt, s, start, 1, one, two)?;
-    show_step(rt, s, start, 2, two, three)?;
-    show_step(rt, s, start, 3, three, four)?;
-    show_step(rt, s, start, 4, four, five)
+    let mut before = Ok(Step::HandsOn { low: 0, needed: 1 });
+    let said = [one, two, three, four, five];
+    for k in 0..5 {
+        show_step(rt, s, start, k as u8, before, said[k])?;
+        before = said[k];
+    }
+    Ok(())
 }
 
 // One number after the other, the missing one at the input's end too; where one is refused, the next place is tried.
@@ -95,14 +94,10 @@ fn list(rt: &(impl Print + Eprint), s: &[u8]) -> std::io::Result<()> {
     let mut at = 0;
     while at <= s.len() {
         show(rt, s, at)?;
-        match numbers::seven::seven_at(s, at) {
-            Number::Read(_, next) => {
-                at = next;
-            }
-            Number::Refused(_, _) => {
-                at = at + 1;
-            }
-        }
+        at = match numbers::seven::seven_at(s, at) {
+            Ok(number) => number.next,
+            Err(_) => at + 1,
+        };
     }
     Ok(())
 }
