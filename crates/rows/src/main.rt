@@ -1,84 +1,66 @@
 // Loads the file on standard input, and prints its rows or its refusal.
 #![tactic(auto)]
 
+use answers::Rule;
 use ids::RowNumber;
-use load::Loading;
-use table::{Grid, WIDTH};
+use load::Loaded;
+use table::{Table, WIDTH};
 
-// The bytes behind the first `at` of the buffer, and where they end; nothing where they do not fit.
-fn put(out: &mut [u8], at: usize, s: &[u8]) -> usize {
-    let n = s.len();
-    if out.len() < n {
-        return at;
+// Bytes put one behind the other into a buffer, up to `next`; those that do not fit are left out.
+#[derive(Drop)]
+struct Lines<'a> {
+    out: &'a mut [u8],
+    next: usize,
+}
+
+impl Lines<'_> {
+    fn put(&mut self, s: &[u8]) {
+        if fill::copy(self.out, self.next, s, 0, s.len()) {
+            self.next += s.len();
+        }
     }
-    if out.len() - n < at {
-        return at;
+
+    fn put_number(&mut self, n: u64) {
+        let mut digits = [0u8; 20];
+        let size = io::decimal(n, &mut digits);
+        self.put(&digits[..size]);
     }
-    fill::copy(out, at, s, 0, n);
-    at + n
-}
 
-fn put_number(out: &mut [u8], at: usize, n: u64) -> usize {
-    let mut digits = [0u8; 20];
-    let size = io::decimal(n, &mut digits);
-    put(out, at, &digits[..size])
-}
-
-// A row's number and its words.
-fn put_row(out: &mut [u8], at: usize, words: &[u32], grid: Grid, row: u32) -> usize {
-    let mut next = put_number(out, at, row as u64);
-    let mut k = 0;
-    while k < WIDTH {
-        let word = table::word_of(words, grid, RowNumber(row), k);
-        next = put(out, next, b" ");
-        next = put_number(out, next, word as u64);
-        k += 1;
+    // A row's number and its words.
+    fn put_row(&mut self, table: Table, row: u32) {
+        self.put_number(row as u64);
+        for k in 0..WIDTH {
+            self.put(b" ");
+            self.put_number(table.word(RowNumber(row), k) as u64);
+        }
+        self.put(b"\n");
     }
-    put(out, next, b"\n")
-}
 
-// Each row on its line, behind the first `at` bytes of the buffer, and all of it written.
-fn print_rows(
-    rt: &(impl Print + Eprint),
-    out: &mut [u8],
-    at: usize,
-    words: &[u32],
-    rows: u32,
-) -> std::io::Result<()> {
-    let grid = table::rows_grid(words.len());
-    let mut next = at;
-    let mut row = 0;
-    while row < rows {
-        next = put_row(out, next, words, grid, row);
-        row += 1;
+    // How many rows, readers and shared objects there are.
+    fn put_counts(&mut self, loaded: Loaded) {
+        self.put(b"rows ");
+        self.put_number(loaded.rows as u64);
+        self.put(b" readers ");
+        self.put_number(loaded.readers as u64);
+        self.put(b" shared ");
+        self.put_number(loaded.shared as u64);
+        self.put(b"\n");
     }
-    printing::write_start(rt, out, next)
 }
 
-// How many rows, readers and shared objects there are.
-fn put_counts(out: &mut [u8], rows: u32, readers: u32, shared: u32) -> usize {
-    let mut at = put(out, 0, b"rows ");
-    at = put_number(out, at, rows as u64);
-    at = put(out, at, b" readers ");
-    at = put_number(out, at, readers as u64);
-    at = put(out, at, b" shared ");
-    at = put_number(out, at, shared as u64);
-    put(out, at, b"\n")
-}
-
-// Loads the file with room for 1,024 rows, and prints the answer.
+// Loads the file with room for 1,024 rows, and prints the answer: the counts, and each row on its line.
 fn print_file(rt: &(impl Print + Eprint), file: &[u8], out: &mut [u8]) -> std::io::Result<()> {
     let mut words = [0u32; 1024 * WIDTH as usize];
     match load::load(file, b"", &mut words) {
-        Loading::Refused(number, place) => printing::print_refusal(rt, number, place),
-        Loading::Loaded {
-            rows,
-            readers,
-            shared,
-            padding: _,
-        } => {
-            let at = put_counts(out, rows, readers, shared);
-            print_rows(rt, out, at, &words, rows)
+        Err(refusal) => printing::print_refusal(rt, refusal),
+        Ok(loaded) => {
+            let mut lines = Lines { out, next: 0 };
+            lines.put_counts(loaded);
+            for row in 0..loaded.rows {
+                lines.put_row(Table::by_rows(&words), row);
+            }
+            let Lines { out, next } = lines;
+            printing::write_start(rt, out, next)
         }
     }
 }
@@ -89,7 +71,7 @@ fn main(rt: HostRuntime) -> std::io::Result<()> {
     let mut out = [0u8; 98304];
     let n = io::read_full(0, &mut space);
     if 32768 < n {
-        return printing::print_refusal(&rt, 9, 0);
+        return printing::print_refusal(&rt, Rule::TooLarge.at(0));
     }
     print_file(&rt, &space[..n], &mut out)
 }
