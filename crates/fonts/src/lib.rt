@@ -8,6 +8,16 @@ use ids::RowNumber;
 use table::Table;
 use text::char_at;
 
+// The rows of a font's objects that its rule speaks of.
+#[derive(Clone, Copy, Debug, PartialEq, Eq)]
+struct Parts {
+    texture: RowNumber,
+    glyphs: RowNumber,
+    cropping: RowNumber,
+    characters: RowNumber,
+    kerning: RowNumber,
+}
+
 // Whether the font of a row, whose children's rows are in the words, keeps its rule.
 pub fn font_rule(file: &[u8], table: Table, row: RowNumber) -> bool
     ensures { result ≡ font_words table.entry.grid file.now table.entry.words.now row.0 }
@@ -17,60 +27,55 @@ pub fn font_rule(file: &[u8], table: Table, row: RowNumber) -> bool
     let cropping = row_after(table, glyphs);
     let characters = row_after(table, cropping);
     let kerning = row_beyond(row_after(table, characters), 2);
-    if !all_there(table, texture, glyphs, cropping, characters, kerning) {
-        return false;
-    }
-    if !all_equal(table, glyphs, cropping, characters, kerning) {
-        return false;
-    }
-    let first = row_beyond(characters, 1);
+    let parts = Parts {
+        texture,
+        glyphs,
+        cropping,
+        characters,
+        kerning,
+    };
     let count = table.word(characters, table::CHILDREN);
-    rising(file, table, first, count)
+    if !all_there(table, parts) {
+        return false;
+    }
+    if !all_equal(table, parts) {
+        return false;
+    }
+    rising(file, table, row_beyond(characters, 1), count)
 }
 
 // No object is null.
-fn all_there(
-    table: Table,
-    texture: RowNumber,
-    glyphs: RowNumber,
-    cropping: RowNumber,
-    characters: RowNumber,
-    kerning: RowNumber,
-) -> bool
-    ensures { result ≡ all_there table.entry.grid table.entry.words.now texture.0 glyphs.0 cropping.0 characters.0 kerning.0 }
+fn all_there(table: Table, parts: Parts) -> bool
+    ensures { result ≡ all_there table.entry.grid table.entry.words.now
+        parts.texture.0 parts.glyphs.0 parts.cropping.0 parts.characters.0 parts.kerning.0 }
 {
-    if !filled(table, texture) {
+    if !filled(table, parts.texture) {
         return false;
     }
-    if !filled(table, glyphs) {
+    if !filled(table, parts.glyphs) {
         return false;
     }
-    if !filled(table, cropping) {
+    if !filled(table, parts.cropping) {
         return false;
     }
-    if !filled(table, characters) {
+    if !filled(table, parts.characters) {
         return false;
     }
-    filled(table, kerning)
+    filled(table, parts.kerning)
 }
 
 // The four lists have equal counts.
-fn all_equal(
-    table: Table,
-    glyphs: RowNumber,
-    cropping: RowNumber,
-    characters: RowNumber,
-    kerning: RowNumber,
-) -> bool
-    ensures { result ≡ all_equal table.entry.grid table.entry.words.now glyphs.0 cropping.0 characters.0 kerning.0 }
+fn all_equal(table: Table, parts: Parts) -> bool
+    ensures { result ≡ all_equal table.entry.grid table.entry.words.now
+        parts.glyphs.0 parts.cropping.0 parts.characters.0 parts.kerning.0 }
 {
-    if !equal_counts(table, glyphs, characters) {
+    if !equal_counts(table, parts.glyphs, parts.characters) {
         return false;
     }
-    if !equal_counts(table, cropping, characters) {
+    if !equal_counts(table, parts.cropping, parts.characters) {
         return false;
     }
-    equal_counts(table, kerning, characters)
+    equal_counts(table, parts.kerning, parts.characters)
 }
 
 // A row's value is not null.
@@ -92,11 +97,9 @@ fn rising(file: &[u8], table: Table, first: RowNumber, n: u32) -> bool
     ensures { result ≡ rising_rows table.entry.grid file.now table.entry.words.now n first.0 }
 {
     let mut row = first;
-    let mut left = n;
     let mut before = code(file, table, row);
-    while 1 < left {
+    for _ in 1..n {
         row = row_beyond(row, 1);
-        left -= 1;
         let next = code(file, table, row);
         if next <= before {
             return false;
@@ -128,5 +131,5 @@ fn row_after(table: Table, row: RowNumber) -> RowNumber
 fn row_beyond(row: RowNumber, n: u32) -> RowNumber
     ensures { result.0 ≡ beyond row.0 n }
 {
-    RowNumber(std::num::wrapping_add_u32(row.0, n))
+    RowNumber(row.0.wrapping_add(n))
 }

@@ -16,5 +16,5 @@ returns-then-not-all_equal c =
 pub returns : goal.returns
 unfolding word_at
 returns c =
-    let rows = by_rows _ _ _ _ c.row_beyond-texture.ensures c.row_after-glyphs.ensures c.row_after-cropping.ensures c.row_after-characters.ensures (c.row_beyond-kerning.ensures ∙ ap (λ r. beyond r 2) c.row_after.ensures) c.row_beyond-first.ensures in
+    let rows = by_rows _ _ _ _ c.row_beyond-texture.ensures c.row_after-glyphs.ensures c.row_after-cropping.ensures c.row_after-characters.ensures (c.row_beyond-kerning.ensures ∙ ap (λ r. beyond r 2) c.row_after.ensures) c.row_beyond.ensures in
     yes c.all_there.ensures c.if-not-all_there.false-raw (yes c.all_equal.ensures c.if-not-all_equal.false-raw (c.rising.ensures ∙ rw c.word-count.ensures)) ∙ sym rows

@@ -1,8 +1,8 @@
 use Rattle.table.specs.Word.{in_word}
 use Rattle.fonts.specs.FontWords.{beyond}
-use Rattle.std.proofs.Common.{rules}
+use Rattle.std.proofs.Common.{refl, rules}
 use Rattle.fonts.proofs.row_beyond.Goals as goal
 
 pub returns : goal.returns
 unfolding beyond in_word
-returns c = c.wrapping_add_u32.ensures.value
+returns c = refl
