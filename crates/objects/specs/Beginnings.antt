@@ -15,7 +15,6 @@ use Rattle.targets.specs.Code.{Stands}
 use Rattle.readers.specs.declared.Readers.{Readers}
 use Rattle.leaves.specs.Plain.{plain_slot, Lawful}
 use Rattle.leaves.specs.Like.{Like}
-use Rattle.heads.specs.declared.slot.Slot.{Slot}
 use Rattle.answers.specs.declared.Refusal.{Refusal}
 use Rattle.answers.specs.declared.Rule.{Rule}
 use Rattle.answers.specs.declared.Rule.TheVariants.{NoReader, NotDeclared}

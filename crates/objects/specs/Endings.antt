@@ -1,6 +1,5 @@
 -- How a value ends. Assumes nothing.
 use Rattle.std.specs.Prelude.{Ok, Err, Bool, true, cond, List, ℕ, ◌-◌, ◌≤◌, ◌<◌, ◌^◌, eqb}
-use Rattle.layout.specs.Rows.{row}
 use Rattle.fonts.specs.FontWords.{font_words}
 use Rattle.table.specs.declared.Grid.{Grid}
 use Rattle.table.specs.Put.{put_row}

@@ -1,5 +1,5 @@
 -- Laws of what a value begins with: the reader that a type id names, and the walk behind it. Assumes nothing.
-use Rattle.std.specs.Prelude.{◌≡◌, Ok, Err, Option, None, Some, Bool, true, false, List, [], ◌∷◌, ◌⊎◌, ltb, leb, get_or, drop}
+use Rattle.std.specs.Prelude.{◌≡◌, Ok, Err, None, Some, Bool, true, false, List, [], ◌∷◌, ◌⊎◌, ltb, leb, get_or, drop}
 use Rattle.std.proofs.Math.Path.{refl, subst}
 use Rattle.std.proofs.Common.{sym, ap, ◌∙◌, inr, drop_of_length-le, drop-cons}
 use Rattle.std.proofs.Math.Logic.{inl}
@@ -26,7 +26,6 @@ use Rattle.targets.specs.Place.{kind_at, fits_at}
 use Rattle.targets.specs.Laws.{kind_is, fits_then, then_fits, of_kind}
 use Rattle.readers.specs.declared.Readers.{Readers}
 use Rattle.readers.specs.Listed.{Listed}
-use Rattle.heads.specs.declared.slot.Slot.{Slot}
 use Rattle.answers.specs.declared.Rule.{Rule}
 use Rattle.answers.specs.declared.Rule.TheVariants.{NoReader}
 use Rattle.answers.specs.Refusals.{number_of}

@@ -8,6 +8,7 @@ use table::{Grid, Table};
 use walked::{Head, Reached, Walk};
 
 // A value of a kind keeps its rule, where its children's rows are in the words.
+#[tactic(auto, unfolding(crate::specs::Endings::keeps))]
 fn keeps_rule(file: &[u8], table: Table, kind: u32, row: RowNumber) -> bool
     ensures { result ≡ keeps table.entry.grid file.now table.entry.words.now kind row.0 }
 {
@@ -33,7 +34,15 @@ pub fn close(
 {
     let reached = walked?;
     let row = h.row;
-    if !keeps_rule(file, Table { words: &*words, grid }, kind, row) {
+    if !keeps_rule(
+        file,
+        Table {
+            words: &*words,
+            grid,
+        },
+        kind,
+        row,
+    ) {
         return Err(Rule::FontRule.at(at));
     }
     let branch = table::rows_from(row, reached.used);

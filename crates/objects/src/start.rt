@@ -16,7 +16,10 @@ use names::kinds;
 #[derive(Clone, Copy)]
 pub enum Started {
     Plain(Plain),
-    Null { next: usize, padding: u32 },
+    Null {
+        next: usize,
+        padding: u32,
+    },
     Raw {
         place: usize,
         from: usize,
@@ -29,10 +32,7 @@ pub enum Started {
 fn byte_at(file: &[u8], at: usize) -> u8
     ensures { result ≡ get_or file.now at 0 }
 {
-    if at < file.len() {
-        return file[at];
-    }
-    0
+    file.get(at).copied().unwrap_or(0)
 }
 
 // The position in a list of 64 readers that a type id at a place names, by its first byte alone: the list needs no more of it than its low six bits.
@@ -43,6 +43,7 @@ pub fn reader_position(file: &[u8], at: usize) -> usize
 }
 
 // Reader i of a list with so many readers, if the type of that reader is at `target`, for an object declared as the type at `declared`: 13 before 14.
+#[tactic(auto, unfolding(crate::specs::Total::reader_as, crate::specs::Total::place_as))]
 fn reader_for(
     file: &[u8],
     codes: &[u32],
