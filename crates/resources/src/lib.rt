@@ -51,20 +51,14 @@ fn root_kinds(table: Table, used: u32) -> [u32; 257]
 fn suits_kind(wanted: u32, kind: u32) -> bool
     ensures { result ≡ suit wanted kind }
 {
-    if kind == 0 {
-        return true;
-    }
-    kind == wanted
+    kind == 0 || kind == wanted
 }
 
 // The kind at a place, 0 where there is none.
 fn kind_at(kinds: &[u32], at: usize) -> u32
     ensures { result ≡ get_or kinds.now at 0 }
 {
-    if at < kinds.len() {
-        return kinds[at];
-    }
-    0
+    kinds.get(at).copied().unwrap_or(0)
 }
 
 // A resource suits by its id, where `kinds` has the primary's kind and then those of the shared objects.
@@ -180,14 +174,12 @@ fn past_eights(table: Table, used: u32) -> u32
     requires { (used ≤ table.grid.room) × (width * table.grid.room ≤ length table.words.now) }
     ensures { any_reference table.entry.grid table.entry.words.now (used - result) result ≡ any_reference table.entry.grid table.entry.words.now used 0 }
 {
-    let mut i = 0;
-    while 8 <= used - i {
-        if any_of_eight(table, i) {
-            return i;
+    for k in 0..used / 8 {
+        if any_of_eight(table, 8 * k) {
+            return 8 * k;
         }
-        i += 8;
     }
-    i
+    used / 8 * 8
 }
 
 // Past rows without a reference, as far as they are seen at once.

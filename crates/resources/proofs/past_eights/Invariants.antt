@@ -1,14 +1,8 @@
--- `resources::past_eights` meets its contract: before each turn the rows from `i` on say whether there is a reference. Assumes nothing.
-use mathlib.Core.Path.{◌≡◌, sym, ◌∙◌}
-use Prim.Native.Nat.{◌-◌, ◌≤◌}
-use native.Mathlib.Omega.{arith}
+-- `resources::past_eights` meets its contract: before each turn the rows from eight times `k` on say whether there is a reference. Assumes nothing.
+use mathlib.Core.Path.{◌≡◌}
+use Prim.Native.Nat.{◌*◌, ◌-◌}
 use Rattle.resources.specs.Total.{any_reference}
-use Rattle.resources.proofs.Unmarked.{any_past}
-use borrow.Author.Rules.{rules}
 use Rattle.resources.proofs.past_eights.Given as goal
 
-abbrev pub invariant-loop-i : goal.invariant-loop-i
-invariant-loop-i l = (l.i ≤ l.used) × (any_reference l.table.grid l.table.words.now (l.used - l.i) l.i ≡ any_reference l.table.grid l.table.words.now l.used 0)
-
-abbrev pub decreases-loop-i : goal.decreases-loop-i
-decreases-loop-i l = l.used - l.i
+abbrev pub invariant-loop-k : goal.invariant-loop-k
+invariant-loop-k l = any_reference l.table.grid l.table.words.now (l.used - 8 * l.k) (8 * l.k) ≡ any_reference l.table.grid l.table.words.now l.used 0

@@ -1,4 +1,3 @@
--- `resources::suits_kind` meets its contract. Assumes nothing.
 use borrow.Author.Tests.{eq-eqb, ne_eqb}
 use Rattle.reading.specs.Resource.{suit}
 use Rattle.resources.proofs.suits_kind.Goals as goal
@@ -7,6 +6,6 @@ pub returns-then-kind-eq0 : goal.returns-then-kind-eq0
 unfolding suit
 returns-then-kind-eq0 c = rw (eq-eqb _ 0 c.if-kind-eq0.true)
 
-pub returns : goal.returns
+pub returns-else-kind-eq0 : goal.returns-else-kind-eq0
 unfolding suit
-returns c = rw (ne_eqb _ 0 c.if-kind-eq0.false)
+returns-else-kind-eq0 c = rw (ne_eqb _ 0 c.if-kind-eq0.false)

@@ -1,8 +1,0 @@
--- `resources::kind_at` meets its contract. Assumes nothing.
-use lib.ListN.{get_or-eq_default}
-use mathlib.Core.Path.{sym}
-use borrow.Author.Rules.{rules}
-use Rattle.resources.proofs.kind_at.Goals as goal
-
-pub returns : goal.returns
-returns c = sym (get_or-eq_default c.args.kinds.now 0 c.if-at-kinds.false)
