@@ -1,11 +1,17 @@
 -- What the C entries over packs tell: the number that they answer, and the numbers that they write. Assumes nothing.
-use Rattle.std.specs.Prelude.{ℕ, length}
+use Rattle.std.specs.Prelude.{ℕ, length, Result, Ok, Err}
+use Rattle.answers.specs.declared.Refusal.{Refusal}
 use Rattle.reading.specs.Output.{Rewritten, written}
 use Rattle.reading.specs.Output as output
 use Rattle.pack_reading.specs.Pack.{Pack, refusal, accepted}
 use Rattle.pack_salvage.specs.Salvage.{Salvaged, salvaged}
 use Rattle.pack_salvage.specs.Salvage as salvage
 use Rattle.pack_reading.specs.Lookup.{Found, absent, found}
+
+-- a refusal's number and place, or 0 and a number
+abbrev pub number_told : Result ℕ Refusal → ℕ × ℕ
+number_told (Err e) = (e.number, e.place)
+number_told (Ok n) = (0, n)
 
 -- a refusal's number and place, or 0 and the number of files
 unfoldable pub pack_told : Pack → ℕ × ℕ

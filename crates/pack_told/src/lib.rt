@@ -8,23 +8,33 @@ ghost use Rattle.pack_reading.specs.Pack.{pack_of, table_for};
 ghost use Rattle.pack_reading.specs.Lookup.{find_of};
 ghost use Rattle.marks.specs.Converting.{converted};
 ghost use Rattle.pack_salvage.specs.Salvage.{salvage_for, output_for, list_for};
-ghost use Rattle.pack_told.specs.Told.{pack_told, written_told, salvage_told, found_told};
+ghost use Rattle.pack_told.specs.Told.{number_told, pack_told, written_told, salvage_told, found_told};
+
+use answers::Refusal;
+
+// Writes a number, or a refusal's place: the answer is the refusal's number, or 0.
+// Kept: the number goes behind `&mut`, as C takes it (C interface).
+pub fn tell(answer: Result<usize, Refusal>, at: &mut u64) -> u32
+    ensures { (result, at.new) ≡ number_told answer }
+{
+    match answer {
+        Err(refusal) => {
+            *at = refusal.place as u64;
+            refusal.number
+        }
+        Ok(number) => {
+            *at = number as u64;
+            0
+        }
+    }
+}
 
 // Reads a pack of either form into the table, and writes the number of files, or a refusal's place: the answer is the refusal's number, or 0.
 pub fn read_told(pack: &[u8], table: &mut [u64], marked: bool, at: &mut u64) -> u32
     ensures at_after { (result, at.new) ≡ pack_told (pack_of (mark_of marked) pack.now (length table.old)) }
     ensures table_after { table.new ≡ table_for (mark_of marked) pack.now (length table.old) }
 {
-    match packs::read(pack, table, marked) {
-        Err(refusal) => {
-            *at = refusal.place as u64;
-            refusal.number
-        }
-        Ok(files) => {
-            *at = files as u64;
-            0
-        }
-    }
+    tell(packs::read(pack, table, marked), at)
 }
 
 // Converts a pack to the form `marked`, and writes the output's length, or a refusal's place: the answer is the refusal's number, or 0.
@@ -32,16 +42,7 @@ pub fn convert_told(pack: &[u8], out: &mut [u8], marked: bool, at: &mut u64) -> 
     ensures at_after { (result, at.new) ≡ written_told (converted marked pack.now (length out.old)) }
     ensures out_after { out.new ≡ output_of (converted marked pack.now (length out.old)) out.old }
 {
-    match marks::convert(pack, out, marked) {
-        Err(refusal) => {
-            *at = refusal.place as u64;
-            refusal.number
-        }
-        Ok(size) => {
-            *at = size as u64;
-            0
-        }
-    }
+    tell(marks::convert(pack, out, marked), at)
 }
 
 // Writes a marked pack of the records that a damaged one still holds, and the list of the skipped stretches, with the length of each.
@@ -58,14 +59,12 @@ pub fn salvage_told(
 {
     match salvage::salvage(pack, out, list) {
         Err(refusal) => {
-            *at = refusal.place as u64;
             *stretches = 0;
-            refusal.number
+            tell(Err(refusal), at)
         }
-        Ok(done) => {
-            *at = done.length as u64;
-            *stretches = done.stretches as u64;
-            0
+        Ok(salvaged) => {
+            *stretches = salvaged.stretches as u64;
+            tell(Ok(salvaged.length), at)
         }
     }
 }

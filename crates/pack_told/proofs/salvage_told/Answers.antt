@@ -1,21 +1,15 @@
-use mathlib.Core.Path.{sym, ◌∙◌}
+use Rattle.std.specs.Prelude.{ℕ}
+use Rattle.std.proofs.Common.{sym, ap, ◌∙◌}
 use Rattle.pack_salvage.specs.Salvage.{salvage_for}
 use Rattle.pack_told.proofs.Laws.{not_salvaged, all_salvaged}
-use borrow.Author.Rules.{rules}
 use Rattle.pack_told.proofs.salvage_told.Goals as goal
 
-both : {A B : Type 0} → A → B → A × B
-both a b = (a, b)
+pub returns-in-Err-clause-stretches_after : goal.returns-in-Err-clause-stretches_after
+returns-in-Err-clause-stretches_after c =
+    let a = c.args in
+    ap (λ (t : ℕ × ℕ). (t.0, t.1, 0)) c.tell.ensures ∙ not_salvaged (salvage_for a.pack.now a.out.now a.list.now) (sym c.in-Err.is ∙ c.salvage.ensures.value)
 
-named : {A B C : Type 0} → A × (B × C) → record { stretches_after : A; out_after : B; list_after : C }
-named p = record { stretches_after = p.0; out_after = p.1.0; list_after = p.1.1 }
-
-pub returns-in-Refused : goal.returns-in-Refused
-returns-in-Refused c =
-    let args = c.args in
-    named ((not_salvaged (salvage_for args.pack.now args.out.now args.list.now) (sym c.in-Refused.is ∙ c.salvage.ensures.value), (both c.salvage.ensures.out_after c.salvage.ensures.list_after)))
-
-pub returns-in-Salvaged : goal.returns-in-Salvaged
-returns-in-Salvaged c =
-    let args = c.args in
-    named ((all_salvaged (salvage_for args.pack.now args.out.now args.list.now) (sym c.in-Salvaged.is ∙ c.salvage.ensures.value), (both c.salvage.ensures.out_after c.salvage.ensures.list_after)))
+pub returns-in-Ok-clause-stretches_after : goal.returns-in-Ok-clause-stretches_after
+returns-in-Ok-clause-stretches_after c =
+    let a = c.args in
+    ap (λ (t : ℕ × ℕ). (t.0, t.1, c.in-Ok.salvaged.stretches)) c.tell-in-Ok.ensures ∙ all_salvaged (salvage_for a.pack.now a.out.now a.list.now) (sym c.in-Ok.is ∙ c.salvage.ensures.value)
