@@ -10,7 +10,7 @@ use native.Mathlib.Decide.{dec_lt}
 use lib.ListN.{length, get_or, drop, length-drop, drop_of_length-le}
 use lib.Seq.{drop-cons, drop-drop, get_or-drop}
 use lib.Dec.{leb}
-use borrow.Author.Tests.{le-leb, lt-leb, leb-false}
+use borrow.Author.Tests.{le-leb, lt-leb, leb-true, leb-false}
 use Rattle.laws.specs.Small.{both, neither}
 use Rattle.layout.specs.Number.{between}
 use Rattle.reading.specs.Answer.{refused, read, check, within, true-within}
@@ -36,8 +36,20 @@ module _ (s : List ℕ) (i : ℕ) where
   pub breaks : (k low high : ℕ) → follow (suc k) low high (drop i s) ≡ false → follow (suc (suc k)) low high (drop i s) ≡ false
   breaks k low high e = follow_last k low high (drop i s) ∙ rw e
 
-  pub follow-inside : (k low high : ℕ) → follow (suc k) low high (drop i s) ≡ true → i + suc k ≤ length s
-  follow-inside k low high e = omega (arith, follow-fits (suc k) low high (drop i s) e, length-drop i s)
+  pub stays_broken : (m d low high : ℕ) → follow (suc m) low high (drop i s) ≡ false → follow (suc m + d) low high (drop i s) ≡ false
+  stays_broken m zero low high e = let z : suc m + 0 ≡ suc m = omega arith in rw z e
+  stays_broken m (suc d) low high e =
+      let z : suc m + suc d ≡ suc (suc (m + d)) = omega arith in
+      let y : suc m + d ≡ suc (m + d) = omega arith in
+      rw z (breaks (m + d) low high (rw y at (stays_broken m d low high e)))
+
+  -- one byte more, or none, where j bytes follow
+  pub one_more : (j low high : ℕ) → 1 ≤ j → follow j low high (drop i s) ≡ true → follow (j + 1) low high (drop i s) ≡ follow 1 0x80 0xBF (drop (i + j) s)
+  one_more zero low high n e = absurd (omega arith)
+  one_more (suc j) low high n e = let z : suc j + 1 ≡ suc (suc j) = omega arith in rw z (goes_on j low high e)
+
+  pub follow-inside : (j low high : ℕ) → 1 ≤ j → follow j low high (drop i s) ≡ true → i + j ≤ length s
+  follow-inside j low high n e = omega (arith, follow-fits j low high (drop i s) e, length-drop i s)
 
   -- ---- the character at a place
   pub no_char : i < length s → size (get_or s i 0) ≡ 0 → char_size (drop i s) ≡ 0
@@ -190,3 +202,13 @@ two_ascii s n h m a b =
 pub passed_all : (s : List ℕ) (i : ℕ) → Passed s 0 i → length s ≤ i → utf8s s ≡ true
 unfolding utf8s chars
 passed_all s i p h = sym p.same ∙ rw (drop_of_length-le s h)
+
+-- one character after the other comes to the end where all are passed, and only there
+pub ran_all : (s : List ℕ) (from i : ℕ) → Passed s 0 from → Ran s from i → leb (length s) i ≡ utf8s s
+ran_all s from i p r = go (leb (length s) i) refl where
+  q : Passed s 0 i
+  q = passed_on s from p i r.passed
+
+  go : (t : Bool) → leb (length s) i ≡ t → t ≡ utf8s s
+  go true t = sym (passed_all s i q (leb-true (length s) i t))
+  go false t = sym (r.stops (leb-false (length s) i t)) ∙ q.same

@@ -46,7 +46,7 @@ fn char_two(s: &[u8], at: usize) -> Number
     }
     let b = s[at];
     let i = at + 1;
-    if second(s, i, b) {
+    if follows::<1>(s, i, b) {
         let v = wide(b) - 0xC0;
         return Ok(Read {
             value: with_six(v, s[i]),
@@ -67,7 +67,7 @@ fn char_three(s: &[u8], at: usize) -> Number
     let b = s[at];
     let i = at + 1;
     let j = at + 2;
-    if third(s, i, b) {
+    if follows::<2>(s, i, b) {
         let v = with_six(wide(b) - 0xE0, s[i]);
         return Ok(Read {
             value: with_six(v, s[j]),
@@ -83,11 +83,7 @@ pub fn is_utf8(s: &[u8]) -> bool
 {
     let b = past_blocks(s);
     let a = ascii_blocks(s, b, 16);
-    let e = chars(s, a);
-    if e < s.len() {
-        return false;
-    }
-    true
+    s.len() <= chars(s, a)
 }
 
 // Whether `s` is UTF-8, for short texts: ASCII in two blocks, or in blocks of 16 bytes, the last of which may overlap; then one character after the other.
@@ -97,22 +93,11 @@ pub fn is_short_utf8(s: &[u8]) -> bool
     if short_ascii(s) {
         return true;
     }
-    let mut i = ascii_blocks(s, 0, 16);
-    if ascii_end(s, i) {
+    let a = ascii_blocks(s, 0, 16);
+    if ascii_end(s, a) {
         return true;
     }
-    while i < s.len() {
-        if s[i] < 0x80 {
-            i += 1;
-        } else {
-            let k = multi(s, i);
-            if k == 0 {
-                return false;
-            }
-            i += k;
-        }
-    }
-    true
+    s.len() <= chars(s, a)
 }
 
 // Whether `s` has 4 to 32 bytes, and all are ASCII.
@@ -164,6 +149,7 @@ fn past_blocks(s: &[u8]) -> usize
     ensures { Passed s.now 0 result }
 {
     let mut i = 0;
+    // Kept: a turn goes on to where three callees end, so an iterator is no plainer.
     while 64 <= s.len() - i {
         let a = ascii_blocks(s, i, 128);
         let b = ascii_blocks(s, a, 64);
@@ -182,6 +168,7 @@ fn ascii_blocks(s: &[u8], from: usize, n: usize) -> usize
     ensures { Passed s.now from result }
 {
     let mut i = from;
+    // Kept: the place of the first block with another byte is the answer, so an iterator over blocks is no plainer.
     while n <= s.len() - i {
         if ascii_block(s, i, n) {
             i += n;
@@ -197,16 +184,11 @@ fn ascii_block(s: &[u8], i: usize, n: usize) -> bool
     requires { i + n ≤ length s.now }
     ensures { result ≡ true → Ascii s.now i n }
 {
-    let mut j = 0;
     let mut other = false;
-    while j < n {
+    for j in 0..n {
         other = other | (0x80 <= s[i + j]);
-        j += 1;
     }
-    if other {
-        return false;
-    }
-    true
+    !other
 }
 
 // Past the blocks of 64 bytes that fit, from `from` on, to where their last character starts or ends.
@@ -221,6 +203,7 @@ fn char_blocks(s: &[u8], from: usize) -> usize
         return from;
     }
     let mut at = from;
+    // Kept: a block is read with the three bytes before it, and the place of the first that does not fit is the answer, so an iterator is no plainer.
     while 67 <= s.len() - at {
         if fit(s, at) {
             at += 64;
@@ -250,17 +233,12 @@ fn fit(s: &[u8], at: usize) -> bool
     if ascii_block(s, at, 64) {
         return false;
     }
-    let mut j = 0;
     let mut bad = false;
-    while j < 64 {
+    for j in 0..64 {
         let i = at + j;
         bad = bad | wrong(s[i], s[i + 1], s[i + 2], s[i + 3]);
-        j += 1;
     }
-    if bad {
-        return false;
-    }
-    true
+    !bad
 }
 
 // Whether the byte d does not fit after the bytes a, b and c.
@@ -298,6 +276,7 @@ fn chars(s: &[u8], from: usize) -> usize
     ensures { Ran s.now from result }
 {
     let mut i = from;
+    // Kept: a turn goes on by the size of a character, so an iterator is no plainer.
     while i < s.len() {
         if s[i] < 0x80 {
             i += 1;
@@ -323,52 +302,39 @@ fn multi(s: &[u8], i: usize) -> usize
     }
     let j = i + 1;
     if b < 0xE0 {
-        if second(s, j, b) {
+        if follows::<1>(s, j, b) {
             return 2;
         }
         return 0;
     }
     if b < 0xF0 {
-        if third(s, j, b) {
+        if follows::<2>(s, j, b) {
             return 3;
         }
         return 0;
     }
     if b < 0xF5 {
-        if fourth(s, j, b) {
+        if follows::<3>(s, j, b) {
             return 4;
         }
     }
     0
 }
 
-// Whether the byte at i is a second byte after the lead byte b.
-fn second(s: &[u8], i: usize, b: u8) -> bool
-    ensures { result ≡ follow 1 (least b) (most b) (drop i s.now) }
+// Whether the K bytes from i on follow the lead byte b: a second byte, and then bytes that any lead byte takes.
+fn follows<const K: usize>(s: &[u8], i: usize, b: u8) -> bool
+    requires { 1 ≤ K }
+    ensures { result ≡ follow K (least b) (most b) (drop i s.now) }
 {
-    in_range(s, i, low(b), high(b))
-}
-
-// Whether the bytes from i on are a second and a third byte after the lead byte b.
-fn third(s: &[u8], i: usize, b: u8) -> bool
-    ensures { result ≡ follow 2 (least b) (most b) (drop i s.now) }
-{
-    if second(s, i, b) {
-        let j = i + 1;
-        return in_range(s, j, 0x80, 0xBF);
+    if !in_range(s, i, low(b), high(b)) {
+        return false;
     }
-    false
-}
-
-// Whether the bytes from i on are a second, a third and a fourth byte after the lead byte b.
-fn fourth(s: &[u8], i: usize, b: u8) -> bool
-    ensures { result ≡ follow 3 (least b) (most b) (drop i s.now) }
-{
-    if third(s, i, b) {
-        let j = i + 2;
-        return in_range(s, j, 0x80, 0xBF);
+    for j in 1..K {
+        if !in_range(s, i + j, 0x80, 0xBF) {
+            return false;
+        }
     }
-    false
+    true
 }
 
 // Whether there is a byte at i, from `low` to `high`.

@@ -1,8 +1,5 @@
-use borrow.Author.Rules.{rules}
-use Prim.Native.Nat.{◌+◌, ◌-◌}
+use Prim.Native.Nat.{◌+◌}
 use native.Mathlib.Omega.{arith}
-use lib.ListN.{length}
-use Rattle.text.specs.Passed.{Passed}
 use Rattle.text.proofs.Laws.{passed_none, passed_on, pass_block}
 use Rattle.text.proofs.ascii_blocks.Goals as goal
 

@@ -4,7 +4,6 @@ use mathlib.Core.Bool.{false≢true}
 use Prim.Native.Nat.{◌+◌, ◌-◌}
 use native.Mathlib.Omega.{arith}
 use lib.ListN.{length}
-use borrow.Author.Rules.{rules}
 use Rattle.text.specs.Passed.{Passed}
 use Rattle.text.proofs.Laws.{pass_block, later-ascii}
 use Rattle.text.proofs.ascii_end.Goals as goal

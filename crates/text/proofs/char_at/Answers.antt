@@ -2,7 +2,6 @@ use mathlib.Core.Path.{sym}
 use Rattle.text.proofs.Laws.{one_read, low_refused, high_refused}
 use lib.ListN.{drop_of_length-le}
 use Rattle.reading.specs.Utf8.{char_at, char_of}
-use borrow.Author.Rules.{rules}
 use Rattle.text.proofs.char_at.Goals as goal
 
 pub returns-then-s-at : goal.returns-then-s-at

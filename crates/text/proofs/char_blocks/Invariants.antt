@@ -1,10 +1,6 @@
-use borrow.Author.Rules.{rules}
 use Prim.Native.Nat.{◌+◌, ◌-◌, ◌≤◌}
-use native.Mathlib.Omega.{arith}
 use lib.ListN.{length}
 use Rattle.text.specs.Window.{Three}
-use Rattle.text.proofs.Laws.{passed_none}
-use Rattle.text.proofs.Windows.{three-more}
 use Rattle.text.proofs.char_blocks.Given as goal
 
 abbrev pub invariant-loop-at : goal.invariant-loop-at

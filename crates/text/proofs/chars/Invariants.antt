@@ -1,9 +1,6 @@
-use borrow.Author.Rules.{rules}
 use Prim.Native.Nat.{◌-◌}
-use native.Mathlib.Omega.{arith}
 use lib.ListN.{length}
 use Rattle.text.specs.Passed.{Passed}
-use Rattle.text.proofs.Laws.{passed_none, pass_ascii, pass_char, ran_to, ran_out}
 use Rattle.text.proofs.chars.Given as goal
 
 abbrev pub invariant-loop-i : goal.invariant-loop-i

@@ -1,7 +1,6 @@
 use mathlib.Core.Path.{sym, ◌∙◌}
 use borrow.Author.Tests.{le-leb, lt-leb}
 use Rattle.text.proofs.Laws.{range_past, range_at}
-use borrow.Author.Rules.{rules}
 use Rattle.text.proofs.in_range.Goals as goal
 
 pub returns-then-s-i : goal.returns-then-s-i

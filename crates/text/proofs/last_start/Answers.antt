@@ -1,4 +1,3 @@
-use borrow.Author.Rules.{rules}
 use Rattle.text.proofs.Windows.{three-starts}
 use Rattle.text.proofs.last_start.Goals as goal
 

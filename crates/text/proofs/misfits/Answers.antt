@@ -1,4 +1,3 @@
-use borrow.Author.Rules.{rules}
 use mathlib.Core.Bool.{◌||◌}
 use Rattle.laws.specs.Small.{neither}
 use Rattle.text.proofs.Windows.{three_first}

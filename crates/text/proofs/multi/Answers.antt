@@ -12,41 +12,41 @@ returns-then-b-lt194 c =
     let b = get_or a.s.now a.i 0 in
     sym (no_char a.s.now a.i c.requires.0 (size_low b c.requires.1 c.if-b-lt194.true))
 
-pub returns-then-second : goal.returns-then-second
-returns-then-second c =
+pub returns-then-follows : goal.returns-then-follows
+returns-then-follows c =
     let a = c.args in
     let b = get_or a.s.now a.i 0 in
-    sym (char_here a.s.now a.i 1 true c.requires.0 (size_two b (search rules) (search rules)) (sym c.second.ensures ∙ c.if-second.true))
+    sym (char_here a.s.now a.i 1 true c.requires.0 (size_two b (search rules) (search rules)) (sym c.follows.ensures ∙ c.if-follows.true))
 
 pub returns-then-b-lt224 : goal.returns-then-b-lt224
 returns-then-b-lt224 c =
     let a = c.args in
     let b = get_or a.s.now a.i 0 in
-    sym (char_here a.s.now a.i 1 false c.requires.0 (size_two b (search rules) (search rules)) (sym c.second.ensures ∙ c.if-second.false))
+    sym (char_here a.s.now a.i 1 false c.requires.0 (size_two b (search rules) (search rules)) (sym c.follows.ensures ∙ c.if-follows.false))
 
-pub returns-then-third : goal.returns-then-third
-returns-then-third c =
+pub returns-then-follows-2 : goal.returns-then-follows-2
+returns-then-follows-2 c =
     let a = c.args in
     let b = get_or a.s.now a.i 0 in
-    sym (char_here a.s.now a.i 2 true c.requires.0 (size-three b (search rules) (search rules)) (sym c.third.ensures ∙ c.if-third.true))
+    sym (char_here a.s.now a.i 2 true c.requires.0 (size-three b (search rules) (search rules)) (sym c.follows-then-b-lt240.ensures ∙ c.if-follows-2.true))
 
 pub returns-then-b-lt240 : goal.returns-then-b-lt240
 returns-then-b-lt240 c =
     let a = c.args in
     let b = get_or a.s.now a.i 0 in
-    sym (char_here a.s.now a.i 2 false c.requires.0 (size-three b (search rules) (search rules)) (sym c.third.ensures ∙ c.if-third.false))
+    sym (char_here a.s.now a.i 2 false c.requires.0 (size-three b (search rules) (search rules)) (sym c.follows-then-b-lt240.ensures ∙ c.if-follows-2.false))
 
-pub returns-then-fourth : goal.returns-then-fourth
-returns-then-fourth c =
+pub returns-then-follows-3 : goal.returns-then-follows-3
+returns-then-follows-3 c =
     let a = c.args in
     let b = get_or a.s.now a.i 0 in
-    sym (char_here a.s.now a.i 3 true c.requires.0 (size-four b (search rules) (search rules)) (sym c.fourth.ensures ∙ c.if-fourth.true))
+    sym (char_here a.s.now a.i 3 true c.requires.0 (size-four b (search rules) (search rules)) (sym c.follows-then-b-lt245.ensures ∙ c.if-follows-3.true))
 
-pub returns-else-fourth : goal.returns-else-fourth
-returns-else-fourth c =
+pub returns-else-follows-3 : goal.returns-else-follows-3
+returns-else-follows-3 c =
     let a = c.args in
     let b = get_or a.s.now a.i 0 in
-    sym (char_here a.s.now a.i 3 false c.requires.0 (size-four b (search rules) (search rules)) (sym c.fourth.ensures ∙ c.if-fourth.false))
+    sym (char_here a.s.now a.i 3 false c.requires.0 (size-four b (search rules) (search rules)) (sym c.follows-then-b-lt245.ensures ∙ c.if-follows-3.false))
 
 pub returns-else-b-lt245 : goal.returns-else-b-lt245
 returns-else-b-lt245 c =

@@ -1,8 +1,4 @@
-use borrow.Author.Rules.{rules}
-use Prim.Native.Nat.{◌-◌}
 use native.Mathlib.Omega.{arith}
-use lib.ListN.{length}
-use Rattle.text.specs.Passed.{Passed}
 use Rattle.text.proofs.Laws.{passed_none, passed_on}
 use Rattle.text.proofs.past_blocks.Goals as goal
 

@@ -1,9 +1,6 @@
-use borrow.Author.Rules.{rules}
 use Prim.Native.Nat.{◌-◌}
-use native.Mathlib.Omega.{arith}
 use lib.ListN.{length}
 use Rattle.text.specs.Passed.{Passed}
-use Rattle.text.proofs.Laws.{passed_none, passed_on}
 use Rattle.text.proofs.past_blocks.Given as goal
 
 abbrev pub invariant-loop-i : goal.invariant-loop-i

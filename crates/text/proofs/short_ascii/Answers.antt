@@ -1,5 +1,4 @@
 use mathlib.Core.Bool.{false≢true}
-use borrow.Author.Rules.{rules}
 use Rattle.text.proofs.short_ascii.Goals as goal
 
 pub returns-then-n-lt4 : goal.returns-then-n-lt4

@@ -1,5 +1,4 @@
 -- `text::two_blocks` meets its contract: no byte stands between the two blocks. Assumes nothing.
-use borrow.Author.Rules.{rules}
 use Rattle.laws.specs.Small.{both}
 use Rattle.text.proofs.Laws.{two_ascii}
 use Rattle.text.proofs.two_blocks.Goals as goal

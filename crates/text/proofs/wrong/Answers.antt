@@ -1,4 +1,3 @@
-use borrow.Author.Rules.{rules}
 use mathlib.Core.Bool.{xor}
 use Rattle.text.proofs.Windows.{fits}
 use Rattle.text.proofs.wrong.Goals as goal
