@@ -1,6 +1,6 @@
 -- What one look at an object says. Assumes nothing.
 use Rattle.std.specs.Prelude.{◌≡◌, refl, Ok, Option, None, Some, Bool, true, false, ◌&&◌, List, ◌⊎◌, ℕ, zero, suc, ◌+◌, ◌-◌, ◌≤◌, ◌<◌, ◌*◌, ◌^◌, ◌/◌, ◌%◌, leb, length, get_or, take, drop}
-use Rattle.std.proofs.Common.{sym, ap, subst, ◌∙◌, inl, inr, arith, add-one, drop-cons, lt-ltb, le-leb, leb-true, leb-false, ne_eqb}
+use Rattle.std.proofs.Common.{sym, ap, subst, ◌∙◌, inr, arith, add-one, drop-cons, lt-ltb, le-leb, leb-true, leb-false, ne_eqb}
 use Rattle.std.proofs.Math.ListN.{get_or-eq_default}
 use Rattle.std.proofs.lemmas.Bool.{lt-leb}
 use Rattle.layout.specs.Fixed.{sizes}

@@ -97,6 +97,7 @@ fn text_end(file: &[u8], at: usize) -> Option<usize>
 }
 
 // How many bytes a value of a kind has; those of most boxed numbers need no table.
+#[tactic(auto, unfolding(heads::specs::Placed::bytes_of, layout::specs::Fixed::sizes))]
 fn size_of(kind: u32) -> usize
     ensures { result ≡ bytes_of kind }
 {
