@@ -27,6 +27,32 @@ joined {s} {i} j k {a} {b} h x y = record {
   below = rw pow-add (omega (arith, x.below, mul-le-mul_left (256 ^ j) y.below, mul-suc (256 ^ j) b));
 }
 
+-- the first bytes from i on, as sums
+module _ (s : List ℕ) (small : (j : ℕ) → get_or s j 0 < 256) (i : ℕ) where
+  pub byte_here : i + 1 ≤ length s → Little s i 1 (get_or s i 0)
+  byte_here h = record { value = one_byte s i (omega arith); below = small i }
+
+module _ (s : List ℕ) (small : (j : ℕ) → get_or s j 0 < 256) (i : ℕ) where
+  pub two_here : i + 2 ≤ length s → Little s i 2 (get_or s i 0 + 256 * get_or s (i + 1) 0)
+  two_here h = joined 1 1 (omega arith) (byte_here s small i (omega arith)) (byte_here s small (i + 1) (omega arith))
+
+module _ (s : List ℕ) (small : (j : ℕ) → get_or s j 0 < 256) (i : ℕ) where
+  pub four_here : i + 4 ≤ length s
+      → Little s i 4 (get_or s i 0 + 256 * get_or s (i + 1) 0 + 65536 * (get_or s (i + 2) 0 + 256 * get_or s (i + 3) 0))
+  four_here h =
+      let z : i + 2 + 1 ≡ i + 3 = omega arith in
+      rw z at (joined 2 2 (omega arith) (two_here s small i (omega arith)) (two_here s small (i + 2) (omega arith)))
+
+module _ (s : List ℕ) (small : (j : ℕ) → get_or s j 0 < 256) (i : ℕ) where
+  pub eight_here : i + 8 ≤ length s
+      → Little s i 8 (get_or s i 0 + 256 * get_or s (i + 1) 0 + 65536 * (get_or s (i + 2) 0 + 256 * get_or s (i + 3) 0)
+      + 4294967296 * (get_or s (i + 4) 0 + 256 * get_or s (i + 5) 0 + 65536 * (get_or s (i + 6) 0 + 256 * get_or s (i + 7) 0)))
+  eight_here h =
+      let a : i + 4 + 1 ≡ i + 5 = omega arith in
+      let b : i + 4 + 2 ≡ i + 6 = omega arith in
+      let d : i + 4 + 3 ≡ i + 7 = omega arith in
+      rw (a, b, d) at (joined 4 4 (omega arith) (four_here s small i (omega arith)) (four_here s small (i + 4) (omega arith)))
+
 -- what a test of `has_bytes` says of a number of at least one byte
 pub inside : (s : List ℕ) (k at : ℕ) → 1 ≤ k → leb k (length (drop at s)) ≡ true → at + k ≤ length s
 inside s k at some t = omega (arith, leb-true k (length (drop at s)) t, length-drop at s)

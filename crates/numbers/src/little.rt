@@ -19,34 +19,6 @@ pub fn has_bytes(s: &[u8], at: usize, n: usize) -> bool
     n <= s.len() - at
 }
 
-fn one(s: &[u8], i: usize) -> u64
-    requires { i + 1 ≤ length s.now }
-    ensures { Little s.now i 1 result }
-{
-    s[i] as u64
-}
-
-fn two(s: &[u8], i: usize) -> u64
-    requires { i + 2 ≤ length s.now }
-    ensures { Little s.now i 2 result }
-{
-    one(s, i) + 256 * one(s, i + 1)
-}
-
-fn four(s: &[u8], i: usize) -> u64
-    requires { i + 4 ≤ length s.now }
-    ensures { Little s.now i 4 result }
-{
-    two(s, i) + 65536 * two(s, i + 2)
-}
-
-fn eight(s: &[u8], i: usize) -> u64
-    requires { i + 8 ≤ length s.now }
-    ensures { Little s.now i 8 result }
-{
-    four(s, i) + 4294967296 * four(s, i + 4)
-}
-
 // A width of little-endian numbers: how many bytes they have, and the value of those bytes from a place on.
 pub trait Width {
     ghost BYTES: { ℕ };
@@ -66,7 +38,7 @@ impl Width for u8 {
     const BYTES: usize = 1;
 
     fn value(s: &[u8], i: usize) -> u64 {
-        one(s, i)
+        u64::from(s[i])
     }
 
     ghost some = { Prim.search rules };
@@ -78,7 +50,7 @@ impl Width for u16 {
     const BYTES: usize = 2;
 
     fn value(s: &[u8], i: usize) -> u64 {
-        two(s, i)
+        u64::from(u16::from_le_bytes([s[i], s[i + 1]]))
     }
 
     ghost some = { Prim.search rules };
@@ -90,7 +62,7 @@ impl Width for u32 {
     const BYTES: usize = 4;
 
     fn value(s: &[u8], i: usize) -> u64 {
-        four(s, i)
+        u64::from(u32::from_le_bytes([s[i], s[i + 1], s[i + 2], s[i + 3]]))
     }
 
     ghost some = { Prim.search rules };
@@ -102,7 +74,16 @@ impl Width for u64 {
     const BYTES: usize = 8;
 
     fn value(s: &[u8], i: usize) -> u64 {
-        eight(s, i)
+        u64::from_le_bytes([
+            s[i],
+            s[i + 1],
+            s[i + 2],
+            s[i + 3],
+            s[i + 4],
+            s[i + 5],
+            s[i + 6],
+            s[i + 7],
+        ])
     }
 
     ghost some = { Prim.search rules };
@@ -125,14 +106,6 @@ pub fn little<W: Width>(s: &[u8], at: usize) -> Number
 pub fn put4(out: &mut [u8], at: usize, n: usize)
     ensures { out.new ≡ copied out.old at (little 4 n) 0 4 }
 {
-    let second = n / 256;
-    let third = second / 256;
-    let fourth = third / 256;
-    let bytes = [
-        (n % 256) as u8,
-        (second % 256) as u8,
-        (third % 256) as u8,
-        (fourth % 256) as u8,
-    ];
+    let bytes = ((n % 4294967296) as u32).to_le_bytes();
     fill::copy(out, at, &bytes, 0, 4);
 }
