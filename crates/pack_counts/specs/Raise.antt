@@ -1,5 +1,5 @@
 -- Words that are raised, up to the largest number that a word holds. Assumes nothing.
-use Rattle.std.specs.Prelude.{◌≡◌, refl, Bool, true, false, cond, List, [], ◌∷◌, ℕ, zero, suc, ◌+◌, ◌-◌, ◌≤◌, ◌<◌, ◌^◌, eqb, leb, length, get_or, set, replicate}
+use Rattle.std.specs.Prelude.{◌≡◌, refl, Bool, true, false, cond, List, [], ◌∷◌, ℕ, zero, suc, ◌+◌, ◌-◌, ◌≤◌, ◌<◌, ◌^◌, eqb, leb, length, get_or, set, replicate, min}
 use Rattle.std.proofs.Common.{sym, ap, ◌∙◌, arith, le-leb, leb-true, leb-false, eq-eqb, ne_eqb}
 use Rattle.std.proofs.lemmas.Bool.{lt-leb}
 use Rattle.pack_figures.specs.Figures.{Figure}
@@ -100,13 +100,13 @@ past_from from at by (x ∷ l) h = rw (ne_eqb from at (λ e. omega arith), up_no
 pub past_word : (at by : ℕ) (l : List ℕ) → length l ≤ at → l ≡ raised 0 (only at by) l
 past_word at by l h = past_from 0 at by l (omega arith)
 
-pub fits_word : (x by : ℕ) → by ≤ 2 ^ 64 - 1 - x → x + by ≡ up_to x by
+-- a sum that is held at the largest word
+pub held : (x by : ℕ) → x < 2 ^ 64 → min (x + by) (2 ^ 64 - 1) ≡ up_to x by
 unfolding up_to
-fits_word x by h = rw (le-leb by (2 ^ 64 - 1 - x) h)
-
-pub full-word : (x by : ℕ) → 2 ^ 64 - 1 - x < by → 2 ^ 64 - 1 ≡ up_to x by
-unfolding up_to
-full-word x by h = rw (lt-leb by (2 ^ 64 - 1 - x) h)
+held x by h = go (leb by (2 ^ 64 - 1 - x)) refl where
+  go : (t : Bool) → leb by (2 ^ 64 - 1 - x) ≡ t → min (x + by) (2 ^ 64 - 1) ≡ cond t (x + by) (2 ^ 64 - 1)
+  go true e = let l = leb-true by (2 ^ 64 - 1 - x) e in omega arith
+  go false e = let l = leb-false by (2 ^ 64 - 1 - x) e in omega arith
 
 -- ---- From zeros
 

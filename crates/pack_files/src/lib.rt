@@ -9,22 +9,13 @@ ghost use Rattle.pack_figures.specs.Figures.{of_load, of_content};
 ghost use Rattle.pack_counts.specs.Raise.{counted};
 ghost use Rattle.pack_files.specs.Xnb.{Clear};
 
-use table::WIDTH;
+use table::{Table, WIDTH};
 
 // Whether a file starts with `XNB`.
 fn is_xnb(content: &[u8]) -> bool
     ensures { result ≡ same (take 3 content.now) (ascii "XNB") }
 {
-    if content.len() < 3 {
-        return false;
-    }
-    if content[0] != b'X' {
-        return false;
-    }
-    if content[1] != b'N' {
-        return false;
-    }
-    content[2] == b'B'
+    content.starts_with(b"XNB")
 }
 
 // Counts an XNB file, by loading it into a table of zeros with room for 65,536 rows, which it leaves as it was.
@@ -39,7 +30,7 @@ fn count_xnb(content: &[u8], enums: &[u8], words: &mut [u32], figures: &mut [u64
         }
         Ok(loaded) => {
             let rows = loaded.rows;
-            pack_counts::count_loaded(content, words, table::rows_grid(words.len()), rows, figures);
+            pack_counts::count_loaded(content, Table::by_rows(words), rows, figures);
             fill::clear_range(words, 0, WIDTH as usize * rows as usize);
         }
     }

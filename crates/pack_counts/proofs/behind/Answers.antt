@@ -1,12 +1,11 @@
-use borrow.Author.Rules.{rules}
-use mathlib.Core.Path.{sym}
+use Rattle.std.proofs.Common.{sym}
 use Rattle.numbers.specs.Padded.{past}
 use Rattle.pack_counts.proofs.behind.Goals as goal
 
-pub returns-in-Refused : goal.returns-in-Refused
+pub returns-in-Err : goal.returns-in-Err
 unfolding past
-returns-in-Refused c = rw (sym (rw c.in-Refused.is at c.seven_at.ensures))
+returns-in-Err c = rw (sym c.in-Err.ensures)
 
-pub returns-in-Read : goal.returns-in-Read
+pub returns-in-Ok : goal.returns-in-Ok
 unfolding past
-returns-in-Read c = rw (sym (rw c.in-Read.is at c.seven_at.ensures))
+returns-in-Ok c = rw (sym c.in-Ok.ensures)

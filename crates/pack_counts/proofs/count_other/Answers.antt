@@ -1,4 +1,3 @@
-use borrow.Author.Rules.{rules}
 use mathlib.Core.Path.{◌∙◌}
 use Rattle.pack_counts.specs.Count.{other_counted}
 use Rattle.pack_counts.proofs.count_other.Goals as goal

@@ -1,18 +1,17 @@
-use borrow.Author.Rules.{rules}
 use Rattle.pack_counts.specs.Count.{text-told, image_told, plain-told}
 use Rattle.pack_counts.proofs.count_row.Goals as goal
 
-pub returns-then-kind-eq13 : goal.returns-then-kind-eq13
-returns-then-kind-eq13 c =
+pub returns-then-kind-eq-STRING : goal.returns-then-kind-eq-STRING
+returns-then-kind-eq-STRING c =
     let a = c.args in
-    text-told a.file.now a.words.now a.grid a.row a.figures.now c.word_of-kind.ensures c.raise.ensures c.if-kind-eq13.true c.word_of-first.ensures c.word_of-id.ensures c.text_bytes.ensures c.raise-then-kind-eq13.ensures
+    text-told a.file.now a.table.words.now a.table.grid a.row a.figures.now c.word-kind.ensures c.raise.ensures c.if-kind-eq-STRING.true c.word-first.ensures c.word-id.ensures c.text_bytes.ensures c.raise-then-kind-eq-STRING.ensures
 
-pub returns-then-kind-ne35 : goal.returns-then-kind-ne35
-returns-then-kind-ne35 c =
+pub returns-then-kind-eq-IMAGE_LEVEL : goal.returns-then-kind-eq-IMAGE_LEVEL
+returns-then-kind-eq-IMAGE_LEVEL c =
     let a = c.args in
-    plain-told a.file.now a.words.now a.grid a.row a.figures.now c.word_of-kind.ensures c.raise.ensures c.if-kind-eq13.false c.if-kind-ne35.true
+    image_told a.file.now a.table.words.now a.table.grid a.row a.figures.now c.word-kind.ensures c.raise.ensures c.if-kind-eq-IMAGE_LEVEL.true c.word-length.ensures c.level_bytes.ensures c.raise-then-kind-eq-IMAGE_LEVEL.ensures
 
-pub returns : goal.returns
-returns c =
+pub returns-else-kind-eq-IMAGE_LEVEL : goal.returns-else-kind-eq-IMAGE_LEVEL
+returns-else-kind-eq-IMAGE_LEVEL c =
     let a = c.args in
-    image_told a.file.now a.words.now a.grid a.row a.figures.now c.word_of-kind.ensures c.raise.ensures c.if-kind-ne35.false c.word_of-length.ensures c.level_bytes.ensures c.raise-2.ensures
+    plain-told a.file.now a.table.words.now a.table.grid a.row a.figures.now c.word-kind.ensures c.raise.ensures c.if-kind-eq-STRING.false c.if-kind-eq-IMAGE_LEVEL.false

@@ -1,4 +1,3 @@
-use borrow.Author.Rules.{rules}
 use Rattle.pack_counts.specs.Count.{text-plain, text-object}
 use Rattle.pack_counts.proofs.text_bytes.Goals as goal
 
