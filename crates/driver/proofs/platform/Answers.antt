@@ -1,4 +1,3 @@
-use borrow.Author.Rules.{rules}
 use Rattle.driver.specs.Rules.{too_short, its_platform, another_platform}
 use Rattle.driver.proofs.platform.Goals as goal
 

@@ -1,15 +1,14 @@
-use borrow.Author.Rules.{rules}
-use mathlib.Core.Path.{◌∙◌}
+use Rattle.std.proofs.Common.{◌∙◌}
 use Rattle.names.specs.Entries.{enums_of}
 use Rattle.driver.specs.Settled.{settled-fine, settled-fault, all_cleared}
 use Rattle.driver.proofs.settle.Goals as goal
 
-pub returns-in-None : goal.returns-in-None
-returns-in-None c =
+pub returns-in-Ok : goal.returns-in-Ok
+returns-in-Ok c =
     let a = c.args in
-    settled-fine (enums_of a.enums.now) a.file.now a.words.now a.rows a.readers a.shared a.padding (rw c.rows_grid-grid.ensures at c.from_41.ensures) c.in-None.is
+    settled-fine (enums_of a.enums.now) a.file.now a.words.now a.loaded (rw (c.by_rows.ensures.0, c.by_rows.ensures.1) at c.rules_kept.ensures) c.in-Ok.is
 
-pub returns-in-Rule : goal.returns-in-Rule
-returns-in-Rule c =
+pub returns-in-Err : goal.returns-in-Err
+returns-in-Err c =
     let a = c.args in
-    settled-fault (enums_of a.enums.now) a.file.now a.words.now a.rows a.readers a.shared a.padding (rw c.rows_grid-grid.ensures at c.from_41.ensures) c.in-Rule.is (c.clear.ensures ∙ all_cleared a.words.now)
+    settled-fault (enums_of a.enums.now) a.file.now a.words.now a.loaded (rw (c.by_rows.ensures.0, c.by_rows.ensures.1) at c.rules_kept.ensures) c.in-Err.is (c.clear.ensures ∙ all_cleared a.words.now)
