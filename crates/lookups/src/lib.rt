@@ -10,6 +10,7 @@ ghost use Rattle.lookups.specs.Times.{time_of};
 
 use answers::{Number, Read, Refusal, Rule};
 use ids::RowNumber;
+use names::kinds;
 use numbers::little::{Width, little};
 use numbers::seven::seven_at;
 use table::Table;
@@ -76,7 +77,7 @@ fn text_in(bytes: &[u8], first: usize, kind: u32, row: u32) -> Result<Span, Refu
     ensures { result ≡ text_in bytes.now first kind row }
 {
     let number = row as usize;
-    if kind != 13 {
+    if kind != kinds::STRING {
         return Err(Rule::OtherKind.at(number));
     }
     let Ok(Read { value, next: start }) = count_at(bytes) else {
@@ -137,10 +138,7 @@ fn signed_from(read: Number, top: u64, row: u32) -> Result<i64, Refusal>
 fn back(bytes: &[u8], size: usize) -> usize
     ensures { result ≡ length bytes.now - size }
 {
-    if bytes.len() < size {
-        return 0;
-    }
-    bytes.len() - size
+    bytes.len().saturating_sub(size)
 }
 
 // The signed number in the last bytes of a part, as many as the width has, where `top` is the largest number of as many bytes.
@@ -157,10 +155,10 @@ fn signed_in(bytes: &[u8], kind: u32, row: u32) -> Result<i64, Refusal>
     ensures { result ≡ signed_in bytes.now kind row }
 {
     match kind {
-        2 => last_bytes::<u8>(bytes, 0xFF, row),
-        3 => last_bytes::<u16>(bytes, 0xFFFF, row),
-        5 => last_bytes::<u32>(bytes, 0xFFFF_FFFF, row),
-        7 | 20 => last_bytes::<u64>(bytes, 0xFFFF_FFFF_FFFF_FFFF, row),
+        kinds::SBYTE => last_bytes::<u8>(bytes, 0xFF, row),
+        kinds::INT_16 => last_bytes::<u16>(bytes, 0xFFFF, row),
+        kinds::INT_32 => last_bytes::<u32>(bytes, 0xFFFF_FFFF, row),
+        kinds::INT_64 | kinds::TIME_SPAN => last_bytes::<u64>(bytes, 0xFFFF_FFFF_FFFF_FFFF, row),
         _ => Err(Rule::OtherKind.at(row as usize)),
     }
 }
@@ -180,7 +178,7 @@ pub fn time(file: &[u8], table: Table, row: RowNumber) -> Result<ticks::Time, Re
     ensures { result ≡ time_of table.entry.grid file.now table.entry.words.now row.0 }
 {
     let count = signed(file, table, row)?;
-    if table.word(row, table::KIND) != 20 {
+    if table.word(row, table::KIND) != kinds::TIME_SPAN {
         return Err(Rule::OtherKind.at(row.0 as usize));
     }
     Ok(ticks::split_ticks(count))

@@ -10,6 +10,7 @@ ghost use Rattle.resources.specs.Roots.{padded, NotesRow};
 ghost use Rattle.resources.specs.Total.{NoneAmong, any_reference, null_cleared, roots_of, row_settled, rows_settled, settle_from, settle_of};
 
 use ids::{ResourceId, RowNumber};
+use names::kinds;
 use table::{Grid, Table, WIDTH};
 
 // Stores a word at a place, where there is one.
@@ -83,7 +84,7 @@ fn judge_row(words: &mut [u32], grid: Grid, row: RowNumber, kinds: &[u32]) -> Op
         words: &*words,
         grid,
     };
-    if table.word(row, table::KIND) != 36 {
+    if table.word(row, table::KIND) != kinds::SHARED_REFERENCE {
         return None;
     }
     let wanted = table.word(row, table::CHILDREN);
@@ -130,7 +131,7 @@ fn clear_null(words: &mut [u32], grid: Grid, row: RowNumber) -> bool
         words: &*words,
         grid,
     };
-    if table.word(row, table::KIND) != 36 {
+    if table.word(row, table::KIND) != kinds::SHARED_REFERENCE {
         return false;
     }
     if table.word(row, table::DETAIL) != 0 {
@@ -164,7 +165,7 @@ fn any_of_eight(table: Table, from: u32) -> bool
     for j in 0..8 {
         let row = from + j;
         let at = table.grid.cell(RowNumber(row), table::KIND);
-        found = found | (table.words[at] == 36);
+        found = found | (table.words[at] == kinds::SHARED_REFERENCE);
     }
     found
 }
@@ -210,7 +211,7 @@ fn any_reference(table: Table, used: u32) -> bool
     ensures { result ≡ any_reference table.entry.grid table.entry.words.now used 0 }
 {
     for i in past_many(table, used)..used {
-        if table.word(RowNumber(i), table::KIND) == 36 {
+        if table.word(RowNumber(i), table::KIND) == kinds::SHARED_REFERENCE {
             return true;
         }
     }

@@ -10,11 +10,11 @@ use Rattle.resources.proofs.any_reference.Goals as goal
 pub loop-i-init : goal.loop-i-init
 loop-i-init c = c.past_many-i.ensures
 
-pub returns-then-word-eq36 : goal.returns-then-word-eq36
-returns-then-word-eq36 c = sym (any_found _ _ _ c.loop-i.i c.loop-i-test.true c.word.ensures c.if-word-eq36.true) ∙ c.loop-i.invariant
+pub returns-then-word-eq-SHARED_REFERENCE : goal.returns-then-word-eq-SHARED_REFERENCE
+returns-then-word-eq-SHARED_REFERENCE c = sym (any_found _ _ _ c.loop-i.i c.loop-i-test.true c.word.ensures c.if-word-eq-SHARED_REFERENCE.true) ∙ c.loop-i.invariant
 
 pub loop-i-preserved : goal.loop-i-preserved
-loop-i-preserved c = sym (any_turn _ _ _ c.loop-i.i c.loop-i-test.true c.word.ensures c.if-word-eq36.false) ∙ c.loop-i.invariant
+loop-i-preserved c = sym (any_turn _ _ _ c.loop-i.i c.loop-i-test.true c.word.ensures c.if-word-eq-SHARED_REFERENCE.false) ∙ c.loop-i.invariant
 
 pub returns : goal.returns
 returns c = sym (any_end _ _ _ c.loop-i.i c.loop-i-test.false) ∙ c.loop-i.invariant
