@@ -9,7 +9,7 @@ use lib.Dec.{leb, eqb, ltb}
 use lib.ListN.{length, take, drop, get_or, set, length-append, length-drop, length-set, drop_of_length-le}
 use lib.Seq.{drop-drop, drop-append_seam, length-take-le}
 use borrow.Author.Tests.{ne_eqb, eqb-false, ltb-false, le-leb, lt-leb}
-use Rattle.laws.specs.Small.{neither}
+use Rattle.laws.specs.Small.{neither, differ}
 use Rattle.layout.specs.Text.{ascii}
 use Rattle.fill.specs.Fill.{copied}
 use Rattle.xml_layout.specs.Xml.{escaped, escape, item_start, item_end}
@@ -18,7 +18,7 @@ use Rattle.xml_escape.specs.Runs.{AllOf, First, cons_at, passed_none, passed_mor
 use Rattle.xml_escape.specs.Quiet.{Quiet, AllQuiet, Ran}
 use Rattle.xml_escape.specs.Wrote.{Wrote, Put, PutTo, put-none, put_copy, put-more, put_one, put_on, take_more, sets, put-each}
 use Rattle.xml_escape.specs.Sizes.{item, few_bytes, start-long, item-long}
-use Rattle.xml_export.specs.declared.escape.Sizing.TheVariants.{Unwritten, Size}
+use Rattle.std.specs.Prelude.{Result, Ok, Err, Option, Some, None}
 use Rattle.xml_export.specs.Escaping.{Alone, byte_size, Grows, Runs, RunPut, EntityPut}
 use Rattle.xml_export.specs.Gathering.{size_of}
 
@@ -101,27 +101,27 @@ pub sure_by : (b : ℕ) → (ltb b 0x20 || eqb b 0xEF) ≡ false → (0x20 ≤ b
 sure_by b e = let n = neither (ltb b 0x20) (eqb b 0xEF) e in (ltb-false b 0x20 n.0, eqb-false b 0xEF n.1)
 
 module _ (s : List ℕ) (i : ℕ) (h : i < length s) where
-  pub letter_size : 0x3E < get_or s i 0 → (get_or s i 0 ≡ 0xEF → ⊥) → 1 ≡ byte_size (drop i s)
+  pub letter_size : 0x3E < get_or s i 0 → (get_or s i 0 ≡ 0xEF → ⊥) → Some 1 ≡ byte_size (drop i s)
   unfolding byte_size
   letter_size g f =
       let b = get_or s i 0 in
       rw (cons_at s i h, le-leb 0x20 b (omega arith), other_lead b (drop (i + 1) s) f, letter_alone b g)
 
-  pub low_size : get_or s i 0 < 0x20 → 0 ≡ byte_size (drop i s)
+  pub low_size : get_or s i 0 < 0x20 → None ≡ byte_size (drop i s)
   unfolding byte_size
   low_size k = rw (cons_at s i h, lt-leb 0x20 (get_or s i 0) k)
 
-  pub top_size : 0x20 ≤ get_or s i 0 → true ≡ noncharacter (drop i s) → 0 ≡ byte_size (drop i s)
+  pub top_size : 0x20 ≤ get_or s i 0 → true ≡ noncharacter (drop i s) → None ≡ byte_size (drop i s)
   unfolding byte_size
   top_size k n =
       let m : noncharacter (get_or s i 0 ∷ drop (i + 1) s) ≡ true = ap noncharacter (sym (cons_at s i h)) ∙ sym n in
       rw (cons_at s i h, le-leb 0x20 (get_or s i 0) k, m)
 
-  pub other_size : 0x20 ≤ get_or s i 0 → false ≡ noncharacter (drop i s) → {r : ℕ} → r ≡ length (escaped (get_or s i 0)) → r ≡ byte_size (drop i s)
+  pub other_size : 0x20 ≤ get_or s i 0 → false ≡ noncharacter (drop i s) → {r : ℕ} → r ≡ length (escaped (get_or s i 0)) → Some r ≡ byte_size (drop i s)
   unfolding byte_size
   other_size k n {r} e =
       let m : noncharacter (get_or s i 0 ∷ drop (i + 1) s) ≡ false = ap noncharacter (sym (cons_at s i h)) ∙ sym n in
-      e ∙ rw (cons_at s i h, le-leb 0x20 (get_or s i 0) k, m)
+      ap Some e ∙ rw (cons_at s i h, le-leb 0x20 (get_or s i 0) k, m)
 
 escape_at : (s : List ℕ) (i : ℕ) → i < length s → escape (drop i s) ≡ escaped (get_or s i 0) ++ escape (drop (i + 1) s)
 unfolding escape
@@ -196,37 +196,42 @@ module _ {s : List ℕ} {i size : ℕ} (z : Sized s i size) where
 
   module _ (h : i < length s) where
     -- a byte that is written
-    pub sized_byte : {n : ℕ} → n ≡ byte_size (drop i s) → (n ≡ 0 → ⊥) → Sized s (i + 1) (size + n)
+    pub sized_byte : {n : ℕ} → Some n ≡ byte_size (drop i s) → Sized s (i + 1) (size + n)
     unfolding byte_size writable
-    sized_byte {n} e k = go (leb 0x20 (get_or s i 0) && not (noncharacter (get_or s i 0 ∷ drop (i + 1) s))) refl where
+    sized_byte {n} e = go (leb 0x20 (get_or s i 0) && not (noncharacter (get_or s i 0 ∷ drop (i + 1) s))) refl where
       go : (t : Bool) → (leb 0x20 (get_or s i 0) && not (noncharacter (get_or s i 0 ∷ drop (i + 1) s))) ≡ t → Sized s (i + 1) (size + n)
       go true q =
-          let m : n ≡ length (escaped (get_or s i 0)) = e ∙ rw (cons_at s i h, q) in
+          let w : Some n ≡ Some (length (escaped (get_or s i 0))) = e ∙ rw (cons_at s i h, q) in
+          let m : n ≡ length (escaped (get_or s i 0)) = cc in
           record {
             inside = omega arith;
             same = z.same ∙ rw (cons_at s i h, q);
             sum = omega (arith, z.sum, ap length (escape_at s i h), length-append (escaped (get_or s i 0)) (escape (drop (i + 1) s)));
             bound = omega (arith, z.bound, few_bytes (get_or s i 0));
           }
-      go false q = absurd (k (e ∙ rw (cons_at s i h, q)))
+      go false q =
+          let w : Some n ≡ None = e ∙ rw (cons_at s i h, q) in
+          differ cc
 
     -- a character that is not
-    pub unwritten_byte : {n : ℕ} → n ≡ byte_size (drop i s) → n ≡ 0 → Unwritten ≡ size_of s
+    pub unwritten_byte : None ≡ byte_size (drop i s) → None ≡ size_of s
     unfolding byte_size size_of writable
-    unwritten_byte {n} e k = go (leb 0x20 (get_or s i 0) && not (noncharacter (get_or s i 0 ∷ drop (i + 1) s))) refl where
-      go : (t : Bool) → (leb 0x20 (get_or s i 0) && not (noncharacter (get_or s i 0 ∷ drop (i + 1) s))) ≡ t → Unwritten ≡ size_of s
-      go true q = let m : n ≡ length (escaped (get_or s i 0)) = e ∙ rw (cons_at s i h, q) in absurd (omega (arith, some_bytes (get_or s i 0)))
+    unwritten_byte e = go (leb 0x20 (get_or s i 0) && not (noncharacter (get_or s i 0 ∷ drop (i + 1) s))) refl where
+      go : (t : Bool) → (leb 0x20 (get_or s i 0) && not (noncharacter (get_or s i 0 ∷ drop (i + 1) s))) ≡ t → None ≡ size_of s
+      go true q =
+          let w : None ≡ Some (length (escaped (get_or s i 0))) = e ∙ rw (cons_at s i h, q) in
+          differ cc
       go false q = rw (z.same, cons_at s i h, q)
 
-  pub sized-end : length s ≤ i → Size size ≡ size_of s
+  pub sized-end : length s ≤ i → Some size ≡ size_of s
   unfolding size_of writable escape
   sized-end h =
       let d : drop i s ≡ [] = drop_of_length-le s h in
       let w : writable s ≡ true = z.same ∙ rw d in
       let n : size ≡ length (escape s) = omega (arith, z.sum, ap (λ (l : List ℕ). length (escape l)) d) in
-      rw w (ap Size n)
+      rw w (ap Some n)
 
-pub none-size : (l : List ℕ) (n : ℕ) → n ≡ 0 → Size 0 ≡ size_of (take n l)
+pub none-size : (l : List ℕ) (n : ℕ) → n ≡ 0 → Some 0 ≡ size_of (take n l)
 none-size l n e = rw e (sized-end sized-start (omega arith))
 
 -- ---- A part of the file that stands as it is
@@ -253,7 +258,7 @@ module _ (s : List ℕ) (n i : ℕ) (h : i + n ≤ length s) where
   part-long : length (take n (drop i s)) ≡ n
   part-long = length-take-le n (drop i s) (omega (arith, length-drop i s))
 
-  pub quiet_size : {most : ℕ} → AllQuiet most s i n → Size n ≡ size_of (take n (drop i s))
+  pub quiet_size : {most : ℕ} → AllQuiet most s i n → Some n ≡ size_of (take n (drop i s))
   unfolding size_of
   quiet_size q = rw (quiet_part s n i h q, alone-part s n i h (λ k l. quiet_escaped (q k l)), part-long)
 
@@ -310,12 +315,8 @@ pub stored-put : {to : ℕ} {out out' : List ℕ} (w : List ℕ) → out' ≡ se
 stored-put {to} {out} w c = let z : to + 0 ≡ to = omega arith in rw c (rw z at (put-each w out to 0))
 
 -- the entity of a byte, stored byte by byte
-pub entity-put : (b : ℕ) {to r : ℕ} {out out' : List ℕ} (w : List ℕ) → escaped b ≡ w → length w ≡ r → (r ≡ 0 → ⊥) → out' ≡ sets out to 0 w → EntityPut b to out out' r
-entity-put b {to} {r} {out} {out'} w e l f c =
-    record { none = λ q. absurd (f q); some = λ q. (sym l ∙ ap length (sym e), rw e (stored-put w c)) }
-
-pub none-put : {b to : ℕ} {out : List ℕ} → Alone b → EntityPut b to out out 0
-none-put a = record { none = λ q. (a, refl); some = λ f. absurd (f refl) }
+pub entity-put : (b : ℕ) {to r : ℕ} {out out' : List ℕ} (w : List ℕ) → escaped b ≡ w → length w ≡ r → out' ≡ sets out to 0 w → EntityPut b to out out' (Some r)
+entity-put b w e l c = (sym l ∙ ap length (sym e), rw e (stored-put w c))
 
 -- bytes that stand as they are
 alone-bytes : (s : List ℕ) (n i : ℕ) → i + n ≤ length s → AllOf Alone s i n → escape (drop i s) ≡ take n (drop i s) ++ escape (drop (i + n) s)
@@ -456,13 +457,12 @@ module _ {s out₀ : List ℕ} {to : ℕ} {out : List ℕ} {i j : ℕ} (p : Putt
   pub byte_fits : i < length s → j + length (escaped (get_or s i 0)) ≤ to + length (escape s)
   byte_fits h = omega (arith, left, ap length (escape_at s i h), length-append (escaped (get_or s i 0)) (escape (drop (i + 1) s)))
 
-  pub putting_entity : i < length s → {out' : List ℕ} {n : ℕ} → EntityPut (get_or s i 0) j out out' n → (n ≡ 0 → ⊥) → length out' ≡ length out → Putting s out₀ to out' (i + 1) (j + n)
-  putting_entity h q f l = more (i + 1) (escaped (get_or s i 0)) (omega arith) (escape_at s i h) l (q.some f).1 (omega (arith, (q.some f).0))
+  pub putting_entity : i < length s → {out' : List ℕ} {n : ℕ} → EntityPut (get_or s i 0) j out out' (Some n) → length out' ≡ length out → Putting s out₀ to out' (i + 1) (j + n)
+  putting_entity h q l = more (i + 1) (escaped (get_or s i 0)) (omega arith) (escape_at s i h) l q.1 (omega (arith, q.0))
 
   -- a byte that has none
-  pub putting_plain : i < length s → {out₁ : List ℕ} {n : ℕ} → EntityPut (get_or s i 0) j out out₁ n → n ≡ 0 → length out₁ ≡ length out → Putting s out₀ to (set out₁ j (get_or s i 0)) (i + 1) (j + 1)
-  putting_plain h {out₁} q z l =
-      let a = q.none z in
+  pub putting_plain : i < length s → {out₁ : List ℕ} → EntityPut (get_or s i 0) j out out₁ None → length out₁ ≡ length out → Putting s out₀ to (set out₁ j (get_or s i 0)) (i + 1) (j + 1)
+  putting_plain h {out₁} a l =
       let b = get_or s i 0 in
       let e : escape (drop i s) ≡ b ∷ [] ++ escape (drop (i + 1) s) = escape_at s i h ∙ ap (λ (x : List ℕ). x ++ escape (drop (i + 1) s)) a.0 in
       more (i + 1) (b ∷ []) (omega arith) e (length-set out₁ j b ∙ l) (put_one b (ap (λ (x : List ℕ). set x j b) a.1)) refl
@@ -472,7 +472,7 @@ module _ {s out₀ : List ℕ} {to : ℕ} {out : List ℕ} {i j : ℕ} (p : Putt
       let r = q.runs in
       let m : i + (next - i) ≡ next = omega (arith, r.forward) in
       let e : escape (drop i s) ≡ take (next - i) (drop i s) ++ escape (drop next s)
-      = alone-bytes s (next - i) i (omega (arith, r.forward, r.inside)) r.alone ∙ ap (λ (k : ℕ). take (next - i) (drop i s) ++ escape (drop k s)) m in
+      = alone-bytes s (next - i) i (omega (arith, r.forward, r.inside)) r.all ∙ ap (λ (k : ℕ). take (next - i) (drop i s) ++ escape (drop k s)) m in
       let n : length (take (next - i) (drop i s)) ≡ next - i = length-take-le (next - i) (drop i s) (omega (arith, length-drop i s, r.inside)) in
       more next (take (next - i) (drop i s)) r.inside e l q.put (omega (arith, n))
 

@@ -1,5 +1,5 @@
 -- What is said of parts of a text: their size in the XML, and their bytes in an output (Req 13). Assumes nothing.
-use Rattle.std.specs.Prelude.{◌≡◌, cond, not, ◌&&◌, List, [], ◌∷◌, ℕ, ◌+◌, ◌*◌, ◌-◌, ◌≤◌, leb, length, take, drop}
+use Rattle.std.specs.Prelude.{◌≡◌, Option, Some, None, cond, not, ◌&&◌, List, [], ◌∷◌, ℕ, ◌+◌, ◌*◌, ◌-◌, ◌≤◌, leb, length, take, drop}
 use Rattle.xml_layout.specs.Xml.{escaped, escape}
 use Rattle.xml_reading.specs.Written.{noncharacter, writable}
 use Rattle.xml_escape.specs.Runs.{Passed}
@@ -10,9 +10,9 @@ abbrev pub Alone : ℕ → Type 0
 Alone b = escaped b ≡ b ∷ []
 
 -- the size of the byte that stands first, as it is written; none where it starts a character that is not
-unfoldable pub byte_size : List ℕ → ℕ
-byte_size [] = 0
-byte_size (b ∷ l) = cond (leb 0x20 b && not (noncharacter (b ∷ l))) (length (escaped b)) 0
+unfoldable pub byte_size : List ℕ → Option ℕ
+byte_size [] = None
+byte_size (b ∷ l) = cond (leb 0x20 b && not (noncharacter (b ∷ l))) (Some (length (escaped b))) None
 
 -- n bytes of a text from a place on are of written characters, and have so many bytes in the XML
 pub record Grows (s : List ℕ) (i n size : ℕ) : Type 0 where
@@ -30,6 +30,6 @@ pub record RunPut (s : List ℕ) (from to : ℕ) (entry exit : List ℕ) (r : �
   pub put : Put (take (r - from) (drop from s)) to entry exit
 
 -- the entity of a byte is put, of so many bytes; or the byte has none, and nothing is put
-pub record EntityPut (b to : ℕ) (entry exit : List ℕ) (r : ℕ) : Type 0 where
-  pub none : r ≡ 0 → Alone b × (exit ≡ entry)
-  pub some : (r ≡ 0 → ⊥) → (r ≡ length (escaped b)) × Put (escaped b) to entry exit
+abbrev pub EntityPut : (b to : ℕ) (entry exit : List ℕ) → Option ℕ → Type 0
+EntityPut b to entry exit None = Alone b × (exit ≡ entry)
+EntityPut b to entry exit (Some n) = (n ≡ length (escaped b)) × Put (escaped b) to entry exit

@@ -1,5 +1,5 @@
 // The text of an item in the XML: whether every character of it is written, how many bytes it has there, and its bytes.
-ghost use Rattle.std.specs.Prelude.{◌≡◌, true, false, cond, [], ◌∷◌, ◌+◌, ◌-◌, ◌≤◌, ◌<◌, length, take, drop};
+ghost use Rattle.std.specs.Prelude.{◌≡◌, true, false, cond, [], ◌∷◌, ◌+◌, ◌-◌, ◌≤◌, ◌<◌, IfSome, length, take, drop};
 ghost use Rattle.xml_layout.specs.Xml.{escaped, escape};
 ghost use Rattle.xml_reading.specs.Written.{noncharacter};
 ghost use Rattle.xml_escape.specs.Runs.{AllOf};
@@ -47,24 +47,24 @@ fn escaped_size(b: u8) -> usize
     1
 }
 
-// How many bytes a byte of a text has in the XML; none where it starts a character that is not written. Letters are told by two tests.
-fn size_at(text: &[u8], at: usize) -> usize
+// How many bytes a byte of a text has in the XML, unless it starts a character that is not written. Letters are told by two tests.
+fn size_at(text: &[u8], at: usize) -> Option<usize>
     requires { at < length text.now }
     ensures { result ≡ byte_size (drop at text.now) }
 {
     let b = text[at];
     if 0x3E < b {
         if b != 0xEF {
-            return 1;
+            return Some(1);
         }
     }
     if b < 0x20 {
-        return 0;
+        return None;
     }
     if noncharacter_at(text, at) {
-        return 0;
+        return None;
     }
-    escaped_size(b)
+    Some(escaped_size(b))
 }
 
 // A number that counts, else none.
@@ -91,13 +91,13 @@ fn unsure(b: u8) -> bool
     (b < 0x20) | (b == 0xEF)
 }
 
-// How many bytes the 32 bytes from i on have in the XML; none where that is not seen at once.
-fn block_size(text: &[u8], i: usize) -> usize
+// How many bytes the 32 bytes from i on have in the XML, where that is seen at once.
+fn block_size(text: &[u8], i: usize) -> Option<usize>
     requires { i ≤ length text.now }
-    ensures { (result ≡ 0 → ⊥) → Grows text.now i 32 result }
+    ensures { IfSome result (Grows text.now i 32) }
 {
     if text.len() - i < 32 {
-        return 0;
+        return None;
     }
     let mut more = 0u8;
     let mut other = false;
@@ -107,9 +107,9 @@ fn block_size(text: &[u8], i: usize) -> usize
         other = other | unsure(b);
     }
     if other {
-        return 0;
+        return None;
     }
-    32 + more as usize
+    Some(32 + more as usize)
 }
 
 // How many bytes a text has in the XML, where every character of it is written: a run of quiet bytes, then blocks, and 32 bytes one by one where a block is not seen at once.
@@ -122,26 +122,23 @@ fn filled_size(text: &[u8]) -> Option<usize>
     let mut left = 0usize;
     while i < text.len() {
         if left == 0 {
-            let n = block_size(text, i);
-            if n == 0 {
-                left = 32;
-            } else {
-                if n == 32 {
+            match block_size(text, i) {
+                None => {
+                    left = 32;
+                }
+                Some(32) => {
                     let next = xml_escape::quiet_blocks(text, i + 32, 0xFF);
                     size += next - i;
                     i = next;
-                } else {
+                }
+                Some(n) => {
                     size += n;
                     i += 32;
                 }
             }
         } else {
             left -= 1;
-            let n = size_at(text, i);
-            if n == 0 {
-                return None;
-            }
-            size += n;
+            size += size_at(text, i)?;
             i += 1;
         }
     }
@@ -285,34 +282,34 @@ fn put_run(text: &[u8], out: &mut [u8], from: usize, to: usize) -> usize
     put_far(text, out, from + 8, to + 8)
 }
 
-// The entity of a byte into the output; answers how many bytes it has, none for a byte that has none, where nothing is put. `&` is told first, then letters.
-fn put_entity(out: &mut [u8], to: usize, b: u8) -> usize
+// The entity of a byte into the output; answers how many bytes it has. Nothing is put for a byte that has none. `&` is told first, then letters.
+fn put_entity(out: &mut [u8], to: usize, b: u8) -> Option<usize>
     requires { to + length (escaped b) ≤ length out.old }
     ensures { EntityPut b to out.old out.new result }
 {
     if b == 0x26 {
         put_four(out, to, 0x26, 0x61, 0x6D, 0x70);
         out[to + 4] = 0x3B;
-        return 5;
+        return Some(5);
     }
     if 0x3E < b {
-        return 0;
+        return None;
     }
     if b == 0x3C {
         put_four(out, to, 0x26, 0x6C, 0x74, 0x3B);
-        return 4;
+        return Some(4);
     }
     if b == 0x3E {
         put_four(out, to, 0x26, 0x67, 0x74, 0x3B);
-        return 4;
+        return Some(4);
     }
     if b == 0x22 {
         put_four(out, to, 0x26, 0x71, 0x75, 0x6F);
         out[to + 4] = 0x74;
         out[to + 5] = 0x3B;
-        return 6;
+        return Some(6);
     }
-    0
+    None
 }
 
 // A text into the output; answers where it ends.
@@ -324,15 +321,17 @@ fn put_text(text: &[u8], out: &mut [u8], to: usize) -> usize
     let mut j = to;
     while i < text.len() {
         let b = text[i];
-        let n = put_entity(out, j, b);
-        if n == 0 {
-            out[j] = b;
-            let next = put_run(text, out, i + 1, j + 1);
-            j += next - i;
-            i = next;
-        } else {
-            j += n;
-            i += 1;
+        match put_entity(out, j, b) {
+            None => {
+                out[j] = b;
+                let next = put_run(text, out, i + 1, j + 1);
+                j += next - i;
+                i = next;
+            }
+            Some(n) => {
+                j += n;
+                i += 1;
+            }
         }
     }
     j

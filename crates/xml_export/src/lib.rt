@@ -18,14 +18,16 @@ use answers::{Refusal, Rule};
 use ids::RowNumber;
 use table::Table;
 
-// How many bytes the text of a row has in the XML; or the rule that it breaks, which is that it is there, or that each of its characters is written.
-fn row_size(file: &[u8], words: &[u32], row: u32) -> Result<usize, Rule>
+// How many bytes the text of a row has in the XML; refused where there is none, or a character of it is not written.
+fn row_size(file: &[u8], words: &[u32], row: u32) -> Result<usize, Refusal>
     requires { length file.now ≤ 16777216 }
-    ensures { result ≡ size_at file.now (rows_text file.now words.now row) }
+    ensures { result ≡ size_at file.now (rows_text file.now words.now row) row }
 {
     match lookups::text(file, Table::by_rows(words), RowNumber(row)) {
-        Err(_) => Err(Rule::NullText),
-        Ok(text) => escape::text_size(file, text.first, text.length).ok_or(Rule::NotInXml),
+        Err(_) => Err(Rule::NullText.at(row as usize)),
+        Ok(text) => escape::text_size(file, text.first, text.length).ok_or(Rule::NotInXml.at(
+            row as usize,
+        )),
     }
 }
 
@@ -36,7 +38,7 @@ fn measure(file: &[u8], words: &[u32], rows: u32) -> Result<usize, Refusal>
 {
     let mut size = 94;
     for i in 1..rows {
-        size += 13 + row_size(file, words, i).map_err(|rule| rule.at(i as usize))?;
+        size += 13 + row_size(file, words, i)?;
     }
     Ok(size)
 }

@@ -1,5 +1,3 @@
-use borrow.Author.Rules.{rules}
-use mathlib.Core.Path.{sym, subst, ◌∙◌}
 use Rattle.xml_export.specs.Contract.{Judged}
 use Rattle.xml_export.specs.Judging.{judged_shared, judged-reader}
 use Rattle.xml_export.proofs.is_list.Goals as goal
@@ -10,4 +8,4 @@ returns-then-shared-ne0 c = λ w. judged_shared w c.if-shared-ne0.true
 
 pub returns : goal.returns
 unfolding Judged
-returns c = λ w. judged-reader w c.if-shared-ne0.false _ (rw (c.word_of-id.ensures, c.rows_grid-grid.ensures) at c.texts_reader.ensures)
+returns c = λ w. judged-reader w c.if-shared-ne0.false _ (rw (c.word-id.ensures, c.by_rows.ensures.1, c.by_rows.ensures.0) at c.texts_reader.ensures)

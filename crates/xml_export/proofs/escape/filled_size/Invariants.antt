@@ -1,8 +1,5 @@
-use borrow.Author.Rules.{rules}
-use native.Mathlib.Omega.{arith}
-use Prim.Native.Nat.{◌+◌, ◌*◌, ◌-◌}
-use lib.ListN.{length}
-use Rattle.xml_export.proofs.Escapes.{Sized, sized_first, sized_block, sized-blocks, sized_byte, unwritten_byte, sized-end}
+use Rattle.std.proofs.Common.{◌+◌, ◌*◌, ◌-◌, length}
+use Rattle.xml_export.proofs.Escapes.{Sized}
 use Rattle.xml_export.proofs.escape.filled_size.Given as goal
 
 abbrev pub invariant-loop-i : goal.invariant-loop-i

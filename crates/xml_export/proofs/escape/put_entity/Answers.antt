@@ -5,7 +5,7 @@ use mathlib.Core.List.{List, [], ◌∷◌}
 use Prim.Native.Nat.{ℕ, ◌+◌}
 use lib.ListN.{set, length-set}
 use Rattle.xml_escape.specs.Wrote.{sets}
-use Rattle.xml_export.proofs.Escapes.{letter_alone, other_alone, none-put, entity-put, amp_is, less_is, more_is, quote_is, amp_long, less_long, more-long, quote_long}
+use Rattle.xml_export.proofs.Escapes.{letter_alone, other_alone, entity-put, amp_is, less_is, more_is, quote_is, amp_long, less_long, more-long, quote_long}
 use Rattle.xml_export.proofs.escape.put_entity.Goals as goal
 
 pub put_four-requires : goal.put_four-requires
@@ -22,10 +22,10 @@ pub returns-then-b-eq38 : goal.returns-then-b-eq38
 unfolding sets
 returns-then-b-eq38 c =
     let a = c.args in
-    entity-put a.b (0x26 ∷ 0x61 ∷ 0x6D ∷ 0x70 ∷ 0x3B ∷ []) (amp_is a.b c.if-b-eq38.true) refl (λ q. omega (arith, q)) (ap (λ (l : List ℕ). set l (a.to + 4) 0x3B) c.put_four.ensures)
+    entity-put a.b (0x26 ∷ 0x61 ∷ 0x6D ∷ 0x70 ∷ 0x3B ∷ []) (amp_is a.b c.if-b-eq38.true) refl (ap (λ (l : List ℕ). set l (a.to + 4) 0x3B) c.put_four.ensures)
 
 pub returns-then-b-gt62 : goal.returns-then-b-gt62
-returns-then-b-gt62 c = none-put (letter_alone c.args.b c.if-b-gt62.true)
+returns-then-b-gt62 c = (letter_alone c.args.b c.if-b-gt62.true, refl)
 
 pub put_four-requires-then-b-eq60 : goal.put_four-requires-then-b-eq60
 put_four-requires-then-b-eq60 c =
@@ -36,7 +36,7 @@ pub returns-then-b-eq60 : goal.returns-then-b-eq60
 unfolding sets
 returns-then-b-eq60 c =
     let a = c.args in
-    entity-put a.b (0x26 ∷ 0x6C ∷ 0x74 ∷ 0x3B ∷ []) (less_is a.b c.if-b-eq60.true) refl (λ q. omega (arith, q)) c.put_four-then-b-eq60.ensures
+    entity-put a.b (0x26 ∷ 0x6C ∷ 0x74 ∷ 0x3B ∷ []) (less_is a.b c.if-b-eq60.true) refl c.put_four-then-b-eq60.ensures
 
 pub put_four-requires-then-b-eq62 : goal.put_four-requires-then-b-eq62
 put_four-requires-then-b-eq62 c =
@@ -47,7 +47,7 @@ pub returns-then-b-eq62 : goal.returns-then-b-eq62
 unfolding sets
 returns-then-b-eq62 c =
     let a = c.args in
-    entity-put a.b (0x26 ∷ 0x67 ∷ 0x74 ∷ 0x3B ∷ []) (more_is a.b c.if-b-eq62.true) refl (λ q. omega (arith, q)) c.put_four-then-b-eq62.ensures
+    entity-put a.b (0x26 ∷ 0x67 ∷ 0x74 ∷ 0x3B ∷ []) (more_is a.b c.if-b-eq62.true) refl c.put_four-then-b-eq62.ensures
 
 pub put_four-requires-then-b-eq34 : goal.put_four-requires-then-b-eq34
 put_four-requires-then-b-eq34 c =
@@ -68,9 +68,9 @@ pub returns-then-b-eq34 : goal.returns-then-b-eq34
 unfolding sets
 returns-then-b-eq34 c =
     let a = c.args in
-    entity-put a.b (0x26 ∷ 0x71 ∷ 0x75 ∷ 0x6F ∷ 0x74 ∷ 0x3B ∷ []) (quote_is a.b c.if-b-eq34.true) refl (λ q. omega (arith, q)) (ap (λ (l : List ℕ). set (set l (a.to + 4) 0x74) (a.to + 5) 0x3B) c.put_four-then-b-eq34.ensures)
+    entity-put a.b (0x26 ∷ 0x71 ∷ 0x75 ∷ 0x6F ∷ 0x74 ∷ 0x3B ∷ []) (quote_is a.b c.if-b-eq34.true) refl (ap (λ (l : List ℕ). set (set l (a.to + 4) 0x74) (a.to + 5) 0x3B) c.put_four-then-b-eq34.ensures)
 
 pub returns : goal.returns
 returns c =
     let a = c.args in
-    none-put (other_alone a.b c.if-b-eq38.false c.if-b-eq60.false c.if-b-eq62.false c.if-b-eq34.false)
+    (other_alone a.b c.if-b-eq38.false c.if-b-eq60.false c.if-b-eq62.false c.if-b-eq34.false, refl)

@@ -1,8 +1,7 @@
-use borrow.Author.Rules.{rules}
-use native.Mathlib.Omega.{arith}
-use mathlib.Core.Path.{◌≡◌}
-use Prim.Native.Nat.{◌+◌, ◌-◌}
-use Rattle.xml_export.proofs.Escapes.{runs_none, runs_more, no_run, copy_run}
+use Rattle.std.proofs.Common.{arith, rules, ◌≡◌, ◌+◌, ◌-◌}
+use Rattle.xml_escape.specs.Runs.{AllOf, passed_none, passed_more, first_as, passed_as}
+use Rattle.xml_export.specs.Escaping.{Alone, Runs}
+use Rattle.xml_export.proofs.Escapes.{no_run, copy_run}
 use Rattle.xml_export.proofs.escape.put_far.Goals as goal
 
 pub returns-then-text-from-lt32 : goal.returns-then-text-from-lt32
@@ -10,21 +9,25 @@ returns-then-text-from-lt32 c = no_run c.requires.0
 
 pub put_near-requires : goal.put_near-requires
 put_near-requires c =
-    let b = c.first_sign-n.ensures.0 in
+    let b = c.first_of-n.ensures.within in
     (omega (arith, c.requires.0, c.if-text-from-lt32.false, b), omega (arith, c.requires.0, c.requires.1, c.if-text-from-lt32.false, b), b)
 
 pub returns-then-n-lt32 : goal.returns-then-n-lt32
 returns-then-n-lt32 c =
     let a' = c.args in
-    let n = c.first_sign-n.result in
-    let r = runs_more {s = a'.text.now} (runs_none c.requires.0) n (omega (arith, c.requires.0, c.first_sign-n.ensures.0, c.if-text-from-lt32.false)) c.first_sign-n.ensures.1 in
+    let n = c.first_of-n.result in
+    let f : AllOf Alone a'.text.now a'.from n = λ k h. let q = c.first_of-n.ensures.before k h in search rules in
+    let r : Runs a'.text.now a'.from (a'.from + n) = passed_more (passed_none c.requires.0) n (omega (arith, c.requires.0, c.first_of-n.ensures.within, c.if-text-from-lt32.false)) f in
     let z : a'.from + n - a'.from ≡ n = omega arith in
     record { runs = r; put = rw z c.put_near.ensures }
 
 pub returns : goal.returns
 returns c =
     let a' = c.args in
-    let z : c.first_sign-n.result ≡ 32 = omega (arith, c.first_sign-n.ensures.0, c.if-n-lt32.false) in
-    let r = runs_more {s = a'.text.now} (runs_none c.requires.0) 32 (omega (arith, c.requires.0, c.if-text-from-lt32.false)) (rw z at c.first_sign-n.ensures.1) in
-    let y : a'.from + 32 + (c.plain_blocks-end.result - (a'.from + 32)) ≡ c.plain_blocks-end.result = omega (arith, c.plain_blocks-end.ensures.forward) in
-    copy_run (rw y at (runs_more {s = a'.text.now} r (c.plain_blocks-end.result - (a'.from + 32)) (omega (arith, c.plain_blocks-end.ensures.forward, c.plain_blocks-end.ensures.inside)) c.plain_blocks-end.ensures.alone)) c.copy.ensures.out_after
+    let end = c.past_blocks-end.result in
+    let z : c.first_of-n.result ≡ 32 = omega (arith, c.first_of-n.ensures.within, c.if-n-lt32.false) in
+    let f : AllOf Alone a'.text.now a'.from c.first_of-n.result = λ k h. let q = c.first_of-n.ensures.before k h in search rules in
+    let r : Runs a'.text.now a'.from (a'.from + 32) = passed_more (passed_none c.requires.0) 32 (omega (arith, c.requires.0, c.if-text-from-lt32.false)) (rw z at f) in
+    let p : Runs a'.text.now (a'.from + 32) end = passed_as c.past_blocks-end.ensures (λ b q. search rules) in
+    let y : a'.from + 32 + (end - (a'.from + 32)) ≡ end = omega (arith, p.forward) in
+    copy_run (rw y at (passed_more r (end - (a'.from + 32)) (omega (arith, p.forward, p.inside)) p.all)) c.copy.ensures.out_after
