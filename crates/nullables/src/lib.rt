@@ -32,14 +32,21 @@ fn value_bytes(flag: u32, size: usize) -> usize
 }
 
 // Where n nullables end, if they are seen to be there: their values are of a kind and size and, where the kind has a rule, keep it by a first byte of at most `most`.
-fn ends_of(file: &[u8], kind: u32, size: usize, most: u8, n: u32, at: usize, used: u32) -> Option<Ends>
+fn ends_of(
+    file: &[u8],
+    kind: u32,
+    size: usize,
+    most: u8,
+    n: u32,
+    at: usize,
+    used: u32,
+) -> Option<Ends>
     requires { (0 < size) × Ruled kind size most }
     ensures { EndsAre file.now kind size n at used result }
 {
     let mut next = at;
     let mut last = used as u64;
-    let mut i = 0;
-    while i < n {
+    for _i in 0..n {
         if file.len() <= next {
             return None;
         }
@@ -57,7 +64,6 @@ fn ends_of(file: &[u8], kind: u32, size: usize, most: u8, n: u32, at: usize, use
         }
         next = next + 1 + bytes;
         last = last + 1 + flag as u64;
-        i += 1;
     }
     Some(Ends { next, last })
 }
@@ -106,8 +112,7 @@ fn put_all(
 {
     let mut next = at;
     let mut number = used;
-    let mut i = 0;
-    while i < n {
+    for _i in 0..n {
         let flag = widen::wide(file[next]) as u32;
         let bytes = value_bytes(flag, size);
         let value = next + 1;
@@ -127,7 +132,6 @@ fn put_all(
         table::put_row(words, grid, RowNumber(number), r);
         next = value + bytes;
         number = below + flag;
-        i += 1;
     }
 }
 

@@ -1,7 +1,5 @@
-use mathlib.Core.Path.{◌≡◌, sym, ◌∙◌}
-use native.Mathlib.Omega.{arith}
+use Rattle.std.proofs.Common.{◌≡◌, sym, ◌∙◌, arith}
 use Rattle.nullables.specs.Placed.{run_none, run_one}
-use borrow.Author.Rules.{rules}
 use Rattle.nullables.proofs.put_value.Goals as goal
 
 pub returns-then-flag-eq0 : goal.returns-then-flag-eq0
