@@ -1,5 +1,5 @@
 -- What adding a pack to a report answers in code, and what it leaves (02, Req 14). Assumes nothing.
-use Rattle.std.specs.Prelude.{◌≡◌, true, false, ℕ, ◌+◌, ◌*◌, ◌-◌, ◌≤◌, ◌<◌, ◌^◌, take, drop, Result, Ok, Err, tt, ⊤}
+use Rattle.std.specs.Prelude.{◌≡◌, true, false, ℕ, ◌+◌, ◌*◌, ◌-◌, ◌≤◌, ◌<◌, ◌^◌, take, drop, Result, Ok, Err, ⊤}
 use Rattle.std.proofs.Math.Path.{refl}
 use Rattle.std.proofs.Common.{ap, ◌∙◌, take-append-drop, le-leb}
 use mathlib.Core.List.{List, [], ◌∷◌, ◌++◌}
@@ -18,7 +18,8 @@ use Rattle.pack_layout.specs.Parts.{Names}
 use Rattle.pack_reading.specs.Pack.{Pack, refusal, accepted, pack_at, to_pack, pack_of, table_of, table_for}
 use Rattle.pack_reading.specs.Parts.{names}
 use Rattle.pack_reading.proofs.Theorems.{pack_sound}
-use Rattle.packs.specs.Files.{answer_of}
+use Rattle.packs.specs.Files as packs
+use Rattle.pack_sums.specs.Sum.{answer_of}
 use Rattle.load_part.specs.Part.{opened}
 use Rattle.pack_figures.specs.Figures.{Figure, of_files, of_pack}
 use Rattle.pack_figures.specs.Report as Report
@@ -34,8 +35,7 @@ abbrev pub Adding : Type 0
 Adding = Result ⊤ Refusal
 
 abbrev pub added_as : Report.Added → Adding
-added_as (unchanged number place) = Err (answers.refusal number place)
-added_as (added s) = Ok tt
+added_as = answer_of
 
 -- what adding a pack answers under a lent list of enum types, where so many words of rows and of a pack table are lent
 abbrev pub add_under : (enums : List ℕ) (row_words pack_words : ℕ) (report pack : List ℕ) → Report.Added
@@ -47,7 +47,7 @@ add_read enums pack pack_words report = by_pack (opened enums) (pack_of plain pa
 
 -- the table is what the reader of packs left, which read so many files
 abbrev pub Listed : (pack table : List ℕ) (files : ℕ) → Type 0
-Listed pack table files = (Ok files ≡ answer_of (pack_of plain pack (length table))) × (table ≡ table_for plain pack (length table))
+Listed pack table files = (Ok files ≡ packs.answer_of (pack_of plain pack (length table))) × (table ≡ table_for plain pack (length table))
 
 -- ---- A pack that was read
 
@@ -58,10 +58,10 @@ pub record Has (pack : List ℕ) (words files : ℕ) : Type 0 where
   pub lays : PackLays plain stored pack
 
 module _ (pack : List ℕ) (small : Small pack) where
-  pub has : (words : ℕ) {files : ℕ} → Ok files ≡ answer_of (pack_of plain pack words) → Has pack words files
+  pub has : (words : ℕ) {files : ℕ} → Ok files ≡ packs.answer_of (pack_of plain pack words) → Has pack words files
   unfolding pack_of to_pack
   has words {files} e = go (pack_at plain pack (pack_room words)) refl e where
-    go : (x : Answer (List Stored)) → pack_at plain pack (pack_room words) ≡ x → Ok files ≡ answer_of (to_pack x) → Has pack words files
+    go : (x : Answer (List Stored)) → pack_at plain pack (pack_room words) ≡ x → Ok files ≡ packs.answer_of (to_pack x) → Has pack words files
     go (refused n p) q e = differ cc
     go (read fs end) q e = record {
       stored = fs;
@@ -124,7 +124,7 @@ module _ (enums pack into : List ℕ) (row_words words : ℕ) where
   unfolding add_of left table_left
   no_room h = rw (lt-leb 65536 (room_of row_words) h) (refl, refl, refl)
 
-  pack_not : (x : Pack) {n p : ℕ} → Err (answers.refusal n p) ≡ answer_of x → (Err (answers.refusal n p) ≡ added_as (by_pack (opened enums) x into)) × (into ≡ left (by_pack (opened enums) x into) into)
+  pack_not : (x : Pack) {n p : ℕ} → Err (answers.refusal n p) ≡ packs.answer_of x → (Err (answers.refusal n p) ≡ added_as (by_pack (opened enums) x into)) × (into ≡ left (by_pack (opened enums) x into) into)
       × (table_of plain x words ≡ table_left (by_pack (opened enums) x into) words pack)
   unfolding by_pack left table_left table_of
   pack_not (refusal m q) {n} {p} e =
@@ -133,7 +133,7 @@ module _ (enums pack into : List ℕ) (row_words words : ℕ) where
       (rw (a, b), refl, refl)
   pack_not (accepted fs) e = differ cc
 
-  pub pack_refused : 65536 ≤ room_of row_words → {n p : ℕ} → Err (answers.refusal n p) ≡ answer_of (pack_of plain pack words)
+  pub pack_refused : 65536 ≤ room_of row_words → {n p : ℕ} → Err (answers.refusal n p) ≡ packs.answer_of (pack_of plain pack words)
       → (Err (answers.refusal n p) ≡ added_as whole) × (into ≡ left whole into) × (table_for plain pack words ≡ table_left whole words pack)
   pack_refused h e = rw (← room_enough h) (pack_not (pack_of plain pack words) e)
 
@@ -157,6 +157,6 @@ clear_so l e h =
     let n : length (cleared l 0) ≡ length l = ap length (all_cleared l) ∙ length-replicate {A = ℕ} (length l) 0 in
     record { room = omega (arith, e, h); zeros = rw n (all_cleared l) }
 
-pub listed : (pack entry exit : List ℕ) {files : ℕ} → length exit ≡ length entry → Ok files ≡ answer_of (pack_of plain pack (length entry))
+pub listed : (pack entry exit : List ℕ) {files : ℕ} → length exit ≡ length entry → Ok files ≡ packs.answer_of (pack_of plain pack (length entry))
     → exit ≡ table_for plain pack (length entry) → Listed pack exit files
 listed pack entry exit n e t = rw n (e, t)

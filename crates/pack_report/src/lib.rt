@@ -78,11 +78,11 @@ fn add_read(
 {
     let mut figures = [0u64; 132];
     count_files(pack, enums, table, files, words, &mut figures);
-    if pack_sums::sum(report, &figures) {
-        return Ok(());
+    let summed = pack_sums::sum(report, &figures);
+    if summed.is_err() {
+        fill::clear(table, 0);
     }
-    fill::clear(table, 0);
-    Err(Rule::FigureTooLarge.at(0))
+    summed
 }
 
 // Adds a pack to a report, under a list of enum types. The table is left as by the reader of packs, with zeros after a refusal, and the words are left zero.
