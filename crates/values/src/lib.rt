@@ -7,6 +7,7 @@ ghost use Rattle.reading.specs.Fixed.{is_boolean, is_date_time, is_decimal, rule
 ghost use Rattle.answers.specs.Told.{told};
 
 use answers::{Number, Read, Rule};
+use names::kinds::{BOOLEAN, DATE_TIME, DECIMAL};
 use widen::wide;
 
 // 01: "Each kind has a number and, where fixed, a size in bytes": 0 where none is fixed, and for Enum.
@@ -18,11 +19,10 @@ const SIZES: [u8; 31] = [
 pub fn size_of_kind(kind: u32) -> usize
     ensures { result ≡ get_or sizes kind 0 }
 {
-    if 31 <= kind {
-        return 0;
+    match SIZES.get(kind as usize) {
+        Some(size) => wide(*size) as usize,
+        None => 0,
     }
-    let i = kind as usize;
-    wide(SIZES[i]) as usize
 }
 
 fn boolean(own: &[u8]) -> bool
@@ -73,9 +73,9 @@ pub fn keeps_rule(kind: u32, own: &[u8]) -> bool
     ensures { result ≡ rule kind own.now }
 {
     match kind {
-        11 => boolean(own),
-        21 => date_time(own),
-        22 => decimal(own),
+        BOOLEAN => boolean(own),
+        DATE_TIME => date_time(own),
+        DECIMAL => decimal(own),
         _ => true,
     }
 }
@@ -84,10 +84,7 @@ pub fn keeps_rule(kind: u32, own: &[u8]) -> bool
 fn left(file: &[u8], at: usize) -> usize
     ensures { result ≡ length (drop at file.now) }
 {
-    if file.len() < at {
-        return 0;
-    }
-    file.len() - at
+    file.len().saturating_sub(at)
 }
 
 // The `size` bytes from `at` on, where there are as many; none past the end.
@@ -125,7 +122,7 @@ pub fn fixed_at(file: &[u8], kind: u32, size: usize, at: usize) -> Number
     }
     let next = at + size;
     match kind {
-        11 | 21 | 22 => judged(file, kind, size, at),
+        BOOLEAN | DATE_TIME | DECIMAL => judged(file, kind, size, at),
         _ => Ok(Read {
             value: size as u64,
             next,

@@ -2,7 +2,6 @@
 use lib.ListN.{length}
 use borrow.Author.Tests.{eq-eqb, ne_eqb}
 use Rattle.reading.specs.Fixed.{is_boolean}
-use borrow.Author.Rules.{rules}
 use Rattle.values.proofs.boolean.Goals as goal
 
 pub returns-then-own-ne1 : goal.returns-then-own-ne1

@@ -6,7 +6,6 @@ use borrow.Author.Tests.{eq-eqb, ne_eqb, le-leb, lt-leb}
 use Rattle.answers.specs.Told.{told}
 use Rattle.reading.specs.Fixed.{is_date_time}
 use Rattle.values.proofs.Laws.{no_refusal, eight_value}
-use borrow.Author.Rules.{rules}
 use Rattle.values.proofs.date_time.Goals as goal
 
 pub returns-then-own-ne8 : goal.returns-then-own-ne8

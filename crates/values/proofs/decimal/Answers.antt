@@ -1,6 +1,5 @@
 -- `values::decimal` meets its contract: the same tests in the same order. Assumes nothing.
 use lib.ListN.{length, get_or}
-use borrow.Author.Rules.{rules}
 use borrow.Author.Tests.{eq-eqb, ne_eqb, le-leb, lt-leb}
 use Rattle.reading.specs.Fixed.{is_decimal}
 use Rattle.values.proofs.decimal.Goals as goal

@@ -3,7 +3,6 @@ use mathlib.Core.Path.{sym}
 use native.Mathlib.Omega.{arith}
 use lib.ListN.{length-drop}
 use Rattle.values.proofs.Laws.{missing, kept, no_rule}
-use borrow.Author.Rules.{rules}
 use Rattle.values.proofs.fixed_at.Goals as goal
 
 pub returns-then-left-size : goal.returns-then-left-size

@@ -4,7 +4,6 @@ use native.Mathlib.Omega.{arith}
 use lib.ListN.{take, drop, length-drop}
 use Rattle.reading.specs.Fixed.{rule}
 use Rattle.values.proofs.Laws.{kept, broken}
-use borrow.Author.Rules.{rules}
 use Rattle.values.proofs.judged.Goals.{After-keeps_rule}
 use Rattle.values.proofs.judged.Goals as goal
 

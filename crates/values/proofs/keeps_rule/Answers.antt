@@ -2,7 +2,6 @@
 use mathlib.Core.Path.{sym}
 use Rattle.reading.specs.Fixed.{rule}
 use Rattle.values.proofs.Laws.{no_rule}
-use borrow.Author.Rules.{rules}
 use Rattle.values.proofs.keeps_rule.Goals as goal
 
 pub returns-in-11 : goal.returns-in-11

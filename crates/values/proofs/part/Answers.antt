@@ -4,7 +4,6 @@ use Prim.Native.Nat.{◌+◌, ◌-◌}
 use native.Mathlib.Omega.{arith}
 use lib.ListN.{length-drop, drop_of_length-le}
 use lib.Seq.{take-nil}
-use borrow.Author.Rules.{rules}
 use Rattle.values.proofs.part.Goals as goal
 
 pub returns-then-file-at : goal.returns-then-file-at

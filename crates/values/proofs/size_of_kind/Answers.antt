@@ -1,14 +1,12 @@
 -- `values::size_of_kind` meets its contract: the constant array is the definition's table. Assumes nothing.
-use mathlib.Core.Path.{sym}
-use lib.ListN.{get_or-eq_default}
+use Rattle.std.proofs.Common.{arith, ◌∙◌}
 use Rattle.layout.specs.Fixed.{sizes}
-use borrow.Author.Rules.{rules}
 use Rattle.values.proofs.size_of_kind.Goals as goal
 
-pub returns-then-kind-ge31 : goal.returns-then-kind-ge31
+pub returns-in-Some : goal.returns-in-Some
 unfolding sizes
-returns-then-kind-ge31 c = sym (get_or-eq_default sizes 0 c.if-kind-ge31.true)
+returns-in-Some c = c.wide.ensures.0 ∙ c.in-Some.ensures.lookup.4 (omega arith) 0
 
-pub returns : goal.returns
+pub returns-in-None : goal.returns-in-None
 unfolding sizes
-returns c = c.wide.ensures.0
+returns-in-None c = c.in-None.ensures.lookup.4 (omega arith) 0
