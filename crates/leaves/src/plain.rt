@@ -133,12 +133,7 @@ pub fn read_fixed(
     ensures value { result ≡ leaf_answer used 0 (plain_value file.now grid.room 0 (Plain.Fixed kind size) at used depth) }
     ensures words_after { words.new ≡ value_left grid file.now words.old 0 (Plain.Fixed kind size) at used depth parent }
 {
-    if depth == 0 {
-        return Err(Rule::TooDeep.at(at));
-    }
-    if grid.room <= used {
-        return Err(Rule::NoRowLeft.at(at));
-    }
+    walked::room::room_for(depth, grid.room, used, at)?;
     let h = Head {
         row: RowNumber(used),
         first: at,
@@ -166,12 +161,7 @@ pub fn read_plain(
         ≡ leaf_answer used (plain_pad file.now slot 0 at) (plain_value file.now grid.room shared slot at used depth) }
     ensures words_after { words.new ≡ value_left grid file.now words.old shared slot at used depth parent }
 {
-    if depth == 0 {
-        return Err(Rule::TooDeep.at(at));
-    }
-    if grid.room <= used {
-        return Err(Rule::NoRowLeft.at(at));
-    }
+    walked::room::room_for(depth, grid.room, used, at)?;
     let h = Head {
         row: RowNumber(used),
         first: at,
