@@ -1,4 +1,6 @@
 // Kinds that code names, as 01, "Values and kinds", numbers them, and the first bytes of the codes of heads with arguments.
+pub const NULL: u32 = 0;
+
 pub const BYTE: u32 = 1;
 
 pub const SBYTE: u32 = 2;

@@ -4,6 +4,8 @@
 ghost use Rattle.std.specs.Prelude.{◌≡◌};
 ghost use Rattle.layout.specs.Shortest.{numbered as starts_with_id};
 
+use names::kinds::{NULL, SHARED_REFERENCE};
+
 // Whether a value of a kind and a detail starts with a type id or a resource id.
 pub fn numbered(kind: u32, detail: u32) -> bool
     ensures { result ≡ starts_with_id kind detail }
@@ -11,8 +13,8 @@ pub fn numbered(kind: u32, detail: u32) -> bool
     if detail != 0 {
         return true;
     }
-    if kind == 0 {
+    if kind == NULL {
         return true;
     }
-    kind == 36
+    kind == SHARED_REFERENCE
 }
