@@ -10,7 +10,7 @@ ghost use Rattle.key_repeats.specs.Gathered.{Notes, Gathers, key_place, LowestKe
 ghost use Rattle.key_repeats.specs.Steps.{Alike, Earlier, KeysFault, RepeatedKeys};
 
 use fault_places::lower;
-use key_order::{Keys, certified};
+use key_order::Keys;
 use names::kinds;
 use used_rows::UsedRows;
 
@@ -34,7 +34,8 @@ fn note(keys: &mut [u32], m: u32, row: u32, kind: u32) -> u32
 // The rows of the String keys among n, the first of which has this row.
 fn gather(rows: UsedRows, first: u32, n: u32, keys: &mut [u32]) -> u32
     requires { (n ≤ length keys.old) × (n ≤ 32768) }
-    ensures { Gathers rows.entry.table.grid rows.entry.table.words.now rows.entry.used n first keys.new result × (length keys.new ≡ length keys.old) }
+    ensures { Gathers rows.entry.table.grid rows.entry.table.words.now rows.entry.used n first keys.new result
+        × (length keys.new ≡ length keys.old) × (result ≤ n) }
 {
     let mut row = first;
     let mut m: u32 = 0;
@@ -138,17 +139,7 @@ fn neighbours(keys: Keys, order: &[u16], m: u32) -> Option<usize>
     best
 }
 
-// The lowest place of a key that has the text of an earlier one: by an order of the keys, and by pairs where the order fails its test.
-fn sorted(keys: Keys, order: &mut [u16], spare: &mut [u16], m: u32) -> Option<usize>
-    ensures { LowestKey keys.entry.file.now keys.entry.table.grid keys.entry.table.words.now keys.entry.rows.now m result }
-{
-    if !certified(keys, order, spare, m as usize) {
-        return pairs(keys, m);
-    }
-    neighbours(keys, order, m)
-}
-
-// The keys of a dictionary, of which there are at most 16.
+// The keys of a dictionary, of which there are at most 16: by pairs.
 fn few_keys(file: &[u8], rows: UsedRows, first: u32, n: u32) -> Option<usize>
     requires { n ≤ 16 }
     ensures { LowestAmong file.now rows.entry.table.grid rows.entry.table.words.now rows.entry.used n first result }
@@ -163,21 +154,22 @@ fn few_keys(file: &[u8], rows: UsedRows, first: u32, n: u32) -> Option<usize>
     pairs(keys, m)
 }
 
-// The same with at most N: no more room is cleared than so many keys need.
+// The same with at most N, by an order of the keys: no more room is cleared than so many keys need.
 fn many_keys<const N: usize>(file: &[u8], rows: UsedRows, first: u32, n: u32) -> Option<usize>
     requires { (n ≤ N) × (N ≤ 32768) }
     ensures { LowestAmong file.now rows.entry.table.grid rows.entry.table.words.now rows.entry.used n first result }
 {
     let mut keys = [0u32; N];
     let mut order = [0u16; N];
-    let mut spare = [0u16; N];
     let m = gather(rows, first, n, &mut keys);
     let keys = Keys {
         file,
         table: rows.table,
         rows: &keys,
     };
-    sorted(keys, &mut order, &mut spare, m)
+    let order = &mut order[..m as usize];
+    keys.sort(order);
+    neighbours(keys, order, m)
 }
 
 // The lowest place of a key that repeats an earlier one, if this row is a dictionary.

@@ -1,5 +1,4 @@
--- Texts in an order that was found in any way: what is tested of the order, and that its neighbours then tell which texts repeat an earlier one.
--- A sort needs no proof of its own: the test of what it left is proved, and where the test fails, pairs are compared. Assumes nothing.
+-- Texts in an order: what is known of the order, and that its neighbours then tell which texts repeat an earlier one. Assumes nothing.
 use Rattle.std.specs.Prelude.{◌≡◌, refl, Bool, true, false, ◌⊎◌, ℕ, zero, suc, ◌<◌, ◌≤◌, eqb, ltb}
 use Rattle.std.proofs.Common.{sym, ap, ◌∙◌, inl, inr, arith, eqb-true, ltb-true, ltb-false}
 use Rattle.std.proofs.lemmas.Bool.{eqb-false}
@@ -10,7 +9,7 @@ module _ {T : Type 0} (Less : T → T → Type 0) (trans : (s t u : T) → Less 
   abbrev pub Before : (a b : ℕ) → Type 0
   Before a b = Less (text a) (text b) ⊎ ((text a ≡ text b) × (a < b))
 
-  -- what is tested of the numbers that stand in an order, `order j` at place j
+  -- what is known of the numbers that stand in an order, `order j` at place j
   pub record Certificate (order : ℕ → ℕ) : Type 0 where
     -- each stands somewhere: place `of i` has i
     pub of : ℕ → ℕ

@@ -11,7 +11,7 @@ loop-init c =
 pub returns-then-rows-row : goal.returns-then-rows-row
 returns-then-rows-row c =
     let a = c.args in
-    (λ rows d. rows-ended a.rows.table.grid a.rows.table.words.now a.rows.used a.n a.first rows d c.loop.keys c.loop.m (a.n - c.loop.counter) c.loop.row c.if-rows-row.true (c.loop.invariant.2 rows d), c.loop.invariant.1)
+    (λ rows d. rows-ended a.rows.table.grid a.rows.table.words.now a.rows.used a.n a.first rows d c.loop.keys c.loop.m (a.n - c.loop.counter) c.loop.row c.if-rows-row.true (c.loop.invariant.2 rows d), c.loop.invariant.1, omega (arith, c.loop.invariant.0))
 
 pub loop-preserved : goal.loop-preserved
 loop-preserved c =
@@ -26,4 +26,4 @@ loop-preserved c =
 pub returns : goal.returns
 returns c =
     let a = c.args in
-    (λ rows d. all_gathered a.rows.table.grid a.rows.table.words.now a.rows.used a.n a.first rows d c.loop.keys c.loop.m (a.n - c.loop.counter) c.loop.row (omega arith) (c.loop.invariant.2 rows d), c.loop.invariant.1)
+    (λ rows d. all_gathered a.rows.table.grid a.rows.table.words.now a.rows.used a.n a.first rows d c.loop.keys c.loop.m (a.n - c.loop.counter) c.loop.row (omega arith) (c.loop.invariant.2 rows d), c.loop.invariant.1, omega (arith, c.loop.invariant.0))

@@ -1,5 +1,0 @@
-use Rattle.std.proofs.Common.{◌≡◌, ◌<◌, ◌≤◌, ℕ, length, get_or}
-use Rattle.key_order.proofs.covered.Given as goal
-
-abbrev pub invariant-loop-i : goal.invariant-loop-i
-invariant-loop-i l = (l.n ≤ length l.of) × ((k : ℕ) → k < l.i → (get_or l.of k 0 < l.n) × (get_or l.order (get_or l.of k 0) 0 ≡ k))
