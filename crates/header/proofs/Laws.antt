@@ -1,12 +1,13 @@
 -- What the header's tests say, in file order. Assumes nothing.
-use mathlib.Core.Path.{◌≡◌}
-use mathlib.Core.Bool.{true, false}
-use mathlib.Core.List.{List}
+use mathlib.Core.Path.{◌≡◌, refl, sym, ap, ◌∙◌}
+use mathlib.Core.Bool.{Bool, true, false}
+use mathlib.Core.List.{List, ◌∷◌}
+use lib.Seq.{drop-cons}
 use Prim.Native.Nat.{ℕ, ◌≤◌, ◌<◌}
 use native.Mathlib.Omega.{arith}
 use lib.Dec.{ltb, leb, eqb}
 use lib.ListN.{length, take, drop, get_or, length-drop}
-use borrow.Author.Tests.{le-leb, lt-leb, le-ltb, lt-ltb, eq-eqb, ne_eqb}
+use borrow.Author.Tests.{le-leb, lt-leb, le-ltb, lt-ltb, eq-eqb, ne_eqb, eqb-true, leb-true}
 use Rattle.layout.specs.Number.{value_of}
 use Rattle.std.specs.Prelude.{Ok, Err}
 use Rattle.answers.specs.Refusals.{refusal}
@@ -47,17 +48,32 @@ pub short : (file : List ℕ) → length file ≤ 16777216 → length file < 10 
 unfolding header_at check
 short file s h = rw (le-leb (length file) 16777216 s, lt-leb 10 (length file) h)
 
-pub first : (file : List ℕ) → Sized file → (get_or file 0 0 ≡ 0x58 → ⊥) → Refuses file 2 0
+pub first_letters : (file : List ℕ) → Sized file → ((get_or file 0 0 ≡ 0x58) → (get_or file 1 0 ≡ 0x4E) → (get_or file 2 0 ≡ 0x42) → ⊥) → Refuses file 2 0
 unfolding header_at check
-first file s h = rw (s.0, s.1, ne_eqb (get_or file 0 0) 0x58 h)
+first_letters file s h = go (eqb (get_or file 0 0) 0x58) (eqb (get_or file 1 0) 0x4E) (eqb (get_or file 2 0) 0x42) refl refl refl where
+  go : (a b d : Bool) → eqb (get_or file 0 0) 0x58 ≡ a → eqb (get_or file 1 0) 0x4E ≡ b → eqb (get_or file 2 0) 0x42 ≡ d → Refuses file 2 0
+  go false b d p q r = rw (s.0, s.1, p)
+  go true false d p q r = rw (s.0, s.1, p, q)
+  go true true false p q r = rw (s.0, s.1, p, q, r)
+  go true true true p q r = absurd (h (eqb-true _ _ p) (eqb-true _ _ q) (eqb-true _ _ r))
 
-pub second : (file : List ℕ) → Sized file → get_or file 0 0 ≡ 0x58 → (get_or file 1 0 ≡ 0x4E → ⊥) → Refuses file 2 0
-unfolding header_at check
-second file s a h = rw (s.0, s.1, eq-eqb (get_or file 0 0) 0x58 a, ne_eqb (get_or file 1 0) 0x4E h)
+-- a file starts with three letters where its first three bytes are these
+spelled : (file : List ℕ) → 3 ≤ length file → file ≡ get_or file 0 0 ∷ get_or file 1 0 ∷ get_or file 2 0 ∷ drop 3 file
+spelled file h =
+    drop-cons file 0 0 (omega arith)
+    ∙ ap (λ (l : List ℕ). get_or file 0 0 ∷ l) (drop-cons file 1 0 (omega arith) ∙ ap (λ (l : List ℕ). get_or file 1 0 ∷ l) (drop-cons file 2 0 (omega arith)))
 
-pub third : (file : List ℕ) → Sized file → get_or file 0 0 ≡ 0x58 → get_or file 1 0 ≡ 0x4E → (get_or file 2 0 ≡ 0x42 → ⊥) → Refuses file 2 0
-unfolding header_at check
-third file s a b h = rw (s.0, s.1, eq-eqb (get_or file 0 0) 0x58 a, eq-eqb (get_or file 1 0) 0x4E b, ne_eqb (get_or file 2 0) 0x42 h)
+pub not_spelled : (file : List ℕ) → Sized file → (0x58 ∷ 0x4E ∷ 0x42 ∷ drop 3 file ≡ file → ⊥) → Refuses file 2 0
+not_spelled file s h =
+    let l = leb-true 10 (length file) s.1 in
+    first_letters file s (λ a b d. h (rw (← a, ← b, ← d) (sym (spelled file (omega arith)))))
+
+pub is_spelled : (file : List ℕ) → Sized file → file ≡ 0x58 ∷ 0x4E ∷ 0x42 ∷ drop 3 file → Lettered file
+is_spelled file s e =
+    let a : get_or file 0 0 ≡ 0x58 = ap (λ (l : List ℕ). get_or l 0 0) e in
+    let b : get_or file 1 0 ≡ 0x4E = ap (λ (l : List ℕ). get_or l 1 0) e in
+    let d : get_or file 2 0 ≡ 0x42 = ap (λ (l : List ℕ). get_or l 2 0) e in
+    (s, eq-eqb _ _ a, eq-eqb _ _ b, eq-eqb _ _ d)
 
 pub platform : (file : List ℕ) → Lettered file → is_platform (get_or file 3 0) ≡ false → Refuses file 3 3
 unfolding header_at check

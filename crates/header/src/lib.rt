@@ -12,13 +12,7 @@ use answers::{Number, Read, Rule};
 fn is_platform(b: u8) -> bool
     ensures { result ≡ is_platform b }
 {
-    if b == 0x77 {
-        return true;
-    }
-    if b == 0x6D {
-        return true;
-    }
-    b == 0x78
+    b"wmx".contains(&b)
 }
 
 // The length that the file's bytes 6 to 9 say.
@@ -42,13 +36,7 @@ pub fn header(file: &[u8]) -> Number
     if file.len() < 10 {
         return Err(Rule::PastEnd.at(0));
     }
-    if file[0] != 0x58 {
-        return Err(Rule::NotXnb.at(0));
-    }
-    if file[1] != 0x4E {
-        return Err(Rule::NotXnb.at(0));
-    }
-    if file[2] != 0x42 {
+    if !file.starts_with(b"XNB") {
         return Err(Rule::NotXnb.at(0));
     }
     if !is_platform(file[3]) {

@@ -1,20 +1,17 @@
--- `header::is_platform` meets its contract. Assumes nothing.
-use borrow.Author.Tests.{eq-eqb, ne_eqb}
+use Rattle.std.proofs.Common.{◌≡◌, refl, ◌∙◌, Bool, true, false, ◌||◌, ℕ, arith, eqb}
+use Rattle.std.proofs.lemmas.Bool.Decides.{nat_tests}
 use Rattle.reading.specs.File.{is_platform}
 use Rattle.header.proofs.is_platform.Goals as goal
 
-pub returns-then-b-eq119 : goal.returns-then-b-eq119
-unfolding is_platform
-returns-then-b-eq119 c = rw (eq-eqb c.args.b 0x77 c.if-b-eq119.true)
+turned : (a b : ℕ) → eqb a b ≡ eqb b a
+turned a b = grind (arith, nat_tests)
 
-pub returns-then-b-eq109 : goal.returns-then-b-eq109
-unfolding is_platform
-returns-then-b-eq109 c =
-    let b = c.args.b in
-    rw (ne_eqb b 0x77 c.if-b-eq119.false, eq-eqb b 0x6D c.if-b-eq109.true)
+or_none : (a : Bool) → (a || false) ≡ a
+or_none true = refl
+or_none false = refl
 
 pub returns : goal.returns
 unfolding is_platform
 returns c =
     let b = c.args.b in
-    rw (ne_eqb b 0x77 c.if-b-eq119.false, ne_eqb b 0x6D c.if-b-eq109.false)
+    c.contains.ensures.value ∙ rw (turned 119 b, turned 109 b, turned 120 b, or_none (eqb b 120))
