@@ -10,6 +10,7 @@ ghost use Rattle.names.specs.Entries.{entries_of};
 ghost use Rattle.seen_names.specs.Seen.{noted};
 
 use answers::{Refusal, Rule};
+use names::bytes::Class;
 use seen_names::note;
 use widen::wide;
 
@@ -30,7 +31,7 @@ fn is_enum_type(name: &[u8], size: u8) -> bool
     if name.len() == 0 {
         return false;
     }
-    if names::bytes::run(name, false) != name.len() {
+    if names::bytes::run(name, Class::Head) != name.len() {
         return false;
     }
     names::tables::kind_of(name, false) == 0

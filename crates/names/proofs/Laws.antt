@@ -6,8 +6,9 @@ use Prim.Native.Nat.{ℕ, suc, ◌+◌, ◌-◌, ◌≤◌, ◌<◌}
 use native.Mathlib.Omega.{arith}
 use lib.Dec.{eqb}
 use lib.ListN.{length, take, drop, get_or, length-drop, length-append, take-append-drop, drop_of_length-le}
-use lib.Seq.{drop-cons, drop-drop, get_or-drop, take_all, take-suc, length-take-le}
-use Rattle.std.specs.List.{prefix_len}
+use lib.Seq.{drop-cons, take_all, take-suc, length-take-le}
+use Rattle.std.specs.List.{prefix_len, zip}
+use Rattle.std.specs.Cmp.Lexicographic.{pointwise}
 use borrow.Author.Tests.{eq-eqb, ne_eqb}
 use Rattle.laws.specs.Small.{neither}
 use Rattle.layout.specs.Text.{ascii}
@@ -17,7 +18,7 @@ use Rattle.names.specs.Parse.{span, starts, common, tail_size, tail_of}
 use Rattle.answers.specs.declared.Rule.{Rule}
 use Rattle.answers.specs.declared.Rule.TheVariants.{TailByte, ArgumentBrackets}
 use Rattle.names.specs.Contract.{rule_by, rule_behind}
-use Rattle.names.specs.Common.{starts-common, common_yes, common-none, common-fits, starts-longer}
+use Rattle.names.specs.Common.{common-none, common-fits, starts-longer}
 use Rattle.names.specs.Sound.{starts_is, span_le}
 use Rattle.names.specs.Complete.{span-past}
 
@@ -59,20 +60,11 @@ module _ (p : ℕ → Bool) (s : List ℕ) (i : ℕ) where
       let z : span p (drop i s) ≡ suc (span p (drop (i + 1) s)) = ap (span p) (cons_at s i h) ∙ span_yes p (get_or s i 0) (drop (i + 1) s) b in
       omega arith
 
-  -- a block of n bytes
-  pub span_block : (n : ℕ) → i + n ≤ length s → all p (take n (drop i s)) ≡ true → span p s ≡ i + span p (drop i s) →
-      span p s ≡ i + n + span p (drop (i + n) s)
-  span_block n h b e =
-      let d : take n (drop i s) ++ drop (i + n) s ≡ drop i s = rw (sym (drop-drop n i s)) (take-append-drop n (drop i s)) in
-      let z = ap (span p) (sym d) ∙ span-past p (take n (drop i s)) (drop (i + n) s) b in
-      omega (arith, z, length-take-le n (drop i s) (omega (arith, length-drop i s)))
-
--- one byte more of the list from `at` on
-pub take_next : (s : List ℕ) (at i : ℕ) → at + i < length s → take (i + 1) (drop at s) ≡ take i (drop at s) ++ (get_or s (at + i) 0 ∷ [])
-take_next s at i h =
-    let q : i + 1 ≡ suc i = omega arith in
-    let z = take-suc (drop at s) i 0 (omega (arith, length-drop at s)) in
-    ap (λ (k : ℕ). take k (drop at s)) q ∙ z ∙ ap (λ (b : ℕ). take i (drop at s) ++ (b ∷ [])) (get_or-drop at s i 0)
+-- a block of n bytes at the front
+pub span_block : (p : ℕ → Bool) (s : List ℕ) (n : ℕ) → n ≤ length s → all p (take n s) ≡ true → span p s ≡ n + span p (drop n s)
+span_block p s n h b =
+    let z = ap (span p) (sym (take-append-drop n s)) ∙ span-past p (take n s) (drop n s) b in
+    omega (arith, z, length-take-le n s h)
 
 all_join : (p : ℕ → Bool) (s t : List ℕ) → all p (s ++ t) ≡ (all p s && all p t)
 unfolding all
@@ -80,43 +72,29 @@ all_join p [] t = refl
 all_join p (b ∷ s) t = rw (all_join p s t) (sym (and_assoc (p b) (all p s) (all p t)))
 
 -- whether one of some bytes is not of the class, with one byte more
-pub other_step : (p : ℕ → Bool) (s : List ℕ) (at i : ℕ) (other : Bool) → at + i < length s →
-    other ≡ not (all p (take i (drop at s))) →
-    (other || not (p (get_or s (at + i) 0))) ≡ not (all p (take (i + 1) (drop at s)))
+pub other_step : (p : ℕ → Bool) (s : List ℕ) (i : ℕ) (other : Bool) → i < length s → other ≡ not (all p (take i s)) → (other || not (p (get_or s i 0))) ≡ not (all p (take (i + 1) s))
 unfolding all
-other_step p s at i other h e =
-    rw (e, take_next s at i h, all_join p (take i (drop at s)) (get_or s (at + i) 0 ∷ [])) (go (all p (take i (drop at s))) (p (get_or s (at + i) 0))) where
+other_step p s i other h e =
+    let q : i + 1 ≡ suc i = omega arith in
+    rw (e, q, take-suc s i 0 h, all_join p (take i s) (get_or s i 0 ∷ [])) (go (all p (take i s)) (p (get_or s i 0))) where
       go : (x y : Bool) → (not x || not y) ≡ not (x && (y && true))
       go true true = refl
       go true false = refl
       go false y = refl
 
-common_no : (a b : ℕ) (t s : List ℕ) → (a ≡ b → ⊥) → common (a ∷ t) (b ∷ s) ≡ 0
+-- the pairs of two texts that are equal, as the library counts them
+pub common_is_prefix : (t s : List ℕ) → prefix_len (λ p. eqb p.0 p.1) (zip t s) ≡ common t s
 unfolding common
-common_no a b t s e = rw (ne_eqb a b e)
+common_is_prefix [] s = refl
+common_is_prefix (a ∷ t) [] = refl
+common_is_prefix (a ∷ t) (b ∷ s) = ap (λ (k : ℕ). cond (eqb a b) k 0) (omega (arith, common_is_prefix t s))
 
--- a text from its i-th byte on, in s from `at` on
-module _ (t s : List ℕ) (at i : ℕ) (e : common t (drop at s) ≡ i + common (drop i t) (drop (at + i) s)) where
-  pub common-end : length t ≤ i → i ≡ common t (drop at s)
-  unfolding common
-  common-end h = let d : drop i t ≡ [] = drop_of_length-le t h in omega (arith, rw d at e)
-
-  pub common-short : length s ≤ at + i → i ≡ common t (drop at s)
-  common-short h =
-      let z : common (drop i t) (drop (at + i) s) ≡ 0 = ap (common (drop i t)) (drop_of_length-le s h) ∙ common-none (drop i t) in
-      omega arith
-
-  pub common-stop : i < length t → at + i < length s → (get_or t i 0 ≡ get_or s (at + i) 0 → ⊥) → i ≡ common t (drop at s)
-  common-stop h k b =
-      let z : common (drop i t) (drop (at + i) s) ≡ 0 = rw (cons_at t i h, cons_at s (at + i) k) (common_no _ _ _ _ b) in
-      omega arith
-
-  pub common-step : i < length t → at + i < length s → get_or t i 0 ≡ get_or s (at + i) 0 → common t (drop at s) ≡ i + 1 + common (drop (i + 1) t) (drop (at + (i + 1)) s)
-  common-step h k b =
-      let q : at + i + 1 ≡ at + (i + 1) = omega arith in
-      let z : common (drop i t) (drop (at + i) s) ≡ suc (common (drop (i + 1) t) (drop (at + (i + 1)) s))
-      = rw (cons_at t i h, cons_at s (at + i) k) (common_yes _ _ _ _ b) ∙ ap (λ (k : ℕ). suc (common (drop (i + 1) t) (drop k s))) q in
-      omega arith
+-- a text that stands first, as the library tests it
+pub starts_are : (t s : List ℕ) → pointwise eqb t (take (length t) s) ≡ starts t s
+unfolding starts
+starts_are [] s = refl
+starts_are (a ∷ t) [] = refl
+starts_are (a ∷ t) (b ∷ s) = rw (starts_are t s)
 
 -- none of a text stands behind the end
 pub common-past : (t s : List ℕ) (at : ℕ) → length s ≤ at → 0 ≡ common t (drop at s)
@@ -182,10 +160,6 @@ module _ (s : List ℕ) (e : ℕ) (other : Rule) where
   pub behind_other : e < length s → (get_or s e 0 ≡ code "]" → ⊥) → other ≡ rule_behind other (drop e s)
   unfolding rule_behind
   behind_other h b = rw (cons_at s e h, ne_eqb (get_or s e 0) (code "]") b)
-
--- whether a text stands there, by how much of it does
-pub stands_is : (t s : List ℕ) (m : ℕ) → m ≡ common t s → eqb m (length t) ≡ starts t s
-stands_is t s m e = ap (λ (k : ℕ). eqb k (length t)) e ∙ sym (starts-common t s)
 
 -- as much of a text as stands there ends within the list
 pub matched_fits : (t s : List ℕ) (at m : ℕ) → at ≤ length s → m ≡ common t (drop at s) → at + m ≤ length s

@@ -1,20 +1,18 @@
 -- A head looked up in a list of entries. Assumes nothing.
 use mathlib.Core.Path.{◌≡◌, refl, sym, ap, ◌∙◌}
-use mathlib.Core.Bool.{Bool, true, false, ◌&&◌, cond, true≢false, and_assoc, and_comm, and-true}
-use mathlib.Core.List.{List, [], ◌∷◌, ◌++◌}
-use Prim.Native.Nat.{ℕ, zero, suc, ◌+◌, ◌-◌, ◌≤◌, ◌<◌, min}
+use mathlib.Core.Bool.{Bool, true, false, ◌&&◌, cond, true≢false}
+use mathlib.Core.List.{List, [], ◌∷◌}
+use Prim.Native.Nat.{ℕ, zero, suc, ◌+◌, ◌-◌, ◌≤◌, ◌<◌}
 use native.Mathlib.Omega.{arith}
 use lib.Dec.{eqb, ltb}
-use lib.ListN.{length, take, drop, get_or, length-take, length-drop, drop_of_length-le}
-use lib.Seq.{get_or-drop, drop-drop, take-add, take_all, length-take-le}
-use borrow.Author.Tests.{lt-ltb, le-ltb, le-leb}
+use lib.ListN.{length, take, drop, get_or, length-drop}
+use borrow.Author.Tests.{lt-ltb, le-ltb, le-leb, eq-eqb, ne_eqb, eqb-true, eqb-false}
 use Rattle.layout.specs.Number.{between}
 use Rattle.layout.specs.Kind.{KindEntry, kind_entry, alike, lookup}
 use Rattle.layout.specs.EnumList.{EnumEntry, entry, write_enums, size_in}
-use Rattle.names.specs.Parse.{starts}
 use Rattle.names.specs.Entries.{entries_in, entries_of, listing}
 use Rattle.names.specs.EntryLaws.{entries-written, listing_is}
-use Rattle.names.proofs.Laws.{cons_at, take_next}
+use Rattle.std.specs.Cmp.Lexicographic.{pointwise}
 
 pub alike-length : (h n : List ℕ) → (length h ≡ length n → ⊥) → false ≡ alike h n
 unfolding alike
@@ -24,59 +22,29 @@ alike-length (a ∷ n) [] e = refl
 alike-length (a ∷ n) (b ∷ h) e =
     elim (eqb a b) as (λ x. false ≡ (x && alike n h)) [ true ↦ alike-length n h (λ q. e (ap suc q)) | false ↦ refl ]
 
-pub alike-starts : (h n : List ℕ) → length h ≡ length n → starts h n ≡ alike h n
-unfolding alike starts
-alike-starts [] [] e = refl
-alike-starts [] (b ∷ h) e = absurd (omega arith)
-alike-starts (a ∷ n) [] e = absurd (omega arith)
-alike-starts (a ∷ n) (b ∷ h) e =
-    let z : length n ≡ length h = omega arith in
-    rw (alike-starts n h z)
-
--- texts in two parts, the first ones of one length
-alike_join : (s t u v : List ℕ) → length s ≡ length t → alike (s ++ u) (t ++ v) ≡ (alike s t && alike u v)
+-- the library's test of two texts
+pub alike_is : (a b : List ℕ) → pointwise eqb a b ≡ alike a b
 unfolding alike
-alike_join [] [] u v e = refl
-alike_join [] (b ∷ t) u v e = absurd (omega arith)
-alike_join (a ∷ s) [] u v e = absurd (omega arith)
-alike_join (a ∷ s) (b ∷ t) u v e =
-    let z : length s ≡ length t = omega arith in
-    rw (alike_join s t u v z) (sym (and_assoc (eqb a b) (alike s t) (alike u v)))
+alike_is [] [] = refl
+alike_is [] (y ∷ b) = refl
+alike_is (x ∷ a) [] = refl
+alike_is (x ∷ a) (y ∷ b) = rw (alike_is a b)
 
--- whether some bytes are the same in both, with one byte more
-pub alike-step : (s t : List ℕ) (at i : ℕ) (same : Bool) → at + i < length s → at + i < length t →
-    same ≡ alike (take i (drop at s)) (take i (drop at t)) →
-    (same && eqb (get_or s (at + i) 0) (get_or t (at + i) 0)) ≡ alike (take (i + 1) (drop at s)) (take (i + 1) (drop at t))
+-- and the other way round
+turned : (x y : ℕ) (b : Bool) → eqb x y ≡ b → eqb y x ≡ b
+turned x y true e = eq-eqb y x (sym (eqb-true x y e))
+turned x y false e = ne_eqb y x (λ q. eqb-false x y e (sym q))
+
+pub alike_turned : (a b : List ℕ) {r : Bool} → pointwise eqb a b ≡ r → alike b a ≡ r
 unfolding alike
-alike-step s t at i same h k e =
-    let x = get_or s (at + i) 0 in
-    let y = get_or t (at + i) 0 in
-    let p = length-take-le i (drop at s) (omega (arith, length-drop at s)) in
-    let q = length-take-le i (drop at t) (omega (arith, length-drop at t)) in
-    rw (e, take_next s at i h, take_next t at i k, alike_join (take i (drop at s)) (take i (drop at t)) (x ∷ []) (y ∷ []) (p ∙ sym q), and-true (eqb x y))
+alike_turned [] [] e = e
+alike_turned [] (y ∷ b) e = e
+alike_turned (x ∷ a) [] e = e
+alike_turned (x ∷ a) (y ∷ b) e = rw (turned x y (eqb x y) refl, alike_turned a b refl) e
 
--- two texts of one length
-module _ (a b : List ℕ) (e : length a ≡ length b) where
-  pub takes-long : (n : ℕ) → length (take n a) ≡ length (take n b)
-  takes-long n = length-take n a ∙ ap (min n) e ∙ sym (length-take n b)
-
-  pub alike-whole : alike a b ≡ alike (take (length a) a) (take (length a) b)
-  alike-whole = rw (take_all (length a) a (omega arith), take_all (length a) b (omega arith))
-
-  -- the bytes before `left`: the last eight of them, and those before these
-  module _ (left : ℕ) (h : 8 ≤ left) where
-    abbrev first : List ℕ → List ℕ
-    first s = take (left - 8) s
-
-    abbrev last : List ℕ → List ℕ
-    last s = take 8 (drop (left - 8) s)
-
-    parts : (s : List ℕ) → take left s ≡ first s ++ last s
-    parts s = ap (λ (k : ℕ). take k s) (let q : left ≡ left - 8 + 8 = omega arith in q) ∙ take-add (left - 8) 8 s
-
-    pub alike_last : {y : Bool} → alike a b ≡ alike (take left a) (take left b) → alike (last a) (last b) ≡ y →
-        alike a b ≡ (y && alike (first a) (first b))
-    alike_last {y} w t = w ∙ rw (parts a, parts b, alike_join (first a) (first b) (last a) (last b) (takes-long (left - 8)), t) (and_comm _ y)
+pub no_bytes : (s : List ℕ) → length s ≡ 0 → s ≡ []
+no_bytes [] e = refl
+no_bytes (b ∷ s) e = absurd (omega arith)
 
 -- no bytes hold no entry
 no_entries : (most : ℕ) → entries_in most [] ≡ []
@@ -84,65 +52,51 @@ unfolding entries_in
 no_entries zero = refl
 no_entries (suc m) = refl
 
--- the entries from `at` on are as good as all
-pub record Left (table head : List ℕ) (at : ℕ) : Type 0 where
+-- the entries that are left are as good as all
+pub record Left (table head rest : List ℕ) : Type 0 where
   pub most : ℕ
-  pub enough : length table ≤ at + most
-  pub same : size_in (entries_in most (drop at table)) head ≡ size_in (entries_of table) head
+  pub enough : length rest ≤ most
+  pub same : size_in (entries_in most rest) head ≡ size_in (entries_of table) head
 
-pub left_start : (table head : List ℕ) → Left table head 0
+pub left_start : (table head : List ℕ) → Left table head table
 unfolding entries_of
 left_start table head = record { most = length table; enough = omega arith; same = refl }
 
-pub find_none : {table head : List ℕ} {at : ℕ} → Left table head at → length table ≤ at → 0 ≡ size_in (entries_of table) head
+pub find_none : {table head : List ℕ} → Left table head [] → 0 ≡ size_in (entries_of table) head
 unfolding size_in
-find_none {table} {head} {at} l h =
-    let d : drop at table ≡ [] = drop_of_length-le table h in
-    sym (ap (λ (s : List ℕ). size_in (entries_in l.most s) head) d ∙ ap (λ (es : List EnumEntry). size_in es head) (no_entries l.most)) ∙ l.same
+find_none {table} {head} l = sym (ap (λ (es : List EnumEntry). size_in es head) (no_entries l.most)) ∙ l.same
 
--- the entry at a place, as the code has it: the length of its name, the name and the byte behind it
-module _ {table head : List ℕ} {at : ℕ} (left : Left table head at) (h : at < length table) where
-  abbrev size : ℕ
-  size = get_or table at 0
-
-  opened : entries_in left.most (drop at table)
-      ≡ cond (ltb size (length (drop (at + 1) table))) (entry (take size (drop (at + 1) table)) (get_or (drop (at + 1) table) size 0) ∷ entries_in (left.most - 1) (drop (suc size) (drop (at + 1) table))) []
+-- the entry that stands first: the length of its name, the name and the byte behind it
+module _ {table head : List ℕ} {size : ℕ} {s : List ℕ} (left : Left table head (size ∷ s)) where
+  opened : entries_in left.most (size ∷ s) ≡ cond (ltb size (length s)) (entry (take size s) (get_or s size 0) ∷ entries_in (left.most - 1) (drop (suc size) s)) []
   unfolding entries_in
   opened =
       let z : left.most ≡ suc (left.most - 1) = omega (arith, left.enough) in
-      ap (entries_in left.most) (cons_at table at h) ∙ ap (λ (m : ℕ). entries_in m (get_or table at 0 ∷ drop (at + 1) table)) z
+      ap (λ (m : ℕ). entries_in m (size ∷ s)) z
 
-  pub find_cut : length table - (at + 1) ≤ size → 0 ≡ size_in (entries_of table) head
+  pub find_cut : length s ≤ size → 0 ≡ size_in (entries_of table) head
   unfolding size_in
   find_cut c =
-      let b = le-ltb size (length (drop (at + 1) table)) (omega (arith, length-drop (at + 1) table)) in
-      let e : entries_in left.most (drop at table) ≡ [] = opened ∙ rw b in
+      let e : entries_in left.most (size ∷ s) ≡ [] = opened ∙ rw (le-ltb size (length s) c) in
       sym (ap (λ (es : List EnumEntry). size_in es head) e) ∙ left.same
 
-  module _ (c : size < length table - (at + 1)) where
-    -- the name, as the code has it
-    name_is : take (at + 1 + size - (at + 1)) (drop (at + 1) table) ≡ take size (drop (at + 1) table)
-    name_is = ap (λ (k : ℕ). take k (drop (at + 1) table)) (let z : at + 1 + size - (at + 1) ≡ size = omega arith in z)
-
-    whole : size_in (entries_in left.most (drop at table)) head
-        ≡ cond (alike head (take size (drop (at + 1) table))) (get_or (drop (at + 1) table) size 0) (size_in (entries_in (left.most - 1) (drop (suc size) (drop (at + 1) table))) head)
+  module _ (c : size < length s) where
+    whole : size_in (entries_in left.most (size ∷ s)) head ≡ cond (alike head (take size s)) (get_or s size 0) (size_in (entries_in (left.most - 1) (drop (suc size) s)) head)
     unfolding size_in
     whole =
-        let b = lt-ltb size (length (drop (at + 1) table)) (omega (arith, length-drop (at + 1) table)) in
-        let e : entries_in left.most (drop at table) ≡ entry (take size (drop (at + 1) table)) (get_or (drop (at + 1) table) size 0) ∷ entries_in (left.most - 1) (drop (suc size) (drop (at + 1) table)) = opened ∙ rw b in
+        let e : entries_in left.most (size ∷ s) ≡ entry (take size s) (get_or s size 0) ∷ entries_in (left.most - 1) (drop (suc size) s) = opened ∙ rw (lt-ltb size (length s) c) in
         ap (λ (es : List EnumEntry). size_in es head) e
 
-    pub find_this : alike head (take (at + 1 + size - (at + 1)) (drop (at + 1) table)) ≡ true → get_or table (at + 1 + size) 0 ≡ size_in (entries_of table) head
-    find_this b = sym (get_or-drop (at + 1) table size 0) ∙ sym (whole ∙ rw (ap (alike head) (sym name_is) ∙ b)) ∙ left.same
+    pub find_this : alike head (take size s) ≡ true → get_or s size 0 ≡ size_in (entries_of table) head
+    find_this b = sym (whole ∙ rw b) ∙ left.same
 
-    pub find_next : alike head (take (at + 1 + size - (at + 1)) (drop (at + 1) table)) ≡ false → Left table head (at + 1 + size + 1)
+    pub find_next : alike head (take size s) ≡ false → Left table head (drop (size + 1) s)
     find_next b =
-        let z : at + 1 + suc size ≡ at + 1 + size + 1 = omega arith in
-        let d : drop (suc size) (drop (at + 1) table) ≡ drop (at + 1 + size + 1) table = drop-drop (suc size) (at + 1) table ∙ ap (λ (k : ℕ). drop k table) z in
+        let z : suc size ≡ size + 1 = omega arith in
         record {
           most = left.most - 1;
-          enough = omega (arith, left.enough);
-          same = ap (λ (s : List ℕ). size_in (entries_in (left.most - 1) s) head) (sym d) ∙ sym (whole ∙ rw (ap (alike head) (sym name_is) ∙ b)) ∙ left.same;
+          enough = omega (arith, left.enough, length-drop (size + 1) s);
+          same = ap (λ (k : ℕ). size_in (entries_in (left.most - 1) (drop k s)) head) (sym z) ∙ sym (whole ∙ rw b) ∙ left.same;
         }
 
 -- an entry, or none

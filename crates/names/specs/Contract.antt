@@ -3,12 +3,14 @@ use Rattle.std.specs.Prelude.{◌≡◌, Bool, true, false, ◌&&◌, cond, List
 use Rattle.std.proofs.lemmas.List.Edits.{sets}
 use Prim.Native.Char.{code}
 use Rattle.layout.specs.Text.{ascii}
-use Rattle.layout.specs.Name.{head_byte, tail_byte, Tail, none, some, Name, simple, one, two}
+use Rattle.layout.specs.Name.{head_byte, tail_byte, Tail as Name-tail, none, some, Name, simple, one, two}
 use Rattle.layout.specs.EnumList.{EnumEntry}
 use Rattle.answers.specs.declared.Refusal.{Refusal}
 use Rattle.answers.specs.declared.Rule.{Rule}
 use Rattle.answers.specs.declared.Rule.TheVariants.{HeadByte, ArgumentBrackets, TailByte}
 use Rattle.answers.specs.Refusals.{refusal, number_of}
+use Rattle.names.specs.declared.bytes.Class.{Class}
+use Rattle.names.specs.declared.bytes.Class.TheVariants.{Head, Tail}
 use Rattle.names.specs.declared.parse.Parsed.{Parsed}
 use Rattle.names.specs.declared.parse.Unnamed.{Unnamed}
 use Rattle.names.specs.declared.parse.Unnamed.TheVariants.{Broken, NoRoom}
@@ -16,13 +18,13 @@ use Rattle.names.specs.Parse.{Read, broken, name, starts, common, tail_size, tai
 use Rattle.names.specs.Heading.{Heading, headings}
 use Rattle.names.specs.Kind.{codes}
 
--- the classes of bytes: those of a tail, or those of a head
-abbrev pub class : (tail : Bool) → ℕ → Bool
-class true b = tail_byte b
-class false b = head_byte b
+-- the classes of bytes: those of a head, or those of a tail
+abbrev pub class : Class → ℕ → Bool
+class Head b = head_byte b
+class Tail b = tail_byte b
 
 -- the rule that a byte that cannot follow a name breaks: its number is `wrong_by`, and `wrong`
-unfoldable pub rule_by : (bare : Rule) → Tail → Rule
+unfoldable pub rule_by : (bare : Rule) → Name-tail → Rule
 rule_by bare none = bare
 rule_by bare (some t) = TailByte
 

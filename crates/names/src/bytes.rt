@@ -1,103 +1,69 @@
 // Classes of bytes in names, and runs of them.
-ghost use Rattle.std.specs.Prelude.{◌≡◌, ◌≤◌, ◌+◌, length, take, drop};
-ghost use Rattle.layout.specs.Number.{between};
+ghost use Rattle.std.specs.Prelude.{◌≡◌};
 ghost use Rattle.layout.specs.Name.{head_byte, tail_byte, all};
 ghost use Rattle.names.specs.Parse.{span};
 ghost use Rattle.names.specs.Contract.{class};
-
-// A byte from `low` to `high`.
-pub fn within(low: u8, high: u8, b: u8) -> bool
-    ensures { result ≡ between low high b }
-{
-    if low <= b {
-        return b <= high;
-    }
-    false
-}
 
 // A byte of a head.
 fn head_byte(b: u8) -> bool
     ensures { result ≡ head_byte b }
 {
-    if within(b'a', b'z', b) {
-        return true;
-    }
-    if within(b'A', b'Z', b) {
-        return true;
-    }
-    if within(b'0', b'9', b) {
-        return true;
-    }
-    if b == b'.' {
-        return true;
-    }
-    if b == b'_' {
-        return true;
-    }
-    b == b'+'
+    b.is_ascii_alphanumeric() || matches!(b, b'.' | b'_' | b'+')
 }
 
 // A byte of a tail.
 fn tail_byte(b: u8) -> bool
     ensures { result ≡ tail_byte b }
 {
-    if !within(0x20, 0x7E, b) {
-        return false;
-    }
-    if b == b'[' {
-        return false;
-    }
-    b != b']'
+    matches!(b, 0x20..=0x7E) && !matches!(b, b'[' | b']')
 }
 
-// A byte of a tail, or of a head.
-fn in_class(tail: bool, b: u8) -> bool
-    ensures { result ≡ class tail b }
-{
-    if tail {
-        return tail_byte(b);
-    }
-    head_byte(b)
+// The bytes of heads, or those of tails.
+#[derive(Clone, Copy, Debug, PartialEq, Eq)]
+pub enum Class {
+    Head,
+    Tail,
 }
 
-// How many bytes from the first on are of a class: a tail's, or a head's.
-pub fn run(s: &[u8], tail: bool) -> usize
-    ensures { result ≡ span (class tail) s.now }
-{
-    let mut i = 0;
-    while i < s.len() {
-        if !in_class(tail, s[i]) {
-            return i;
+impl Class {
+    fn has(self, b: u8) -> bool
+        ensures { result ≡ class self b }
+    {
+        match self {
+            Class::Head => head_byte(b),
+            Class::Tail => tail_byte(b),
         }
-        i += 1;
     }
-    i
 }
 
-// The 32 bytes from `at` on are all of a class.
-fn all_in_class(s: &[u8], at: usize, tail: bool) -> bool
-    requires { at + 32 ≤ length s.now }
-    ensures { result ≡ all (class tail) (take 32 (drop at s.now)) }
+// How many bytes from the first on are of a class.
+pub fn run(s: &[u8], of: Class) -> usize
+    ensures { result ≡ span (class of) s.now }
+{
+    s.iter().take_while(|b| of.has(**b)).count()
+}
+
+// The bytes of a block are all of a class.
+fn all_in_class(block: &[u8; 32], of: Class) -> bool
+    ensures { result ≡ all (class of) block.now }
 {
     let mut other = false;
-    let mut i = 0;
-    while i < 32 {
-        other = other | !in_class(tail, s[at + i]);
-        i += 1;
+    for b in block {
+        other |= !of.has(*b);
     }
     !other
 }
 
 // The same as `run`, for long runs: 32 bytes at once as long as all are of the class.
-pub(crate) fn long_run(s: &[u8], tail: bool) -> usize
-    ensures { result ≡ span (class tail) s.now }
+pub(crate) fn long_run(s: &[u8], of: Class) -> usize
+    ensures { result ≡ span (class of) s.now }
 {
-    let mut i = 0;
-    while 32 <= s.len() - i {
-        if !all_in_class(s, i, tail) {
+    let mut rest = s;
+    while let Some((block, behind)) = rest.split_first_chunk::<32>() {
+        if !all_in_class(block, of) {
             break;
         }
-        i += 32;
+        rest = behind;
     }
-    i + run(&s[i..], tail)
+    s.len() - rest.len() + run(rest, of)
 }

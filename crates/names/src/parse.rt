@@ -7,6 +7,7 @@ ghost use Rattle.names.specs.Contract.{Inside, arguments, rule_behind, tailed, p
 ghost use Rattle.names.specs.Kind.{kind_in, word};
 ghost use Rattle.names.specs.Entries.{enums_of};
 
+use crate::bytes::Class;
 use crate::{bytes, tables, texts};
 use answers::{Refusal, Rule};
 
@@ -25,7 +26,7 @@ fn tail_size(s: &[u8]) -> usize
     if !texts::stands(s, 0, b",") {
         return 0;
     }
-    bytes::long_run(&s[1..], true) + 1
+    bytes::long_run(&s[1..], Class::Tail) + 1
 }
 
 // Perhaps a tail at `at`. A byte that cannot follow is a bad one in the tail, or `bare` where there is no tail.
@@ -71,19 +72,18 @@ fn unopened(name: &[u8], h: usize, at: usize) -> Refusal
     requires { (h ≤ length name.now) × (at + length name.now ≤ 16777216) }
     ensures { result ≡ refusal (unopened_number (drop h name.now)) (at + (h + unopened_at (drop h name.now))) }
 {
-    let first = h + 1;
-    let second = h + 2;
-    let third = h + 3;
-    if !texts::either(name, h, b"`1", b"`2") {
-        let place = at + first;
-        return Rule::ArgumentDigit.at(place);
+    let digit = texts::stands(name, h, b"`1") | texts::stands(name, h, b"`2");
+    let bracket = texts::stands(name, h, b"`1[") | texts::stands(name, h, b"`2[");
+    let first = at + h + 1;
+    let second = at + h + 2;
+    if !digit {
+        return Rule::ArgumentDigit.at(first);
     }
-    if !texts::either(name, h, b"`1[", b"`2[") {
-        let place = at + second;
-        return Rule::ArgumentBrackets.at(place);
+    if !bracket {
+        return Rule::ArgumentBrackets.at(second);
     }
-    let place = at + third;
-    Rule::ArgumentBrackets.at(place)
+    let third = at + h + 3;
+    Rule::ArgumentBrackets.at(third)
 }
 
 // What is wrong behind an argument that ends at e, where a bracket is due: `other` if another byte stands there.
@@ -156,7 +156,7 @@ fn parse(
     if level == 0 {
         return Err(Rule::NestedTooDeep.at(at));
     }
-    let h = bytes::long_run(name, false);
+    let h = bytes::long_run(name, Class::Head);
     if h == 0 {
         return Err(Rule::EmptyHead.at(at));
     }

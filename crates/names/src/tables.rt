@@ -6,24 +6,21 @@ ghost use Rattle.names.specs.Kind.{listed, enum_kind, kind_in};
 ghost use Rattle.names.specs.Entries.{entries_of, enums_of};
 
 use crate::kinds::{ENUM_OF_1, ENUM_OF_2, ENUM_OF_4, ENUM_OF_8};
-use crate::texts;
 
 // What a list of entries has for a head: a name length byte, a name and a byte for each; 0 if no whole entry has this name.
 pub fn find(entries: &[u8], head: &[u8]) -> u8
     ensures { result ≡ size_in (entries_of entries.now) head.now }
 {
-    let mut at = 0;
-    while at < entries.len() {
-        let name = at + 1;
-        let size = entries[at] as usize;
-        if entries.len() - name <= size {
+    let mut rest = entries;
+    while let Some((size, behind)) = rest.split_first() {
+        let size = *size as usize;
+        if behind.len() <= size {
             return 0;
         }
-        let end = name + size;
-        if texts::same_text(head, &entries[name..end]) {
-            return entries[end];
+        if &behind[..size] == head {
+            return behind[size];
         }
-        at = end + 1;
+        rest = &behind[size + 1..];
     }
     0
 }
@@ -124,40 +121,24 @@ const READERS_FROM_47: [u8; 408] = *b"\
 fn reader_kind(head: &[u8]) -> u8
     ensures { result ≡ lookup head.now readers }
 {
-    if head.len() <= 43 {
-        let entries = READERS_TO_43;
-        return find(&entries, head);
+    match head.len() {
+        0..=43 => find(&READERS_TO_43, head),
+        44 => find(&READERS_OF_44, head),
+        45..=46 => find(&READERS_OF_45_AND_46, head),
+        _ => find(&READERS_FROM_47, head),
     }
-    if head.len() <= 44 {
-        let entries = READERS_OF_44;
-        return find(&entries, head);
-    }
-    if head.len() <= 46 {
-        let entries = READERS_OF_45_AND_46;
-        return find(&entries, head);
-    }
-    let entries = READERS_FROM_47;
-    find(&entries, head)
 }
 
 // The kind that an argument's head names; 0 if it is not listed.
 fn target_kind(head: &[u8]) -> u8
     ensures { result ≡ lookup head.now targets }
 {
-    if head.len() <= 12 {
-        let entries = TARGETS_TO_12;
-        return find(&entries, head);
+    match head.len() {
+        0..=12 => find(&TARGETS_TO_12, head),
+        13..=15 => find(&TARGETS_OF_13_TO_15, head),
+        16..=32 => find(&TARGETS_OF_16_TO_32, head),
+        _ => find(&TARGETS_FROM_33, head),
     }
-    if head.len() <= 15 {
-        let entries = TARGETS_OF_13_TO_15;
-        return find(&entries, head);
-    }
-    if head.len() <= 32 {
-        let entries = TARGETS_OF_16_TO_32;
-        return find(&entries, head);
-    }
-    let entries = TARGETS_FROM_33;
-    find(&entries, head)
 }
 
 // The kind that a head names, the reader's own or an argument's; 0 if it is not listed.
@@ -174,19 +155,13 @@ pub fn kind_of(head: &[u8], own: bool) -> u8
 pub fn enum_kind(size: u8) -> u32
     ensures { result ≡ enum_kind size }
 {
-    if size == 1 {
-        return ENUM_OF_1;
+    match size {
+        1 => ENUM_OF_1,
+        2 => ENUM_OF_2,
+        4 => ENUM_OF_4,
+        8 => ENUM_OF_8,
+        _ => 0,
     }
-    if size == 2 {
-        return ENUM_OF_2;
-    }
-    if size == 4 {
-        return ENUM_OF_4;
-    }
-    if size == 8 {
-        return ENUM_OF_8;
-    }
-    0
 }
 
 // The kind of a head with n arguments, under a lent list of enum types.

@@ -13,8 +13,7 @@ use Rattle.layout.specs.Name.{Name, simple, one, two, write}
 use Rattle.layout.specs.EnumList.{EnumEntry, EnumSize, size_in}
 use Rattle.layout.specs.Named.{Typed, unknown, known, reader_of}
 use Rattle.layout.specs.Complaint.{is_known, reader_faults, leftmost}
-use Rattle.std.specs.Prelude.{Result, Ok as Result-ok, Err, Option, Some, None}
-use Rattle.answers.specs.declared.Refusal.{Refusal}
+use Rattle.std.specs.Prelude.{Ok as Result-ok, Err, Some, None}
 use Rattle.answers.specs.Refusals.{refusal}
 use Rattle.names.specs.declared.parse.Unnamed.{Unnamed}
 use Rattle.names.specs.declared.parse.Unnamed.TheVariants.{Broken as Unnamed-broken, NoRoom as Unnamed-no-room}

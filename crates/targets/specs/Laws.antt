@@ -1,5 +1,5 @@
 -- What the codes say of the types that stand in them. Assumes nothing.
-use Rattle.std.specs.Prelude.{◌≡◌, Bool, ◌&&◌, cond, ℕ, suc, ◌+◌, ◌-◌, ◌%◌, ◌≤◌, ◌<◌, leb, take, drop, set}
+use Rattle.std.specs.Prelude.{◌≡◌, Bool, ◌&&◌, cond, ℕ, suc, ◌+◌, ◌-◌, ◌%◌, ◌≤◌, leb, take, drop, set}
 use Rattle.std.proofs.Math.Path.{refl, sym, ap}
 use Rattle.std.proofs.Common.{◌∙◌, inl, inr, drop-drop, get_or-drop, length-take-le}
 use Rattle.std.proofs.Math.Bool.{true, false}
@@ -14,7 +14,6 @@ use borrow.Author.Tests.{eqb-true, le-leb, lt-leb}
 use Rattle.laws.specs.Small.{differ, both}
 use Rattle.layout.specs.Target.{Target, fixed, char, string, object, texture, texture_2d, sprite_font, page, mesh, mesh_kind, enum, nullable, array, list, dictionary, kind_of, Serves, same, any, picture}
 use Rattle.layout.specs.Fixed.{sizes}
-use Rattle.layout.specs.Name.{two}
 use Rattle.layout.specs.EnumList.{EnumSize}
 use Rattle.layout.specs.Named.{unknown, known, fixed_kind, meshed, plain, Lawful}
 use Rattle.names.specs.Kind.{enum_kind}

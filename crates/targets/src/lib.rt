@@ -2,18 +2,17 @@
 #![tactic(auto)]
 
 ghost use Rattle.std.specs.Prelude.{◌≡◌, cond, ◌<◌, ◌≤◌, length, drop};
-ghost use Rattle.layout.specs.Kind.{alike};
-ghost use Rattle.layout.specs.Number.{between};
 ghost use Rattle.layout.specs.Named.{plain};
 ghost use Rattle.layout.specs.Complaint.{is_known};
 ghost use Rattle.names.specs.Entries.{enums_of};
 ghost use Rattle.targets.specs.Code.{head_at};
-ghost use Rattle.targets.specs.Place.{kind_at, place_after, same_code, equal_at, fits_at};
+ghost use Rattle.targets.specs.Place.{kind_at, place_after, same_code, agree, equal_at, fits_at};
 ghost use Rattle.targets.specs.Judge.{head_ok, value_ok, bad_arguments, bad_enum, bad_reader, complaint};
 ghost use Rattle.targets.specs.Settling.{Settles};
 ghost use Rattle.targets.specs.Contract.{enum_word, unresolved, Resolves};
 
 use answers::Refusal;
+use names::bytes::Class;
 use names::kinds;
 use names::parse::Unnamed;
 
@@ -35,36 +34,21 @@ pub fn after(codes: &[u32], a: usize) -> usize
     ensures { result ≡ place_after codes.now a }
 {
     let mut need: usize = 1;
-    let mut i = a;
-    while i < codes.len() {
+    for i in a..codes.len() {
         if need == 0 {
             return i;
         }
         need = need - 1 + (codes[i] / 64 % 4) as usize;
-        i += 1;
     }
-    i
+    a.max(codes.len())
 }
 
-// A place of the file, or the file's end.
-fn inside(file: &[u8], a: usize) -> usize
-    ensures { (result ≤ length file.now) × (drop result file.now ≡ drop a file.now) }
+// The head that stands at a place of the file.
+fn head_at(file: &[u8], a: usize) -> &[u8]
+    ensures { result.now ≡ head_at file.now a }
 {
-    if a < file.len() {
-        return a;
-    }
-    file.len()
-}
-
-// The heads that stand at two places of the file are equal.
-fn same_head(file: &[u8], a: usize, b: usize) -> bool
-    ensures { result ≡ alike (head_at file.now a) (head_at file.now b) }
-{
-    let i = inside(file, a);
-    let j = inside(file, b);
-    let m = i + names::bytes::run(&file[i..], false);
-    let n = j + names::bytes::run(&file[j..], false);
-    names::texts::same_text(&file[i..m], &file[j..n])
+    let rest = &file[a.min(file.len())..];
+    &rest[..names::bytes::run(rest, Class::Head)]
 }
 
 // Two codes have one kind, as many arguments and, if they are enums, one name.
@@ -77,72 +61,50 @@ fn same_code(file: &[u8], x: u32, y: u32) -> bool
     if x % 64 < kinds::ENUM_OF_1 {
         return true;
     }
-    same_head(file, (x / 256) as usize, (y / 256) as usize)
+    head_at(file, (x / 256) as usize) == head_at(file, (y / 256) as usize)
 }
 
-// The types at two places are the same: their codes are, and the names of their enums in the file.
+// The types that two parts of the codes begin with are the same: their codes are, and the names of their enums in the file.
+fn same_types(file: &[u8], s: &[u32], t: &[u32]) -> bool
+    ensures { result ≡ agree file.now s.now 1 t.now }
+{
+    let mut need: usize = 1;
+    for i in 0..s.len().min(t.len()) {
+        if need == 0 {
+            return true;
+        }
+        if !same_code(file, s[i], t[i]) {
+            return false;
+        }
+        need = need - 1 + (s[i] / 64 % 4) as usize;
+    }
+    need == 0
+}
+
+// The types at two places are the same.
 pub fn equal(file: &[u8], codes: &[u32], a: usize, b: usize) -> bool
     ensures { result ≡ equal_at file.now codes.now a b }
 {
-    let mut need: usize = 1;
-    let mut i = a;
-    let mut j = b;
-    while 0 < need {
-        if codes.len() <= i {
-            return false;
-        }
-        if codes.len() <= j {
-            return false;
-        }
-        let x = codes[i];
-        if !same_code(file, x, codes[j]) {
-            return false;
-        }
-        need = need - 1 + (x / 64 % 4) as usize;
-        i += 1;
-        j += 1;
-    }
-    true
+    let most = codes.len();
+    same_types(file, &codes[a.min(most)..], &codes[b.min(most)..])
 }
 
 // An object declared as the type at d may be read by a reader of the type at t.
 pub fn fits(file: &[u8], codes: &[u32], d: usize, t: usize) -> bool
     ensures { result ≡ fits_at file.now codes.now d t }
 {
-    let k = kind_at(codes, d);
-    if k == kinds::OBJECT {
-        return true;
+    match (kind_at(codes, d), kind_at(codes, t)) {
+        (kinds::OBJECT, _) => true,
+        (kinds::TEXTURE, kinds::TEXTURE_2D) => true,
+        _ => equal(file, codes, d, t),
     }
-    if k != kinds::TEXTURE {
-        return equal(file, codes, d, t);
-    }
-    if kind_at(codes, t) == kinds::TEXTURE_2D {
-        return true;
-    }
-    equal(file, codes, d, t)
-}
-
-// A number from `low` to `high`.
-fn within(low: u32, high: u32, b: u32) -> bool
-    ensures { result ≡ between low high b }
-{
-    if low <= b {
-        return b <= high;
-    }
-    false
 }
 
 fn plain_ok(b: u32) -> bool
     requires { b < 60 }
     ensures { result ≡ is_known (plain b) }
 {
-    if within(kinds::BYTE, kinds::OBJECT, b) {
-        return true;
-    }
-    if within(kinds::TIME_SPAN, kinds::PAGE, b) {
-        return true;
-    }
-    within(kinds::INDEX_BUFFER, kinds::MODEL, b)
+    matches!(b, kinds::BYTE..=kinds::OBJECT | kinds::TIME_SPAN..=kinds::PAGE | kinds::INDEX_BUFFER..=kinds::MODEL)
 }
 
 fn head_ok(b: u32) -> bool
@@ -151,40 +113,19 @@ fn head_ok(b: u32) -> bool
     if b < kinds::ENUM_OF_1 {
         return plain_ok(b);
     }
-    if within(kinds::ENUM_OF_1, kinds::ENUM_OF_8, b) {
-        return true;
-    }
-    if b == kinds::NULLABLE {
-        return true;
-    }
-    if b == kinds::LIST {
-        return true;
-    }
-    b == kinds::DICTIONARY
+    b <= kinds::ENUM_OF_8 || matches!(b, kinds::NULLABLE | kinds::LIST | kinds::DICTIONARY)
 }
 
 fn value_ok(b: u32) -> bool
     ensures { result ≡ value_ok b }
 {
-    if within(kinds::BYTE, kinds::BOOLEAN, b) {
-        return true;
-    }
-    if within(kinds::TIME_SPAN, kinds::RECTANGLE, b) {
-        return true;
-    }
-    if within(kinds::ENUM_OF_1, kinds::ENUM_OF_8, b) {
-        return true;
-    }
-    b == kinds::CHAR
+    matches!(b, kinds::BYTE..=kinds::BOOLEAN | kinds::CHAR | kinds::TIME_SPAN..=kinds::RECTANGLE | kinds::ENUM_OF_1..=kinds::ENUM_OF_8)
 }
 
 fn argument_ok(nullable: bool, b: u32) -> bool
     ensures { result ≡ cond nullable (value_ok b) (head_ok b) }
 {
-    if nullable {
-        return value_ok(b);
-    }
-    head_ok(b)
+    if nullable { value_ok(b) } else { head_ok(b) }
 }
 
 // The leftmost place that is complained of among the codes of arguments; `first` says that the head before them was Nullable.
@@ -192,16 +133,13 @@ fn bad_arguments(s: &[u32], first: bool) -> Option<usize>
     ensures { result ≡ complaint (bad_arguments first s.now) }
 {
     let mut nullable = first;
-    let mut i = 0;
-    while i < s.len() {
-        let w = s[i];
+    for w in s {
         let b = w % 256;
         if !argument_ok(nullable, b) {
             let place = (w / 256) as usize;
             return Some(place);
         }
         nullable = b == kinds::NULLABLE;
-        i += 1;
     }
     None
 }
@@ -210,41 +148,24 @@ fn bad_arguments(s: &[u32], first: bool) -> Option<usize>
 fn bad_enum(s: &[u32]) -> Option<usize>
     ensures { result ≡ complaint (bad_enum s.now) }
 {
-    if s.len() == 0 {
-        return None;
+    let w = s.first()?;
+    match w % 256 {
+        0 | kinds::ENUM_OF_1..=kinds::ENUM_OF_8 => None,
+        _ => Some((w / 256) as usize),
     }
-    let w = s[0];
-    let b = w % 256;
-    if b == 0 {
-        return None;
-    }
-    if within(kinds::ENUM_OF_1, kinds::ENUM_OF_8, b) {
-        return None;
-    }
-    let place = (w / 256) as usize;
-    Some(place)
 }
 
 // The leftmost place that is complained of among the codes of a reader's name.
 fn bad_reader(s: &[u32]) -> Option<usize>
     ensures { result ≡ complaint (bad_reader s.now) }
 {
-    if s.len() == 0 {
-        return None;
+    let (w, arguments) = s.split_first()?;
+    match w % 256 {
+        kinds::ENUM_READER => bad_enum(arguments),
+        kinds::ARRAY => bad_arguments(arguments, false),
+        b if head_ok(b) => bad_arguments(arguments, b == kinds::NULLABLE),
+        _ => Some((w / 256) as usize),
     }
-    let w = s[0];
-    let b = w % 256;
-    if b == kinds::ENUM_READER {
-        return bad_enum(&s[1..]);
-    }
-    if b == kinds::ARRAY {
-        return bad_arguments(&s[1..], false);
-    }
-    if !head_ok(b) {
-        let place = (w / 256) as usize;
-        return Some(place);
-    }
-    bad_arguments(&s[1..], b == kinds::NULLABLE)
 }
 
 // The code of an enum type that is Enum's own argument: one that is not listed has four bytes.

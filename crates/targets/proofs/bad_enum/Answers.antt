@@ -1,26 +1,29 @@
-use native.Mathlib.Omega.{arith}
-use mathlib.Core.Path.{sym, ap, ◌∙◌}
-use borrow.Author.Tests.{eq-eqb, ne_eqb}
+use Rattle.std.proofs.Common.{◌≡◌, sym, ◌∙◌, arith, ◌%◌, ◌||◌, ◌&&◌, eqb, leb, true, false}
+use Rattle.std.proofs.lemmas.Bool.Decides.{nat_tests}
 use Rattle.layout.specs.Complaint.{unless}
-use Rattle.targets.specs.Judge.{listed_kind, complaint}
-use Rattle.targets.proofs.Loops.{enum-none, enum-some}
-use borrow.Author.Rules.{rules}
+use Rattle.targets.proofs.Loops.{no_first, some_first, enum_is, none_bad}
 use Rattle.targets.proofs.bad_enum.Goals as goal
 
-pub returns-then-s-eq0 : goal.returns-then-s-eq0
-returns-then-s-eq0 c = enum-none _ c.if-s-eq0.true
+pub returns-in_err-w : goal.returns-in_err-w
+returns-in_err-w c = c.from_residual.ensures ∙ (none_bad (no_first _ c.in_err-w.ensures.value)).0
 
-pub returns-then-b-eq0 : goal.returns-then-b-eq0
+pub returns-in_default : goal.returns-in_default
 unfolding unless
-returns-then-b-eq0 c = sym (ap complaint (enum-some _ c.if-s-eq0.false) ∙ rw (eq-eqb _ _ c.if-b-eq0.true))
+returns-in_default c =
+    let w = c.in_ok-w.w.now in
+    let q : (eqb (w % 256) 0 || (leb 60 (w % 256) && leb (w % 256) 63)) ≡ false = grind (arith, nat_tests) in
+    sym (enum_is w false (some_first _ _ c.in_ok-w.ensures.value) q)
 
-pub returns-then-within : goal.returns-then-within
-unfolding unless listed_kind
-returns-then-within c = sym (ap complaint (enum-some _ c.if-s-eq0.false) ∙ rw (ne_eqb _ _ c.if-b-eq0.false, sym c.within.ensures ∙ c.if-within.true))
+pub returns-in-0 : goal.returns-in-0
+unfolding unless
+returns-in-0 c =
+    let w = c.in_ok-w.w.now in
+    let q : (eqb (w % 256) 0 || (leb 60 (w % 256) && leb (w % 256) 63)) ≡ true = grind (arith, nat_tests) in
+    sym (enum_is w true (some_first _ _ c.in_ok-w.ensures.value) q)
 
-pub overflow_cast-place : goal.overflow_cast-place
-overflow_cast-place c = omega (arith, c.type_inv.s 0)
-
-pub returns : goal.returns
-unfolding unless listed_kind
-returns c = sym (ap complaint (enum-some _ c.if-s-eq0.false) ∙ rw (ne_eqb _ _ c.if-b-eq0.false, sym c.within.ensures ∙ c.if-within.false))
+pub returns-in-0-2 : goal.returns-in-0-2
+unfolding unless
+returns-in-0-2 c =
+    let w = c.in_ok-w.w.now in
+    let q : (eqb (w % 256) 0 || (leb 60 (w % 256) && leb (w % 256) 63)) ≡ true = grind (arith, nat_tests) in
+    sym (enum_is w true (some_first _ _ c.in_ok-w.ensures.value) q)

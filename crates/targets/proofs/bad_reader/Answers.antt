@@ -1,46 +1,30 @@
-use native.Mathlib.Omega.{arith}
-use mathlib.Core.Bool.{false}
-use mathlib.Core.Path.{sym, ap, ◌∙◌}
-use Prim.Native.Nat.{◌%◌}
-use borrow.Author.Tests.{eq-eqb, ne_eqb, not-true, not-false}
-use lib.Dec.{eqb}
-use lib.ListN.{get_or}
-use mathlib.Core.List.{List}
-use Prim.Native.Nat.{ℕ}
+use Rattle.std.proofs.Common.{sym, ap, ◌∙◌, arith, ne_eqb, ◌%◌}
 use Rattle.layout.specs.Complaint.{unless}
-use Rattle.names.proofs.Laws.{rest}
-use Rattle.targets.specs.Judge.{bad_enum, bad_arguments, complaint}
-use Rattle.targets.proofs.Loops.{reader-none, reader-some}
-use borrow.Author.Rules.{rules}
+use Rattle.targets.specs.Judge.{complaint}
+use Rattle.targets.proofs.Loops.{empty, reader_is, none_bad}
 use Rattle.targets.proofs.bad_reader.Goals as goal
 
-pub returns-then-s-eq0 : goal.returns-then-s-eq0
-returns-then-s-eq0 c = reader-none _ c.if-s-eq0.true
+pub returns-in_err-w : goal.returns-in_err-w
+returns-in_err-w c = c.from_residual.ensures ∙ (none_bad (empty _ c.in_err-w.ensures.cases)).1
 
-pub returns-then-b-eq-ENUM_READER : goal.returns-then-b-eq-ENUM_READER
-returns-then-b-eq-ENUM_READER c =
-    let s = c.args.s.now in
-    sym (ap complaint (reader-some s c.if-s-eq0.false) ∙ rw (eq-eqb _ _ c.if-b-eq-ENUM_READER.true) (ap (λ (l : List ℕ). complaint (bad_enum l)) (sym (rest s 1)) ∙ sym c.bad_enum.ensures))
+pub returns-in-79 : goal.returns-in-79
+returns-in-79 c =
+    let w = c.in_ok-w.w.now in
+    c.bad_enum.ensures ∙ sym (ap complaint (reader_is w c.in_ok-w.ensures.cases.0) ∙ rw c.in-79.is)
 
-pub returns-then-b-eq-ARRAY : goal.returns-then-b-eq-ARRAY
-returns-then-b-eq-ARRAY c =
-    let args = c.args in
-    let s = args.s.now in
-    sym (ap complaint (reader-some s c.if-s-eq0.false) ∙ rw (ne_eqb _ _ c.if-b-eq-ENUM_READER.false, eq-eqb _ _ c.if-b-eq-ARRAY.true) (ap (λ (l : List ℕ). complaint (bad_arguments false l)) (sym (rest s 1)) ∙ sym c.bad_arguments.ensures))
+pub returns-in-81 : goal.returns-in-81
+returns-in-81 c =
+    let w = c.in_ok-w.w.now in
+    c.bad_arguments.ensures ∙ sym (ap complaint (reader_is w c.in_ok-w.ensures.cases.0) ∙ rw c.in-81.is)
 
-pub overflow_cast-place : goal.overflow_cast-place
-overflow_cast-place c = omega (arith, c.type_inv.s 0)
-
-pub returns-then-not-head_ok : goal.returns-then-not-head_ok
+pub returns-in_default : goal.returns-in_default
 unfolding unless
-returns-then-not-head_ok c =
-    let s = c.args.s.now in
-    sym (ap complaint (reader-some s c.if-s-eq0.false) ∙ rw (ne_eqb _ _ c.if-b-eq-ENUM_READER.false, ne_eqb _ _ c.if-b-eq-ARRAY.false, sym c.head_ok.ensures ∙ c.if-not-head_ok.true))
+returns-in_default c =
+    let w = c.in_ok-w.w.now in
+    c.bad_arguments-in_default.ensures ∙ sym (ap complaint (reader_is w c.in_ok-w.ensures.cases.0) ∙ rw (ne_eqb (w % 256) 79 (λ q. omega arith), ne_eqb (w % 256) 81 (λ q. omega arith), sym c.head_ok.ensures ∙ c.if-head_ok.true))
 
-pub returns : goal.returns
+pub returns-in_default-2 : goal.returns-in_default-2
 unfolding unless
-returns c =
-    let args = c.args in
-    let s = args.s.now in
-    let known = sym c.head_ok.ensures ∙ c.if-not-head_ok.false in
-    sym (ap complaint (reader-some s c.if-s-eq0.false) ∙ rw (ne_eqb _ _ c.if-b-eq-ENUM_READER.false, ne_eqb _ _ c.if-b-eq-ARRAY.false, known) (ap (λ (l : List ℕ). complaint (bad_arguments (eqb (get_or s 0 0 % 256) 80) l)) (sym (rest s 1)) ∙ sym c.bad_arguments-2.ensures))
+returns-in_default-2 c =
+    let w = c.in_ok-w.w.now in
+    sym (ap complaint (reader_is w c.in_ok-w.ensures.cases.0) ∙ rw (ne_eqb (w % 256) 79 (λ q. omega arith), ne_eqb (w % 256) 81 (λ q. omega arith), sym c.head_ok.ensures ∙ c.if-head_ok.false))

@@ -1,6 +1,5 @@
 use borrow.Author.Tests.{eq-eqb, ne_eqb}
 use Rattle.targets.specs.Contract.{enum_word}
-use borrow.Author.Rules.{rules}
 use Rattle.targets.proofs.enum_word.Goals as goal
 
 pub returns-then-v-eq0 : goal.returns-then-v-eq0

@@ -1,24 +1,19 @@
-use mathlib.Core.Path.{sym, ◌∙◌}
-use borrow.Author.Tests.{eq-eqb, ne_eqb}
+use Rattle.std.proofs.Common.{sym, ◌∙◌, arith}
+use Rattle.std.proofs.lemmas.Bool.Decides.{nat_tests}
 use Rattle.targets.specs.Place.{fits_at}
-use borrow.Author.Rules.{rules}
+use Rattle.targets.proofs.fits.Goals.{in_default-via-in-31+in_default, in_default-via-in_default}
 use Rattle.targets.proofs.fits.Goals as goal
 
-pub returns-then-k-eq-OBJECT : goal.returns-then-k-eq-OBJECT
+pub returns-in-14-default : goal.returns-in-14-default
 unfolding fits_at
-returns-then-k-eq-OBJECT c = rw (eq-eqb _ _ (sym c.kind_at-k.ensures ∙ c.if-k-eq-OBJECT.true))
+returns-in-14-default c = rw (sym c.kind_at.ensures ∙ c.in-14-default.is-0)
 
-pub returns-then-k-ne-TEXTURE : goal.returns-then-k-ne-TEXTURE
+pub returns-in-31-eq32 : goal.returns-in-31-eq32
 unfolding fits_at
-returns-then-k-ne-TEXTURE c =
-    rw (ne_eqb _ _ (λ q. c.if-k-eq-OBJECT.false (c.kind_at-k.ensures ∙ q)), ne_eqb _ _ (λ q. c.if-k-ne-TEXTURE.true (c.kind_at-k.ensures ∙ q))) c.equal.ensures
+returns-in-31-eq32 c = rw (sym c.kind_at.ensures ∙ c.in-31-eq32.is-0, sym c.kind_at-2.ensures ∙ c.in-31-eq32.is-1)
 
-pub returns-then-kind_at-eq-TEXTURE_2D : goal.returns-then-kind_at-eq-TEXTURE_2D
+pub returns-in_default : goal.returns-in_default
 unfolding fits_at
-returns-then-kind_at-eq-TEXTURE_2D c =
-    rw (ne_eqb _ _ (λ q. c.if-k-eq-OBJECT.false (c.kind_at-k.ensures ∙ q)), eq-eqb _ _ (sym c.kind_at-k.ensures ∙ c.if-k-ne-TEXTURE.false), eq-eqb _ _ (sym c.kind_at.ensures ∙ c.if-kind_at-eq-TEXTURE_2D.true))
-
-pub returns : goal.returns
-unfolding fits_at
-returns c =
-    rw (ne_eqb _ _ (λ q. c.if-k-eq-OBJECT.false (c.kind_at-k.ensures ∙ q)), eq-eqb _ _ (sym c.kind_at-k.ensures ∙ c.if-k-ne-TEXTURE.false), ne_eqb _ _ (λ q. c.if-kind_at-eq-TEXTURE_2D.false (c.kind_at.ensures ∙ q))) c.equal-2.ensures
+returns-in_default c =
+    rw (← c.kind_at.ensures, ← c.kind_at-2.ensures, ← c.equal.ensures)
+    (elim c.in_default.branch [ in_default-via-in-31+in_default w ↦ grind (arith, nat_tests) | in_default-via-in_default w ↦ grind (arith, nat_tests) ])

@@ -1,27 +1,21 @@
-use mathlib.Core.Path.{sym, ◌∙◌}
-use borrow.Author.Tests.{lt-ltb, le-ltb, eq-eqb, ne_eqb}
-use Rattle.targets.specs.Judge.{listed_kind, head_ok}
-use borrow.Author.Rules.{rules}
+use Rattle.std.proofs.Common.{arith}
+use Rattle.std.proofs.lemmas.Bool.Decides.{nat_tests}
+use Rattle.targets.specs.Judge.{head_ok, listed_kind}
+use Rattle.std.proofs.Common.{lt-ltb}
 use Rattle.targets.proofs.head_ok.Goals as goal
 
 pub returns-then-b-lt-ENUM_OF_1 : goal.returns-then-b-lt-ENUM_OF_1
 unfolding head_ok
 returns-then-b-lt-ENUM_OF_1 c = rw (lt-ltb _ _ c.if-b-lt-ENUM_OF_1.true) c.plain_ok.ensures
 
-pub returns-then-within : goal.returns-then-within
+pub returns-then-b-le-ENUM_OF_8 : goal.returns-then-b-le-ENUM_OF_8
 unfolding head_ok listed_kind
-returns-then-within c = rw (le-ltb _ _ c.if-b-lt-ENUM_OF_1.false, sym c.within.ensures ∙ c.if-within.true)
+returns-then-b-le-ENUM_OF_8 c = grind (arith, nat_tests)
 
-pub returns-then-b-eq-NULLABLE : goal.returns-then-b-eq-NULLABLE
+pub returns-in-80 : goal.returns-in-80
 unfolding head_ok listed_kind
-returns-then-b-eq-NULLABLE c = rw (le-ltb _ _ c.if-b-lt-ENUM_OF_1.false, sym c.within.ensures ∙ c.if-within.false, eq-eqb _ _ c.if-b-eq-NULLABLE.true)
+returns-in-80 c = grind (arith, nat_tests)
 
-pub returns-then-b-eq-LIST : goal.returns-then-b-eq-LIST
+pub returns-in_default : goal.returns-in_default
 unfolding head_ok listed_kind
-returns-then-b-eq-LIST c =
-    rw (le-ltb _ _ c.if-b-lt-ENUM_OF_1.false, sym c.within.ensures ∙ c.if-within.false, ne_eqb _ _ c.if-b-eq-NULLABLE.false, eq-eqb _ _ c.if-b-eq-LIST.true)
-
-pub returns : goal.returns
-unfolding head_ok listed_kind
-returns c =
-    rw (le-ltb _ _ c.if-b-lt-ENUM_OF_1.false, sym c.within.ensures ∙ c.if-within.false, ne_eqb _ _ c.if-b-eq-NULLABLE.false, ne_eqb _ _ c.if-b-eq-LIST.false)
+returns-in_default c = grind (arith, nat_tests)

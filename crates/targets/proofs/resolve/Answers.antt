@@ -3,7 +3,6 @@ use native.Mathlib.Omega.{arith}
 use Rattle.std.proofs.lemmas.Result.{err_from_is_err_and}
 use Rattle.names.specs.EntryLaws.{enums-sized}
 use Rattle.targets.proofs.Resolving.{unnamed_is, got_is, unknown_is, known_is, some-codes, used-small}
-use borrow.Author.Rules.{rules}
 use Rattle.targets.proofs.resolve.Goals as goal
 
 pub returns-in_err-end : goal.returns-in_err-end

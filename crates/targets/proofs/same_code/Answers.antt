@@ -1,6 +1,7 @@
-use borrow.Author.Tests.{eq-eqb, ne_eqb, le-leb, lt-leb}
+use Rattle.std.proofs.Common.{◌∙◌, eq-eqb, ne_eqb, le-leb}
+use Rattle.std.proofs.lemmas.Bool.{lt-leb}
+use Rattle.names.proofs.Lookup.{alike_is}
 use Rattle.targets.specs.Place.{same_name, same_code}
-use borrow.Author.Rules.{rules}
 use Rattle.targets.proofs.same_code.Goals as goal
 
 pub returns-then-x-y : goal.returns-then-x-y
@@ -13,4 +14,4 @@ returns-then-x-lt-ENUM_OF_1 c = rw (eq-eqb _ _ c.if-x-y.false, lt-leb _ _ c.if-x
 
 pub returns : goal.returns
 unfolding same_code same_name
-returns c = rw (eq-eqb _ _ c.if-x-y.false, le-leb _ _ c.if-x-lt-ENUM_OF_1.false) c.same_head.ensures
+returns c = rw (eq-eqb _ _ c.if-x-y.false, le-leb _ _ c.if-x-lt-ENUM_OF_1.false, ← c.head_at.ensures, ← c.head_at-2.ensures) (c.eq.ensures ∙ alike_is _ _)

@@ -2,7 +2,6 @@ use mathlib.Core.Path.{ap}
 use native.Mathlib.Omega.{arith}
 use lib.ListN.{set}
 use Rattle.targets.proofs.Loops.{too_few, no_enum, some-enum}
-use borrow.Author.Rules.{rules}
 use Rattle.targets.proofs.settle.Goals as goal
 
 pub returns-then-end-used-lt2 : goal.returns-then-end-used-lt2

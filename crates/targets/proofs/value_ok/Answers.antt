@@ -1,20 +1,32 @@
-use mathlib.Core.Path.{sym, ◌∙◌}
-use Rattle.targets.specs.Judge.{listed_kind, value_ok}
-use borrow.Author.Rules.{rules}
+use Rattle.std.proofs.Common.{arith}
+use Rattle.std.proofs.lemmas.Bool.Decides.{nat_tests}
+use Rattle.targets.specs.Judge.{value_ok, listed_kind}
 use Rattle.targets.proofs.value_ok.Goals as goal
 
-pub returns-then-within : goal.returns-then-within
+pub returns-in-1-to-11 : goal.returns-in-1-to-11
 unfolding value_ok listed_kind
-returns-then-within c = rw (sym c.within.ensures ∙ c.if-within.true)
+returns-in-1-to-11 c = grind (arith, nat_tests)
 
-pub returns-then-within-2 : goal.returns-then-within-2
+pub returns-in-1-to-11-2 : goal.returns-in-1-to-11-2
 unfolding value_ok listed_kind
-returns-then-within-2 c = rw (sym c.within.ensures ∙ c.if-within.false, sym c.within-2.ensures ∙ c.if-within-2.true)
+returns-in-1-to-11-2 c = grind (arith, nat_tests)
 
-pub returns-then-within-3 : goal.returns-then-within-3
+pub returns-in-1-to-11-3 : goal.returns-in-1-to-11-3
 unfolding value_ok listed_kind
-returns-then-within-3 c = rw (sym c.within.ensures ∙ c.if-within.false, sym c.within-2.ensures ∙ c.if-within-2.false, sym c.within-3.ensures ∙ c.if-within-3.true)
+returns-in-1-to-11-3 c = grind (arith, nat_tests)
 
-pub returns : goal.returns
+pub returns-in_default : goal.returns-in_default
 unfolding value_ok listed_kind
-returns c = rw (sym c.within.ensures ∙ c.if-within.false, sym c.within-2.ensures ∙ c.if-within-2.false, sym c.within-3.ensures ∙ c.if-within-3.false)
+returns-in_default c = grind (arith, nat_tests)
+
+pub returns-in_default-2 : goal.returns-in_default-2
+unfolding value_ok listed_kind
+returns-in_default-2 c = grind (arith, nat_tests)
+
+pub returns-in_default-3 : goal.returns-in_default-3
+unfolding value_ok listed_kind
+returns-in_default-3 c = grind (arith, nat_tests)
+
+pub returns-in_default-4 : goal.returns-in_default-4
+unfolding value_ok listed_kind
+returns-in_default-4 c = grind (arith, nat_tests)

@@ -1,26 +1,19 @@
-use borrow.Author.Rules.{rules}
-use mathlib.Core.Path.{◌≡◌, refl, ap, ◌∙◌}
-use mathlib.Core.Bool.{Bool, not, ◌||◌, not-not}
-use Prim.Native.Nat.{ℕ}
-use native.Mathlib.Omega.{arith}
-use lib.ListN.{take, drop}
+use Rattle.std.proofs.Common.{refl, ap, ◌∙◌, arith, not}
+use Rattle.std.proofs.Math.Bool.{not-not}
+use Rattle.std.proofs.Math.Seq.{take_all}
 use Rattle.layout.specs.Name.{all}
 use Rattle.names.specs.Contract.{class}
 use Rattle.names.proofs.Laws.{other_step}
 use Rattle.names.proofs.bytes.all_in_class.Goals as goal
 
-pub loop-i-init : goal.loop-i-init
+pub loop-b-init : goal.loop-b-init
 unfolding all
-loop-i-init c = (search rules, refl)
+loop-b-init c = refl
 
-pub loop-i-preserved : goal.loop-i-preserved
-loop-i-preserved c =
-    let a = c.args in
-    let told = ap (λ (x : Bool). c.loop-i.other || not x) c.in_class.ensures in
-    (search rules, told ∙ other_step (class a.tail) a.s.now a.at c.loop-i.i c.loop-i.other (omega arith) c.loop-i.invariant.1)
+pub loop-b-preserved : goal.loop-b-preserved
+loop-b-preserved c = rw c.has.ensures (other_step (class c.args.of) c.args.block.now c.loop-b.b-index c.loop-b.other (omega arith) c.loop-b.invariant)
 
 pub returns : goal.returns
 returns c =
-    let a = c.args in
-    let q : c.loop-i.i ≡ 32 = omega arith in
-    ap not (c.loop-i.invariant.1 ∙ ap (λ (k : ℕ). not (all (class a.tail) (take k (drop a.at a.s.now)))) q) ∙ not-not _
+    let b = c.args.block.now in
+    ap not (c.loop-b.invariant ∙ rw (take_all c.loop-b.b-index b (omega arith))) ∙ not-not (all (class c.args.of) b)

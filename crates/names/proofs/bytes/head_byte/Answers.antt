@@ -1,31 +1,16 @@
-use mathlib.Core.Path.{sym, ◌∙◌}
-use borrow.Author.Tests.{eq-eqb, ne_eqb}
+use Rattle.std.proofs.Common.{arith}
+use Rattle.std.proofs.lemmas.Bool.Decides.{nat_tests}
 use Rattle.layout.specs.Name.{head_byte}
 use Rattle.names.proofs.bytes.head_byte.Goals as goal
 
-pub returns-then-within : goal.returns-then-within
+pub returns-then-is_ascii_alphanumeric : goal.returns-then-is_ascii_alphanumeric
 unfolding head_byte
-returns-then-within c = rw (sym c.within.ensures ∙ c.if-within.true)
+returns-then-is_ascii_alphanumeric c = grind (arith, nat_tests)
 
-pub returns-then-within-2 : goal.returns-then-within-2
+pub returns-in-46 : goal.returns-in-46
 unfolding head_byte
-returns-then-within-2 c = rw (sym c.within.ensures ∙ c.if-within.false, sym c.within-2.ensures ∙ c.if-within-2.true)
+returns-in-46 c = grind (arith, nat_tests)
 
-pub returns-then-within-3 : goal.returns-then-within-3
+pub returns-in_default : goal.returns-in_default
 unfolding head_byte
-returns-then-within-3 c = rw (sym c.within.ensures ∙ c.if-within.false, sym c.within-2.ensures ∙ c.if-within-2.false, sym c.within-3.ensures ∙ c.if-within-3.true)
-
-pub returns-then-b-eq46 : goal.returns-then-b-eq46
-unfolding head_byte
-returns-then-b-eq46 c =
-    rw (sym c.within.ensures ∙ c.if-within.false, sym c.within-2.ensures ∙ c.if-within-2.false, sym c.within-3.ensures ∙ c.if-within-3.false, eq-eqb _ _ c.if-b-eq46.true)
-
-pub returns-then-b-eq95 : goal.returns-then-b-eq95
-unfolding head_byte
-returns-then-b-eq95 c =
-    rw (sym c.within.ensures ∙ c.if-within.false, sym c.within-2.ensures ∙ c.if-within-2.false, sym c.within-3.ensures ∙ c.if-within-3.false, ne_eqb _ _ c.if-b-eq46.false, eq-eqb _ _ c.if-b-eq95.true)
-
-pub returns : goal.returns
-unfolding head_byte
-returns c =
-    rw (sym c.within.ensures ∙ c.if-within.false, sym c.within-2.ensures ∙ c.if-within-2.false, sym c.within-3.ensures ∙ c.if-within-3.false, ne_eqb _ _ c.if-b-eq46.false, ne_eqb _ _ c.if-b-eq95.false)
+returns-in_default c = grind (arith, nat_tests)

@@ -1,12 +1,10 @@
-use mathlib.Core.Path.{◌≡◌}
-use Prim.Native.Nat.{◌+◌, ◌-◌, ◌≤◌}
-use lib.ListN.{length, drop}
+use Rattle.std.proofs.Common.{◌≡◌, ◌+◌, ◌≤◌, length}
 use Rattle.names.specs.Parse.{span}
 use Rattle.names.specs.Contract.{class}
 use Rattle.names.proofs.bytes.long_run.Given as goal
 
-abbrev pub invariant-loop-i : goal.invariant-loop-i
-invariant-loop-i l = (l.i ≤ length l.s) × (span (class l.tail) l.s ≡ l.i + span (class l.tail) (drop l.i l.s))
+abbrev pub invariant-loop-block : goal.invariant-loop-block
+invariant-loop-block l = (length l.rest ≤ length l.s) × (span (class l.of) l.s + length l.rest ≡ length l.s + span (class l.of) l.rest)
 
-abbrev pub decreases-loop-i : goal.decreases-loop-i
-decreases-loop-i l = length l.s - l.i
+abbrev pub decreases-loop-block : goal.decreases-loop-block
+decreases-loop-block l = length l.rest

@@ -1,16 +1,14 @@
-use borrow.Author.Rules.{rules}
-use mathlib.Core.Path.{sym, ◌∙◌}
-use Rattle.names.proofs.Laws.{span-start, span-end, span-stop, span-step}
+use Rattle.std.proofs.Common.{◌∙◌, rules, tests}
+use Rattle.std.proofs.lemmas.Iterator.{YieldsList-from_slice}
+use Rattle.std.proofs.lemmas.Iterator.Consumers.{count_from_yields_List}
+use Rattle.std.proofs.lemmas.Iterator.Search.{YieldsList-from_take_while}
+use Rattle.std.proofs.lemmas.List.Folds.{length-prefix_len}
+use Rattle.names.specs.Contract.{class}
+use Rattle.names.proofs.Laws.{span_is_prefix}
 use Rattle.names.proofs.bytes.run.Goals as goal
 
-pub loop-i-init : goal.loop-i-init
-loop-i-init c = (search rules, span-start _ _ 0)
-
-pub returns-then-not-in_class : goal.returns-then-not-in_class
-returns-then-not-in_class c = span-stop _ _ _ c.loop-i-test.true (sym c.in_class.ensures ∙ c.if-not-in_class.true) c.loop-i.invariant.1
-
-pub loop-i-preserved : goal.loop-i-preserved
-loop-i-preserved c = (search rules, span-step _ _ _ c.loop-i-test.true (sym c.in_class.ensures ∙ c.if-not-in_class.false) c.loop-i.invariant.1)
-
 pub returns : goal.returns
-returns c = span-end _ _ _ c.loop-i-test.false c.loop-i.invariant.1
+returns c =
+    let s = c.args.s.now in
+    let p = class c.args.of in
+    count_from_yields_List c.take_while.result _ c.count.ensures.ran (YieldsList-from_take_while _ p (YieldsList-from_slice s cc) c.take_while.ensures.closure c.take_while.ensures.done (λ x b q k. search (rules, tests))) ∙ length-prefix_len p s ∙ span_is_prefix p s

@@ -1,23 +1,24 @@
-use borrow.Author.Tests.{eq-eqb, ne_eqb}
+use Rattle.std.proofs.Common.{arith}
+use Rattle.std.proofs.lemmas.Bool.Decides.{nat_tests}
 use Rattle.names.specs.Kind.{enum_kind}
 use Rattle.names.proofs.tables.enum_kind.Goals as goal
 
-pub returns-then-size-eq1 : goal.returns-then-size-eq1
+pub returns-in-1 : goal.returns-in-1
 unfolding enum_kind
-returns-then-size-eq1 c = rw (eq-eqb _ _ c.if-size-eq1.true)
+returns-in-1 c = rw c.in-1.is
 
-pub returns-then-size-eq2 : goal.returns-then-size-eq2
+pub returns-in-2 : goal.returns-in-2
 unfolding enum_kind
-returns-then-size-eq2 c = rw (ne_eqb _ _ c.if-size-eq1.false, eq-eqb _ _ c.if-size-eq2.true)
+returns-in-2 c = rw c.in-2.is
 
-pub returns-then-size-eq4 : goal.returns-then-size-eq4
+pub returns-in-4 : goal.returns-in-4
 unfolding enum_kind
-returns-then-size-eq4 c = rw (ne_eqb _ _ c.if-size-eq1.false, ne_eqb _ _ c.if-size-eq2.false, eq-eqb _ _ c.if-size-eq4.true)
+returns-in-4 c = rw c.in-4.is
 
-pub returns-then-size-eq8 : goal.returns-then-size-eq8
+pub returns-in-8 : goal.returns-in-8
 unfolding enum_kind
-returns-then-size-eq8 c = rw (ne_eqb _ _ c.if-size-eq1.false, ne_eqb _ _ c.if-size-eq2.false, ne_eqb _ _ c.if-size-eq4.false, eq-eqb _ _ c.if-size-eq8.true)
+returns-in-8 c = rw c.in-8.is
 
-pub returns : goal.returns
+pub returns-in_default : goal.returns-in_default
 unfolding enum_kind
-returns c = rw (ne_eqb _ _ c.if-size-eq1.false, ne_eqb _ _ c.if-size-eq2.false, ne_eqb _ _ c.if-size-eq4.false, ne_eqb _ _ c.if-size-eq8.false)
+returns-in_default c = grind (arith, nat_tests)

@@ -1,24 +1,23 @@
--- `names::tables::find` meets its contract: the entries from `at` on are as good as all. Assumes nothing.
-use borrow.Author.Rules.{rules}
-use mathlib.Core.Path.{sym, ◌∙◌}
-use native.Mathlib.Omega.{arith}
-use Rattle.names.proofs.Lookup.{left_start, find_cut, find_this, find_next, find_none}
+-- `names::tables::find` meets its contract: the entries that are left are as good as all. Assumes nothing.
+use Rattle.std.proofs.Common.{sym, ◌∙◌, ◌+◌}
+use Rattle.names.proofs.Laws.{rest}
+use Rattle.names.proofs.Lookup.{alike_turned, left_start, find_cut, find_this, find_next, find_none, no_bytes}
 use Rattle.names.proofs.tables.find.Goals as goal
 
-pub loop-at-init : goal.loop-at-init
-loop-at-init c = (search rules, left_start _ _)
+pub loop-size-init : goal.loop-size-init
+loop-size-init c = left_start _ _
 
-pub overflow_cast-size : goal.overflow_cast-size
-overflow_cast-size c = omega (arith, c.type_inv.entries c.loop-at.at)
+pub returns-then-behind-size : goal.returns-then-behind-size
+returns-then-behind-size c = find_cut (rw c.in-Some.ensures.cases.0 at c.loop-size.invariant) c.if-behind-size.true
 
-pub returns-then-entries-name : goal.returns-then-entries-name
-returns-then-entries-name c = find_cut c.loop-at.invariant.1 c.loop-at-test.true c.if-entries-name.true
+pub returns-then-eq : goal.returns-then-eq
+returns-then-eq c =
+    find_this (rw c.in-Some.ensures.cases.0 at c.loop-size.invariant) c.if-behind-size.false (alike_turned _ _ (sym c.eq.ensures ∙ c.if-eq.true))
 
-pub returns-then-same_text : goal.returns-then-same_text
-returns-then-same_text c = find_this c.loop-at.invariant.1 c.loop-at-test.true c.if-entries-name.false (sym c.same_text.ensures ∙ c.if-same_text.true)
-
-pub loop-at-preserved : goal.loop-at-preserved
-loop-at-preserved c = (search rules, find_next c.loop-at.invariant.1 c.loop-at-test.true c.if-entries-name.false (sym c.same_text.ensures ∙ c.if-same_text.false))
+pub loop-size-preserved : goal.loop-size-preserved
+loop-size-preserved c =
+    rw (rest c.in-Some.behind.now (c.in-Some.size.now + 1))
+    (find_next (rw c.in-Some.ensures.cases.0 at c.loop-size.invariant) c.if-behind-size.false (alike_turned _ _ (sym c.eq.ensures ∙ c.if-eq.false)))
 
 pub returns : goal.returns
-returns c = find_none c.loop-at.invariant.1 c.loop-at-test.false
+returns c = find_none (rw (no_bytes _ c.in_default.ensures.cases) at c.loop-size.invariant)

@@ -1,11 +1,10 @@
--- `names::tables::find` meets its contract: the entries from `at` on are as good as all. Assumes nothing.
-use Prim.Native.Nat.{◌-◌, ◌≤◌}
-use lib.ListN.{length}
+-- `names::tables::find` meets its contract: the entries that are left are as good as all. Assumes nothing.
+use Rattle.std.proofs.Common.{length}
 use Rattle.names.proofs.Lookup.{Left}
 use Rattle.names.proofs.tables.find.Given as goal
 
-abbrev pub invariant-loop-at : goal.invariant-loop-at
-invariant-loop-at l = (l.at ≤ length l.entries) × Left l.entries l.head l.at
+abbrev pub invariant-loop-size : goal.invariant-loop-size
+invariant-loop-size l = Left l.entries l.head l.rest
 
-abbrev pub decreases-loop-at : goal.decreases-loop-at
-decreases-loop-at l = length l.entries - l.at
+abbrev pub decreases-loop-size : goal.decreases-loop-size
+decreases-loop-size l = length l.rest

@@ -1,6 +1,4 @@
-use mathlib.Core.Path.{refl, ◌∙◌}
-use lib.Dec.{leb}
-use borrow.Author.Tests.{le-leb}
+use Rattle.std.proofs.Common.{refl, ◌∙◌, arith, leb, le-leb, length}
 use Rattle.layout.specs.Number.{between}
 use Rattle.layout.specs.Text.{ascii}
 use Rattle.layout.specs.Kind.{targets, target}
@@ -9,22 +7,18 @@ use Rattle.names.specs.Entries.{listing}
 use Rattle.names.proofs.Lookup.{part, table_found, between_is}
 use Rattle.names.proofs.tables.target_kind.Goals as goal
 
-pub returns-then-head-le12 : goal.returns-then-head-le12
+pub returns-in-0-to-12 : goal.returns-in-0-to-12
 unfolding write_enums listing part targets target ascii
-returns-then-head-le12 c = c.find.ensures ∙ table_found (λ n. leb n 12) targets _ _ refl (le-leb _ 12 c.if-head-le12.true)
+returns-in-0-to-12 c = c.find.ensures ∙ table_found (λ n. leb n 12) targets _ c.args.head.now refl (le-leb (length c.args.head.now) 12 (omega (arith, c.in-0-to-12)))
 
-pub returns-then-head-le15 : goal.returns-then-head-le15
+pub returns-in-13-to-15 : goal.returns-in-13-to-15
 unfolding write_enums listing part targets target ascii
-returns-then-head-le15 c =
-    let long = between_is 13 15 _ c.if-head-le12.false c.if-head-le15.true in
-    c.find-then-head-le15.ensures ∙ table_found (between 13 15) targets _ _ refl long
+returns-in-13-to-15 c = c.find-in-13-to-15.ensures ∙ table_found (between 13 15) targets _ c.args.head.now refl (between_is 13 15 (length c.args.head.now) (omega (arith, c.in-13-to-15)) (omega (arith, c.in-13-to-15)))
 
-pub returns-then-head-le32 : goal.returns-then-head-le32
+pub returns-in-16-to-32 : goal.returns-in-16-to-32
 unfolding write_enums listing part targets target ascii
-returns-then-head-le32 c =
-    let long = between_is 16 32 _ c.if-head-le15.false c.if-head-le32.true in
-    c.find-then-head-le32.ensures ∙ table_found (between 16 32) targets _ _ refl long
+returns-in-16-to-32 c = c.find-in-16-to-32.ensures ∙ table_found (between 16 32) targets _ c.args.head.now refl (between_is 16 32 (length c.args.head.now) (omega (arith, c.in-16-to-32)) (omega (arith, c.in-16-to-32)))
 
-pub returns : goal.returns
+pub returns-in_default : goal.returns-in_default
 unfolding write_enums listing part targets target ascii
-returns c = c.find-2.ensures ∙ table_found (leb 33) targets _ _ refl (le-leb 33 _ c.if-head-le32.false)
+returns-in_default c = c.find-in_default.ensures ∙ table_found (leb 33) targets _ c.args.head.now refl (le-leb 33 (length c.args.head.now) (omega (arith, c.in_default)))

@@ -1,36 +1,19 @@
--- `names::texts::matched` meets its contract: the bytes before i stand there. Assumes nothing.
-use borrow.Author.Rules.{rules}
-use mathlib.Core.Path.{◌≡◌, ap}
-use Prim.Native.Nat.{ℕ, ◌+◌}
-use native.Mathlib.Omega.{arith}
-use lib.ListN.{drop}
-use Rattle.names.specs.Parse.{common}
-use Rattle.names.proofs.Laws.{common-end, common-short, common-stop, common-step}
+-- `names::texts::matched` meets its contract. Assumes nothing.
+use Rattle.std.proofs.Common.{◌≡◌, ◌-◌, take, length, ◌∙◌, rules, tests, drop, eqb, ℕ, Bool}
+use Rattle.std.specs.List.{zip}
+use Rattle.std.proofs.lemmas.Iterator.{YieldsList-from_slice, YieldsList-from_zip}
+use Rattle.std.proofs.lemmas.Iterator.Consumers.{YieldsList-at, count_from_yields_List}
+use Rattle.std.proofs.lemmas.Iterator.Search.{YieldsList-from_take_while}
+use Rattle.std.proofs.lemmas.List.Folds.{length-prefix_len}
+use Rattle.names.proofs.Laws.{rest, common_is_prefix}
 use Rattle.names.proofs.texts.matched.Goals as goal
 
-pub loop-i-init : goal.loop-i-init
-loop-i-init c =
-    let a = c.args in
-    let q : a.at + 0 ≡ a.at = omega arith in
-    (search rules, omega (arith, ap (λ (k : ℕ). common a.text.now (drop k a.s.now)) q))
-
-pub overflow_sub-s : goal.overflow_sub-s
-overflow_sub-s c = c.requires
-
-pub returns-then-s-at : goal.returns-then-s-at
-returns-then-s-at c = common-short _ _ _ _ c.loop-i.invariant.1 (omega (arith, c.if-s-at.true))
-
-pub overflow_add-at : goal.overflow_add-at
-overflow_add-at c = omega (arith, c.if-s-at.false, c.requires)
-
-pub bounds-s-at : goal.bounds-s-at
-bounds-s-at c = omega (arith, c.if-s-at.false, c.requires)
-
-pub returns-then-text-i : goal.returns-then-text-i
-returns-then-text-i c = common-stop _ _ _ _ c.loop-i.invariant.1 c.loop-i-test.true (omega (arith, c.if-s-at.false, c.requires)) c.if-text-i.true
-
-pub loop-i-preserved : goal.loop-i-preserved
-loop-i-preserved c = (search rules, common-step _ _ _ _ c.loop-i.invariant.1 c.loop-i-test.true (omega (arith, c.if-s-at.false, c.requires)) c.if-text-i.false)
-
 pub returns : goal.returns
-returns c = common-end _ _ _ _ c.loop-i.invariant.1 c.loop-i-test.false
+returns c =
+    let t = c.args.text.now in
+    let r = drop c.args.at c.args.s.now in
+    let pairs = zip t r in
+    let same : ℕ × ℕ → Bool = λ p. eqb p.0 p.1 in
+    let second : c.zip.result.b.rest.now ≡ take (length c.args.s.now - c.args.at) r = c.zip.ensures.second.0 in
+    let road = YieldsList-from_zip (YieldsList-at c.zip.ensures.first (YieldsList-from_slice t c.iter.ensures.rest)) (YieldsList-from_slice r (second ∙ rest c.args.s.now c.args.at)) in
+    count_from_yields_List c.take_while.result _ c.count.ensures.ran (YieldsList-from_take_while _ same (YieldsList-at c.take_while.ensures.source road) c.take_while.ensures.closure c.take_while.ensures.done (λ x b q k. search (rules, tests))) ∙ length-prefix_len same pairs ∙ common_is_prefix t r
