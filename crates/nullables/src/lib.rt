@@ -10,7 +10,7 @@ use heads::slot::Slot;
 use ids::RowNumber;
 use leaves::plain::Plain;
 use names::kinds;
-use table::{Grid, RowWords};
+use table::{Grid, RowWords, Series};
 use walked::Reached;
 
 // Where nullables end, and the number of the row behind theirs.
@@ -31,22 +31,15 @@ fn value_bytes(flag: u32, size: usize) -> usize
     size
 }
 
-// Where n nullables end, if they are seen to be there: their values are of a kind and size and, where the kind has a rule, keep it by a first byte of at most `most`.
-fn ends_of(
-    file: &[u8],
-    kind: u32,
-    size: usize,
-    most: u8,
-    n: u32,
-    at: usize,
-    used: u32,
-) -> Option<Ends>
-    requires { (0 < size) × Ruled kind size most }
-    ensures { EndsAre file.now kind size n at used result }
+// Where the nullables of a series end, if they are seen to be there: the values have its kind and size, and where the kind has a rule,
+// they keep it by a first byte of at most `most`. Their rows begin behind their parent's.
+fn ends_of(file: &[u8], s: Series, most: u8) -> Option<Ends>
+    requires { (0 < s.size) × Ruled s.kind s.size most }
+    ensures { EndsAre file.now s.kind s.size s.count s.first s.parent result }
 {
-    let mut next = at;
-    let mut last = used as u64;
-    for _i in 0..n {
+    let mut next = s.first;
+    let mut last = s.parent as u64;
+    for _i in 0..s.count {
         if file.len() <= next {
             return None;
         }
@@ -54,7 +47,7 @@ fn ends_of(
         if 1 < flag {
             return None;
         }
-        let bytes = value_bytes(flag, size);
+        let bytes = value_bytes(flag, s.size);
         if file.len() - next <= bytes {
             return None;
         }
@@ -96,28 +89,19 @@ fn put_value(
     table::put_row(words, grid, RowNumber(number), r);
 }
 
-// Puts the rows of n nullables that fit. Their parent is the row before the first of theirs.
-fn put_all(
-    file: &[u8],
-    words: &mut [u32],
-    grid: Grid,
-    kind: u32,
-    size: usize,
-    n: u32,
-    at: usize,
-    used: u32,
-)
-    requires { (0 < size) × AllFit file.now kind size at n × (row_of file.now size at used n ≤ grid.room) }
-    ensures { words.new ≡ put_all grid file.now kind size used at used words.old n }
+// Puts the rows of a series of nullables that fit.
+fn put_all(file: &[u8], words: &mut [u32], grid: Grid, s: Series)
+    requires { (0 < s.size) × AllFit file.now s.kind s.size s.first s.count × (row_of file.now s.size s.first s.parent s.count ≤ grid.room) }
+    ensures { words.new ≡ put_all grid file.now s.kind s.size s.parent s.first s.parent words.old s.count }
 {
-    let mut next = at;
-    let mut number = used;
-    for _i in 0..n {
+    let mut next = s.first;
+    let mut number = s.parent;
+    for _i in 0..s.count {
         let flag = widen::wide(file[next]) as u32;
-        let bytes = value_bytes(flag, size);
+        let bytes = value_bytes(flag, s.size);
         let value = next + 1;
         let below = number + 1;
-        put_value(words, grid, below, flag, kind, value, size);
+        put_value(words, grid, below, flag, s.kind, value, s.size);
         let whole = 1 + bytes;
         let branch = 1 + flag;
         let r = RowWords {
@@ -125,7 +109,7 @@ fn put_all(
             first: table::word(next),
             bytes: table::word(whole),
             children: flag,
-            parent: used,
+            parent: s.parent,
             detail: 0,
             branch,
         };
@@ -135,22 +119,12 @@ fn put_all(
     }
 }
 
-// n nullables whose values are of a kind and size. The shape of the table is told apart here, so that each has a loop of its own.
-fn list_of(
-    file: &[u8],
-    words: &mut [u32],
-    grid: Grid,
-    kind: u32,
-    size: usize,
-    most: u8,
-    n: u32,
-    at: usize,
-    used: u32,
-) -> Option<Reached>
-    requires { (0 < size) × Ruled kind size most }
-    ensures { ListedAre grid file.now kind size n at used words.old words.new result }
+// A series of nullables. The shape of the table is told apart here, so that each has a loop of its own.
+fn list_of(file: &[u8], words: &mut [u32], grid: Grid, s: Series, most: u8) -> Option<Reached>
+    requires { (0 < s.size) × Ruled s.kind s.size most }
+    ensures { ListedAre grid file.now s.kind s.size s.count s.first s.parent words.old words.new result }
 {
-    let ends = ends_of(file, kind, size, most, n, at, used)?;
+    let ends = ends_of(file, s, most)?;
     if (grid.room as u64) < ends.last {
         return None;
     }
@@ -160,47 +134,29 @@ fn list_of(
         used: ends.last as u32,
     };
     if grid.columns {
-        put_all(file, words, grid, kind, size, n, at, used);
+        put_all(file, words, grid, s);
         return Some(reached);
     }
     let by_rows = Grid {
-        room: grid.room,
         columns: false,
+        ..grid
     };
-    put_all(file, words, by_rows, kind, size, n, at, used);
+    put_all(file, words, by_rows, s);
     Some(reached)
 }
 
-// n nullables whose values are of a kind and size: those of a kind with a rule only where the first byte shows that they keep it.
-fn of_kind(
-    file: &[u8],
-    words: &mut [u32],
-    grid: Grid,
-    kind: u32,
-    size: usize,
-    n: u32,
-    at: usize,
-    used: u32,
-) -> Option<Reached>
-    ensures { ListedAre grid file.now kind size n at used words.old words.new result }
+// A series of nullables, of values of a kind with a rule only where the first byte shows that they keep it.
+fn of_kind(file: &[u8], words: &mut [u32], grid: Grid, s: Series) -> Option<Reached>
+    ensures { ListedAre grid file.now s.kind s.size s.count s.first s.parent words.old words.new result }
 {
-    if size == 0 || kind == kinds::DATE_TIME || kind == kinds::DECIMAL {
+    if s.size == 0 || s.kind == kinds::DATE_TIME || s.kind == kinds::DECIMAL {
         return None;
     }
-    match kind {
-        kinds::BOOLEAN => {
-            if size != 1 {
-                return None;
-            }
-            list_of(file, words, grid, kind, size, 1, n, at, used)
-        }
-        kinds::CHAR => {
-            if size != 1 {
-                return None;
-            }
-            list_of(file, words, grid, kind, size, 127, n, at, used)
-        }
-        _ => list_of(file, words, grid, kind, size, 255, n, at, used),
+    match s.kind {
+        kinds::BOOLEAN if s.size == 1 => list_of(file, words, grid, s, 1),
+        kinds::CHAR if s.size == 1 => list_of(file, words, grid, s, 127),
+        kinds::BOOLEAN | kinds::CHAR => None,
+        _ => list_of(file, words, grid, s, 255),
     }
 }
 
@@ -216,12 +172,22 @@ fn of_plain(
 ) -> Option<Reached>
     ensures { ListedAre grid file.now (kind_in slot) (size_in slot) n at used words.old words.new result }
 {
-    match slot {
-        Plain::Fixed(kind, size) => of_kind(file, words, grid, kind, size, n, at, used),
-        Plain::Enum(size) => of_kind(file, words, grid, kinds::ENUM_KIND, size, n, at, used),
-        Plain::Char => of_kind(file, words, grid, kinds::CHAR, 1, n, at, used),
-        _ => None,
-    }
+    let (kind, size) = match slot {
+        Plain::Fixed(kind, size) => (kind, size),
+        Plain::Enum(size) => (kinds::ENUM_KIND, size),
+        Plain::Char => (kinds::CHAR, 1),
+        _ => {
+            return None;
+        }
+    };
+    let s = Series {
+        count: n,
+        kind,
+        size,
+        first: at,
+        parent: used,
+    };
+    of_kind(file, words, grid, s)
 }
 
 // n values of the type at `a`, if they are nullables of one size, all there and with room for their rows.

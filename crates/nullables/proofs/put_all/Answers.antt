@@ -10,18 +10,18 @@ loop-i-init c = (refl, refl, refl)
 pub bounds-file-next : goal.bounds-file-next
 bounds-file-next c =
     let a = c.args in
-    (fit_at a.file.now a.kind a.size a.at a.used a.n c.loop-i._i c.loop-i.next c.loop-i.number c.requires.1 c.loop-i-test.true c.loop-i.invariant.0 c.loop-i.invariant.1).0.there
+    (fit_at a.file.now a.s.kind a.s.size a.s.first a.s.parent a.s.count c.loop-i._i c.loop-i.next c.loop-i.number c.requires.1 c.loop-i-test.true c.loop-i.invariant.0 c.loop-i.invariant.1).0.there
 
 -- the nullable is there, and its rows are among those of the list
-fit : (c : After-wide-flag) → Fits c.args.file.now c.args.kind c.args.size c.loop-i.next
-    × (c.loop-i.number + 1 + flag_at c.args.file.now c.loop-i.next ≤ row_of c.args.file.now c.args.size c.args.at c.args.used c.args.n)
+fit : (c : After-wide-flag) → Fits c.args.file.now c.args.s.kind c.args.s.size c.loop-i.next
+    × (c.loop-i.number + 1 + flag_at c.args.file.now c.loop-i.next ≤ row_of c.args.file.now c.args.s.size c.args.s.first c.args.s.parent c.args.s.count)
 fit c =
     let a = c.args in
-    fit_at a.file.now a.kind a.size a.at a.used a.n c.loop-i._i c.loop-i.next c.loop-i.number c.requires.1 c.loop-i-test.true c.loop-i.invariant.0 c.loop-i.invariant.1
+    fit_at a.file.now a.s.kind a.s.size a.s.first a.s.parent a.s.count c.loop-i._i c.loop-i.next c.loop-i.number c.requires.1 c.loop-i-test.true c.loop-i.invariant.0 c.loop-i.invariant.1
 
 -- its value's bytes are those that its first byte says
-size : (c : After-value_bytes-bytes) → c.value_bytes-bytes.result ≡ flag_at c.args.file.now c.loop-i.next * c.args.size
-size c = c.value_bytes-bytes.ensures.0 ∙ ap (λ (k : ℕ). k * c.args.size) c.wide-flag.ensures.0
+size : (c : After-value_bytes-bytes) → c.value_bytes-bytes.result ≡ flag_at c.args.file.now c.loop-i.next * c.args.s.size
+size c = c.value_bytes-bytes.ensures.0 ∙ ap (λ (k : ℕ). k * c.args.s.size) c.wide-flag.ensures.0
 
 pub value_bytes-bytes-requires : goal.value_bytes-bytes-requires
 value_bytes-bytes-requires c =
@@ -61,6 +61,6 @@ overflow_add-number c =
 pub loop-i-preserved : goal.loop-i-preserved
 loop-i-preserved c =
     let a = c.args in
-    put_next a.grid a.file.now a.kind a.size a.at a.used c.loop-i._i c.loop-i.next c.loop-i.number _ c.value_bytes-bytes.result a.words.now c.loop-i.words _ _ _ _ c.loop-i.invariant.0 c.loop-i.invariant.1
+    put_next a.grid a.file.now a.s.kind a.s.size a.s.first a.s.parent c.loop-i._i c.loop-i.next c.loop-i.number _ c.value_bytes-bytes.result a.words.now c.loop-i.words _ _ _ _ c.loop-i.invariant.0 c.loop-i.invariant.1
     c.wide-flag.ensures.0 c.value_bytes-bytes.ensures.0 c.loop-i.invariant.2
     c.put_value.ensures c.word.ensures c.word-in-loop-i.ensures c.put_row.ensures
