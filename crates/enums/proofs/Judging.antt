@@ -1,11 +1,11 @@
 -- The judge's loop: the entries that were passed, and what is left to say of the bytes behind them. Assumes nothing.
 use mathlib.Core.Path.{◌≡◌, refl, sym, ap, ◌∙◌}
 use mathlib.Core.Bool.{Bool, true, false, cond}
-use mathlib.Core.List.{List, [], ◌∷◌, ◌++◌}
+use mathlib.Core.List.{List, [], ◌∷◌, ◌++◌, append_assoc}
 use Prim.Native.Nat.{ℕ, zero, suc, ◌+◌, ◌-◌, ◌≤◌, ◌<◌}
 use native.Mathlib.Omega.{arith}
 use lib.ListN.{length, take, drop, get_or, length-drop, length-append, drop_of_length-le}
-use lib.Seq.{length-take-le, take-add, take_at}
+use lib.Seq.{take-append_seam}
 use borrow.Author.Tests.{lt-ltb, le-ltb, eq-eqb, ne_eqb}
 use Rattle.laws.specs.Small.{differ}
 use Rattle.layout.specs.Kind.{alike}
@@ -15,15 +15,13 @@ use Rattle.seen_names.specs.Laws.{noted_now, noted_still}
 use Rattle.layout.specs.EnumList.{EnumEntry, entry, write_enums, size_in}
 use Rattle.names.specs.Entries.{entries_of}
 use Rattle.names.specs.EntryLaws.{entries-written}
-use Rattle.std.specs.Prelude.{Result, Ok, Err}
-use Rattle.answers.specs.declared.Refusal.{Refusal}
+use Rattle.std.specs.Prelude.{Ok, Err}
 use Rattle.answers.specs.Refusals.{refusal}
 use Rattle.enums.specs.Judge.{Judgement, refused, lawful, is_enum_type, check, enums_from, enums_at}
 use Rattle.enums.specs.Laws.{write-append}
 use Rattle.enums.specs.Lists.{first_written}
 use Rattle.enums.specs.Contract.{answer_of}
 use Rattle.enums.specs.Noted.{AllNoted}
-use Rattle.enums.proofs.Laws.{at_place, end_at, name_at, name_is, size_is, rest_is}
 
 -- more room for entries than there are bytes makes no difference
 from_same : (j k : ℕ) (earlier : List EnumEntry) (s : List ℕ) → length s ≤ j → length s ≤ k → enums_from j earlier s ≡ enums_from k earlier s
@@ -89,74 +87,68 @@ new_unlisted seen name (entry n z ∷ es) e w = go (new_unlisted seen name es e 
       differ cc
   go r false q = r
 
--- the entries before a place, as many as the code counts, each with its name noted in a table of marks
-pub record Judging (s seen : List ℕ) (at count : ℕ) : Type 0 where
+-- the entries that were passed, as many as the code counts, each with its name noted in a table of marks
+pub record Judging (s seen rest : List ℕ) (count : ℕ) : Type 0 where
   pub earlier : List EnumEntry
-  pub passed : take at s ≡ write_enums earlier
+  pub passed : s ≡ write_enums earlier ++ rest
   pub counted : count ≡ length earlier
-  pub few : count ≤ at
-  pub left : enums_at s ≡ behind earlier (drop at s)
+  pub few : count + length rest ≤ length s
+  pub left : enums_at s ≡ behind earlier rest
   pub all_noted : AllNoted seen earlier
 
-pub judging_start : (s seen : List ℕ) → Judging s seen 0 0
+pub judging_start : (s seen : List ℕ) → Judging s seen s 0
 unfolding enums_at write_enums AllNoted
 judging_start s seen = record { earlier = []; passed = refl; counted = refl; few = omega arith; left = refl; all_noted = tt }
 
-module _ {s seen : List ℕ} {at count : ℕ} (j : Judging s seen at count) where
-  says : {number : ℕ} → behind j.earlier (drop at s) ≡ refused number (length j.earlier) → Err (refusal number count) ≡ answer_of (enums_at s)
+module _ {s seen rest : List ℕ} {count : ℕ} (j : Judging s seen rest count) where
+  says : {number : ℕ} → behind j.earlier rest ≡ refused number (length j.earlier) → Err (refusal number count) ≡ answer_of (enums_at s)
   says {number} e = rw j.counted (ap answer_of (sym (j.left ∙ e)))
 
-  pub judged-end : length s ≤ at → Ok tt ≡ answer_of (enums_at s)
+  pub judged-end : length rest ≡ 0 → Ok tt ≡ answer_of (enums_at s)
   unfolding enums_from
   judged-end h =
-      let e : behind j.earlier (drop at s) ≡ lawful j.earlier = rw (drop_of_length-le s h) in
+      let e : behind j.earlier rest ≡ lawful j.earlier = rw (drop_of_length-le rest {i = 0} (omega arith)) in
       ap answer_of (sym (j.left ∙ e))
 
-  -- the sizes that the code sees in the bytes before the place are those of the earlier entries
-  sizes_before : (name : List ℕ) → size_in (entries_of (take at s)) name ≡ size_in j.earlier name
-  sizes_before name = ap (λ (l : List ℕ). size_in (entries_of l) name) j.passed ∙ ap (λ (l : List EnumEntry). size_in l name) (entries-written j.earlier)
+  -- the entries that the code sees in the bytes before the rest
+  before : take (length s - length rest) s ≡ write_enums j.earlier
+  before =
+      let z : length s - length rest ≡ length (write_enums j.earlier) = omega (arith, ap length j.passed, length-append (write_enums j.earlier) rest) in
+      rw z (ap (take (length (write_enums j.earlier))) j.passed ∙ take-append_seam (write_enums j.earlier) rest)
 
-  -- the entries that the code sees there are all noted
-  pub noted_before : AllNoted seen (entries_of (take at s))
-  noted_before = rw (j.passed, entries-written j.earlier) j.all_noted
+  -- they have the sizes of the earlier entries
+  sizes_before : (name : List ℕ) → size_in (entries_of (take (length s - length rest) s)) name ≡ size_in j.earlier name
+  sizes_before name = ap (λ (l : List ℕ). size_in (entries_of l) name) before ∙ ap (λ (l : List EnumEntry). size_in l name) (entries-written j.earlier)
 
-  module _ (h : at < length s) where
-    pub judged_cut : length s - (at + 1) ≤ get_or s at 0 → Err (refusal 32 count) ≡ answer_of (enums_at s)
-    judged_cut c = says (rw (at_place s at h) (behind_cut j.earlier (get_or s at 0) (drop (at + 1) s) (omega (arith, length-drop (at + 1) s))))
+  -- and are all noted
+  pub noted_before : AllNoted seen (entries_of (take (length s - length rest) s))
+  noted_before = rw (before, entries-written j.earlier) j.all_noted
 
-    module _ (c : get_or s at 0 < length s - (at + 1)) where
-      inside : get_or s at 0 < length (drop (at + 1) s)
-      inside = omega (arith, length-drop (at + 1) s)
+-- the entry that stands first in the rest
+module _ {s seen r : List ℕ} {n count : ℕ} (j : Judging s seen (n ∷ r) count) where
+  pub judged_cut : length r ≤ n → Err (refusal 32 count) ≡ answer_of (enums_at s)
+  judged_cut c = says j (behind_cut j.earlier n r c)
 
-      pub judged-bad : is_enum_type (name_at s at) (get_or s (end_at s at) 0) ≡ false → Err (refusal 32 count) ≡ answer_of (enums_at s)
-      judged-bad b = says (rw (at_place s at h) (behind_bad j.earlier (get_or s at 0) (drop (at + 1) s) inside (rw (name_is s at h, size_is s at h) at b)))
+  module _ (c : n < length r) where
+    pub judged-bad : is_enum_type (take n r) (get_or r n 0) ≡ false → Err (refusal 32 count) ≡ answer_of (enums_at s)
+    judged-bad b = says j (behind_bad j.earlier n r c b)
 
-      module _ (b : is_enum_type (name_at s at) (get_or s (end_at s at) 0) ≡ true) where
-        good : is_enum_type (take (get_or s at 0) (drop (at + 1) s)) (get_or (drop (at + 1) s) (get_or s at 0) 0) ≡ true
-        good = rw (name_is s at h, size_is s at h) at b
+    module _ (b : is_enum_type (take n r) (get_or r n 0) ≡ true) where
+      pub judged_again : (size_in (entries_of (take (length s - length (n ∷ r)) s)) (take n r) ≡ 0 → ⊥) → Err (refusal 32 count) ≡ answer_of (enums_at s)
+      judged_again e = says j (behind_again j.earlier n r c b (λ q. e (sizes_before j (take n r) ∙ q)))
 
-        pub judged_again : (size_in (entries_of (take at s)) (name_at s at) ≡ 0 → ⊥) → Err (refusal 32 count) ≡ answer_of (enums_at s)
-        judged_again e =
-            says (rw (at_place s at h) (behind_again j.earlier (get_or s at 0) (drop (at + 1) s) inside good
-            (λ q. e (rw (name_is s at h) (sizes_before (take (get_or s at 0) (drop (at + 1) s)) ∙ q)))))
-
-        pub judged_next : size_in (entries_of (take at s)) (name_at s at) ≡ 0 → Judging s (noted seen (name_at s at)) (end_at s at + 1) (count + 1)
-        unfolding write_enums
-        judged_next e =
-            let n = get_or s at 0 in
-            let r = drop (at + 1) s in
-            let this = entry (take n r) (get_or r n 0) in
-            let f : size_in j.earlier (take n r) ≡ 0 = sym (sizes_before (take n r)) ∙ (rw (name_is s at h) at e) in
-            let w : drop at s ≡ write_enums (this ∷ []) ++ drop (suc n) r = at_place s at h ∙ first_written n r inside in
-            let z : end_at s at + 1 ≡ at + suc (suc n) = omega arith in
-            let l : length (write_enums (this ∷ [])) ≡ suc (suc n) = omega (arith, length-append (take n r) (get_or r n 0 ∷ []), length-take-le n r (omega (arith, inside))) in
-            record {
-              earlier = j.earlier ++ (this ∷ []);
-              passed = rw z (take-add at (suc (suc n)) s ∙ ap (λ (x : List ℕ). x ++ take (suc (suc n)) (drop at s)) j.passed
-                  ∙ ap (λ (x : List ℕ). write_enums j.earlier ++ x) (ap (take (suc (suc n))) w ∙ take_at (write_enums (this ∷ [])) (drop (suc n) r) (suc (suc n)) l)
-                  ∙ sym (write-append j.earlier (this ∷ [])));
-              counted = omega (arith, j.counted, length-append j.earlier (this ∷ []));
-              few = omega (arith, j.few);
-              left = j.left ∙ ap (behind j.earlier) (at_place s at h) ∙ behind_next j.earlier n r inside good f ∙ ap (behind (j.earlier ++ (this ∷ []))) (sym (rest_is s at h));
-              all_noted = rw (name_is s at h) (all_more seen (take n r) (get_or r n 0) j.earlier j.all_noted);
-            }
+      pub judged_next : size_in (entries_of (take (length s - length (n ∷ r)) s)) (take n r) ≡ 0 → Judging s (noted seen (take n r)) (drop (n + 1) r) (count + 1)
+      unfolding write_enums
+      judged_next e =
+          let this = entry (take n r) (get_or r n 0) in
+          let f : size_in j.earlier (take n r) ≡ 0 = sym (sizes_before j (take n r)) ∙ e in
+          let z : suc n ≡ n + 1 = omega arith in
+          record {
+            earlier = j.earlier ++ (this ∷ []);
+            passed = j.passed ∙ ap (λ (x : List ℕ). write_enums j.earlier ++ x) (first_written n r c) ∙ sym (append_assoc (write_enums j.earlier) (write_enums (this ∷ [])) (drop (suc n) r))
+                ∙ ap (λ (x : List ℕ). x ++ drop (suc n) r) (sym (write-append j.earlier (this ∷ []))) ∙ ap (λ (k : ℕ). write_enums (j.earlier ++ (this ∷ [])) ++ drop k r) z;
+            counted = omega (arith, j.counted, length-append j.earlier (this ∷ []));
+            few = omega (arith, j.few, length-drop (n + 1) r);
+            left = j.left ∙ behind_next j.earlier n r c b f ∙ ap (λ (k : ℕ). behind (j.earlier ++ (this ∷ [])) (drop k r)) z;
+            all_noted = all_more seen (take n r) (get_or r n 0) j.earlier j.all_noted;
+          }

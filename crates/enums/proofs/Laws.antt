@@ -1,12 +1,11 @@
--- Heads by the bytes that stand in one, and the entry at a place of a list. Assumes nothing.
-use mathlib.Core.Path.{◌≡◌, refl, sym, ap, ◌∙◌}
+-- Heads by the bytes that stand in one. Assumes nothing.
+use mathlib.Core.Path.{◌≡◌, refl, ap}
 use mathlib.Core.Bool.{Bool, true, false, ◌&&◌, cond}
 use mathlib.Core.List.{List, [], ◌∷◌}
-use Prim.Native.Nat.{ℕ, suc, ◌+◌, ◌-◌, ◌<◌}
+use Prim.Native.Nat.{ℕ, suc}
 use native.Mathlib.Omega.{arith}
 use lib.Dec.{eqb}
-use lib.ListN.{length, take, drop, get_or}
-use lib.Seq.{drop-cons, drop-drop, get_or-drop}
+use lib.ListN.{length}
 use Rattle.layout.specs.Name.{head_byte, all}
 use Rattle.layout.specs.Kind.{lookup, targets}
 use Rattle.names.specs.Parse.{span}
@@ -29,29 +28,6 @@ all_span p (b ∷ s) e = go (p b) e (all_span p s) where
   go : (x : Bool) → (cond x (suc (span p s)) 0 ≡ suc (length s) → ⊥) → ((span p s ≡ length s → ⊥) → all p s ≡ false) → (x && all p s) ≡ false
   go true q f = f (λ r. q (ap suc r))
   go false q f = refl
-
--- the bytes from a place on, where there are some
-pub at_place : (s : List ℕ) (at : ℕ) → at < length s → drop at s ≡ get_or s at 0 ∷ drop (at + 1) s
-at_place s at h = drop-cons s at 0 h ∙ ap (λ (k : ℕ). get_or s at 0 ∷ drop k s) (let q : suc at ≡ at + 1 = omega arith in q)
-
--- the entry at a place, as the code has it: where its size stands, and its name
-abbrev pub end_at : List ℕ → ℕ → ℕ
-end_at s at = at + 1 + get_or s at 0
-
-abbrev pub name_at : List ℕ → ℕ → List ℕ
-name_at s at = take (end_at s at - (at + 1)) (drop (at + 1) s)
-
-module _ (s : List ℕ) (at : ℕ) (h : at < length s) where
-  pub name_is : name_at s at ≡ take (get_or s at 0) (drop (at + 1) s)
-  name_is = ap (λ (k : ℕ). take k (drop (at + 1) s)) (let q : end_at s at - (at + 1) ≡ get_or s at 0 = omega arith in q)
-
-  pub size_is : get_or s (end_at s at) 0 ≡ get_or (drop (at + 1) s) (get_or s at 0) 0
-  size_is = sym (get_or-drop (at + 1) s (get_or s at 0) 0)
-
-  pub rest_is : drop (end_at s at + 1) s ≡ drop (suc (get_or s at 0)) (drop (at + 1) s)
-  rest_is =
-      let q : end_at s at + 1 ≡ at + 1 + suc (get_or s at 0) = omega arith in
-      ap (λ (k : ℕ). drop k s) q ∙ sym (drop-drop (suc (get_or s at 0)) (at + 1) s)
 
 -- an entry by itself, by the tests in the code's order
 module _ (name : List ℕ) (size : ℕ) where

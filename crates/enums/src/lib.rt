@@ -12,7 +12,6 @@ ghost use Rattle.seen_names.specs.Seen.{noted};
 use answers::{Refusal, Rule};
 use names::bytes::Class;
 use seen_names::note;
-use widen::wide;
 
 // A size that an entry may have.
 fn is_size(size: u8) -> bool
@@ -53,22 +52,22 @@ fn listed(earlier: &[u8], seen: &mut [u64], name: &[u8]) -> bool
 fn judge_by(enums: &[u8], seen: &mut [u64]) -> Result<(), Refusal>
     ensures { result ≡ answer_of (enums_at enums.now) }
 {
-    let mut at = 0;
     let mut entry = 0;
-    while at < enums.len() {
-        let first = at + 1;
-        let count = enums[at] as usize;
-        if enums.len() - first <= count {
+    let mut rest = enums;
+    while let Some((count, behind)) = rest.split_first() {
+        let count = *count as usize;
+        if behind.len() <= count {
             return Err(Rule::EnumEntry.at(entry));
         }
-        let end = first + count;
-        if !is_enum_type(&enums[first..end], enums[end]) {
+        let name = &behind[..count];
+        if !is_enum_type(name, behind[count]) {
             return Err(Rule::EnumEntry.at(entry));
         }
-        if listed(&enums[..at], seen, &enums[first..end]) {
+        let earlier = &enums[..enums.len() - rest.len()];
+        if listed(earlier, seen, name) {
             return Err(Rule::EnumEntry.at(entry));
         }
-        at = end + 1;
+        rest = &behind[count + 1..];
         entry += 1;
     }
     Ok(())
@@ -76,14 +75,14 @@ fn judge_by(enums: &[u8], seen: &mut [u64]) -> Result<(), Refusal>
 
 // How many entries a list has, by the lengths of their names.
 fn entries_in(enums: &[u8]) -> usize {
-    let mut at = 0;
     let mut count = 0;
-    while at < enums.len() {
-        let size = wide(enums[at]) as usize + 2;
-        if enums.len() - at < size {
+    let mut rest = enums;
+    while let Some((size, behind)) = rest.split_first() {
+        let size = *size as usize + 1;
+        if behind.len() < size {
             return count;
         }
-        at += size;
+        rest = &behind[size..];
         count += 1;
     }
     count

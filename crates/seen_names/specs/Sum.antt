@@ -1,9 +1,5 @@
 -- A sum over the bytes of a name, by which its cell and its bits are picked. Assumes nothing.
-use Rattle.std.specs.Prelude.{List, [], ◌∷◌, ℕ, ◌+◌, ◌*◌, ◌/◌, ◌%◌, get_or}
-
--- four bytes, the lowest first
-abbrev pub four_at : List ℕ → ℕ → ℕ
-four_at s i = get_or s i 0 + get_or s (i + 1) 0 * 256 + get_or s (i + 2) 0 * 65536 + get_or s (i + 3) 0 * 16777216
+use Rattle.std.specs.Prelude.{List, [], ◌∷◌, ℕ, ◌+◌, ◌*◌, ◌/◌, ◌%◌}
 
 abbrev pub step_of : (sum next : ℕ) → ℕ
 step_of sum next = (sum * 2654435769 + next) % 4294967296

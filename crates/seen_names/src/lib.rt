@@ -1,23 +1,9 @@
 // Marks of names: a name has one cell of a table and some bits there, so a name whose bits are not all set was not noted.
 #![tactic(auto)]
 
-ghost use Rattle.std.specs.Prelude.{◌≡◌, ◌+◌, ◌≤◌, ◌^◌, ◌%◌, length};
-ghost use Rattle.seen_names.specs.Sum.{four_at, step_of, spread_of, sum_of};
+ghost use Rattle.std.specs.Prelude.{◌≡◌, ◌≤◌, ◌^◌, ◌%◌};
+ghost use Rattle.seen_names.specs.Sum.{step_of, spread_of, sum_of};
 ghost use Rattle.seen_names.specs.Seen.{bits_of, is_noted, noted};
-
-use widen::wide;
-
-// Four bytes at `i`, the lowest first.
-fn four(name: &[u8], i: usize) -> u64
-    requires { i + 4 ≤ length name.now }
-    ensures value { result ≡ four_at name.now i }
-    ensures upper_bound { result ≤ 4294967295 }
-{
-    wide(name[i])
-        + wide(name[i + 1]) * 256
-        + wide(name[i + 2]) * 65536
-        + wide(name[i + 3]) * 16777216
-}
 
 // The sum over a name's bytes, with the next ones.
 fn step(sum: u64, next: u64) -> u64
@@ -32,14 +18,13 @@ fn sum_of(name: &[u8]) -> u64
     ensures { (result ≡ sum_of name.now) × (result ≤ 4294967295) }
 {
     let mut sum = 0;
-    let mut i = 0;
-    while 4 <= name.len() - i {
-        sum = step(sum, four(name, i));
-        i += 4;
+    let mut rest = name;
+    while let Some((four, behind)) = rest.split_first_chunk::<4>() {
+        sum = step(sum, u32::from_le_bytes(*four) as u64);
+        rest = behind;
     }
-    while i < name.len() {
-        sum = step(sum, wide(name[i]));
-        i += 1;
+    for b in rest {
+        sum = step(sum, *b as u64);
     }
     sum
 }

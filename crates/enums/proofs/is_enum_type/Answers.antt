@@ -1,6 +1,4 @@
-use borrow.Author.Rules.{rules}
 use mathlib.Core.Path.{sym, ◌∙◌}
-use borrow.Author.Tests.{not-true, not-false}
 use Rattle.names.specs.Kind.{listed}
 use Rattle.enums.proofs.Laws.{no_size, no_name, no_head, some-head}
 use Rattle.enums.proofs.is_enum_type.Goals as goal

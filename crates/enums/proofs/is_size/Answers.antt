@@ -1,4 +1,3 @@
-use borrow.Author.Rules.{rules}
 use Rattle.names.specs.Entries.{is_size}
 use Rattle.enums.proofs.is_size.Goals as goal
 

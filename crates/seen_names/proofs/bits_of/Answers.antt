@@ -1,4 +1,3 @@
-use borrow.Author.Rules.{rules}
 use Rattle.seen_names.specs.Seen.{bits_of}
 use Rattle.seen_names.proofs.bits_of.Goals as goal
 

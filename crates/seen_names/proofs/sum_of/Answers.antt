@@ -1,24 +1,35 @@
-use borrow.Author.Rules.{rules}
-use mathlib.Core.Path.{◌≡◌, ◌∙◌}
-use native.Mathlib.Omega.{arith}
-use Prim.Native.Nat.{◌-◌, ◌≤◌}
-use lib.ListN.{length}
-use Rattle.seen_names.proofs.Sums.{Summed, sum-start, sum-four, sum_one, sum-end}
+use Rattle.std.proofs.Common.{◌≡◌, refl, sym, ap, ◌∙◌, arith, ◌∷◌, ℕ, suc, ◌+◌, drop, get_or}
+use Rattle.std.proofs.Math.Seq.{drop-cons}
+use Rattle.std.proofs.Math.ListN.{length-drop, drop_of_length-le}
+use Rattle.seen_names.specs.Sum.{sum_from, sum_of}
+use Rattle.seen_names.proofs.Sums.{sum-each, sum-four, sum-none}
 use Rattle.seen_names.proofs.sum_of.Goals as goal
 
-pub loop-i-init : goal.loop-i-init
-loop-i-init c = (search rules, search rules, sum-start _)
+pub loop-four-init : goal.loop-four-init
+unfolding sum_of
+loop-four-init c = (omega arith, refl)
 
-pub loop-i-preserved : goal.loop-i-preserved
-loop-i-preserved c =
-    (search rules, c.step-sum.ensures.1, rw (c.step-sum.ensures.0, c.four.ensures.value) (sum-four c.loop-i.invariant.2 (omega (arith, c.loop-i.invariant.0, c.loop-i-test.true))))
+pub loop-four-preserved : goal.loop-four-preserved
+loop-four-preserved c =
+    let rest = c.loop-four.rest.now in
+    let e = c.in-Some.ensures.cases in (
+      c.step-sum.ensures.1,
+      rw (c.step-sum.ensures.0, c.from_le_bytes.ensures, e.0, e.1) (sym (sum-four c.loop-four.sum rest (omega (arith, e.2))) ∙ c.loop-four.invariant.1),
+    )
 
-pub loop-i-2-init : goal.loop-i-2-init
-loop-i-2-init c = (c.loop-i.invariant.0, omega (arith, c.loop-i-test.false), c.loop-i.invariant.1, c.loop-i.invariant.2)
-
-pub loop-i-2-preserved : goal.loop-i-2-preserved
-loop-i-2-preserved c =
-    (search rules, omega (arith, c.loop-i-2.invariant.1), c.step-sum-in-loop-i-2.ensures.1, rw (c.step-sum-in-loop-i-2.ensures.0, c.wide.ensures.0) (sum_one c.loop-i-2.invariant.3 c.loop-i-2-test.true c.loop-i-2.invariant.1))
+pub loop-b-preserved : goal.loop-b-preserved
+loop-b-preserved c =
+    let s = c.loop-four.rest.now in
+    let i = c.loop-b.b-index in
+    let z : suc i ≡ i + 1 = omega arith in
+    let d : drop i s ≡ get_or s i 0 ∷ drop (i + 1) s = drop-cons s i 0 c.loop-b-test.true ∙ ap (λ (k : ℕ). get_or s i 0 ∷ drop k s) z in
+    let l = length-drop (i + 1) s in (
+      c.step-sum-in-loop-b.ensures.1,
+      c.loop-b.invariant.1,
+      rw c.step-sum-in-loop-b.ensures.0 (sym (sum-each c.loop-b.sum (get_or s i 0) (drop (i + 1) s) (omega (arith, c.loop-b.invariant.1))) ∙ ap (sum_from c.loop-b.sum) (sym d) ∙ c.loop-b.invariant.2),
+    )
 
 pub returns : goal.returns
-returns c = (sum-end c.loop-i-2.invariant.3 c.loop-i-2-test.false, c.loop-i-2.invariant.2)
+returns c =
+    let s = c.loop-four.rest.now in
+    (sym (sum-none c.loop-b.sum) ∙ ap (sum_from c.loop-b.sum) (sym (drop_of_length-le s c.loop-b-test.false)) ∙ c.loop-b.invariant.2, c.loop-b.invariant.0)
