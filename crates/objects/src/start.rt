@@ -13,7 +13,7 @@ use names::kinds;
 
 // A value without children that needs no reader list; null, where it ends and the padding of its type id;
 // or a raw value: the place of its type, its first byte, its type id and the padding of that.
-#[derive(Clone, Copy)]
+#[derive(Clone, Copy, Debug, PartialEq, Eq)]
 pub enum Started {
     Plain(Plain),
     Null {
@@ -97,18 +97,17 @@ fn object_start(
 {
     let number = numbers::seven::seven_padded(file, at)?;
     let id = TypeId(number.value as u32);
-    match identify(file, codes, count, target, declared, id) {
-        Ok(None) => Ok(Started::Null {
+    match identify(file, codes, count, target, declared, id).map_err(|rule| rule.at(at))? {
+        None => Ok(Started::Null {
             next: number.next,
             padding: number.padding,
         }),
-        Ok(Some(place)) => Ok(Started::Raw {
+        Some(place) => Ok(Started::Raw {
             place,
             from: number.next,
             id,
             padding: number.padding,
         }),
-        Err(rule) => Err(rule.at(at)),
     }
 }
 
