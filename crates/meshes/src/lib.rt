@@ -266,10 +266,7 @@ fn onward(stage: Stage) -> Stage
 fn number_of(read: Number) -> u32
     ensures { result ≡ word_of (told read) }
 {
-    match read {
-        Ok(read) => (read.value % 4294967296) as u32,
-        Err(_) => 0,
-    }
+    read.map_or(0, |read| (read.value % 4294967296) as u32)
 }
 
 // The number that the field at `at` tells: a flag's byte, or the four bytes of a count, a size or a stride.
@@ -288,38 +285,24 @@ fn told_at(file: &[u8], step: Step, at: usize) -> u32
 pub fn after(file: &[u8], stage: Stage, at: usize) -> Stage
     ensures { result ≡ behind_of stage (told_at file.now stage.step at) }
 {
+    let told = || told_at(file, stage.step, at);
     match stage.step {
-        Step::Flag => at_field(Step::DataSize, told_at(file, Step::Flag, at), 0, 0),
-        Step::DataSize => at_field(Step::IndexData, told_at(file, Step::DataSize, at), 0, 0),
-        Step::IndexData => at_field(Step::End, 0, 0, 0),
-        Step::ElementCount => to_elements(told_at(file, Step::ElementCount, at)),
+        Step::Flag => at_field(Step::DataSize, told(), 0, 0),
+        Step::DataSize => at_field(Step::IndexData, told(), 0, 0),
+        Step::ElementCount => to_elements(told()),
         Step::UsageIndex => to_elements(stage.left),
-        Step::Declaration => at_field(
-            Step::VertexCount,
-            told_at(file, Step::Declaration, at),
-            0,
-            0,
-        ),
-        Step::VertexCount => at_field(
-            Step::VertexData,
-            stage.number,
-            told_at(file, Step::VertexCount, at),
-            0,
-        ),
-        Step::VertexData => at_field(Step::End, 0, 0, 0),
+        Step::Declaration => at_field(Step::VertexCount, told(), 0, 0),
+        Step::VertexCount => at_field(Step::VertexData, stage.number, told(), 0),
+        Step::IndexData | Step::VertexData => at_field(Step::End, 0, 0, 0),
         Step::BoneCount => {
-            let bones = told_at(file, Step::BoneCount, at);
+            let bones = told();
             to_names(bones, bones)
         }
         Step::BoneTransform => to_names(stage.number, stage.left),
-        Step::ChildCount => to_children(
-            stage.number,
-            stage.left,
-            told_at(file, Step::ChildCount, at),
-        ),
+        Step::ChildCount => to_children(stage.number, stage.left, told()),
         Step::Child => to_children(stage.number, stage.left, stage.inner),
-        Step::MeshCount => to_meshes(stage.number, told_at(file, Step::MeshCount, at)),
-        Step::PartCount => to_parts(stage.number, stage.left, told_at(file, Step::PartCount, at)),
+        Step::MeshCount => to_meshes(stage.number, told()),
+        Step::PartCount => to_parts(stage.number, stage.left, told()),
         Step::Effect => to_parts(stage.number, stage.left, stage.inner),
         _ => onward(stage),
     }
