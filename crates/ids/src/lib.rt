@@ -31,6 +31,7 @@ impl TypeId {
     }
 }
 
+// Kept: 01 has type ids and resource ids turned into positions by a function of their own each.
 impl ResourceId {
     pub fn position(self) -> Option<u32>
         ensures { result ≡ position_of self.0 }

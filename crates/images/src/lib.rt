@@ -30,6 +30,7 @@ const DXT5: u32 = 6;
 pub fn block_bytes(format: u32) -> u64
     ensures { result ≡ get_or block_bytes format 0 }
 {
+    // Kept: two arms for 16, as one with an or-pattern left goals with no name.
     match format {
         DXT1 => 8,
         DXT3 => 16,

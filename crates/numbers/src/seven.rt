@@ -29,6 +29,7 @@ pub fn first(s: &[u8], start: usize) -> Result<Step, Refusal>
     step_at(s, start, 0, 0, Ok(Step::HandsOn { low: 0, needed: 1 }))
 }
 
+// Kept: steps 2 to 4 are three functions, as 02, Req 03, has a step for each byte, and they share `step_at`.
 // Step 2: the second byte joins its low seven bits above the 7 read,
 // ends the number if it is below 80 hex, else hands on, and refuses with 1 if the file ends before it.
 pub fn second(s: &[u8], start: usize, so_far: Result<Step, Refusal>) -> Result<Step, Refusal>

@@ -5,19 +5,15 @@
 use answers::Refusal;
 use numbers::seven::Step;
 
-fn print_byte(rt: &impl Print, byte: u8) -> std::io::Result<()> {
-    print!(rt; "byte {byte:02x}")
-}
-
 // The byte with index k of the number at `start`, where the input has it.
 fn print_byte_at(rt: &impl Print, s: &[u8], start: usize, k: usize) -> std::io::Result<()> {
-    if s.len() <= start {
+    let Some(number) = s.get(start..) else {
         return print!(rt; "no byte");
+    };
+    match number.get(k) {
+        Some(byte) => print!(rt; "byte {byte:02x}"),
+        None => print!(rt; "no byte"),
     }
-    if s.len() - start <= k {
-        return print!(rt; "no byte");
-    }
-    print_byte(rt, s[start + k])
 }
 
 // A step, its byte and the value so far.

@@ -292,6 +292,7 @@ fn chars(s: &[u8], from: usize) -> usize
 }
 
 // How many bytes the character of more than one byte at i takes, or 0 where there is none.
+// Kept: 0 and no option, as it answers the statement's char_size.
 fn multi(s: &[u8], i: usize) -> usize
     requires { (i < length s.now) × (0x80 ≤ get_or s.now i 0) }
     ensures { result ≡ char_size (drop i s.now) }

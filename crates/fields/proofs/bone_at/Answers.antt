@@ -4,7 +4,6 @@ use borrow.Author.Tests.{lt-ltb, le-ltb}
 use Rattle.layout.specs.Slot.{at_most, bone_field}
 use Rattle.reading.specs.Answer.{Answer}
 use Rattle.fields.specs.Ruled.{ruled, numeric-ruled}
-use borrow.Author.Rules.{rules}
 use Rattle.fields.proofs.bone_at.Goals as goal
 
 pub returns-then-bones-lt255 : goal.returns-then-bones-lt255

@@ -3,7 +3,6 @@ use Prim.Native.Nat.{ℕ}
 use Rattle.layout.specs.Slot.{at_most, code_field}
 use Rattle.reading.specs.Answer.{Answer}
 use Rattle.fields.specs.Ruled.{ruled, numeric-ruled}
-use borrow.Author.Rules.{rules}
 use Rattle.fields.proofs.code_at.Goals as goal
 
 pub returns : goal.returns

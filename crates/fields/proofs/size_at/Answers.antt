@@ -4,7 +4,6 @@ use borrow.Author.Tests.{eq-eqb, ne_eqb}
 use Rattle.layout.specs.Slot.{multiple_of, uint_field}
 use Rattle.reading.specs.Answer.{Answer}
 use Rattle.fields.specs.Ruled.{ruled, numeric-ruled}
-use borrow.Author.Rules.{rules}
 use Rattle.fields.proofs.size_at.Goals as goal
 
 pub returns-then-flag-eq1 : goal.returns-then-flag-eq1
