@@ -1,5 +1,5 @@
 -- Laws of loading: each step of the code against what loading answers. Assumes nothing.
-use Rattle.std.specs.Prelude.{◌≡◌, Bool, ℕ, ◌+◌, ◌*◌, ◌-◌, ◌≤◌, drop, set, Result, Ok, Err, Some, None}
+use Rattle.std.specs.Prelude.{◌≡◌, Bool, ℕ, ◌+◌, ◌*◌, ◌-◌, ◌≤◌, drop, set, Option, Result, Ok, Err, Some, None}
 use Rattle.std.proofs.Math.Path.{refl, sym, ap}
 use Rattle.std.proofs.Common.{subst, ◌∙◌, add-one, take-append-drop, eq-eqb, ne_eqb}
 use Rattle.std.proofs.Math.Bool.{true, false}
@@ -198,10 +198,10 @@ header_read file s {v} {at} e = go (header_at file) refl e where
   go : (x : Answer (ℕ × ℕ)) → header_at file ≡ x → Ok (number_read v at) ≡ to_header x → HeaderRead file at
   go (refused n p) q e = differ cc
   go (read h f) q e =
-      let v = (header-sound file s).got q in
       let y : number_read v at ≡ number_read 0 f = cc in
       let z : f ≡ at = sym (ap (λ (x : Number-read). x.next) y) in
-      record { h = h; is = q ∙ ap (read h) z; short = v.1.short; ten = sym z ∙ v.0; inside = omega (arith, z, v.0, ap length v.1.parts ∙ length-append (header h.0 h.1 (length file)) (drop 10 file), header-length h.0 h.1 (length file)) }
+      let b = (header-sound file s).got q in
+      record { h = h; is = q ∙ ap (read h) z; short = b.1.short; ten = sym z ∙ b.0; inside = omega (arith, z, b.0, ap length b.1.parts ∙ length-append (header h.0 h.1 (length file)) (drop 10 file), header-length h.0 h.1 (length file)) }
 
 -- the file, by its header
 pub header_refused : (es : List EnumEntry) (file : List ℕ) (room : ℕ) {n p : ℕ} → Err (refusal n p) ≡ header_of file → file_at (judged_name es) file room ≡ refused n p

@@ -136,7 +136,10 @@ fn value(
         count target shared slot at used depth parent }
 {
     let named = target as usize;
-    match objects::start::start(file, codes, count, named, grid.room, slot, at, used, depth)? {
+    let started = objects::start::start(
+        file, codes, count, named, grid.room, slot, at, used, depth,
+    )?;
+    match started {
         Started::Plain(Plain::Fixed(kind, size)) => {
             leaves::plain::read_fixed(file, words, grid, kind, size, at, used, depth, parent).map(
                 Stepped::Done,
@@ -435,9 +438,10 @@ fn nested(
         let first = next;
         let position = objects::start::reader_position(file, next);
         let target = rd.targets[position];
-        let reached = match value(
+        let step = value(
             file, codes, words, rd.count, target, grid, shared, slot, next, row, depth, parent,
-        )? {
+        )?;
+        let reached = match step {
             Stepped::Done(reached) => reached,
             Stepped::Nested {
                 place,

@@ -6,13 +6,13 @@ use Rattle.load.proofs.finish.Goals as goal
 
 pub returns-then-next-file : goal.returns-then-next-file
 returns-then-next-file c =
-    λ total platform flags names a w d q. loads-refused _ total _ c.args.words.now _ (not_the_end _ platform flags names _ _ a _ c.if-next-file.true)
+    λ total platform flags names a w d q. rw c.at.ensures (loads-refused _ total _ c.args.words.now _ (not_the_end _ platform flags names _ _ a _ c.if-next-file.true))
 
 pub returns-in-Some : goal.returns-in-Some
 returns-in-Some c =
     λ total platform flags names a w d q.
     let s = settles_drafts c.settle.ensures.value c.settle.ensures.words_after d in
-    loads-refused _ total _ c.args.words.now _ (wrong-resource _ platform flags names _ _ a _ c.if-next-file.false (sym s.answers ∙ c.in-Some.is))
+    rw c.at-in-Some.ensures (loads-refused _ total _ c.args.words.now _ (wrong-resource _ platform flags names _ _ a _ c.if-next-file.false (sym s.answers ∙ c.in-Some.is)))
 
 pub returns : goal.returns
 returns c =

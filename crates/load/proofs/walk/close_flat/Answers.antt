@@ -7,6 +7,7 @@ use Rattle.leaves.proofs.RunLaws.{run_walked}
 use Rattle.leaves.specs.Like.{like_walk, alike-sequence, alike-length}
 use Rattle.steps.specs.Walks.{OpenedAs, begin_below}
 use Rattle.steps.specs.Steps.{Children-are, raw-told, plain-ends, head-ends, slots_are}
+use Rattle.load.proofs.Mapped.{mapped}
 use borrow.Author.Rules.{rules}
 use Rattle.load.proofs.walk.close_flat.Goals as goal
 
@@ -21,7 +22,7 @@ returns-in-Nothing c =
     let small = small_by_index a.file.now (λ j h. omega (arith, c.type_inv.file j)) in
     let v = subst (λ b. OpenedAs a.file.now codes t a.at a.next b) c.in-Nothing.is o in
     let x = rw c.in-Nothing.is at c.requires.1 in
-    rw (c.map.ensures, c.leaf.ensures.value, c.leaf.ensures.words_after, c.sum.ensures)
+    rw (mapped c.leaf.result c.map.result c.map.ensures.cases, c.leaf.ensures.value, c.leaf.ensures.words_after, c.sum.ensures)
     (raw-told a.grid a.file.now codes readers a.shared a.depth t a.place a.h a.at _ (head-ends a.grid a.file.now a.h a.at t readers a.shared a.depth (λ q. x (k ∙ q)) small r i.lawful v a.kind k))
 
 pub returns-in-Simple : goal.returns-in-Simple

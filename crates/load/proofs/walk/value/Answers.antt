@@ -20,6 +20,8 @@ use Rattle.leaves.specs.Plain.{head_of}
 use Rattle.leaves.proofs.PlainLaws.{plain_walked, fixed_walked}
 use Rattle.steps.specs.Steps.{null_pads, value-told, raw_steps}
 use Rattle.leaves.specs.Like.{like_walk}
+use Rattle.std.proofs.lemmas.Result.{err_from_is_err_and}
+use Rattle.load.proofs.Mapped.{mapped}
 use borrow.Author.Rules.{rules}
 use Rattle.load.proofs.walk.value.Goals.{After-start}
 use Rattle.load.proofs.walk.value.Goals as goal
@@ -38,44 +40,45 @@ starting c rd readers x h l s p =
 
 pub overflow_sub-depth : goal.overflow_sub-depth
 overflow_sub-depth c =
-    let s = rw c.in-Raw.is at (starting (goal.at.overflow_sub-depth c).After-start c.requires.1.rd c.requires.1.readers c.requires.2.x c.requires.1.has c.requires.1.listed c.requires.2.is c.requires.0.place) in
+    let s = rw (c.in_ok-started.was, c.in-Raw.is) at (starting (goal.at.overflow_sub-depth c).After-start c.requires.1.rd c.requires.1.readers c.requires.2.x c.requires.1.has c.requires.1.listed c.requires.2.is c.requires.0.place) in
     omega (arith, s.deep)
 
 pub raw_step-requires : goal.raw_step-requires
 raw_step-requires c =
-    let s = rw c.in-Raw.is at (starting (goal.at.raw_step-requires c).After-start c.requires.1.rd c.requires.1.readers c.requires.2.x c.requires.1.has c.requires.1.listed c.requires.2.is c.requires.0.place) in
+    let s = rw (c.in_ok-started.was, c.in-Raw.is) at (starting (goal.at.raw_step-requires c).After-start c.requires.1.rd c.requires.1.readers c.requires.2.x c.requires.1.has c.requires.1.listed c.requires.2.is c.requires.0.place) in
     record { long = c.requires.0.long; few = c.requires.0.few; free = s.free; begun = s.ahead; place = s.inside; short = c.requires.0.short; ided = s.ided }
 
-pub returns-in-Refused : goal.returns-in-Refused
-returns-in-Refused c =
+pub returns-in_err-started : goal.returns-in_err-started
+returns-in_err-started c =
     λ rd readers x h l s.
-    let b = rw c.in-Refused.is at (starting (goal.at.returns-in-Refused c).After-start rd readers x h l s c.requires.0.place) in
-    refusing (b c.args.shared c.args.parent)
+    let b = rw c.in_err-started.was at (starting (goal.at.returns-in_err-started c).After-start rd readers x h l s c.requires.0.place) in
+    let p = err_from_is_err_and c.from_residual.result c.from_residual.ensures.1 in
+    rw (p.1, p.2) (refusing (b c.args.shared c.args.parent))
 
-pub returns-in-Fixed : goal.returns-in-Fixed
-returns-in-Fixed c =
+pub returns-in-Plain-Fixed : goal.returns-in-Plain-Fixed
+returns-in-Plain-Fixed c =
     λ rd readers x h l s.
     let a = c.args in
     let p = c.requires.0 in
     let small = small_by_index a.file.now (λ i h. omega (arith, c.type_inv.file i)) in
     let b = rw (
-      c.in-Plain.is,
-      c.in-Fixed.is,
-    ) at (starting (goal.at.returns-in-Fixed c).After-start rd readers x h l s p.place) in
-    let w = fixed_walked a.file.now a.grid a.shared _ _ a.at a.used a.words.now small p b.1 readers a.depth a.parent in
+      c.in_ok-started.was,
+      c.in-Plain-Fixed.is,
+    ) at (starting (goal.at.returns-in-Plain-Fixed c).After-start rd readers x h l s p.place) in
+    let w = fixed_walked a.file.now a.grid a.shared c.in-Plain-Fixed.kind c.in-Plain-Fixed.size a.at a.used a.words.now small p (rw c.in-Plain-Fixed.field-0-is at b.1) readers a.depth a.parent in
     let v = rw (sym (like_walk a.file.now readers a.shared a.grid.room a.depth b.0 a.at a.used a.parent)) at w in
-    rw (c.walked_step.ensures, c.read_fixed.ensures.value, c.read_fixed.ensures.words_after) (value-told a.grid a.file.now a.codes.now readers a.shared a.depth x a.at a.used a.parent _ v)
+    rw (mapped c.read_fixed.result c.map.result c.map.ensures.cases, c.read_fixed.ensures.value, c.read_fixed.ensures.words_after) (value-told a.grid a.file.now a.codes.now readers a.shared a.depth x a.at a.used a.parent _ v)
 
-pub returns-in_default : goal.returns-in_default
-returns-in_default c =
+pub returns-in-Plain : goal.returns-in-Plain
+returns-in-Plain c =
     λ rd readers x h l s.
     let a = c.args in
     let p = c.requires.0 in
     let small = small_by_index a.file.now (λ i h. omega (arith, c.type_inv.file i)) in
-    let b = rw c.in-Plain.is at (starting (goal.at.returns-in_default c).After-start rd readers x h l s p.place) in
+    let b = rw (c.in_ok-started.was, c.in-Plain.is) at (starting (goal.at.returns-in-Plain c).After-start rd readers x h l s p.place) in
     let w = plain_walked a.file.now a.grid a.shared c.in-Plain.plain a.at a.used a.words.now small p b.1 readers a.depth a.parent in
     let v = rw (sym (like_walk a.file.now readers a.shared a.grid.room a.depth b.0 a.at a.used a.parent)) at w in
-    rw (c.walked_step-in_default.ensures, c.read_plain.ensures.value, c.read_plain.ensures.words_after) (value-told a.grid a.file.now a.codes.now readers a.shared a.depth x a.at a.used a.parent _ v)
+    rw (mapped c.read_plain.result c.map-in-Plain.result c.map-in-Plain.ensures.cases, c.read_plain.ensures.value, c.read_plain.ensures.words_after) (value-told a.grid a.file.now a.codes.now readers a.shared a.depth x a.at a.used a.parent _ v)
 
 pub returns-in-Null : goal.returns-in-Null
 unfolding seen
@@ -84,9 +87,9 @@ returns-in-Null c =
     let a = c.args in
     let p = c.requires.0 in
     let small = small_by_index a.file.now (λ i h. omega (arith, c.type_inv.file i)) in
-    let b = rw c.in-Null.is at (starting (goal.at.returns-in-Null c).After-start rd readers x h l s p.place) in
+    let b = rw (c.in_ok-started.was, c.in-Null.is) at (starting (goal.at.returns-in-Null c).After-start rd readers x h l s p.place) in
     let free : Free a.grid a.words.now a.used = record { long = p.long; there = b.free; few = omega (arith, b.free, p.few) } in
-    rw (c.walked_step-in-Null.ensures, c.leaf.ensures.value, c.leaf.ensures.words_after, b.is a.shared a.parent)
+    rw (mapped c.leaf.result c.map-in-Null.result c.map-in-Null.ensures.cases, c.leaf.ensures.value, c.leaf.ensures.words_after, b.is a.shared a.parent)
     (leaf_walked {A = ℕ} a.grid a.file.now a.words.now (head_of a.used a.at a.parent 0 c.in-Null.padding) 0 nothing (read 0 _) free (
       b.ahead,
       omega (arith, b.inside, p.short),
@@ -96,6 +99,6 @@ pub returns-in-Raw : goal.returns-in-Raw
 returns-in-Raw c =
     λ rd readers x h l s.
     let a = c.args in
-    let b = rw c.in-Raw.is at (starting (goal.at.returns-in-Raw c).After-start rd readers x h l s c.requires.0.place) in
+    let b = rw (c.in_ok-started.was, c.in-Raw.is) at (starting (goal.at.returns-in-Raw c).After-start rd readers x h l s c.requires.0.place) in
     raw_steps a.grid a.file.now a.codes.now readers a.shared a.depth (a.depth - 1) x a.at a.used a.parent _ _ _ _ a.words.now
     c.raw_step.new.words c.raw_step.result (omega (arith, b.deep)) b (c.raw_step.ensures readers b.type b.stands)
