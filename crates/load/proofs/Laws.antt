@@ -6,6 +6,7 @@ use Rattle.std.proofs.Math.Bool.{true, false}
 use mathlib.Core.List.{List, [], ◌∷◌, ◌++◌, map}
 use native.Mathlib.Omega.{arith}
 use Rattle.std.proofs.Math.ListN.{length, take, replicate, length-append, length-drop}
+use Rattle.std.specs.Result.{is_err}
 use Rattle.laws.specs.Small.{differ}
 use Rattle.layout.specs.Target.{Target, object as anything}
 use Rattle.layout.specs.Slot as L
@@ -77,10 +78,11 @@ total-fits enums file words small rows readers shared e = go (enums_at enums) e 
 
 -- the whole: what is answered, and what the words hold at the end
 module _ (enums file entry : List ℕ) (columns : Bool) where
-  pub load_loaded : Small file → {exit : List ℕ} {r : Loaded} → loads enums file entry columns exit (Ok r)
-      → (Ok r ≡ answer_of file (load_under enums file (length entry))) × (exit ≡ table_in (shape_of columns) (load_under enums file (length entry)) (length entry))
+  pub load_loaded : Small file → {exit : List ℕ} (r : Loading) → loads enums file entry columns exit r → is_err r ≡ false
+      → (r ≡ answer_of file (load_under enums file (length entry))) × (exit ≡ table_in (shape_of columns) (load_under enums file (length entry)) (length entry))
   unfolding load_under to_load table_in
-  load_loaded small {exit} {r} l = go columns (file_under enums file (room_of (length entry))) refl l where
+  load_loaded small {exit} (Err y) l t = let q : true ≡ false = t in differ cc
+  load_loaded small {exit} (Ok r) l t = go columns (file_under enums file (room_of (length entry))) refl l where
     go : (b : Bool) (x : Answer FileLoaded) → file_under enums file (room_of (length entry)) ≡ x → Loads (grid_of (length entry) b) (file_total file) x entry exit (Ok r)
         → (Ok r ≡ answer_of file (to_load x)) × (exit ≡ table_in (shape_of b) (to_load x) (length entry))
     go b (refused c d) q l = differ cc

@@ -6,6 +6,7 @@ use Rattle.std.proofs.Math.Bool.{true, false}
 use mathlib.Core.List.{List, [], ◌∷◌, ◌++◌, map}
 use native.Mathlib.Omega.{arith}
 use Rattle.std.proofs.Math.ListN.{length, take, replicate, length-append, length-drop}
+use Rattle.std.specs.Result.{is_err}
 use Rattle.laws.specs.Small.{differ}
 use Rattle.layout.specs.Target.{Target, object as anything}
 use Rattle.layout.specs.Slot as L
@@ -267,10 +268,11 @@ module _ (enums file entry : List ℕ) (columns : Bool) where
   abbrev pub loads : (exit : List ℕ) → Loading → Type 0
   loads exit r = Loads (grid_of (length entry) columns) (file_total file) (file_under enums file (room_of (length entry))) entry exit r
 
-  pub load_refused : (mid : List ℕ) {exit : List ℕ} {y : Refusal} → loads mid (Err y) → length mid ≡ length entry → exit ≡ cleared mid 0
-      → (Err y ≡ answer_of file (load_under enums file (length entry))) × (exit ≡ table_in (shape_of columns) (load_under enums file (length entry)) (length entry))
+  pub load_refused : (mid : List ℕ) {exit : List ℕ} (r : Loading) → loads mid r → length mid ≡ length entry → is_err r ≡ true → exit ≡ cleared mid 0
+      → (r ≡ answer_of file (load_under enums file (length entry))) × (exit ≡ table_in (shape_of columns) (load_under enums file (length entry)) (length entry))
   unfolding load_under to_load table_in cleared
-  load_refused mid {exit} {y} l m e = go columns (file_under enums file (room_of (length entry))) l where
+  load_refused mid {exit} (Ok r) l m t e = let q : false ≡ true = t in differ cc
+  load_refused mid {exit} (Err y) l m t e = go columns (file_under enums file (room_of (length entry))) l where
     go : (b : Bool) (x : Answer FileLoaded) → Loads (grid_of (length entry) b) (file_total file) x entry mid (Err y) → (Err y ≡ answer_of file (to_load x)) × (exit ≡ table_in (shape_of b) (to_load x) (length entry))
     go false (refused a b) l = (l, e ∙ none_kept mid (length entry) m)
     go true (refused a b) l = (l, e ∙ none_kept mid (length entry) m)

@@ -1,4 +1,4 @@
-use mathlib.Core.Path.{ap}
+use mathlib.Core.Path.{sym, ap, ◌∙◌}
 use native.Mathlib.Omega.{arith}
 use Rattle.layout.specs.Table.{room_of}
 use Rattle.table.specs.declared.Grid.{Grid}
@@ -11,19 +11,19 @@ use Rattle.load.proofs.load_in.Goals as goal
 named : {A B : Type 0} → A × B → record { value : A; words_after : B }
 named p = record { value = p.0; words_after = p.1 }
 
-pub load_under-requires : goal.load_under-requires
+pub load_under-loaded-requires : goal.load_under-loaded-requires
 unfolding room_of
-load_under-requires c = omega (arith, ap (λ (g : Grid). g.room) c.shaped-grid.ensures)
+load_under-loaded-requires c = omega (arith, ap (λ (g : Grid). g.room) c.shaped-grid.ensures)
 
-pub returns-in-Refused : goal.returns-in-Refused
-returns-in-Refused c =
+pub returns-then-is_err : goal.returns-then-is_err
+returns-then-is_err c =
     let a = c.args in
-    let l = (rw (c.shaped-grid.ensures, c.in-Refused.is) at c.load_under.ensures) in
-    named (load_refused a.enums.now a.file.now a.words.now a.columns _ l (search rules) c.clear.ensures)
+    let l = rw c.shaped-grid.ensures at c.load_under-loaded.ensures in
+    named (load_refused a.enums.now a.file.now a.words.now a.columns _ _ l (search rules) (sym c.is_err.ensures.value ∙ c.if-is_err.true) c.clear.ensures)
 
-pub returns-in-Loaded : goal.returns-in-Loaded
-returns-in-Loaded c =
+pub returns-else-is_err : goal.returns-else-is_err
+returns-else-is_err c =
     let a = c.args in
-    let l = (rw (c.shaped-grid.ensures, c.in-Loaded.is) at c.load_under.ensures) in
+    let l = rw c.shaped-grid.ensures at c.load_under-loaded.ensures in
     let small = small_by_index a.file.now (λ i h. omega (arith, c.type_inv.file i)) in
-    named (load_loaded a.enums.now a.file.now a.words.now a.columns small l)
+    named (load_loaded a.enums.now a.file.now a.words.now a.columns small _ l (sym c.is_err.ensures.value ∙ c.if-is_err.false))

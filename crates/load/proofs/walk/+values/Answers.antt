@@ -68,14 +68,14 @@ below-returns-in-Each t c =
 pub below-nested-requires : goal.below-nested-requires
 below-nested-requires t c =
     let a = c.args in
-    let e : c.in_default.nest ≡ a.nest = elim c.in_default.branch [ below-in_default-via-in-Each+else-n-ge-LONG w ↦ w.nest-is | below-in_default-via-in_default w ↦ w.nest-is ] in
+    let e : c.in_default.nest ≡ a.nest = elim c.in_default.branch [ below-in_default-via-in-Each+else-n-ge-LONG w ↦ w.nest-is ∙ sym w.in-Each.is | below-in_default-via-in_default w ↦ w.nest-is ] in
     (omega arith, (c.requires.0, c.requires.1, subst (λ y. KnownNest a.file.now a.codes.now y) (sym e) c.requires.2))
 
 pub below-returns-in_default : goal.below-returns-in_default
 below-returns-in_default t c =
     λ readers plan l i.
     let a = c.args in
-    let e : c.in_default.nest ≡ a.nest = elim c.in_default.branch [ below-in_default-via-in-Each+else-n-ge-LONG w ↦ w.nest-is | below-in_default-via-in_default w ↦ w.nest-is ] in
+    let e : c.in_default.nest ≡ a.nest = elim c.in_default.branch [ below-in_default-via-in-Each+else-n-ge-LONG w ↦ w.nest-is ∙ sym w.in-Each.is | below-in_default-via-in_default w ↦ w.nest-is ] in
     c.nested.ensures readers plan l (subst (λ y. NestIs a.file.now a.codes.now y plan) (sym e) i)
 
 pub list_from-objects_from-requires : goal.list_from-objects_from-requires
