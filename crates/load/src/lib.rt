@@ -131,8 +131,10 @@ fn listed(
     let mut starts = [0u16; 64];
     put_prelude(codes);
     match readers::read_lists(file, enums, codes, &mut targets, &mut starts) {
-        Err(Unlisted::NoRoom) => Err(Rule::PastEnd.at(at)),
-        Err(Unlisted::Refused(refusal)) => Err(refusal),
+        Err(unlisted) => match unlisted {
+            Unlisted::NoRoom => Err(Rule::PastEnd.at(at)),
+            Unlisted::Refused(refusal) => Err(refusal),
+        },
         Ok(lists) => {
             let rd = Readers {
                 targets,
@@ -161,7 +163,7 @@ fn listed_with<const N: usize>(
     grid: Grid,
     at: usize,
 ) -> Loading
-    requires { Behind file.now words.old grid at × (prelude_size ≤ N) × (enough file.now at N ≡ true) }
+    requires { Behind file.now words.old grid at × (prelude_size ≤ N) × (N ≤ 6058) × (enough file.now at N ≡ true) }
     ensures { ListsLoad grid (enums_of enums.now) file.now at words.old words.new result }
 {
     let mut codes = [0u32; N];

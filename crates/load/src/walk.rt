@@ -140,16 +140,18 @@ fn value(
         file, codes, count, named, grid.room, slot, at, used, depth,
     )?;
     match started {
-        Started::Plain(Plain::Fixed(kind, size)) => {
-            leaves::plain::read_fixed(file, words, grid, kind, size, at, used, depth, parent).map(
-                Stepped::Done,
-            )
-        }
-        Started::Plain(plain) => {
-            leaves::plain::read_plain(
-                file, words, grid, shared, plain, at, used, depth, parent,
-            ).map(Stepped::Done)
-        }
+        Started::Plain(plain) => match plain {
+            Plain::Fixed(kind, size) => {
+                leaves::plain::read_fixed(
+                    file, words, grid, kind, size, at, used, depth, parent,
+                ).map(Stepped::Done)
+            }
+            _ => {
+                leaves::plain::read_plain(
+                    file, words, grid, shared, plain, at, used, depth, parent,
+                ).map(Stepped::Done)
+            }
+        },
         Started::Null { next, padding } => {
             let h = Head {
                 row: RowNumber(used),

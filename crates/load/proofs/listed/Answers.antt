@@ -23,23 +23,23 @@ objects-requires c =
       l.shared_few,
     )
 
-pub returns-in-Err-NoRoom : goal.returns-in-Err-NoRoom
-returns-in-Err-NoRoom c =
+pub returns-in-NoRoom : goal.returns-in-NoRoom
+returns-in-NoRoom c =
     λ platform flags.
     let a = c.args in
     let small = small_by_index a.file.now (λ i h. omega (arith, c.type_inv.file i)) in
-    let l = rw (c.in-Err-NoRoom.is, c.in-Err-NoRoom.field-0-is) at (lists_take a.enums.now a.file.now small 10 _ _ _ refl refl c.read_lists.ensures) in
+    let l = rw (c.in-Err.is, c.in-NoRoom.is) at (lists_take a.enums.now a.file.now small 10 _ _ _ refl refl c.read_lists.ensures) in
     let m : length c.put_prelude.new.codes ≡ length a.codes.now = search rules in
     absurd (not_lacking a.file.now 10 _ _ m (rw c.requires.0.ten at c.requires.2) l)
 
-pub returns-in-Err-Refused : goal.returns-in-Err-Refused
-returns-in-Err-Refused c =
+pub returns-in-Refused : goal.returns-in-Refused
+returns-in-Refused c =
     λ platform flags.
     let a = c.args in
     let file = a.file.now in
     let es = enums_of a.enums.now in
     let small = small_by_index file (λ i h. omega (arith, c.type_inv.file i)) in
-    let l = rw (c.in-Err-Refused.is, c.in-Err-Refused.field-0-is) at (lists_take a.enums.now file small 10 _ _ _ refl refl c.read_lists.ensures) in
+    let l = rw (c.in-Err.is, c.in-Refused.is) at (lists_take a.enums.now file small 10 _ _ _ refl refl c.read_lists.ensures) in
     rw c.requires.0.ten (rw (lists_refused es file a.grid.room platform flags 10 (sym (short_file_lem es file 10 c.requires.0.short) ∙ l.1)) refl)
 
 pub returns-in-Ok : goal.returns-in-Ok

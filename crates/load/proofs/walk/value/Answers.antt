@@ -1,4 +1,4 @@
-use mathlib.Core.Path.{◌≡◌, sym, subst}
+use mathlib.Core.Path.{sym}
 use Prim.Native.Nat.{ℕ, ◌-◌, ◌≤◌}
 use native.Mathlib.Omega.{arith}
 use mathlib.Core.List.{List}
@@ -16,11 +16,10 @@ use Rattle.reading.specs.Reads.{small_by_index}
 use Rattle.walked.specs.Contract.{seen, Free}
 use Rattle.walked.specs.Loop.{refusing}
 use Rattle.walked.specs.Leaf.{leaf_walked}
-use Rattle.leaves.specs.Plain.{Lawful, head_of}
+use Rattle.leaves.specs.Plain.{head_of}
 use Rattle.leaves.proofs.PlainLaws.{plain_walked, fixed_walked}
 use Rattle.steps.specs.Steps.{null_pads, value-told, raw_steps}
-use Rattle.leaves.specs.declared.plain.Plain.TheVariants.{Fixed}
-use Rattle.leaves.specs.Like.{Like, like_walk}
+use Rattle.leaves.specs.Like.{like_walk}
 use Rattle.std.proofs.lemmas.Result.{err_from_is_err_and}
 use Rattle.load.proofs.Mapped.{mapped}
 use borrow.Author.Rules.{rules}
@@ -56,29 +55,28 @@ returns-in_err-started c =
     let p = err_from_is_err_and c.from_residual.result c.from_residual.ensures.1 in
     rw (p.1, p.2) (refusing (b c.args.shared c.args.parent))
 
-pub returns-in-Plain-Fixed : goal.returns-in-Plain-Fixed
-returns-in-Plain-Fixed c =
+pub returns-in-Fixed : goal.returns-in-Fixed
+returns-in-Fixed c =
     λ rd readers x h l s.
     let a = c.args in
     let p = c.requires.0 in
     let small = small_by_index a.file.now (λ i h. omega (arith, c.type_inv.file i)) in
-    let b = rw (c.in_ok-started.was, c.in-Plain-Fixed.is) at (starting (goal.at.returns-in-Plain-Fixed c).After-start rd readers x h l s p.place) in
-    let e : c.in-Plain-Fixed.field-0 ≡ Fixed c.in-Plain-Fixed.kind c.in-Plain-Fixed.size = c.in-Plain-Fixed.field-0-is in
-    let w = fixed_walked a.file.now a.grid a.shared c.in-Plain-Fixed.kind c.in-Plain-Fixed.size a.at a.used a.words.now small p (subst Lawful e b.1) readers a.depth a.parent in
-    let v = rw (sym (like_walk a.file.now readers a.shared a.grid.room a.depth (subst (λ y. Like y x) e b.0) a.at a.used a.parent)) at w in
+    let b = rw (c.in_ok-started.was, c.in-Plain.is, c.in-Fixed.is) at (starting (goal.at.returns-in-Fixed c).After-start rd readers x h l s p.place) in
+    let w = fixed_walked a.file.now a.grid a.shared _ _ a.at a.used a.words.now small p b.1 readers a.depth a.parent in
+    let v = rw (sym (like_walk a.file.now readers a.shared a.grid.room a.depth b.0 a.at a.used a.parent)) at w in
     rw (mapped c.read_fixed.result c.map.result c.map.ensures.cases, c.read_fixed.ensures.value, c.read_fixed.ensures.words_after)
     (value-told a.grid a.file.now a.codes.now readers a.shared a.depth x a.at a.used a.parent _ v)
 
-pub returns-in-Plain : goal.returns-in-Plain
-returns-in-Plain c =
+pub returns-in_default : goal.returns-in_default
+returns-in_default c =
     λ rd readers x h l s.
     let a = c.args in
     let p = c.requires.0 in
     let small = small_by_index a.file.now (λ i h. omega (arith, c.type_inv.file i)) in
-    let b = rw (c.in_ok-started.was, c.in-Plain.is) at (starting (goal.at.returns-in-Plain c).After-start rd readers x h l s p.place) in
+    let b = rw (c.in_ok-started.was, c.in-Plain.is) at (starting (goal.at.returns-in_default c).After-start rd readers x h l s p.place) in
     let w = plain_walked a.file.now a.grid a.shared c.in-Plain.plain a.at a.used a.words.now small p b.1 readers a.depth a.parent in
     let v = rw (sym (like_walk a.file.now readers a.shared a.grid.room a.depth b.0 a.at a.used a.parent)) at w in
-    rw (mapped c.read_plain.result c.map-in-Plain.result c.map-in-Plain.ensures.cases, c.read_plain.ensures.value, c.read_plain.ensures.words_after) (value-told a.grid a.file.now a.codes.now readers a.shared a.depth x a.at a.used a.parent _ v)
+    rw (mapped c.read_plain.result c.map-in_default.result c.map-in_default.ensures.cases, c.read_plain.ensures.value, c.read_plain.ensures.words_after) (value-told a.grid a.file.now a.codes.now readers a.shared a.depth x a.at a.used a.parent _ v)
 
 pub returns-in-Null : goal.returns-in-Null
 unfolding seen
