@@ -1,62 +1,30 @@
 -- Laws of loading: each step of the code against what loading answers. Assumes nothing.
-use Rattle.std.specs.Prelude.{◌≡◌, Bool, ℕ, ◌+◌, ◌*◌, ◌-◌, ◌≤◌, drop, set, Result, Ok, Err}
-use Rattle.std.proofs.Math.Path.{refl, sym, ap}
-use Rattle.std.proofs.Common.{subst, ◌∙◌, add-one, take-append-drop, eq-eqb, ne_eqb}
+use Rattle.std.specs.Prelude.{◌≡◌, Bool, ℕ, ◌≤◌, Ok, Err}
+use Rattle.std.proofs.Math.Path.{refl, ap}
+use Rattle.std.proofs.Common.{◌∙◌}
 use Rattle.std.proofs.Math.Bool.{true, false}
-use mathlib.Core.List.{List, [], ◌∷◌, ◌++◌, map}
+use mathlib.Core.List.{List}
 use native.Mathlib.Omega.{arith}
-use Rattle.std.proofs.Math.ListN.{length, take, replicate, length-append, length-drop}
+use Rattle.std.proofs.Math.ListN.{length}
 use Rattle.std.specs.Result.{is_err}
 use Rattle.laws.specs.Small.{differ}
-use Rattle.layout.specs.Target.{Target, object as anything}
-use Rattle.layout.specs.Slot as L
-use Rattle.layout.specs.Slot.{each, object}
-use Rattle.layout.specs.Rows.{Row, words, flat, width}
-use Rattle.layout.specs.File.{objects_plan, header}
-use Rattle.layout.specs.Text.{ascii}
-use Rattle.layout.specs.Number.{little}
+use Rattle.layout.specs.Rows.{Row, words}
 use Rattle.layout.specs.EnumList.{EnumEntry}
-use Rattle.layout.specs.Table.{shape_of, cell, room_of, words_with}
-use Rattle.reading.specs.Answer.{Answer, refused, read, bind, check}
-use Rattle.reading.specs.Reads.{Small, reads_bounds}
-use Rattle.reading.specs.References.{length-flat}
-use Rattle.reading.specs.Walk.{Taken, sequence, walk}
+use Rattle.layout.specs.Table.{shape_of, room_of}
+use Rattle.reading.specs.Answer.{Answer, refused, read}
+use Rattle.reading.specs.Reads.{Small}
 use Rattle.reading.specs.Drafts.{bare, length-bare}
-use Rattle.reading.specs.File.{Loaded as FileLoaded, accepted, root_kinds, header_at, lists_at, objects_at, finished, file_at, to_load, load_of, table_in}
-use Rattle.reading.specs.Front.{header-sound, lists_reads}
-use Rattle.table.specs.declared.Grid.{Grid}
-use Rattle.table.specs.Stores.{written_rows}
-use Rattle.table.specs.Grids.{cell_of, grid_of}
-use Rattle.table.specs.Cleared.{cleared_behind, behind_columns, behind_rows}
-use Rattle.table.specs.Stored.{settled_columns}
-use Rattle.table.specs.Word.{in_word, in_word_lem, word_more}
-use Rattle.walked.specs.declared.Reached.{Reached}
-use Rattle.walked.specs.Written.{written, length-written}
-use Rattle.walked.specs.Loop.{Counted, got}
-use Rattle.walked.specs.Contract.{padded}
-use Rattle.fill.specs.Fill.{cleared}
-use Rattle.header.specs.Header.{to_header, header_of}
-use Rattle.heads.specs.declared.nest.Nest.TheVariants.{Each}
-use Rattle.heads.specs.declared.slot.Slot.TheVariants.{Object}
-use Rattle.targets.specs.Code.{prelude_size}
-use Rattle.heads.specs.Plans.{Prelude, prelude, NestIs}
-use Rattle.heads.specs.Nests.{begins, object_at}
-use Rattle.resources.specs.Settled.{settled_of, settled as rows_settled, answered, judged_is, Drafted}
-use Rattle.resources.specs.Flat.{rows-flat}
-use Rattle.resources.specs.Objects.{objects-drafted}
-use Rattle.load.specs.declared.Loaded.{Loaded}
-use Rattle.steps.specs.declared.Children.{Children}
-use Rattle.steps.specs.Turns.{Counts, whole as whole_nest, counts_walked, counts_refused}
-use Rattle.load.specs.Loads.{Loading, Total, file_total, Loads, behind_header, answer_of}
+use Rattle.reading.specs.File.{Loaded as FileLoaded, accepted, file_at, to_load, load_of, table_in}
+use Rattle.table.specs.Grids.{grid_of}
+use Rattle.table.specs.Word.{in_word, in_word_lem}
+use Rattle.load.specs.Loads.{Loading, file_total, Loads, answer_of}
 use Rattle.readers.specs.Judged.{judged_name, judges}
-use Rattle.readers.specs.Left.{enough}
 use Rattle.enums.specs.Judge.{Judgement, lawful, enums_at}
 use Rattle.enums.specs.Judge.{refused as list-refused}
 use Rattle.load.specs.Under.{under_list, file_under, load_under}
-use Rattle.readers.specs.Contract.{lists_total}
 use Rattle.reading.specs.Theorems.{rows_fit}
 use Rattle.reading.proofs.Theorems.{accepted_is}
-use Rattle.places.specs.Padding.{rows_padding, file_padding, file_padding_lem, file_few}
+use Rattle.places.specs.Padding.{file_padding, file_few}
 use Rattle.load.specs.Laws.{loads}
 
 -- a file that is accepted has few numbers, so its padding fits a word

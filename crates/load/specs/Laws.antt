@@ -22,14 +22,14 @@ use Rattle.reading.specs.Reads.{Small, reads_bounds}
 use Rattle.reading.specs.References.{length-flat}
 use Rattle.reading.specs.Walk.{Taken, sequence, walk}
 use Rattle.reading.specs.Drafts.{bare, length-bare}
-use Rattle.reading.specs.File.{Loaded as FileLoaded, accepted, root_kinds, header_at, lists_at, objects_at, finished, file_at, to_load, load_of, table_in}
+use Rattle.reading.specs.File.{Loaded as FileLoaded, root_kinds, header_at, lists_at, objects_at, finished, file_at, to_load, table_in}
 use Rattle.reading.specs.Front.{header-sound, lists_reads}
 use Rattle.table.specs.declared.Grid.{Grid}
 use Rattle.table.specs.Stores.{written_rows}
 use Rattle.table.specs.Grids.{cell_of, grid_of}
 use Rattle.table.specs.Cleared.{cleared_behind, behind_columns, behind_rows}
 use Rattle.table.specs.Stored.{settled_columns}
-use Rattle.table.specs.Word.{in_word, in_word_lem, word_more}
+use Rattle.table.specs.Word.{in_word, word_more}
 use Rattle.walked.specs.declared.Reached.{Reached}
 use Rattle.walked.specs.Written.{written, length-written}
 use Rattle.walked.specs.Loop.{Counted, got}
@@ -47,19 +47,14 @@ use Rattle.heads.specs.Nests.{begins, object_at}
 use Rattle.resources.specs.Settled.{settled_of, settled as rows_settled, answered, judged_is, Drafted}
 use Rattle.resources.specs.Flat.{rows-flat}
 use Rattle.resources.specs.Objects.{objects-drafted}
-use Rattle.load.specs.declared.Loaded.{Loaded}
 use Rattle.steps.specs.declared.Children.{Children}
 use Rattle.steps.specs.Turns.{Counts, children, whole as whole_nest, counts_walked, counts_refused}
 use Rattle.load.specs.Loads.{Loading, loaded, Total, file_total, Loads, behind_header, answer_of}
 use Rattle.readers.specs.Judged.{judged_name, judges}
 use Rattle.readers.specs.Left.{enough}
-use Rattle.enums.specs.Judge.{Judgement, lawful, enums_at}
-use Rattle.enums.specs.Judge.{refused as list-refused}
-use Rattle.load.specs.Under.{under_list, file_under, load_under}
+use Rattle.load.specs.Under.{file_under, load_under}
 use Rattle.readers.specs.Contract.{lists_total}
-use Rattle.reading.specs.Theorems.{rows_fit}
-use Rattle.reading.proofs.Theorems.{accepted_is}
-use Rattle.places.specs.Padding.{rows_padding, file_padding, file_padding_lem, file_few}
+use Rattle.places.specs.Padding.{rows_padding, file_padding_lem}
 
 module _ (file : List ℕ) (platform flags : ℕ) (names : List (List ℕ)) (readers shared : ℕ) (a : Taken) (next : ℕ) where
   -- 01: "20 after the last object"

@@ -1,7 +1,6 @@
 use mathlib.Core.Path.{sym, ◌∙◌}
 use Rattle.load.specs.Laws.{not_the_end, wrong-resource, all_well, loads-refused}
 use Rattle.resources.specs.Meaning.{settles_drafts}
-use borrow.Author.Rules.{rules}
 use Rattle.load.proofs.finish.Goals as goal
 
 pub returns-then-next-file : goal.returns-then-next-file

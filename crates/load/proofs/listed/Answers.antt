@@ -6,7 +6,7 @@ use Rattle.names.specs.Entries.{enums_of}
 use Rattle.readers.specs.Whole.{short_file_lem}
 use Rattle.readers.specs.Meaning.{lists_take}
 use Rattle.load.specs.Loads.{file_total}
-use Rattle.load.specs.Laws.{not_lacking, kept-prelude, lists_inside, lists_refused, behind_lists_lem, lists_padded, loads-refused}
+use Rattle.load.specs.Laws.{not_lacking, kept-prelude, lists_inside, lists_refused, behind_lists_lem, lists_padded}
 use borrow.Author.Rules.{rules}
 use Rattle.load.proofs.listed.Goals as goal
 

@@ -3,7 +3,6 @@ use native.Mathlib.Omega.{arith}
 use Prim.Native.Nat.{ℕ}
 use lib.ListN.{length, replicate}
 use Rattle.std.proofs.lemmas.List.{length-replicate}
-use borrow.Author.Rules.{rules}
 use Rattle.load.proofs.listed_with.Goals as goal
 
 pub listed-requires : goal.listed-requires

@@ -3,7 +3,6 @@ use native.Mathlib.Omega.{arith}
 use Rattle.answers.specs.Told.{told}
 use Rattle.readers.specs.Left.{codes_for}
 use Rattle.readers.specs.Room.{up_to_bound, suffice, suffice-refused}
-use borrow.Author.Rules.{rules}
 use Rattle.load.proofs.lists.Goals as goal
 
 pub listed_with-requires : goal.listed_with-requires

@@ -1,4 +1,3 @@
-use borrow.Author.Rules.{rules}
 use Rattle.load.proofs.load_columns.Goals as goal
 
 both : {A B : Type 0} → A → B → A × B

@@ -3,8 +3,7 @@ use Rattle.names.specs.Entries.{enums_of}
 use native.Mathlib.Omega.{arith}
 use Rattle.std.proofs.lemmas.Result.{err_from_is_err_and}
 use Rattle.reading.specs.Reads.{small_by_index}
-use Rattle.load.specs.Laws.{header_read, header_refused, file_behind, loads-refused}
-use borrow.Author.Rules.{rules}
+use Rattle.load.specs.Laws.{header_read, header_refused, file_behind}
 use Rattle.load.proofs.load_rows.Goals as goal
 
 pub lists-requires : goal.lists-requires

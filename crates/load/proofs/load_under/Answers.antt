@@ -2,7 +2,6 @@ use mathlib.Core.Path.{refl, sym, ◌∙◌}
 use native.Mathlib.Omega.{arith}
 use Rattle.std.proofs.lemmas.Result.{err_from_is_err_and}
 use Rattle.load.specs.Under.{refused-list, lawful-list}
-use borrow.Author.Rules.{rules}
 use Rattle.load.proofs.load_under.Goals as goal
 
 pub returns-in_err-judge : goal.returns-in_err-judge

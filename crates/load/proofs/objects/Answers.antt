@@ -1,18 +1,14 @@
-use mathlib.Core.Path.{◌≡◌, refl, sym, ap, ◌∙◌}
+use mathlib.Core.Path.{◌≡◌, sym, ap, ◌∙◌}
 use mathlib.Core.List.{List}
-use mathlib.Core.Logic.{⊎_elim}
 use native.Mathlib.Omega.{arith}
 use Rattle.std.proofs.lemmas.Result.{err_from_is_err_and}
 use Prim.Native.Nat.{ℕ}
-use lib.ListN.{length}
-use Rattle.layout.specs.Target.{Target}
 use Rattle.layout.specs.Slot.{each}
 use Rattle.reading.specs.Drafts.{bare}
-use Rattle.reading.specs.Reads.{Small, small_by_index}
+use Rattle.reading.specs.Reads.{small_by_index}
 use Rattle.reading.specs.Walk.{Taken}
 use Rattle.reading.specs.File.{finished}
 use Rattle.table.specs.declared.Grid.{Grid}
-use Rattle.readers.specs.Listed.{Listed}
 use Rattle.load.specs.Loads.{Loading, Total, Loads}
 use Rattle.load.specs.Laws.{roots, roots_are, objects-lost, objects-got, objects-loaded, objects-padded, loads-refused}
 use borrow.Author.Rules.{rules}

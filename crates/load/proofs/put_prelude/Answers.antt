@@ -1,7 +1,6 @@
 use native.Mathlib.Omega.{arith}
 use lib.ListN.{length-set}
 use Rattle.load.specs.Laws.{prelude-stored}
-use borrow.Author.Rules.{rules}
 use Rattle.load.proofs.put_prelude.Goals as goal
 
 pub bounds-codes-1 : goal.bounds-codes-1

@@ -1,8 +1,7 @@
 use mathlib.Core.Path.{◌≡◌, refl, sym, ap, subst, ◌∙◌}
 use mathlib.Core.List.{List}
-use mathlib.Core.Logic.{⊎_elim}
 use native.Mathlib.Omega.{arith}
-use Prim.Native.Nat.{◌+◌, ◌*◌, ◌-◌, ◌≤◌}
+use Prim.Native.Nat.{◌-◌, ◌≤◌}
 use lib.ListN.{length, get_or}
 use borrow.Author.Rules.{rules}
 use Rattle.layout.specs.Target.{Target}
@@ -11,7 +10,6 @@ use Rattle.std.proofs.lemmas.Result.{err_from_is_err_and}
 use Rattle.reading.specs.Reads.{small_by_index}
 use Rattle.reading.specs.Walk.{walk}
 use Rattle.heads.specs.Slots.{row_kind_lem}
-use Rattle.table.specs.Word.{in_word}
 use Rattle.walked.specs.Loop.{same, Got, got, lost}
 use Rattle.readers.specs.Listed.{Listed}
 use Rattle.heads.specs.Plans.{NestIs, after_of}
@@ -20,7 +18,7 @@ use Rattle.objects.specs.Start.{position_in-list}
 use Rattle.steps.specs.Known.{KnownNest}
 use Rattle.steps.specs.Walks.{begin_below}
 use Rattle.steps.specs.Turns.{Standing, standing, standing_begin, value_next, nothing_next, next_lost, next_walked, counts_walked, counts_refused}
-use Rattle.steps.specs.Steps.{left_walked, got_as, raw-ends, raw-lost}
+use Rattle.steps.specs.Steps.{left_walked, raw-ends, raw-lost}
 use Rattle.leaves.specs.Plain.{Begin}
 use Rattle.steps.specs.Front.{list_nullables, took_fits, list_left, list_begin, list_all, list-refused, list_done}
 use Prim.Native.Nat.{ℕ, ◌<◌}
@@ -49,8 +47,8 @@ nested-walked t c readers plan l n =
     elim c.match-step.branch [
       | nested-in-Done w ↦ rw (w.words-is, w.reached-is) (got (rw w.in-Done.is at s) refl)
       | nested-in-Nested+in_ok-reached-in-Nested w ↦ let q = rw w.in-Nested.is at s in
-        rw (w.words-is, w.reached-is) (got (left_walked a.grid a.shared (a.depth - 1) a.parent (omega (arith, q.begins.deep)) q
-            (w.raw.ensures readers q.begins.type l q.begins.stands q.opened)) w.in_ok-reached-in-Nested.was)
+          rw (w.words-is, w.reached-is) (got (left_walked a.grid a.shared (a.depth - 1) a.parent (omega (arith, q.begins.deep)) q
+          (w.raw.ensures readers q.begins.type l q.begins.stands q.opened)) w.in_ok-reached-in-Nested.was)
     ] in
     rw c.sum-sum.ensures (next_walked _ _ _ _ _ _ _ _ _ _ _ _ small c.requires.0 v y)
 

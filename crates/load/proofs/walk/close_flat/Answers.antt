@@ -8,7 +8,6 @@ use Rattle.leaves.specs.Like.{like_walk, alike-sequence, alike-length}
 use Rattle.steps.specs.Walks.{OpenedAs, begin_below}
 use Rattle.steps.specs.Steps.{Children-are, raw-told, plain-ends, head-ends, slots_are}
 use Rattle.load.proofs.Mapped.{mapped}
-use borrow.Author.Rules.{rules}
 use Rattle.load.proofs.walk.close_flat.Goals as goal
 
 pub overflow_add-first : goal.overflow_add-first

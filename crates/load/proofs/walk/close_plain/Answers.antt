@@ -1,6 +1,5 @@
 use mathlib.Core.Path.{refl}
 use Rattle.std.proofs.lemmas.Result.{err_from_is_err_and}
-use borrow.Author.Rules.{rules}
 use Rattle.load.proofs.walk.close_plain.Goals as goal
 
 named : {A B : Type 0} → A × B → record { value : A; words_after : B }

@@ -10,7 +10,6 @@ use Rattle.places.specs.Padding.{padding}
 use Rattle.heads.specs.Meaning.{opens_as}
 use Rattle.steps.specs.Walks.{opened_as, refused_as}
 use Rattle.steps.specs.Steps.{no_rule, refusing-head}
-use borrow.Author.Rules.{rules}
 use Rattle.load.proofs.walk.raw_step.Goals as goal
 
 pub close_flat-requires : goal.close_flat-requires

@@ -1,7 +1,6 @@
 use mathlib.Core.Path.{refl}
 use mathlib.Core.Logic.{inl, inr}
 use native.Mathlib.Omega.{arith}
-use borrow.Author.Rules.{rules}
 use Rattle.load.proofs.walk.takeable.Goals as goal
 
 pub returns-then-depth-eq0 : goal.returns-then-depth-eq0

@@ -22,7 +22,6 @@ use Rattle.steps.specs.Steps.{null_pads, value-told, raw_steps}
 use Rattle.leaves.specs.Like.{like_walk}
 use Rattle.std.proofs.lemmas.Result.{err_from_is_err_and}
 use Rattle.load.proofs.Mapped.{mapped}
-use borrow.Author.Rules.{rules}
 use Rattle.load.proofs.walk.value.Goals.{After-start}
 use Rattle.load.proofs.walk.value.Goals as goal
 
