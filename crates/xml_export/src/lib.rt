@@ -23,11 +23,13 @@ fn row_size(file: &[u8], words: &[u32], row: u32) -> Result<usize, Refusal>
     requires { length file.now ≤ 16777216 }
     ensures { result ≡ size_at file.now (rows_text file.now words.now row) row }
 {
+    let place = row as usize;
     match lookups::text(file, Table::by_rows(words), RowNumber(row)) {
-        Err(_) => Err(Rule::NullText.at(row as usize)),
-        Ok(text) => escape::text_size(file, text.first, text.length).ok_or(Rule::NotInXml.at(
-            row as usize,
-        )),
+        Err(_) => Err(Rule::NullText.at(place)),
+        Ok(text) => {
+            let size = escape::text_size(file, text.first, text.length);
+            size.ok_or(Rule::NotInXml.at(place))
+        }
     }
 }
 

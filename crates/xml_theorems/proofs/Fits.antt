@@ -32,7 +32,6 @@ use Rattle.enums.specs.Lists.{Bytes, enums-complete, enums-sound}
 use Rattle.readers.specs.Judged.{judged_name, judges}
 use Rattle.branches.specs.Table.{rows_stand, file_skips}
 use Rattle.shortest.specs.Rewrite.{words_of}
-use Rattle.load.specs.declared.Loading.TheVariants as loading
 use Rattle.load.specs.Loads as load
 use Rattle.load.specs.Under.{under_list, file_under, load_under, load_lawful}
 use Rattle.layout.specs.Fits.{Fitting, rows_in}
@@ -46,8 +45,10 @@ use Rattle.xml_reading.specs.Primaries.{Sorted, fault-told, texts_or_fault, arra
 use Rattle.xml_export.specs.Contract.{answer_of, Ready}
 use Rattle.xml_export.specs.Judging.{RefusedRow, refused-row}
 use Rattle.xml_export.specs.Under.{by_list, export_under}
-use Rattle.xml_export.specs.declared.Exporting.{Exporting}
-use Rattle.xml_export.specs.declared.Exporting.TheVariants.{Refused, Exported}
+use Rattle.std.specs.Prelude.{Result, Err}
+use Rattle.std.specs.Prelude.{Ok as Done}
+use Rattle.answers.specs.declared.Refusal.{Refusal}
+use Rattle.answers.specs.Refusals.{refusal as refused-with}
 use Rattle.xml_theorems.specs.Export.{TextsIn, Holds, first_byte, RowOf, ExportsFile}
 use Rattle.xml_theorems.proofs.Imported.{fits_in, fits_not, left_of, left_as_it_was, begins_with}
 
@@ -182,12 +183,12 @@ wrote enums file words out bytes small xml e = go (enums_at enums) refl e where
         is = v.is;
       }
 
-module _ (enums file : List ℕ) (words : ℕ) (out : List ℕ) {left end : List ℕ} {r : Exporting} (bytes : Bytes enums) (small : Small file) (long : length left ≡ words)
+module _ (enums file : List ℕ) (words : ℕ) (out : List ℕ) {left end : List ℕ} {r : Result ℕ Refusal} (bytes : Bytes enums) (small : Small file) (long : length left ≡ words)
     (answers : r ≡ answer_of (export_under enums file words (length out)))
     (writes : end ≡ output_of (export_under enums file words (length out)) out)
     (leaves : left ≡ words_of (export_under enums file words (length out)) (table_of (load_under enums file words) words)) where
   exports : (f : Fitting enums file words) (a : TextsIn f) (ts : List (List ℕ)) → Holds f a ts → length (exported ts) ≤ length out
-      → (r ≡ Exported (length (exported ts))) × (end ≡ exported ts ++ drop (length (exported ts)) out) × (left ≡ table by_rows (rows_in f.fits) words)
+      → (r ≡ Done (length (exported ts))) × (end ≡ exported ts ++ drop (length (exported ts)) out) × (left ≡ table by_rows (rows_in f.fits) words)
   unfolding told
   exports f a ts h fit =
       let q = by_primary f (texts ts) (holds_says f a ts h) (length out) ∙ fits_in (exported ts) (length out) fit in (
@@ -196,24 +197,24 @@ module _ (enums file : List ℕ) (words : ℕ) (out : List ℕ) {left end : List
         leaves ∙ words-kept (export_under enums file words (length out)) (exported ts) (table_of (load_under enums file words) words) q ∙ table_is f,
       )
 
-  too_small : (f : Fitting enums file words) (a : TextsIn f) (ts : List (List ℕ)) → Holds f a ts → length out < length (exported ts) → r ≡ Refused 21 (length (exported ts))
+  too_small : (f : Fitting enums file words) (a : TextsIn f) (ts : List (List ℕ)) → Holds f a ts → length out < length (exported ts) → r ≡ Err (refused-with 21 (length (exported ts)))
   unfolding told
   too_small f a ts h fit = answers ∙ ap answer_of (by_primary f (texts ts) (holds_says f a ts h) (length out) ∙ fits_not (exported ts) (length out) fit)
 
-  other : (f : Fitting enums file words) → (TextsIn f → ⊥) → r ≡ Refused 61 (first_byte (rows_in f.fits))
+  other : (f : Fitting enums file words) → (TextsIn f → ⊥) → r ≡ Err (refused-with 61 (first_byte (rows_in f.fits)))
   unfolding told
   other f none_such = answers ∙ ap answer_of (by_primary f something_else (other_says f none_such) (length out))
 
-  fault : (f : Fitting enums file words) (a : TextsIn f) (number j : ℕ) → FirstFault a.children number j → (r ≡ Refused number (suc j)) × RowOf f a j (suc j)
+  fault : (f : Fitting enums file words) (a : TextsIn f) (number j : ℕ) → FirstFault a.children number j → (r ≡ Err (refused-with number (suc j))) × RowOf f a j (suc j)
   unfolding told
   fault f a number j x = (answers ∙ ap answer_of (by_primary f (bad number (suc j)) (fault_says f a number j x) (length out)), row_of f a number j (fault_says f a number j x))
 
   -- a length is answered for a file that was exported
-  written_is : (n : ℕ) → r ≡ Exported n → (x : Rewritten) → export_under enums file words (length out) ≡ x → (xml : List ℕ) × (export_under enums file words (length out) ≡ written xml) × (n ≡ length xml)
-  written_is n e (refusal number place) q = let z : r ≡ Refused number place = answers ∙ ap answer_of q in differ cc
-  written_is n e (written xml) q = let z : r ≡ Exported (length xml) = answers ∙ ap answer_of q in (xml, q, cc)
+  written_is : (n : ℕ) → r ≡ Done n → (x : Rewritten) → export_under enums file words (length out) ≡ x → (xml : List ℕ) × (export_under enums file words (length out) ≡ written xml) × (n ≡ length xml)
+  written_is n e (refusal number place) q = let z : r ≡ Err (refused-with number place) = answers ∙ ap answer_of q in differ cc
+  written_is n e (written xml) q = let z : r ≡ Done (length xml) = answers ∙ ap answer_of q in (xml, q, cc)
 
-  only : (n : ℕ) → r ≡ Exported n → (f : Fitting enums file words) × (a : TextsIn f) × (ts : List (List ℕ)) × Holds f a ts × (n ≤ length end) × Exports ts (take n end)
+  only : (n : ℕ) → r ≡ Done n → (f : Fitting enums file words) × (a : TextsIn f) × (ts : List (List ℕ)) × Holds f a ts × (n ≤ length end) × Exports ts (take n end)
   only n e =
       let w = written_is n e (export_under enums file words (length out)) refl in
       let xml = w.0 in
@@ -222,20 +223,20 @@ module _ (enums file : List ℕ) (words : ℕ) (out : List ℕ) {left end : List
       let b = begins_with xml (drop (length xml) out) w.2 l in
       (v.fitting, v.array, v.ts, v.holds, b.0, subst (Exports v.ts) (sym b.1) v.is)
 
-  skips : (n : ℕ) → r ≡ Exported n → (f : Fitting enums file words) → TableSkips by_rows (room_of words) left (length (rows_in f.fits))
+  skips : (n : ℕ) → r ≡ Done n → (f : Fitting enums file words) → TableSkips by_rows (room_of words) left (length (rows_in f.fits))
   skips n e f =
       let w = written_is n e (export_under enums file words (length out)) refl in
       let l : left ≡ table by_rows (rows_in f.fits) words
       = leaves ∙ words-kept (export_under enums file words (length out)) w.0 (table_of (load_under enums file words) words) w.1 ∙ table_is f in
       rw l (table-skips f)
 
-  unchanged : (number place : ℕ) → r ≡ Refused number place → (x : Rewritten) → export_under enums file words (length out) ≡ x → (end ≡ out) × (left ≡ replicate words 0)
+  unchanged : (number place : ℕ) → r ≡ Err (refused-with number place) → (x : Rewritten) → export_under enums file words (length out) ≡ x → (end ≡ out) × (left ≡ replicate words 0)
   unchanged number place e (refusal m p) q =
       let t = table_of (load_under enums file words) words in
       let c : left ≡ replicate (length t) 0 = leaves ∙ words-cleared (export_under enums file words (length out)) m p t q in
       let k : length t ≡ words = omega (arith, ap length c, length-replicate {A = ℕ} (length t) 0) in
       (writes ∙ left_as_it_was (export_under enums file words (length out)) m p out q, c ∙ ap (λ (n : ℕ). replicate n 0) k)
-  unchanged number place e (written xml) q = let z : r ≡ Exported (length xml) = answers ∙ ap answer_of q in differ cc
+  unchanged number place e (written xml) q = let z : r ≡ Done (length xml) = answers ∙ ap answer_of q in differ cc
 
   pub export_exact : ExportsFile enums file words left out end r
   export_exact = record {
@@ -250,21 +251,23 @@ module _ (enums file : List ℕ) (words : ℕ) (out : List ℕ) {left end : List
   }
 
 -- what a load refuses, an export refuses
-pub load_first : (enums file : List ℕ) (words out : ℕ) {number place : ℕ} → load.answer_of file (load_under enums file words) ≡ loading.Refused number place
+pub load_first : (enums file : List ℕ) (words out : ℕ) {number place : ℕ} → load.answer_of file (load_under enums file words) ≡ Err (refused-with number place)
     → export_under enums file words out ≡ refusal number place
 unfolding load_under file_under under_list to_load export_under by_list export_of by_load
 load_first enums file words out {number} {place} e = go (enums_at enums) e where
-  by : (es : List EnumEntry) (x : Answer Loaded) → load.answer_of file (to_load x) ≡ loading.Refused number place → by_load (judged_name es) x out ≡ refusal number place
+  by : (es : List EnumEntry) (x : Answer Loaded) → load.answer_of file (to_load x) ≡ Err (refused-with number place) → by_load (judged_name es) x out ≡ refusal number place
   by es (refused m p) e =
-      let a : m ≡ number = cc in
-      let b : p ≡ place = cc in
+      let z : refused-with m p ≡ refused-with number place = cc in
+      let a : m ≡ number = ap (λ (y : Refusal). y.number) z in
+      let b : p ≡ place = ap (λ (y : Refusal). y.place) z in
       rw (a, b)
   by es (read l n) e = differ cc
 
-  go : (j : Judgement) → load.answer_of file (to_load (under_list j (λ es. file_at (judged_name es) file (room_of words)))) ≡ loading.Refused number place
+  go : (j : Judgement) → load.answer_of file (to_load (under_list j (λ es. file_at (judged_name es) file (room_of words)))) ≡ Err (refused-with number place)
       → by_list j (λ es. export_of (judged_name es) file words out) ≡ refusal number place
   go (list-refused m p) e =
-      let a : m ≡ number = cc in
-      let b : p ≡ place = cc in
+      let z : refused-with m p ≡ refused-with number place = cc in
+      let a : m ≡ number = ap (λ (y : Refusal). y.number) z in
+      let b : p ≡ place = ap (λ (y : Refusal). y.place) z in
       rw (a, b)
   go (lawful es) e = by es (file_at (judged_name es) file (room_of words)) e

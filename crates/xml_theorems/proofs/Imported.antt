@@ -19,8 +19,9 @@ use Rattle.xml_reading.specs.Match.{Document, other, document}
 use Rattle.xml_reading.specs.Import.{texts_of, takes_exactly, first_wrong}
 use Rattle.xml_reading.specs.Answers.{imported, import_of}
 use Rattle.xml_reading.specs.Theorems.{all_utf8, built_holds, imported_is}
-use Rattle.xml_import.specs.declared.Importing.{Importing}
-use Rattle.xml_import.specs.declared.Importing.TheVariants.{Refused, Imported}
+use Rattle.std.specs.Prelude.{Result, Ok, Err}
+use Rattle.answers.specs.declared.Refusal.{Refusal}
+use Rattle.answers.specs.Refusals.{refusal as refused}
 use Rattle.xml_import.specs.Puts.{answer_of}
 use Rattle.xml_theorems.specs.Import.{file_of, Within, Built, Imports}
 
@@ -71,23 +72,23 @@ module _ (xml : List ℕ) (n : ℕ) where
     go (other place) e = (place, refl, first_wrong xml place e)
     go (document ts) e = absurd (none ts ((takes_exactly xml ts).0 e))
 
-module _ (xml out : List ℕ) {end : List ℕ} {r : Importing} (answers : r ≡ answer_of (import_of xml (length out))) (writes : end ≡ output_of (import_of xml (length out)) out) where
-  told_only : (n : ℕ) → r ≡ Imported n → (x : Rewritten) → import_of xml (length out) ≡ x
+module _ (xml out : List ℕ) {end : List ℕ} {r : Result ℕ Refusal} (answers : r ≡ answer_of (import_of xml (length out))) (writes : end ≡ output_of (import_of xml (length out)) out) where
+  told_only : (n : ℕ) → r ≡ Ok n → (x : Rewritten) → import_of xml (length out) ≡ x
       → (ts : List (List ℕ)) × Exports ts xml × Within ts × (n ≤ length end) × Built ts (take n end)
-  told_only n e (refusal number place) q = let z : r ≡ Refused number place = answers ∙ ap answer_of q in differ cc
+  told_only n e (refusal number place) q = let z : r ≡ Err (refused number place) = answers ∙ ap answer_of q in differ cc
   told_only n e (written bytes) q =
       let v = imported_is [] (judged_name []) (judges []) xml (length out) bytes q in
       let ts = v.texts_of_lem in
       let w : Within ts = record { few = v.few; short = omega (arith, ap length v.built, v.holds.lays.short) } in
-      let z : r ≡ Imported (length bytes) = answers ∙ ap answer_of q in
+      let z : r ≡ Ok (length bytes) = answers ∙ ap answer_of q in
       let k : n ≡ length bytes = cc in
       let l : end ≡ bytes ++ drop (length bytes) out = writes ∙ left_of (import_of xml (length out)) bytes out q in
       let b = begins_with bytes (drop (length bytes) out) k l in
       (ts, v.is, w, b.0, subst (Built ts) (sym (b.1 ∙ v.built)) (builds ts xml v.is w))
 
-  told-refused : (number place : ℕ) → r ≡ Refused number place → (x : Rewritten) → import_of xml (length out) ≡ x → end ≡ out
+  told-refused : (number place : ℕ) → r ≡ Err (refused number place) → (x : Rewritten) → import_of xml (length out) ≡ x → end ≡ out
   told-refused number place e (refusal m p) q = writes ∙ left_as_it_was (import_of xml (length out)) m p out q
-  told-refused number place e (written bytes) q = let z : r ≡ Imported (length bytes) = answers ∙ ap answer_of q in differ cc
+  told-refused number place e (written bytes) q = let z : r ≡ Ok (length bytes) = answers ∙ ap answer_of q in differ cc
 
   pub import_exact : Imports xml out end r
   import_exact = record {

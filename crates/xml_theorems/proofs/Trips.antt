@@ -12,10 +12,8 @@ use Rattle.layout.specs.Fits.{Fitting}
 use Rattle.xml_layout.specs.Xml.{Each, Writable, exported, Exports}
 use Rattle.xml_layout.specs.Tree.{TextFile}
 use Rattle.xml_reading.specs.Strings.{texts-rows, built_short}
-use Rattle.xml_import.specs.declared.Importing.{Importing}
-use Rattle.xml_import.specs.declared.Importing.TheVariants as importing
-use Rattle.xml_export.specs.declared.Exporting.{Exporting}
-use Rattle.xml_export.specs.declared.Exporting.TheVariants.{Refused, Exported}
+use Rattle.std.specs.Prelude.{Result, Ok, Err}
+use Rattle.answers.specs.declared.Refusal.{Refusal}
 use Rattle.xml_theorems.specs.Import.{file_of, Within, Built, Imports}
 use Rattle.xml_theorems.specs.Export.{TextsIn, Holds, ExportsFile}
 use Rattle.xml_theorems.specs.Trips.{KeepsTexts, ExportsSame}
@@ -35,24 +33,24 @@ module _ {enums file : List ℕ} {words : ℕ} (f : Fitting enums file words) (a
   pub exports_it : Exports ts (exported ts)
   exports_it = record { writable = h.1; parts = refl }
 
-module _ {enums file : List ℕ} {words : ℕ} {left out end : List ℕ} {r : Exporting} (x : ExportsFile enums file words left out end r) where
+module _ {enums file : List ℕ} {words : ℕ} {left out end : List ℕ} {r : Result ℕ Refusal} (x : ExportsFile enums file words left out end r) where
   -- an export that is refused is none of texts for which there is room
-  not_refused : {number place : ℕ} → r ≡ Refused number place → (f : Fitting enums file words) (a : TextsIn f) (ts : List (List ℕ)) → Holds f a ts → length (exported ts) ≤ length out → ⊥
+  not_refused : {e : Refusal} → r ≡ Err e → (f : Fitting enums file words) (a : TextsIn f) (ts : List (List ℕ)) → Holds f a ts → length (exported ts) ≤ length out → ⊥
   not_refused e f a ts h k =
       let l = (x.exports f a ts h k).0 in
       differ cc
 
   -- what was written
-  xml_is : {n : ℕ} → r ≡ Exported n → (f : Fitting enums file words) (a : TextsIn f) (ts : List (List ℕ)) → Holds f a ts → length (exported ts) ≤ length out → take n end ≡ exported ts
+  xml_is : {n : ℕ} → r ≡ Ok n → (f : Fitting enums file words) (a : TextsIn f) (ts : List (List ℕ)) → Holds f a ts → length (exported ts) ≤ length out → take n end ≡ exported ts
   xml_is {n} e f a ts h k =
       let l = x.exports f a ts h k in
       let m : n ≡ length (exported ts) = cc in
       (begins_with (exported ts) (drop (length (exported ts)) out) m l.1).1
 
-  pub not_imported : {number place : ℕ} {second end₂ : List ℕ} {r₂ : Importing} → r ≡ Refused number place → KeepsTexts enums file words (length out) second end₂ r₂
+  pub not_imported : {e : Refusal} {second end₂ : List ℕ} {r₂ : Result ℕ Refusal} → r ≡ Err e → KeepsTexts enums file words (length out) second end₂ r₂
   not_imported e = record { keeps = λ f a ts h k l. absurd (not_refused e f a ts h k); too_small = λ f a ts h k l. absurd (not_refused e f a ts h k) }
 
-  pub kept : {n : ℕ} {second end₂ : List ℕ} {r₂ : Importing} → r ≡ Exported n → Imports (take n end) second end₂ r₂ → KeepsTexts enums file words (length out) second end₂ r₂
+  pub kept : {n : ℕ} {second end₂ : List ℕ} {r₂ : Result ℕ Refusal} → r ≡ Ok n → Imports (take n end) second end₂ r₂ → KeepsTexts enums file words (length out) second end₂ r₂
   kept {n} {second} {end₂} {r₂} e y =
       let z : (f : Fitting enums file words) (a : TextsIn f) (ts : List (List ℕ)) → Holds f a ts → length (exported ts) ≤ length out → Imports (exported ts) second end₂ r₂
       = λ f a ts h k. let p = xml_is e f a ts h k in rw p at y in
@@ -63,15 +61,15 @@ module _ {enums file : List ℕ} {words : ℕ} {left out end : List ℕ} {r : Ex
         too_small = λ f a ts h k l. (z f a ts h k).too_small ts (exports_it f a ts h) (within f a ts h) l;
       }
 
-module _ {xml out end : List ℕ} {r : Importing} (x : Imports xml out end r) where
-  pub not_exported : {enums : List ℕ} {words number place : ℕ} {second end₂ : List ℕ} {r₂ : Exporting} → r ≡ importing.Refused number place → ExportsSame enums xml words (length out) second end₂ r₂
+module _ {xml out end : List ℕ} {r : Result ℕ Refusal} (x : Imports xml out end r) where
+  pub not_exported : {enums : List ℕ} {words : ℕ} {e : Refusal} {second end₂ : List ℕ} {r₂ : Result ℕ Refusal} → r ≡ Err e → ExportsSame enums xml words (length out) second end₂ r₂
   not_exported e = record {
     same = λ ts t w l es lawful listed room fit.
         let i = (x.takes ts t w l).0 in
         differ cc;
   }
 
-  pub same : {n : ℕ} {enums : List ℕ} {words : ℕ} {left second end₂ : List ℕ} {r₂ : Exporting} → r ≡ importing.Imported n → ExportsFile enums (take n end) words left second end₂ r₂
+  pub same : {n : ℕ} {enums : List ℕ} {words : ℕ} {left second end₂ : List ℕ} {r₂ : Result ℕ Refusal} → r ≡ Ok n → ExportsFile enums (take n end) words left second end₂ r₂
       → ExportsSame enums xml words (length out) second end₂ r₂
   same {n} {enums} {words} {left} {second} {end₂} {r₂} e y = record {
     same = λ ts t w l es lawful listed room fit.

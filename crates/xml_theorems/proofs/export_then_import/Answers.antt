@@ -1,17 +1,11 @@
-use mathlib.Core.Path.{sym}
-use lib.Seq.{length-take-le}
+use Rattle.std.proofs.Common.{refl, sym}
+use Rattle.std.proofs.Math.Seq.{length-take-le}
+use Rattle.std.proofs.lemmas.Result.{err_from_is_err_and}
 use Rattle.xml_theorems.proofs.Trips.{not_imported, kept}
-use borrow.Author.Rules.{rules}
 use Rattle.xml_theorems.proofs.export_then_import.Goals as goal
 
-pub slice_bounds-import_exact-end : goal.slice_bounds-import_exact-end
-slice_bounds-import_exact-end c = (c.export_exact.ensures.exports_file.only _ c.in-Exported.is).4
+pub returns-in_err-n : goal.returns-in_err-n
+returns-in_err-n c = not_imported c.in_err-n.ensures.exports_file refl
 
-pub slice_bounds-import_exact-end-in-Exported : goal.slice_bounds-import_exact-end-in-Exported
-slice_bounds-import_exact-end-in-Exported c = sym (length-take-le _ _ (c.export_exact.ensures.exports_file.only _ c.in-Exported.is).4)
-
-pub returns-in-Refused : goal.returns-in-Refused
-returns-in-Refused c = not_imported c.export_exact.ensures.exports_file c.in-Refused.is
-
-pub returns-in-Exported : goal.returns-in-Exported
-returns-in-Exported c = kept c.export_exact.ensures.exports_file c.in-Exported.is c.import_exact.ensures
+pub returns : goal.returns
+returns c = kept c.in_ok-n.ensures.exports_file refl c.import_exact.ensures
