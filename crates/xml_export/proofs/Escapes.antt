@@ -310,13 +310,9 @@ quote_is b e = rw e refl
 pub quote_long : (b : ℕ) → b ≡ 0x22 → length (escaped b) ≡ 6
 quote_long b e = ap length (quote_is b e)
 
--- bytes stored one after the other
-pub stored-put : {to : ℕ} {out out' : List ℕ} (w : List ℕ) → out' ≡ sets out to 0 w → Put w to out out'
-stored-put {to} {out} w c = let z : to + 0 ≡ to = omega arith in rw c (rw z at (put-each w out to 0))
-
--- the entity of a byte, stored byte by byte
-pub entity-put : (b : ℕ) {to r : ℕ} {out out' : List ℕ} (w : List ℕ) → escaped b ≡ w → length w ≡ r → out' ≡ sets out to 0 w → EntityPut b to out out' (Some r)
-entity-put b w e l c = (sym l ∙ ap length (sym e), rw e (stored-put w c))
+-- the entity of a byte
+pub entity-put : (b : ℕ) {to r : ℕ} {out out' : List ℕ} (w : List ℕ) → escaped b ≡ w → length w ≡ r → Put w to out out' → EntityPut b to out out' (Some r)
+entity-put b w e l p = (sym l ∙ ap length (sym e), rw e p)
 
 -- bytes that stand as they are
 alone-bytes : (s : List ℕ) (n i : ℕ) → i + n ≤ length s → AllOf Alone s i n → escape (drop i s) ≡ take n (drop i s) ++ escape (drop (i + n) s)
@@ -343,25 +339,6 @@ pub copy_run : {s : List ℕ} {from to r : ℕ} {out out' : List ℕ} → Runs s
 copy_run {s} {from} {to} {r} u c = record { runs = u; put = put_copy s from (r - from) (omega (arith, u.forward, u.inside)) c }
 
 -- ---- Blocks of bytes, which may overlap
-
-four_at : (s : List ℕ) (i : ℕ) → i + 4 ≤ length s → take 4 (drop i s) ≡ get_or s i 0 ∷ get_or s (i + 1) 0 ∷ get_or s (i + 2) 0 ∷ get_or s (i + 3) 0 ∷ []
-four_at s i h =
-    let a : i + 1 + 1 ≡ i + 2 = omega arith in
-    let b : i + 2 + 1 ≡ i + 3 = omega arith in
-    rw (cons_at s i (omega arith), cons_at s (i + 1) (omega arith), a, cons_at s (i + 2) (omega arith), b, cons_at s (i + 3) (omega arith))
-
-pub four-put : (s : List ℕ) (i to : ℕ) {out out' : List ℕ} → i + 4 ≤ length s → out' ≡ sets out to 0 (get_or s i 0 ∷ get_or s (i + 1) 0 ∷ get_or s (i + 2) 0 ∷ get_or s (i + 3) 0 ∷ [])
-    → Put (take 4 (drop i s)) to out out'
-four-put s i to h e = rw (four_at s i h) (stored-put (get_or s i 0 ∷ get_or s (i + 1) 0 ∷ get_or s (i + 2) 0 ∷ get_or s (i + 3) 0 ∷ []) e)
-
--- one block, and one behind it
-pub put_both : (s : List ℕ) (from m n to : ℕ) {o₀ o₁ o₂ : List ℕ} → from + m + n ≤ length s → Put (take m (drop from s)) to o₀ o₁ → Put (take n (drop (from + m) s)) (to + m) o₁ o₂
-    → Put (take (m + n) (drop from s)) to o₀ o₂
-put_both s from m n to {o₀} {o₁} {o₂} h p q =
-    let y : from + m + n - (from + m) ≡ n = omega arith in
-    let z : from + m + n - from ≡ m + n = omega arith in
-    let v : Put (take (from + m + n - from) (drop from s)) to o₀ o₂ = put_on s from m (omega arith) h p (rw y q) in
-    rw z at v
 
 -- two blocks of k bytes, of which the second ends behind n
 module _ (s : List ℕ) (from n k to : ℕ) (f : k ≤ n) (g : n ≤ k + k) (h : from + n ≤ length s) where
@@ -494,10 +471,6 @@ putting_on i j {next} p q l =
     rw z at (putting_run p q l)
 
 -- ---- An item put into an output
-
--- two stores keep the output's length
-pub two_stored : (o : List ℕ) {m n : ℕ} (i x j y : ℕ) → length o ≡ n → m ≡ length (set (set o i x) j y) → m ≡ n
-two_stored o i x j y k e = e ∙ length-set (set o i x) j y ∙ length-set o i x ∙ k
 
 pub item-put : (t : List ℕ) {to mid end : ℕ} {out out₁ out₂ out₃ : List ℕ} → Put item_start to out out₁ → PutTo (escape t) (to + 6) out₁ out₂ mid → Put item_end mid out₂ out₃ → end ≡ mid + 7
     → PutTo (item t) to out out₃ end

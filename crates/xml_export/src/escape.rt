@@ -193,45 +193,12 @@ fn sign(b: u8) -> bool
     signed(b)
 }
 
-// Four bytes into the output: the compiler stores them at once.
-fn put_four(out: &mut [u8], to: usize, a: u8, b: u8, c: u8, d: u8)
-    requires { to + 4 ≤ length out.old }
-    ensures { out.new ≡ sets out.old to 0 (a ∷ b ∷ c ∷ d ∷ []) }
+// Bytes into the output: the compiler stores those of a literal at once.
+fn put(out: &mut [u8], to: usize, bytes: &[u8])
+    requires { to + length bytes.now ≤ length out.old }
+    ensures { Put bytes.now to out.old out.new }
 {
-    out[to] = a;
-    out[to + 1] = b;
-    out[to + 2] = c;
-    out[to + 3] = d;
-}
-
-// Sixteen bytes from `from` on into the output, all read before the first is put: the compiler loads and stores them at once.
-fn put_sixteen(text: &[u8], out: &mut [u8], from: usize, to: usize)
-    requires { (from + 16 ≤ length text.now) × (to + 16 ≤ length out.old) }
-    ensures { Put (take 16 (drop from text.now)) to out.old out.new }
-{
-    let second = from + 4;
-    let third = from + 8;
-    let fourth = from + 12;
-    let a0 = text[from];
-    let a1 = text[from + 1];
-    let a2 = text[from + 2];
-    let a3 = text[from + 3];
-    let b0 = text[second];
-    let b1 = text[second + 1];
-    let b2 = text[second + 2];
-    let b3 = text[second + 3];
-    let c0 = text[third];
-    let c1 = text[third + 1];
-    let c2 = text[third + 2];
-    let c3 = text[third + 3];
-    let d0 = text[fourth];
-    let d1 = text[fourth + 1];
-    let d2 = text[fourth + 2];
-    let d3 = text[fourth + 3];
-    put_four(out, to, a0, a1, a2, a3);
-    put_four(out, to + 4, b0, b1, b2, b3);
-    put_four(out, to + 8, c0, c1, c2, c3);
-    put_four(out, to + 12, d0, d1, d2, d3);
+    out[to..to + bytes.len()].copy_from_slice(bytes);
 }
 
 // n bytes from `from` on, 32 at most, into the output: 16 or more by two blocks of 16 that may overlap.
@@ -244,8 +211,8 @@ fn put_near(text: &[u8], out: &mut [u8], from: usize, to: usize, n: usize)
         return;
     }
     let more = n - 16;
-    put_sixteen(text, out, from, to);
-    put_sixteen(text, out, from + more, to + more);
+    put(out, to, &text[from..from + 16]);
+    put(out, to + more, &text[from + more..from + more + 16]);
 }
 
 // Puts such bytes from `from` on: up to the first of 32 that is not, or blocks; none where fewer than 32 are left. Answers where they end.
@@ -287,26 +254,23 @@ fn put_entity(out: &mut [u8], to: usize, b: u8) -> Option<usize>
     requires { to + length (escaped b) ≤ length out.old }
     ensures { EntityPut b to out.old out.new result }
 {
-    if b == 0x26 {
-        put_four(out, to, 0x26, 0x61, 0x6D, 0x70);
-        out[to + 4] = 0x3B;
+    if b == b'&' {
+        put(out, to, b"&amp;");
         return Some(5);
     }
-    if 0x3E < b {
+    if b'>' < b {
         return None;
     }
-    if b == 0x3C {
-        put_four(out, to, 0x26, 0x6C, 0x74, 0x3B);
+    if b == b'<' {
+        put(out, to, b"&lt;");
         return Some(4);
     }
-    if b == 0x3E {
-        put_four(out, to, 0x26, 0x67, 0x74, 0x3B);
+    if b == b'>' {
+        put(out, to, b"&gt;");
         return Some(4);
     }
-    if b == 0x22 {
-        put_four(out, to, 0x26, 0x71, 0x75, 0x6F);
-        out[to + 4] = 0x74;
-        out[to + 5] = 0x3B;
+    if b == b'"' {
+        put(out, to, b"&quot;");
         return Some(6);
     }
     None
@@ -373,18 +337,13 @@ fn put_part(file: &[u8], out: &mut [u8], first: usize, n: usize, to: usize) -> u
     put_text(&file[first..end], out, to)
 }
 
-// The item of such a text into the output, `<Item>` and `</Item>` byte by byte; answers where it ends.
+// The item of such a text into the output; answers where it ends.
 pub(crate) fn put_item(file: &[u8], out: &mut [u8], first: usize, n: usize, to: usize) -> usize
     requires { (first + n ≤ length file.now) × (to + length (item (take n (drop first file.now))) ≤ length out.old) }
     ensures { PutTo (item (take n (drop first file.now))) to out.old out.new result }
 {
-    put_four(out, to, 0x3C, 0x49, 0x74, 0x65);
-    out[to + 4] = 0x6D;
-    out[to + 5] = 0x3E;
+    put(out, to, b"<Item>");
     let end = put_part(file, out, first, n, to + 6);
-    put_four(out, end, 0x3C, 0x2F, 0x49, 0x74);
-    out[end + 4] = 0x65;
-    out[end + 5] = 0x6D;
-    out[end + 6] = 0x3E;
+    put(out, end, b"</Item>");
     end + 7
 }

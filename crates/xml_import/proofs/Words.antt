@@ -11,35 +11,23 @@ use Rattle.layout.specs.Text.{ascii}
 use Rattle.names.specs.Parse.{common}
 use Rattle.names.specs.Common.{common_yes}
 use Rattle.xml_layout.specs.Xml.{item_start, item_end, document_end}
-use Rattle.xml_import.specs.Places.{Word}
+use Rattle.xml_import.specs.Places.{Four, FourAt}
 use Rattle.xml_escape.specs.Runs.{cons_at}
 
 -- the lowest byte of a number, and the others
 lowest : (a b x y : ℕ) → a < 256 → b < 256 → a + 256 * x ≡ b + 256 * y → (a ≡ b) × (x ≡ y)
 lowest a b x y h k e = (omega arith, omega arith)
 
--- these four bytes stand from a place on
-pub record Four (s : List ℕ) (at a b c d : ℕ) : Type 0 where
-  pub first : get_or s at 0 ≡ a
-  pub second : get_or s (at + 1) 0 ≡ b
-  pub third : get_or s (at + 2) 0 ≡ c
-  pub fourth : get_or s (at + 3) 0 ≡ d
-
-pub four_by : {s : List ℕ} {at r : ℕ} (a b c d : ℕ) → a < 256 → b < 256 → c < 256 → d < 256 → Word s at r → r ≡ a + 256 * b + 65536 * c + 16777216 * d → Four s at a b c d
-four_by {s} {at} {r} a b c d ha hb hc hd w e =
-    let z : at + 0 ≡ at = omega arith in
-    let k : get_or s at 0 < 256 = rw z at (w.small 0 (omega arith)) in
-    let p = lowest (get_or s at 0) a (get_or s (at + 1) 0 + 256 * (get_or s (at + 2) 0 + 256 * get_or s (at + 3) 0)) (b + 256 * (c + 256 * d)) k ha (omega (arith, w.is)) in
-    let q = lowest (get_or s (at + 1) 0) b (get_or s (at + 2) 0 + 256 * get_or s (at + 3) 0) (c + 256 * d) (w.small 1 (omega arith)) hb p.1 in
-    let t = lowest (get_or s (at + 2) 0) c (get_or s (at + 3) 0) d (w.small 2 (omega arith)) hc q.1 in
-    record { first = p.0; second = q.0; third = t.0; fourth = t.1 }
-
-pub small_by : (s : List ℕ) (at : ℕ) → get_or s at 0 < 256 → get_or s (at + 1) 0 < 256 → get_or s (at + 2) 0 < 256 → get_or s (at + 3) 0 < 256 → (k : ℕ) → k < 4 → get_or s (at + k) 0 < 256
-small_by s at a b c d zero h = let z : at + 0 ≡ at = omega arith in rw z a
-small_by s at a b c d (suc zero) h = b
-small_by s at a b c d (suc (suc zero)) h = c
-small_by s at a b c d (suc (suc (suc zero))) h = d
-small_by s at a b c d (suc (suc (suc (suc k)))) h = absurd (omega arith)
+-- four bytes of one number
+pub same_four : (s w : List ℕ) (at : ℕ) → ((k : ℕ) → get_or s k 0 < 256) → ((k : ℕ) → get_or w k 0 < 256)
+    → get_or s at 0 + 256 * get_or s (at + 1) 0 + 65536 * get_or s (at + 2) 0 + 16777216 * get_or s (at + 3) 0 ≡ get_or w 0 0 + 256 * get_or w 1 0 + 65536 * get_or w 2 0 + 16777216 * get_or w 3 0 → FourAt w s at
+same_four s w at f g e =
+    let x = λ (k : ℕ). get_or s (at + k) 0 in
+    let y = λ (k : ℕ). get_or w k 0 in
+    let p = lowest (get_or s at 0) (y 0) (x 1 + 256 * (x 2 + 256 * x 3)) (y 1 + 256 * (y 2 + 256 * y 3)) (f at) (g 0) (omega (arith, e)) in
+    let q = lowest (x 1) (y 1) (x 2 + 256 * x 3) (y 2 + 256 * y 3) (f (at + 1)) (g 1) p.1 in
+    let r = lowest (x 2) (y 2) (x 3) (y 3) (f (at + 2)) (g 2) q.1 in
+    record { first = p.0; second = q.0; third = r.0; fourth = r.1 }
 
 -- a literal that stands, and a byte before it
 spell : (w s : List ℕ) (a at : ℕ) → at < length s → get_or s at 0 ≡ a → length w ≡ common w (drop (at + 1) s) → length (a ∷ w) ≡ common (a ∷ w) (drop at s)

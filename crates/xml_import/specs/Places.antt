@@ -18,10 +18,16 @@ use Rattle.xml_import.specs.declared.Measured.{Measured}
 unfoldable pub stands_alone : ℕ → Bool
 stands_alone b = leb 0x20 b && (leb b 0x7F && (not (eqb b 0x22) && (not (eqb b 0x26) && (not (eqb b 0x3C) && not (eqb b 0x3E)))))
 
--- four bytes from a place on as one number, the first the lowest
-pub record Word (xml : List ℕ) (at r : ℕ) : Type 0 where
-  pub small : (k : ℕ) → k < 4 → get_or xml (at + k) 0 < 256
-  pub is : r ≡ get_or xml at 0 + 256 * get_or xml (at + 1) 0 + 65536 * get_or xml (at + 2) 0 + 16777216 * get_or xml (at + 3) 0
+-- these four bytes stand from a place on
+pub record Four (s : List ℕ) (at a b c d : ℕ) : Type 0 where
+  pub first : get_or s at 0 ≡ a
+  pub second : get_or s (at + 1) 0 ≡ b
+  pub third : get_or s (at + 2) 0 ≡ c
+  pub fourth : get_or s (at + 3) 0 ≡ d
+
+-- the same of a list of four
+abbrev pub FourAt : (w s : List ℕ) (at : ℕ) → Type 0
+FourAt w s at = Four s at (get_or w 0 0) (get_or w 1 0) (get_or w 2 0) (get_or w 3 0)
 
 -- a matcher fails from a place on: the bytes before another place agree
 abbrev pub FailsAt : {A : Type 0} → Match A → (at place : ℕ) → Type 0

@@ -1,49 +1,24 @@
 // A character as it stands in the XML, and literals.
-ghost use Rattle.std.specs.Prelude.{◌≡◌, true, ◌+◌, ◌≤◌, ◌<◌, max, length, drop, get_or, [], ◌∷◌};
+ghost use Rattle.std.specs.Prelude.{◌≡◌, true, ◌+◌, ◌≤◌, ◌<◌, length, drop, get_or, [], ◌∷◌};
 ghost use Rattle.names.specs.Parse.{common};
 ghost use Rattle.xml_layout.specs.Xml.{item_start, item_end};
-ghost use Rattle.xml_import.specs.Places.{stands_alone, Word, RangesAt, TopAt, PlainAt, EntityAt};
+ghost use Rattle.xml_import.specs.Places.{stands_alone, FourAt, RangesAt, TopAt, PlainAt, EntityAt};
 
-// The larger of two numbers.
-pub fn larger(a: usize, b: usize) -> usize
-    ensures { result ≡ max a b }
-{
-    if a < b {
-        return b;
-    }
-    a
-}
-
-// A byte, wider.
-fn wide(b: u8) -> u64
-    ensures { (result ≡ b) × (b < 256) }
-{
-    b as u64
-}
-
-// Four bytes from `at` on as one number, the first the lowest: they are compared at once.
-fn word(xml: &[u8], at: usize) -> u64
+// Whether four bytes stand from `at` on: they are compared at once.
+fn four_at(xml: &[u8], at: usize, four: &[u8; 4]) -> bool
     requires { at + 4 ≤ length xml.now }
-    ensures { Word xml.now at result }
+    ensures { result ≡ true → FourAt four.now xml.now at }
 {
-    let a = wide(xml[at]);
-    let b = wide(xml[at + 1]);
-    let c = wide(xml[at + 2]);
-    let d = wide(xml[at + 3]);
-    a + 256 * b + 65536 * c + 16777216 * d
+    let here = u32::from_le_bytes([xml[at], xml[at + 1], xml[at + 2], xml[at + 3]]);
+    here == u32::from_le_bytes(*four)
 }
 
-// Whether an item's start stands in the XML from `at` on: `<Ite` and `tem>`.
+// Whether an item's start stands in the XML from `at` on.
 fn starts_at(xml: &[u8], at: usize) -> bool
     requires { at + 6 ≤ length xml.now }
     ensures { result ≡ true → 6 ≡ common item_start (drop at xml.now) }
 {
-    if word(xml, at) == 0x6574493C {
-        if word(xml, at + 2) == 0x3E6D6574 {
-            return true;
-        }
-    }
-    false
+    four_at(xml, at, b"<Ite") && four_at(xml, at + 2, b"tem>")
 }
 
 // How many bytes of it stand there, byte by byte.
@@ -66,17 +41,12 @@ pub(crate) fn start_at(xml: &[u8], at: usize) -> usize
     other_start(xml, at)
 }
 
-// Whether an item's end stands in the XML from `at` on: `</It` and `tem>`.
+// Whether an item's end stands in the XML from `at` on.
 pub(crate) fn ends_at(xml: &[u8], at: usize) -> bool
     requires { at + 7 ≤ length xml.now }
     ensures { result ≡ true → 7 ≡ common item_end (drop at xml.now) }
 {
-    if word(xml, at) == 0x74492F3C {
-        if word(xml, at + 3) == 0x3E6D6574 {
-            return true;
-        }
-    }
-    false
+    four_at(xml, at, b"</It") && four_at(xml, at + 3, b"tem>")
 }
 
 // How many bytes of it stand there, byte by byte.
@@ -269,7 +239,7 @@ fn other_entity(xml: &[u8], at: usize) -> Result<Entity, usize>
             next: at + 6,
         });
     }
-    Err(at + larger(a, larger(l, larger(g, q))))
+    Err(at + a.max(l).max(g).max(q))
 }
 
 // The same: four bytes are compared at once.
@@ -280,32 +250,29 @@ pub(crate) fn entity_at(xml: &[u8], at: usize) -> Result<Entity, usize>
     if xml.len() - at < 6 {
         return other_entity(xml, at);
     }
-    if word(xml, at + 1) == 0x3B706D61 {
+    if four_at(xml, at + 1, b"amp;") {
         return Ok(Entity {
             byte: 0x26,
             next: at + 5,
         });
     }
-    let start = word(xml, at);
-    if start == 0x3B746C26 {
+    if four_at(xml, at, b"&lt;") {
         return Ok(Entity {
             byte: 0x3C,
             next: at + 4,
         });
     }
-    if start == 0x3B746726 {
+    if four_at(xml, at, b"&gt;") {
         return Ok(Entity {
             byte: 0x3E,
             next: at + 4,
         });
     }
-    if start == 0x6F757126 {
-        if word(xml, at + 2) == 0x3B746F75 {
-            return Ok(Entity {
-                byte: 0x22,
-                next: at + 6,
-            });
-        }
+    if four_at(xml, at, b"&quo") && four_at(xml, at + 2, b"uot;") {
+        return Ok(Entity {
+            byte: 0x22,
+            next: at + 6,
+        });
     }
     other_entity(xml, at)
 }

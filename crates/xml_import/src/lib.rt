@@ -45,7 +45,7 @@ fn filled_at(xml: &[u8], at: usize) -> Result<Texted, usize>
                 }
                 match character::plain_at(xml, i) {
                     Err(place) => {
-                        return Err(character::larger(i + n, place));
+                        return Err(place.max(i + n));
                     }
                     Ok(next) => {
                         size += next - i;
@@ -187,12 +187,12 @@ fn measure(xml: &[u8]) -> Result<Measured, usize>
                 }
                 return Ok(Measured { count, size });
             }
-            return Err(i + character::larger(e, s));
+            return Err(i + e.max(s));
         }
         match text_at(xml, i + 6) {
             Err(place) => {
                 let e = names::texts::matched_at(xml, i, b"</Asset></XnaContent>");
-                return Err(character::larger(i + e, place));
+                return Err(place.max(i + e));
             }
             Ok(text) => {
                 count += 1;

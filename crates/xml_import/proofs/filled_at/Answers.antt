@@ -69,7 +69,7 @@ overflow_add-i c = omega (arith, end-inside c.loop-i.invariant c.end_at-n.ensure
 
 pub returns-in-Err : goal.returns-in-Err
 returns-in-Err c =
-    wrong c.loop-i.invariant c.end_at-n.ensures c.if-n-eq7.false (plain-fails _ _ c.loop-i-test.true c.if-xml-i-eq38.false _ c.in-Err.ensures) c.larger.ensures
+    wrong c.loop-i.invariant c.end_at-n.ensures c.if-n-eq7.false (plain-fails _ _ c.loop-i-test.true c.if-xml-i-eq38.false _ c.in-Err.ensures) (search rules)
 
 pub overflow_sub-size-in-Ok : goal.overflow_sub-size-in-Ok
 overflow_sub-size-in-Ok c =

@@ -31,11 +31,11 @@ returns-then-e-eq21 c = done c.loop-i.invariant c.matched_at-e.ensures c.if-e-eq
 
 pub overflow_add-result : goal.overflow_add-result
 unfolding document_start document_end item_start ascii
-overflow_add-result c = omega (arith, larger_inside c.loop-i.invariant c.matched_at-e.ensures c.if-e-eq21.false c.start_at-s.ensures c.larger.ensures)
+overflow_add-result c = omega (arith, larger_inside c.loop-i.invariant c.matched_at-e.ensures c.if-e-eq21.false c.max.result c.start_at-s.ensures (search rules))
 
 pub returns-then-s-ne6 : goal.returns-then-s-ne6
 unfolding document_start document_end item_start ascii
-returns-then-s-ne6 c = no_item_at c.loop-i.invariant c.matched_at-e.ensures c.if-e-eq21.false c.start_at-s.ensures c.if-s-ne6.true c.larger.ensures
+returns-then-s-ne6 c = no_item_at c.loop-i.invariant c.matched_at-e.ensures c.if-e-eq21.false c.start_at-s.ensures c.if-s-ne6.true (search rules)
 
 pub overflow_add-i : goal.overflow_add-i
 unfolding document_start document_end item_start ascii
@@ -59,7 +59,7 @@ pub returns-in-Err : goal.returns-in-Err
 unfolding document_start document_end item_start ascii
 returns-in-Err c =
     let a' = c.args in
-    text-wrong c.loop-i.invariant c.matched_at-e-in-Err.ensures (λ q. start-no_end a'.xml.now c.loop-i.i (sym c.if-s-ne6.false ∙ c.start_at-s.ensures) (sym c.matched_at-e-in-Err.ensures ∙ q)) c.start_at-s.ensures c.if-s-ne6.false _ c.in-Err.ensures c.larger-in-Err.ensures
+    text-wrong c.loop-i.invariant c.matched_at-e-in-Err.ensures (λ q. start-no_end a'.xml.now c.loop-i.i (sym c.if-s-ne6.false ∙ c.start_at-s.ensures) (sym c.matched_at-e-in-Err.ensures ∙ q)) c.start_at-s.ensures c.if-s-ne6.false _ c.in-Err.ensures (search rules)
 
 pub overflow_add-count : goal.overflow_add-count
 unfolding document_start document_end item_start ascii

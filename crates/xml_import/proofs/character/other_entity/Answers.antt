@@ -1,6 +1,6 @@
 use native.Mathlib.Omega.{arith}
 use Rattle.layout.specs.Text.{ascii}
-use Rattle.xml_import.proofs.Characters.{amp_takes, lt_takes, gt_takes, quot_takes, entity-fails, entity-inside}
+use Rattle.xml_import.proofs.Characters.{amp_takes, lt_takes, gt_takes, quot_takes, entity-fails, entity-inside, largest}
 use borrow.Author.Rules.{rules}
 use Rattle.xml_import.proofs.character.other_entity.Goals as goal
 
@@ -30,25 +30,16 @@ returns-then-q-eq6 c =
 pub overflow_add-result-2 : goal.overflow_add-result-2
 unfolding ascii
 overflow_add-result-2 c =
-    let a = c.args in
+    let x = c.args in
     omega (
       arith,
-      entity-inside a.xml.now a.at (omega (arith, c.requires.0))
-          c.matched_at-a.ensures
-          c.if-a-eq5.false
-          c.matched_at-l.ensures
-          c.if-l-eq4.false
-          c.matched_at-g.ensures
-          c.if-g-eq4.false
-          c.matched_at-q.ensures
-          c.larger-3.ensures
-          c.larger-2.ensures
-          c.larger.ensures,
+      entity-inside x.xml.now x.at (omega (arith, c.requires.0)) c.matched_at-a.ensures c.if-a-eq5.false c.matched_at-l.ensures c.if-l-eq4.false c.matched_at-g.ensures c.if-g-eq4.false c.matched_at-q.ensures
+          (largest c.matched_at-a.result c.matched_at-l.result c.matched_at-g.result c.matched_at-q.result c.max.result c.max-2.result c.max-3.result (search rules) (search rules) (search rules)),
     )
 
 pub returns : goal.returns
 unfolding ascii
 returns c =
-    let a = c.args in
-    rw (c.larger-3.ensures, c.larger-2.ensures, c.larger.ensures)
-    (entity-fails a.xml.now a.at (omega (arith, c.requires.0)) c.matched_at-a.ensures c.if-a-eq5.false c.matched_at-l.ensures c.if-l-eq4.false c.matched_at-g.ensures c.if-g-eq4.false c.matched_at-q.ensures c.if-q-eq6.false c.requires.0 c.requires.1)
+    let x = c.args in
+    rw (largest c.matched_at-a.result c.matched_at-l.result c.matched_at-g.result c.matched_at-q.result c.max.result c.max-2.result c.max-3.result (search rules) (search rules) (search rules))
+    (entity-fails x.xml.now x.at (omega (arith, c.requires.0)) c.matched_at-a.ensures c.if-a-eq5.false c.matched_at-l.ensures c.if-l-eq4.false c.matched_at-g.ensures c.if-g-eq4.false c.matched_at-q.ensures c.if-q-eq6.false c.requires.0 c.requires.1)
