@@ -12,6 +12,7 @@ ghost use Rattle.first_values.specs.Took.{Took};
 
 use ids::RowNumber;
 use names::kinds;
+use numbers::seven::Padded;
 use table::Grid;
 use walked::Head;
 
@@ -64,14 +65,21 @@ fn id_at(file: &[u8], at: usize) -> Option<Id>
             padding: 0,
         });
     }
-    match numbers::seven::seven_padded(file, at) {
-        Ok(read) => Some(Id {
-            id: read.value as u32,
-            next: read.next,
-            padding: read.padding,
-        }),
-        Err(_) => None,
-    }
+    let Ok(
+        Padded {
+            value,
+            next,
+            padding,
+        },
+    ) = numbers::seven::seven_padded(file, at)
+    else {
+        return None;
+    };
+    Some(Id {
+        id: value as u32,
+        next,
+        padding,
+    })
 }
 
 // Where a text ends, if its count has one byte and it has less than 64.
@@ -125,10 +133,10 @@ fn leaf_end(file: &[u8], codes: &[u32], place: usize, at: usize) -> Option<usize
     if size == 0 {
         return None;
     }
-    match values::fixed_at(file, kind, size, at) {
-        Ok(read) => Some(read.next),
-        Err(_) => None,
-    }
+    let Ok(read) = values::fixed_at(file, kind, size, at) else {
+        return None;
+    };
+    Some(read.next)
 }
 
 // A place in the codes, as the reader list has it.

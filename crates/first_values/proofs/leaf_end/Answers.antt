@@ -14,8 +14,8 @@ returns-then-kind-eq-STRING c =
     let a = c.args in
     text a.file.now a.codes.now a.place a.at c.if-codes-place.false (sym c.kind_at-kind.ensures ∙ c.if-kind-eq-STRING.true) _ c.text_end.ensures
 
-pub returns-in-Ok : goal.returns-in-Ok
-returns-in-Ok c =
+pub returns : goal.returns
+returns c =
     let a = c.args in
     let e = rw (c.size_of-size.ensures, c.kind_at-kind.ensures) at (sym c.in-Ok.ensures) in
     fixed-opens a.file.now a.codes.now a.place a.at _ _ c.if-codes-place.false (λ z. c.if-size-eq0.false (c.size_of-size.ensures ∙ ap bytes_of c.kind_at-kind.ensures ∙ z)) e
