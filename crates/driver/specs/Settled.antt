@@ -1,7 +1,6 @@
 -- What is left of a loaded file by its first fault. Assumes nothing.
 use Rattle.std.specs.Prelude.{◌≡◌, refl, List, ℕ, ◌-◌, length, replicate, Ok, Err}
 use Rattle.std.proofs.Common.{sym, ap, ◌∙◌, arith}
-use Rattle.fill.specs.Fill.{cleared}
 use Rattle.layout.specs.Target.{Target}
 use Rattle.layout.specs.EnumList.{EnumEntry}
 use Rattle.layout.specs.Rows.{Row}
@@ -31,7 +30,3 @@ module _ (es : List EnumEntry) (file entry : List ℕ) (l : Loaded) {b : Kept} (
   settled-fault {x} e z targets rows a =
       let q : fault_of file targets rows ≡ fault x.number x.place = sym (f targets rows a) ∙ ap to_fault e in
       rw q (refl, z)
-
-pub all_cleared : (l : List ℕ) → cleared l 0 ≡ replicate (length l) 0
-unfolding cleared
-all_cleared l = let z : length l - 0 ≡ length l = omega arith in rw z

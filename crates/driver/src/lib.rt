@@ -79,7 +79,7 @@ fn settle(file: &[u8], enums: &[u8], words: &mut [u32], loaded: Loaded) -> Loadi
     match rules_kept(file, enums, rows, loaded) {
         Ok(()) => Ok(loaded),
         Err(refusal) => {
-            fill::clear(words, 0);
+            words.fill(0);
             Err(refusal)
         }
     }

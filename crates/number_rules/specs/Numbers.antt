@@ -15,7 +15,7 @@ use Rattle.numbers.specs.Padded.{past, pad_of}
 use Rattle.places.specs.Places.{behind_entry, id_places, raw_place, count_places, rows_places, entries_places, entries_end, lists_places, file_places}
 use Rattle.profile.specs.Offences.{wrong_at, kind_of, detail_of, padded}
 use Rattle.profile.specs.Profile.{first_of}
-use Rattle.std.specs.Prelude.{Option, Result, Ok, Err}
+use Rattle.std.specs.Prelude.{Option, Result, Ok, Err, MatchOption}
 use Rattle.std.specs.Prelude.{None, Some}
 use Rattle.fault_places.specs.Places.{first_place, or_else, first_append, fine-none}
 use Rattle.used_rows.specs.Held.{word_in, Held, Tells, kind_word, first_word, detail_word, drop_past, drop-row}
@@ -75,6 +75,11 @@ module _ (file : List ℕ) where
   pub found_second : (a b : List ℕ) (r : Option ℕ) → None ≡ first_place (padded file a) → r ≡ first_place (padded file b) → r ≡ first_place (padded file (a ++ b))
   found_second a b r e f = f ∙ sym (first_of_lem a b ∙ ap (λ (x : Option ℕ). or_else x (first_place (padded file b))) (sym e))
 
+  -- the first of some, or else of others
+  pub found_either : (a b : List ℕ) {x r : Option ℕ} {Q : Type 0} → x ≡ first_place (padded file a) → MatchOption x Q (λ p. r ≡ Some p) → (Q → r ≡ first_place (padded file b)) → r ≡ first_place (padded file (a ++ b))
+  found_either a b {x = None} {r = r} e q f = found_second a b r e (f q)
+  found_either a b {x = Some p} {r = r} e q f = q ∙ found_first a b e
+
   module _ (at : ℕ) where
     none_there : pad_of (seven_at file at) at ≡ 0 → None ≡ first_place (padded file (at ∷ []))
     unfolding padded wrong_at
@@ -100,21 +105,16 @@ module _ (file : List ℕ) where
   a_count kind at e f = rw (eq-eqb kind 13 e) f
 
   module _ (kind first detail : ℕ) where
-    pub without_id : (b : Bool) (r : Option ℕ) → b ≡ numbered kind detail → not b ≡ true → r ≡ first_place (padded file (count_places file kind first)) → r ≡ first_place (padded file (row_numbers file kind first detail))
+    pub without_id : (b : Bool) (r : Option ℕ) → b ≡ numbered kind detail → b ≡ false → r ≡ first_place (padded file (count_places file kind first)) → r ≡ first_place (padded file (row_numbers file kind first detail))
     unfolding row_numbers id_places raw_place
     without_id true r e t f = differ cc
     without_id false r e t f = rw (← e) f
 
-    pub with_id : (b : Bool) (r : Option ℕ) → b ≡ numbered kind detail → not b ≡ false → None ≡ first_place (padded file (first ∷ []))
-        → r ≡ first_place (padded file (count_places file kind (past (seven_at file first) first))) → r ≡ first_place (padded file (row_numbers file kind first detail))
+    pub with_id : (b : Bool) {x r : Option ℕ} {Q : Type 0} → b ≡ numbered kind detail → b ≡ true → x ≡ first_place (padded file (first ∷ []))
+        → MatchOption x Q (λ p. r ≡ Some p) → (Q → r ≡ first_place (padded file (count_places file kind (past (seven_at file first) first)))) → r ≡ first_place (padded file (row_numbers file kind first detail))
     unfolding row_numbers id_places raw_place
-    with_id true r e t f h = rw (← e) (found_second (first ∷ []) (count_places file kind (past (seven_at file first) first)) r f h)
-    with_id false r e t f h = differ cc
-
-    pub id_wrong : (b : Bool) {p : ℕ} → b ≡ numbered kind detail → not b ≡ false → Some p ≡ first_place (padded file (first ∷ [])) → Some p ≡ first_place (padded file (row_numbers file kind first detail))
-    unfolding row_numbers id_places raw_place
-    id_wrong true e t f = rw (← e) (found_first (first ∷ []) (count_places file kind (past (seven_at file first) first)) f)
-    id_wrong false e t f = differ cc
+    with_id true e t f m h = rw (← e) (found_either (first ∷ []) (count_places file kind (past (seven_at file first) first)) f m h)
+    with_id false e t f m h = differ cc
 
 module _ (file : List ℕ) (g : Grid) (table : List ℕ) (used row : ℕ) (there : row < used) where
   pub row_found : {kind first detail : ℕ} (r : Option ℕ) → Tells g table used (λ rows. word_in rows row 0) kind → Tells g table used (λ rows. word_in rows row 1) first → Tells g table used (λ rows. word_in rows row 5) detail

@@ -83,10 +83,7 @@ fn value_numbers(file: &[u8], kind: u32, first: usize, detail: u32) -> Option<us
     if !places::numbered(kind, detail) {
         return count_at(file, kind, first);
     }
-    match number_at(file, first) {
-        Some(place) => Some(place),
-        None => count_at(file, kind, behind(file, first)),
-    }
+    number_at(file, first).or_else(|| count_at(file, kind, behind(file, first)))
 }
 
 // The first of a row's numbers that is not shortest.
@@ -143,6 +140,7 @@ fn lists_numbers(file: &[u8], readers: u32) -> Option<usize>
 pub fn padded_number(file: &[u8], rows: UsedRows, readers: u32) -> Option<usize>
     ensures { PaddedNumber file.now rows.entry.table.grid rows.entry.table.words.now rows.entry.used readers result }
 {
+    // Kept: with `or_else` the proof did not close, since what is inferred for a closure over `rows` says nothing of its result.
     match lists_numbers(file, readers) {
         Some(place) => Some(place),
         None => rows_numbers(file, rows),

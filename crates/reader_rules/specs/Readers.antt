@@ -74,11 +74,11 @@ module _ (file : List ℕ) (g : Grid) (table : List ℕ) (used readers i : ℕ) 
         let u : b ≡ uses (suc i) rows = t rows d ∙ ap (λ (k : ℕ). uses k rows) y in
         rw (z, u, y)
 
-    pub reader-used : not b ≡ false → LeftOf file g table used readers i → LeftOf file g table used readers (i + 1)
+    pub reader-used : b ≡ true → LeftOf file g table used readers i → LeftOf file g table used readers (i + 1)
     unfolding wrong_at
-    reader-used n l rows d = l rows d ∙ ap first_place (here rows d ∙ ap (λ (c : Bool). wrong_at c (name_start file i) ++ unused file rows (readers - (i + 1)) (i + 1)) n)
+    reader-used n l rows d = l rows d ∙ ap first_place (here rows d ∙ ap (λ (c : Bool). wrong_at (not c) (name_start file i) ++ unused file rows (readers - (i + 1)) (i + 1)) n)
 
-    pub reader-unused : {p : ℕ} → not b ≡ true → p ≡ name_start file i → LeftOf file g table used readers i → (rows : List Row) → Held g table used rows → Some p ≡ first_place (unused file rows readers 0)
+    pub reader-unused : {p : ℕ} → b ≡ false → p ≡ name_start file i → LeftOf file g table used readers i → (rows : List Row) → Held g table used rows → Some p ≡ first_place (unused file rows readers 0)
     unfolding wrong_at
     reader-unused n e l rows d =
-        sym (l rows d ∙ ap first_place (here rows d ∙ ap (λ (c : Bool). wrong_at c (name_start file i) ++ unused file rows (readers - (i + 1)) (i + 1)) n) ∙ ap Some (sym e))
+        sym (l rows d ∙ ap first_place (here rows d ∙ ap (λ (c : Bool). wrong_at (not c) (name_start file i) ++ unused file rows (readers - (i + 1)) (i + 1)) n) ∙ ap Some (sym e))

@@ -1,6 +1,5 @@
-use Rattle.std.proofs.Common.{◌∙◌}
 use Rattle.names.specs.Entries.{enums_of}
-use Rattle.driver.specs.Settled.{settled-fine, settled-fault, all_cleared}
+use Rattle.driver.specs.Settled.{settled-fine, settled-fault}
 use Rattle.driver.proofs.settle.Goals as goal
 
 pub returns-in-Ok : goal.returns-in-Ok
@@ -11,4 +10,4 @@ returns-in-Ok c =
 pub returns-in-Err : goal.returns-in-Err
 returns-in-Err c =
     let a = c.args in
-    settled-fault (enums_of a.enums.now) a.file.now a.words.now a.loaded (rw (c.by_rows.ensures.0, c.by_rows.ensures.1) at c.rules_kept.ensures) c.in-Err.is (c.clear.ensures ∙ all_cleared a.words.now)
+    settled-fault (enums_of a.enums.now) a.file.now a.words.now a.loaded (rw (c.by_rows.ensures.0, c.by_rows.ensures.1) at c.rules_kept.ensures) c.in-Err.is (c.fill.ensures.after (λ y h. h))

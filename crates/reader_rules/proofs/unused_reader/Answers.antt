@@ -16,7 +16,7 @@ returns-then-not-uses c =
     let w = c.loop-i.invariant.0 h in
     let near = stands_near a.file.now c.loop-i.i c.loop-i.at w (omega (arith, c.ranges.readers.fits)) in
     let starts = name_is_start a.file.now c.loop-i.i c.loop-i.at w c.entry_at-reader.result (c.entry_at-reader.ensures h near) in
-    reader-unused a.file.now a.rows.table.grid a.rows.table.words.now a.rows.used a.readers c.loop-i.i c.loop-i-test.true c.uses.ensures c.if-not-uses.true-raw starts c.loop-i.invariant.1
+    reader-unused a.file.now a.rows.table.grid a.rows.table.words.now a.rows.used a.readers c.loop-i.i c.loop-i-test.true c.uses.ensures c.if-not-uses.true starts c.loop-i.invariant.1
 
 pub loop-i-preserved : goal.loop-i-preserved
 loop-i-preserved c =
@@ -25,7 +25,7 @@ loop-i-preserved c =
           let w = c.loop-i.invariant.0 h in
           let near = stands_near a.file.now c.loop-i.i c.loop-i.at w (omega (arith, c.ranges.readers.fits)) in
           next_stands a.file.now c.loop-i.i c.loop-i.at w c.entry_at-reader.result (c.entry_at-reader.ensures h near)),
-      reader-used a.file.now a.rows.table.grid a.rows.table.words.now a.rows.used a.readers c.loop-i.i c.loop-i-test.true c.uses.ensures c.if-not-uses.false-raw c.loop-i.invariant.1,
+      reader-used a.file.now a.rows.table.grid a.rows.table.words.now a.rows.used a.readers c.loop-i.i c.loop-i-test.true c.uses.ensures c.if-not-uses.false c.loop-i.invariant.1,
     )
 
 pub returns : goal.returns
