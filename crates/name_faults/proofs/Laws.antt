@@ -1,5 +1,5 @@
 -- From the contract of `load` to what is demanded of 11 and 33 to 38. Assumes nothing.
-use mathlib.Core.Path.{◌≡◌, refl, sym, ◌∙◌}
+use mathlib.Core.Path.{◌≡◌, refl, sym, ap, ◌∙◌}
 use mathlib.Core.Bool.{true}
 use mathlib.Core.List.{List}
 use mathlib.Core.Logic.{◌⊎◌, inl, inr}
@@ -19,9 +19,10 @@ use Rattle.enums.specs.Judge.{refused as list-refused, lawful as List-Lawful}
 use Rattle.enums.specs.Lists.{Bytes, Says, enums-sound}
 use Rattle.readers.specs.Judged.{judged_name}
 use Rattle.load.specs.Under.{load_under, load_lawful, load_refused-list}
-use Rattle.load.specs.Loads.{answer_of}
-use Rattle.load.specs.declared.Loading.{Loading}
-use Rattle.load.specs.declared.Loading.TheVariants.{Refused}
+use Rattle.std.specs.Prelude.{Err}
+use Rattle.answers.specs.declared.Refusal.{Refusal}
+use Rattle.answers.specs.Refusals.{refusal as code_refusal}
+use Rattle.load.specs.Loads.{Loading, answer_of}
 use Rattle.name_faults.specs.Names.{FirstName, Complained, Under, Names}
 use Rattle.name_faults.proofs.Others.{is_name}
 use Rattle.name_faults.proofs.First.{Wrong, file_wrong}
@@ -37,10 +38,11 @@ refused_as (refused m q) {n} {p} e =
     rw (z, y)
 refused_as (read a f) e = differ cc
 
-answered_as : (file : List ℕ) (x : Load) {n p : ℕ} → answer_of file x ≡ Refused n p → x ≡ refusal n p
+answered_as : (file : List ℕ) (x : Load) {n p : ℕ} → answer_of file x ≡ Err (code_refusal n p) → x ≡ refusal n p
 answered_as file (refusal m q) {n} {p} e =
-    let z : m ≡ n = cc in
-    let y : q ≡ p = cc in
+    let w : code_refusal m q ≡ code_refusal n p = cc in
+    let z : m ≡ n = ap (λ (r : Refusal). r.number) w in
+    let y : q ≡ p = ap (λ (r : Refusal). r.place) w in
     rw (z, y)
 answered_as file (accepted rows readers shared) e = differ cc
 

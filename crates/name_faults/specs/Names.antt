@@ -1,5 +1,5 @@
 -- What is demanded of 33 to 38 and 11 (02, Req 04), which is the contract of `load_named`. No reading is in it. Assumes nothing.
-use Rattle.std.specs.Prelude.{◌≡◌, List, [], ◌∷◌, ◌++◌, ℕ, ◌+◌, ◌<◌, ◌≤◌, length, drop}
+use Rattle.std.specs.Prelude.{Err, ◌≡◌, List, [], ◌∷◌, ◌++◌, ℕ, ◌+◌, ◌<◌, ◌≤◌, length, drop}
 use Rattle.layout.specs.Number.{Seven}
 use Rattle.layout.specs.Target.{Target}
 use Rattle.layout.specs.Name.{Name, text, Formed}
@@ -8,8 +8,8 @@ use Rattle.layout.specs.EnumList.{EnumEntry, write_enums, Enums}
 use Rattle.layout.specs.Named.{unknown, reader_of}
 use Rattle.layout.specs.Fault.{Fault}
 use Rattle.layout.specs.Complaint.{reader_faults}
-use Rattle.load.specs.declared.Loading.{Loading}
-use Rattle.load.specs.declared.Loading.TheVariants.{Refused}
+use Rattle.answers.specs.Refusals.{refusal}
+use Rattle.load.specs.Loads.{Loading}
 
 -- the first reader whose name is not lawful under a list of enum types: of the name and of the place of its first byte P holds
 pub record FirstName (es : List EnumEntry) (file : List ℕ) (P : (name : List ℕ) (first : ℕ) → Type 0) : Type 0 where
@@ -59,7 +59,7 @@ Under enums P = (es : List EnumEntry) × Enums es × (enums ≡ write_enums es) 
 -- For the lent list of enum types, a file and the answer of a load.
 pub record Names (enums file : List ℕ) (r : Loading) : Type 0 where
   -- 33 to 38: the first reader whose name is not lawful has this fault, and the place is the name's first byte plus the fault's place in the name
-  pub broken : (number place : ℕ) → r ≡ Refused number place → 33 ≤ number → number ≤ 38
+  pub broken : (number place : ℕ) → r ≡ Err (refusal number place) → 33 ≤ number → number ≤ 38
       → Under enums (λ es. FirstName es file (λ name first. (i : ℕ) × (place ≡ first + i) × Fault name number i))
   -- 11: that name is well formed, and the place is the leftmost head that is complained of
-  pub unlisted : (place : ℕ) → r ≡ Refused 11 place → Under enums (λ es. FirstName es file (λ name first. Complained es name first place))
+  pub unlisted : (place : ℕ) → r ≡ Err (refusal 11 place) → Under enums (λ es. FirstName es file (λ name first. Complained es name first place))

@@ -45,6 +45,7 @@ fn judge_lines(s: &[u8], numbers: &mut [u32]) -> usize
 {
     let mut count = 0;
     let mut at = 0;
+    // Kept: an index is plainer here, as `split` would have an empty line more where the text ends with a newline.
     while at < s.len() {
         let size = line_size(&s[at..]);
         let end = at + size;
