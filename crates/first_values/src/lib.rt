@@ -12,7 +12,6 @@ ghost use Rattle.first_values.specs.Took.{Took};
 
 use ids::RowNumber;
 use names::kinds;
-use numbers::seven::Padded;
 use table::Grid;
 use walked::Head;
 
@@ -65,20 +64,13 @@ fn id_at(file: &[u8], at: usize) -> Option<Id>
             padding: 0,
         });
     }
-    let Ok(
-        Padded {
-            value,
-            next,
-            padding,
-        },
-    ) = numbers::seven::seven_padded(file, at)
-    else {
+    let Ok(read) = numbers::seven::seven_padded(file, at) else {
         return None;
     };
     Some(Id {
-        id: value as u32,
-        next,
-        padding,
+        id: read.value as u32,
+        next: read.next,
+        padding: read.padding,
     })
 }
 
@@ -139,13 +131,6 @@ fn leaf_end(file: &[u8], codes: &[u32], place: usize, at: usize) -> Option<usize
     Some(read.next)
 }
 
-// A place in the codes, as the reader list has it.
-fn place_of(target: u16) -> usize
-    ensures { result ≡ target }
-{
-    target as usize
-}
-
 // Which types are seen where the type at `declared` is declared: all if it is Object, only texts if it is String.
 fn wanted_code(codes: &[u32], declared: usize) -> Choice
     ensures { (file : List ℕ) → Wants file codes.now declared result }
@@ -199,7 +184,7 @@ fn named(
     if count <= i || 64 <= i {
         return None;
     }
-    let place = place_of(targets[i as usize]);
+    let place = usize::from(targets[i as usize]);
     if !is_wanted(codes, wanted, place) {
         return None;
     }
