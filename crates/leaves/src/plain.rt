@@ -5,9 +5,10 @@ ghost use Rattle.walked.specs.Leaf.{leaf_answer};
 ghost use Rattle.leaves.specs.Plain.{plain_at, plain_pad, plain_value, plain_left, value_left};
 
 use answers::{Read, Rule};
-use ids::{ResourceId, RowNumber};
+use ids::ResourceId;
 use table::Grid;
-use walked::{Head, Walk};
+use walked::room::room_for;
+use walked::{Head, Spot, Walk};
 
 // How such a value stands: raw of a kind of fixed size, with the size; a raw enum of a size; a raw character; an image level of a size;
 // a reference that wants a kind; data bytes, so many; a bone reference under a bone count; a code up to the last one;
@@ -125,24 +126,14 @@ pub fn read_fixed(
     grid: Grid,
     kind: u32,
     size: usize,
-    at: usize,
-    used: u32,
-    depth: u32,
-    parent: u32,
+    spot: Spot,
 ) -> Walk
-    ensures value { result ≡ leaf_answer used 0 (plain_value file.now grid.room 0 (Plain.Fixed kind size) at used depth) }
-    ensures words_after { words.new ≡ value_left grid file.now words.old 0 (Plain.Fixed kind size) at used depth parent }
+    ensures value { result ≡ leaf_answer spot.used 0 (plain_value file.now grid.room 0 (Plain.Fixed kind size) spot.at spot.used spot.depth) }
+    ensures words_after { words.new ≡ value_left grid file.now words.old 0 (Plain.Fixed kind size) spot.at spot.used spot.depth spot.parent }
 {
-    walked::room::room_for(depth, grid.room, used, at)?;
-    let h = Head {
-        row: RowNumber(used),
-        first: at,
-        parent,
-        detail: 0,
-        padding: 0,
-    };
-    let read = values::fixed_at(file, kind, size, at);
-    walked::leaf(words, grid, h, kind, 0, read)
+    room_for(spot.depth, grid.room, spot.used, spot.at)?;
+    let read = values::fixed_at(file, kind, size, spot.at);
+    walked::leaf(words, grid, spot.head(0, 0), kind, 0, read)
 }
 
 // A value in such a slot, with the depth left.
@@ -152,22 +143,12 @@ pub fn read_plain(
     grid: Grid,
     shared: u32,
     slot: Plain,
-    at: usize,
-    used: u32,
-    depth: u32,
-    parent: u32,
+    spot: Spot,
 ) -> Walk
     ensures value { result
-        ≡ leaf_answer used (plain_pad file.now slot 0 at) (plain_value file.now grid.room shared slot at used depth) }
-    ensures words_after { words.new ≡ value_left grid file.now words.old shared slot at used depth parent }
+        ≡ leaf_answer spot.used (plain_pad file.now slot 0 spot.at) (plain_value file.now grid.room shared slot spot.at spot.used spot.depth) }
+    ensures words_after { words.new ≡ value_left grid file.now words.old shared slot spot.at spot.used spot.depth spot.parent }
 {
-    walked::room::room_for(depth, grid.room, used, at)?;
-    let h = Head {
-        row: RowNumber(used),
-        first: at,
-        parent,
-        detail: 0,
-        padding: 0,
-    };
-    plain_value(file, words, grid, shared, slot, h)
+    room_for(spot.depth, grid.room, spot.used, spot.at)?;
+    plain_value(file, words, grid, shared, slot, spot.head(0, 0))
 }

@@ -4,9 +4,9 @@ ghost use Rattle.table.specs.Runs.{put_run};
 ghost use Rattle.leaves.specs.Run.{run_slots, turn_of, run_of};
 ghost use Rattle.leaves.specs.Same.{AtMost, Kept};
 
-use crate::plain::Plain;
+use crate::plain::{Plain, read_plain};
 use table::{Grid, Series};
-use walked::{Reached, Walk};
+use walked::{Reached, Spot, Walk};
 
 // The same value n times; two in turn, n times; or the n levels of an image.
 #[derive(Clone, Copy, Debug, PartialEq, Eq)]
@@ -47,29 +47,21 @@ fn turn(run: Run, i: usize) -> Plain
 }
 
 // The values from `at` on, with their rows from `used` on, one after the other.
-fn read_each(
-    file: &[u8],
-    words: &mut [u32],
-    grid: Grid,
-    shared: u32,
-    run: Run,
-    at: usize,
-    used: u32,
-    depth: u32,
-    parent: u32,
-) -> Walk
-    ensures value { result ≡ (run_of grid file.now shared run depth parent at used words.old).0 }
-    ensures words_after { words.new ≡ (run_of grid file.now shared run depth parent at used words.old).1 }
+fn read_each(file: &[u8], words: &mut [u32], grid: Grid, shared: u32, run: Run, spot: Spot) -> Walk
+    ensures value { result ≡ (run_of grid file.now shared run spot.depth spot.parent spot.at spot.used words.old).0 }
+    ensures words_after { words.new ≡ (run_of grid file.now shared run spot.depth spot.parent spot.at spot.used words.old).1 }
 {
     let n = turns(run);
-    let mut next = at;
-    let mut row = used;
+    let mut next = spot.at;
+    let mut row = spot.used;
     let mut padding = 0;
     for i in 0..n {
-        let slot = turn(run, i);
-        let reached = crate::plain::read_plain(
-            file, words, grid, shared, slot, next, row, depth, parent,
-        )?;
+        let here = Spot {
+            at: next,
+            used: row,
+            ..spot
+        };
+        let reached = read_plain(file, words, grid, shared, turn(run, i), here)?;
         next = reached.next;
         row = reached.used;
         padding = table::sum(padding, reached.padding);
@@ -146,41 +138,28 @@ fn read_same(
     shared: u32,
     slot: Plain,
     n: u32,
-    at: usize,
-    used: u32,
-    depth: u32,
-    parent: u32,
+    spot: Spot,
 ) -> Walk
-    ensures value { result ≡ (run_of grid file.now shared (Run.Same slot n) depth parent at used words.old).0 }
-    ensures words_after { words.new ≡ (run_of grid file.now shared (Run.Same slot n) depth parent at used words.old).1 }
+    ensures value { result ≡ (run_of grid file.now shared (Run.Same slot n) spot.depth spot.parent spot.at spot.used words.old).0 }
+    ensures words_after { words.new ≡ (run_of grid file.now shared (Run.Same slot n) spot.depth spot.parent spot.at spot.used words.old).1 }
 {
     if let Some((kind, size)) = slot.uniform() {
         let s = Series {
             count: n,
             kind,
             size,
-            first: at,
-            parent,
+            first: spot.at,
+            parent: spot.parent,
         };
-        if put_kept(file, words, grid, used, depth, s) {
+        if put_kept(file, words, grid, spot.used, spot.depth, s) {
             return Ok(Reached {
-                used: used + n,
+                used: spot.used + n,
                 padding: 0,
-                next: at + n as usize * size,
+                next: spot.at + n as usize * size,
             });
         }
     }
-    read_each(
-        file,
-        words,
-        grid,
-        shared,
-        Run::Same(slot, n),
-        at,
-        used,
-        depth,
-        parent,
-    )
+    read_each(file, words, grid, shared, Run::Same(slot, n), spot)
 }
 
 // One value as a run of its own.
@@ -190,17 +169,12 @@ fn read_one(
     grid: Grid,
     shared: u32,
     slot: Plain,
-    at: usize,
-    used: u32,
-    depth: u32,
-    parent: u32,
+    spot: Spot,
 ) -> Walk
-    ensures value { result ≡ (run_of grid file.now shared (Run.Same slot 1) depth parent at used words.old).0 }
-    ensures words_after { words.new ≡ (run_of grid file.now shared (Run.Same slot 1) depth parent at used words.old).1 }
+    ensures value { result ≡ (run_of grid file.now shared (Run.Same slot 1) spot.depth spot.parent spot.at spot.used words.old).0 }
+    ensures words_after { words.new ≡ (run_of grid file.now shared (Run.Same slot 1) spot.depth spot.parent spot.at spot.used words.old).1 }
 {
-    let reached = crate::plain::read_plain(
-        file, words, grid, shared, slot, at, used, depth, parent,
-    )?;
+    let reached = read_plain(file, words, grid, shared, slot, spot)?;
     Ok(Reached {
         used: reached.used,
         padding: table::sum(0, reached.padding),
@@ -215,30 +189,25 @@ pub fn read_run(
     grid: Grid,
     shared: u32,
     run: Run,
-    at: usize,
-    used: u32,
-    depth: u32,
-    parent: u32,
+    spot: Spot,
 ) -> Walk
-    ensures value { result ≡ (run_of grid file.now shared run depth parent at used words.old).0 }
-    ensures words_after { words.new ≡ (run_of grid file.now shared run depth parent at used words.old).1 }
+    ensures value { result ≡ (run_of grid file.now shared run spot.depth spot.parent spot.at spot.used words.old).0 }
+    ensures words_after { words.new ≡ (run_of grid file.now shared run spot.depth spot.parent spot.at spot.used words.old).1 }
 {
     match run {
         Run::Same(slot, n) => {
             if n == 1 {
-                return read_one(file, words, grid, shared, slot, at, used, depth, parent);
+                return read_one(file, words, grid, shared, slot, spot);
             }
             if grid.columns {
-                return read_same(file, words, grid, shared, slot, n, at, used, depth, parent);
+                return read_same(file, words, grid, shared, slot, n, spot);
             }
             let by_rows = Grid {
                 columns: false,
                 ..grid
             };
-            read_same(
-                file, words, by_rows, shared, slot, n, at, used, depth, parent,
-            )
+            read_same(file, words, by_rows, shared, slot, n, spot)
         }
-        _ => read_each(file, words, grid, shared, run, at, used, depth, parent),
+        _ => read_each(file, words, grid, shared, run, spot),
     }
 }

@@ -10,8 +10,13 @@ use Rattle.table.specs.declared.Grid.{Grid}
 use Rattle.table.specs.Word.{in_word, in_word_lem}
 use Rattle.table.specs.Put.{put_row}
 use Rattle.walked.specs.declared.Head.{Head}
+use Rattle.walked.specs.declared.Spot.{Spot}
 use Rattle.walked.specs.Written.{marks}
 use Rattle.walked.specs.Contract.{Walk, Seen, Free, Ahead, Walked, reaching, put-leaf}
+
+-- what is known of a value that begins at a spot, with its id and that id's padding
+abbrev pub head_at : Spot → (detail padding : ℕ) → Head
+head_at s detail padding = record { row = record { 0 = s.used }; first = s.at; parent = s.parent; detail = detail; padding = padding }
 
 -- the row of a value that ends before `next`
 abbrev pub value_row : Head → (kind children branch next : ℕ) → Row

@@ -6,7 +6,7 @@ pub mod room;
 ghost use Rattle.std.specs.Prelude.{◌≡◌, ◌-◌};
 ghost use Rattle.table.specs.Word.{in_word};
 ghost use Rattle.table.specs.Put.{row_of};
-ghost use Rattle.walked.specs.Leaf.{value_row, leaf_answer, leaf_words};
+ghost use Rattle.walked.specs.Leaf.{head_at, value_row, leaf_answer, leaf_words};
 ghost use Rattle.answers.specs.Told.{told};
 
 use answers::{Number, Refusal};
@@ -22,6 +22,30 @@ pub struct Head {
     pub parent: u32,
     pub detail: u32,
     pub padding: u32,
+}
+
+// Where a value begins: its first byte, the row that it takes, the depth left, and its parent's row number plus 1.
+#[derive(Clone, Copy, Debug, PartialEq, Eq)]
+pub struct Spot {
+    pub at: usize,
+    pub used: u32,
+    pub depth: u32,
+    pub parent: u32,
+}
+
+impl Spot {
+    // What is known of the value that begins here, with its id and that id's padding.
+    pub fn head(self, detail: u32, padding: u32) -> Head
+        ensures { result ≡ head_at self detail padding }
+    {
+        Head {
+            row: RowNumber(self.used),
+            first: self.at,
+            parent: self.parent,
+            detail,
+            padding,
+        }
+    }
 }
 
 // What a walk reaches: how many bytes the seven-bit numbers of the new rows have beyond their shortest forms, the next byte, and the rows used so far.

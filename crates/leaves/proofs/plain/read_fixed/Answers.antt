@@ -1,9 +1,9 @@
-use Rattle.std.proofs.Common.{refl}
+use mathlib.Core.Path.{refl}
 use Rattle.std.proofs.lemmas.Result.{err_from_is_err_and}
-use mathlib.Core.Logic.{⊎_elim}
 use Rattle.leaves.specs.declared.plain.Plain.TheVariants.{Fixed}
-use Rattle.leaves.specs.Plain.{plain_at, value_deep, value-full, value_there}
-use Rattle.walked.specs.Room.{has_room, no_room}
+use Rattle.leaves.specs.Plain.{plain_at}
+use Rattle.leaves.proofs.PlainLaws.{value-stops, value-goes}
+use borrow.Author.Rules.{rules}
 use Rattle.leaves.proofs.plain.read_fixed.Goals as goal
 
 both : {A B : Type 0} → A → B → A × B
@@ -16,14 +16,10 @@ pub returns-in_err-room_for : goal.returns-in_err-room_for
 returns-in_err-room_for c =
     let a = c.args in
     let p = err_from_is_err_and c.from_residual.result c.from_residual.ensures.1 in
-    ⊎_elim
-    (λ w. named (rw (p.1, p.2, w.1, value_deep a.file.now a.grid.room 0 (Fixed a.kind a.size) a.at a.used a.depth w.0) (refl, refl)))
-    (λ w. named (rw (p.1, p.2, w.2, value-full a.file.now a.grid.room 0 (Fixed a.kind a.size) a.at a.used a.depth w.0 w.1) (refl, refl)))
-    (no_room a.depth a.grid.room a.used a.at c.in_err-room_for.ensures)
+    named (rw (p.1, p.2, value-stops a.file.now a.grid.room 0 (Fixed a.kind a.size) a.spot.at a.spot.used a.spot.depth c.in_err-room_for.ensures) (refl, refl))
 
 pub returns : goal.returns
 unfolding plain_at
 returns c =
     let a = c.args in
-    let room = has_room a.depth a.grid.room a.used a.at c.in_ok-room_for.ensures in
-    named (rw (value_there a.file.now a.grid.room 0 (Fixed a.kind a.size) a.at a.used a.depth room.0 room.1, ← c.fixed_at-read.ensures) (both c.leaf.ensures.value c.leaf.ensures.words_after))
+    named (rw (value-goes a.file.now a.grid.room 0 (Fixed a.kind a.size) a.spot.at a.spot.used a.spot.depth c.in_ok-room_for.ensures, ← c.fixed_at-read.ensures) (rw c.head.ensures at (both c.leaf.ensures.value c.leaf.ensures.words_after)))

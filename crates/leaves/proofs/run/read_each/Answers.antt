@@ -15,25 +15,25 @@ loop-i-init c =
     let z : c.turns-n.result - 0 ≡ length (run_slots c.args.run) = omega (arith, c.turns-n.ensures) in
     (c.turns-n.ensures, refl, rw z)
 
-pub turn-slot-requires : goal.turn-slot-requires
-turn-slot-requires c = omega (arith, c.loop-i.invariant.0, c.loop-i-test.true)
+pub turn-requires : goal.turn-requires
+turn-requires c = omega (arith, c.loop-i.invariant.0, c.loop-i-test.true)
 
 pub returns-in_err-reached : goal.returns-in_err-reached
 returns-in_err-reached c =
     let a = c.args in
     let p = err_from_is_err_and c.from_residual.result c.from_residual.ensures.1 in
-    let e = run-turn a.grid a.file.now a.shared a.run a.depth a.parent _ _ _ _ _ _ _ _ _ c.loop-i-test.true c.turn-slot.ensures
+    let e = run-turn a.grid a.file.now a.shared a.run a.spot.depth a.spot.parent _ _ _ _ _ _ _ _ _ c.loop-i-test.true c.turn.ensures
     c.in_err-reached.ensures.value c.read_plain.ensures.words_after in
     named (rw (p.1, p.2, sym c.loop-i.invariant.2 ∙ e) (refl, refl))
 
 pub loop-i-preserved : goal.loop-i-preserved
 loop-i-preserved c =
     let a = c.args in
-    let e = run-turn a.grid a.file.now a.shared a.run a.depth a.parent _ _ _ _ _ _ _ _ _ c.loop-i-test.true c.turn-slot.ensures
+    let e = run-turn a.grid a.file.now a.shared a.run a.spot.depth a.spot.parent _ _ _ _ _ _ _ _ _ c.loop-i-test.true c.turn.ensures
     c.in_ok-reached.ensures.value c.read_plain.ensures.words_after in
     (c.loop-i.invariant.0, search rules, rw c.sum-padding.ensures (sym e ∙ c.loop-i.invariant.2))
 
 pub returns : goal.returns
 returns c =
     let a = c.args in
-    named (rw (sym c.loop-i.invariant.2 ∙ run_end a.grid a.file.now a.shared a.run a.depth a.parent _ _ _ _ _ _ c.loop-i-test.false) (refl, refl))
+    named (rw (sym c.loop-i.invariant.2 ∙ run_end a.grid a.file.now a.shared a.run a.spot.depth a.spot.parent _ _ _ _ _ _ c.loop-i-test.false) (refl, refl))

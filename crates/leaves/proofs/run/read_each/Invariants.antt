@@ -10,4 +10,4 @@ abbrev pub invariant-loop-i : goal.invariant-loop-i
 invariant-loop-i l =
     (l.n ≡ length (run_slots l.run))
     × (length l.words ≡ length l.initial.words)
-    × (run_from l.grid l.file l.shared l.run l.depth l.parent (l.n - l.i) l.i l.next l.row l.padding l.words ≡ run_of l.grid l.file l.shared l.run l.depth l.parent l.at l.used l.initial.words)
+    × (run_from l.grid l.file l.shared l.run l.spot.depth l.spot.parent (l.n - l.i) l.i l.next l.row l.padding l.words ≡ run_of l.grid l.file l.shared l.run l.spot.depth l.spot.parent l.spot.at l.spot.used l.initial.words)

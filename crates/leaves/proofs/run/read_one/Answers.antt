@@ -11,12 +11,12 @@ pub returns-in_err-reached : goal.returns-in_err-reached
 returns-in_err-reached c =
     let a = c.args in
     let p = err_from_is_err_and c.from_residual.result c.from_residual.ensures.1 in
-    named (rw (p.1, p.2, one_run a.grid a.file.now a.shared a.slot a.depth a.parent a.at a.used a.words.now _ _ c.in_err-reached.ensures.value c.read_plain.ensures.words_after) (refl, refl))
+    named (rw (p.1, p.2, one_run a.grid a.file.now a.shared a.slot a.spot.depth a.spot.parent a.spot.at a.spot.used a.words.now _ _ c.in_err-reached.ensures.value c.read_plain.ensures.words_after) (refl, refl))
 
 pub returns : goal.returns
 returns c =
     let a = c.args in
     named (rw (
-      one_run a.grid a.file.now a.shared a.slot a.depth a.parent a.at a.used a.words.now _ _ c.in_ok-reached.ensures.value c.read_plain.ensures.words_after,
+      one_run a.grid a.file.now a.shared a.slot a.spot.depth a.spot.parent a.spot.at a.spot.used a.words.now _ _ c.in_ok-reached.ensures.value c.read_plain.ensures.words_after,
       c.sum.ensures,
     ) (refl, refl))
