@@ -6,6 +6,7 @@ ghost use Rattle.leaves.specs.Plain.{plain_at, plain_pad, plain_value, plain_lef
 
 use answers::{Read, Rule};
 use ids::ResourceId;
+use names::kinds;
 use table::Grid;
 use walked::room::room_for;
 use walked::{Head, Spot, Walk};
@@ -33,8 +34,8 @@ impl Plain {
     {
         match self {
             Plain::Fixed(kind, size) => Some((kind, size)),
-            Plain::Enum(size) => Some((15, size)),
-            Plain::Char => Some((12, 1)),
+            Plain::Enum(size) => Some((kinds::ENUM_KIND, size)),
+            Plain::Char => Some((kinds::CHAR, 1)),
             _ => None,
         }
     }
@@ -73,7 +74,14 @@ fn reference(file: &[u8], words: &mut [u32], grid: Grid, shared: u32, wanted: u3
         value: number.value,
         next: number.next,
     };
-    walked::leaf(words, grid, named, 36, wanted, Ok(read))
+    walked::leaf(
+        words,
+        grid,
+        named,
+        kinds::SHARED_REFERENCE,
+        wanted,
+        Ok(read),
+    )
 }
 
 // The value, once it may have a row.
@@ -96,23 +104,44 @@ fn plain_value(
             walked::leaf(words, grid, h, kind, 0, read)
         }
         Plain::Enum(size) => {
-            let read = values::fixed_at(file, 15, size, at);
-            walked::leaf(words, grid, h, 15, 0, read)
+            let read = values::fixed_at(file, kinds::ENUM_KIND, size, at);
+            walked::leaf(words, grid, h, kinds::ENUM_KIND, 0, read)
         }
-        Plain::Char => walked::leaf(words, grid, h, 12, 0, text::char_at(file, at)),
+        Plain::Char => walked::leaf(words, grid, h, kinds::CHAR, 0, text::char_at(file, at)),
         Plain::Level(size) => {
             let read = crate::read::level_at(file, size, at);
-            walked::leaf(words, grid, h, 35, 0, read)
+            walked::leaf(words, grid, h, kinds::IMAGE_LEVEL, 0, read)
         }
         Plain::Reference(wanted) => reference(file, words, grid, shared, wanted, h),
-        Plain::Blob(size) => walked::leaf(words, grid, h, 41, 0, fields::data_at(file, size, at)),
-        Plain::Bone(bones) => walked::leaf(words, grid, h, 42, 0, fields::bone_at(file, bones, at)),
-        Plain::Code(last) => walked::leaf(words, grid, h, 5, 0, fields::code_at(file, last, at)),
+        Plain::Blob(size) => walked::leaf(
+            words,
+            grid,
+            h,
+            kinds::DATA_BYTES,
+            0,
+            fields::data_at(file, size, at),
+        ),
+        Plain::Bone(bones) => walked::leaf(
+            words,
+            grid,
+            h,
+            kinds::BONE_REFERENCE,
+            0,
+            fields::bone_at(file, bones, at),
+        ),
+        Plain::Code(last) => walked::leaf(
+            words,
+            grid,
+            h,
+            kinds::INT_32,
+            0,
+            fields::code_at(file, last, at),
+        ),
         Plain::DataSize(flag) => walked::leaf(
             words,
             grid,
             h,
-            6,
+            kinds::UINT_32,
             0,
             fields::size_at(file, flag, at),
         ),

@@ -5,6 +5,7 @@ ghost use Rattle.leaves.specs.Run.{run_slots, turn_of, run_of};
 ghost use Rattle.leaves.specs.Same.{AtMost, Kept};
 
 use crate::plain::{Plain, read_plain};
+use names::kinds;
 use table::{Grid, Series};
 use walked::{Reached, Spot, Walk};
 
@@ -108,9 +109,9 @@ fn all_kept(file: &[u8], s: Series) -> bool
         return false;
     }
     match s.kind {
-        11 => s.size == 1 && all_at_most(file, s.first, s.count as usize, 1),
-        12 => s.size == 1 && all_at_most(file, s.first, s.count as usize, 127),
-        21 | 22 => false,
+        kinds::BOOLEAN => s.size == 1 && all_at_most(file, s.first, s.count as usize, 1),
+        kinds::CHAR => s.size == 1 && all_at_most(file, s.first, s.count as usize, 127),
+        kinds::DATE_TIME | kinds::DECIMAL => false,
         _ => true,
     }
 }
