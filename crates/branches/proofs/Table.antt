@@ -1,19 +1,18 @@
 -- The rule of the seventh word over the words of a table (02, Req 09: "It must hold of every table we leave"). Assumes nothing.
-use Rattle.std.specs.Prelude.{◌≡◌, refl, List, [], ◌∷◌, ◌++◌, map, ℕ, zero, suc, ◌+◌, ◌*◌, ◌<◌, length, get_or}
-use Rattle.std.proofs.Common.{sym, ap, ◌∙◌, arith}
-use Rattle.std.proofs.Math.ListN.{get_or-append}
+use Rattle.std.specs.Prelude.{◌≡◌, refl, List, ℕ, suc, ◌+◌, length, get_or}
+use Rattle.std.proofs.Common.{sym, ◌∙◌, arith}
 use Rattle.layout.specs.EnumList.{EnumEntry}
 use Rattle.layout.specs.Target.{Target}
 use Rattle.layout.specs.Tree.{Trees, none, tree, count}
 use Rattle.layout.specs.Slot.{each}
 use Rattle.layout.specs.Layout.{Lays}
 use Rattle.layout.specs.Resource.{Resource}
-use Rattle.layout.specs.Rows.{Row, words, flat, width}
+use Rattle.layout.specs.Rows.{Row}
 use Rattle.layout.specs.File.{FileTree, shared_of, objects_plan, FileLays, file_rows}
-use Rattle.layout.specs.Table.{Shape, by_rows, cell}
-use Rattle.layout.specs.Branches.{Roots, TableSkips, TableRoots}
-use Rattle.branches.specs.Rule.{skips_same, roots_same}
-use Rattle.branches.specs.Frames.{frames, children_of, parent_of, branch_of, skips, roots, root_count}
+use Rattle.layout.specs.Table.{Shape, cell}
+use Rattle.layout.specs.Branches.{Roots, TableRoots}
+use Rattle.branches.specs.Rule.{roots_same}
+use Rattle.branches.specs.Frames.{frames, parent_of, branch_of, roots, root_count}
 use Rattle.branches.specs.Framed.{framed, rows-framed}
 use Rattle.branches.specs.Table.{Stand, frame-words, length-framed}
 

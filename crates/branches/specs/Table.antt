@@ -3,17 +3,14 @@ use Rattle.std.specs.Prelude.{◌≡◌, refl, List, [], ◌∷◌, ◌++◌, ma
 use Rattle.std.proofs.Common.{sym, ap, ◌∙◌, arith}
 use Rattle.std.proofs.Math.ListN.{get_or-append}
 use Rattle.layout.specs.EnumList.{EnumEntry}
-use Rattle.layout.specs.Target.{Target}
-use Rattle.layout.specs.Tree.{Trees, none, tree, count}
-use Rattle.layout.specs.Slot.{each}
-use Rattle.layout.specs.Layout.{Lays}
+use Rattle.layout.specs.Tree.{Trees, count}
 use Rattle.layout.specs.Resource.{Resource}
 use Rattle.layout.specs.Rows.{Row, words, flat, width}
 use Rattle.layout.specs.File.{FileTree, shared_of, objects_plan, FileLays, file_rows}
 use Rattle.layout.specs.Table.{Shape, by_rows, cell}
-use Rattle.layout.specs.Branches.{Roots, TableSkips, TableRoots}
-use Rattle.branches.specs.Rule.{skips_same, roots_same}
-use Rattle.branches.specs.Frames.{frames, children_of, parent_of, branch_of, skips, roots, root_count}
+use Rattle.layout.specs.Branches.{TableSkips}
+use Rattle.branches.specs.Rule.{skips_same}
+use Rattle.branches.specs.Frames.{frames, children_of, parent_of, branch_of, skips}
 use Rattle.branches.specs.Framed.{framed, rows-framed}
 
 -- the words of row i of some rows stand in the table

@@ -4,14 +4,14 @@ use Rattle.std.proofs.Math.Path.{refl, ap}
 use Rattle.std.proofs.Common.{◌∙◌}
 use Rattle.std.proofs.Math.Bool.{true, false}
 use mathlib.Core.List.{List, [], ◌∷◌}
-use Prim.Native.Nat.{ℕ, zero, suc, ◌*◌, ◌-◌, ◌≤◌, ◌<◌, ◌^◌}
+use Prim.Native.Nat.{ℕ, zero, suc, ◌-◌, ◌≤◌, ◌<◌, ◌^◌}
 use native.Mathlib.Omega.{arith}
-use borrow.Author.Tests.{leb-true, leb-false, ne_eqb, lt-ltb, le-ltb, ltb-true, le-leb, lt-leb}
+use borrow.Author.Tests.{leb-true, leb-false, ne_eqb, lt-ltb, le-ltb, ltb-true}
 use Rattle.layout.specs.Target.{Target, fixed, char, enum, kind_of, sprite_font}
-use Rattle.layout.specs.Tree.{none, tree, count}
+use Rattle.layout.specs.Tree.{none, tree}
 use Rattle.layout.specs.Fixed.{sizes}
-use Rattle.layout.specs.Slot.{field_kind, Leaf, level, blob, leaf_kind, Slot, raw, reference, leaf, Plan, stop}
-use Rattle.layout.specs.Rows.{row, width}
+use Rattle.layout.specs.Slot.{field_kind, Leaf, level, blob, leaf_kind, leaf, Plan, stop}
+use Rattle.layout.specs.Rows.{row}
 use Rattle.layout.specs.Shortest.{numbered}
 use Rattle.layout.specs.Mesh.{bone_leaf, code_leaf, size_leaf}
 use Rattle.reading.specs.Answer.{Answer, refused, read, bind, check}
@@ -20,9 +20,8 @@ use Rattle.reading.specs.Utf8.{char_at, char_reads}
 use Rattle.reading.specs.Reads.{Small, Reads, reads_bounds, some, some_reads, here_reads, field, field_reads}
 use Rattle.reading.specs.Fixed.{rule, fixed_at, sized, fixed_reads}
 use Rattle.reading.specs.Rules.{same, decided}
-use Rattle.reading.specs.Font.{font_ok, font_if}
 use Rattle.reading.specs.Heads.{Opening, head_at, leaf_at, whole, own_at, fixed_head_at, leaf_reads}
-use Rattle.reading.specs.Walk.{Outcome, done, sequence, raw_at, value_at, walk}
+use Rattle.reading.specs.Walk.{Outcome, done, sequence, value_at, walk}
 use Rattle.table.specs.declared.Grid.{Grid}
 use Rattle.table.specs.Word.{in_word, in_word_lem}
 use Rattle.laws.specs.Small.{differ}
@@ -30,9 +29,9 @@ use Rattle.answers.specs.declared.Refusal.{Refusal}
 use Rattle.answers.specs.Refusals.{refusal}
 use Rattle.walked.specs.Room.{room_as}
 use Rattle.walked.specs.declared.Head.{Head}
-use Rattle.walked.specs.Contract.{Seen, seen, Free, Ahead, Walked}
+use Rattle.walked.specs.Contract.{seen, Free, Ahead, Walked}
 use Rattle.walked.specs.Loop.{refusing}
-use Rattle.walked.specs.Leaf.{leaf_of, leaf_answer, leaf_words, Pads, leaf_walked}
+use Rattle.walked.specs.Leaf.{leaf_of, leaf_answer, Pads, leaf_walked}
 use Rattle.numbers.specs.Padded.{pad_of}
 use Rattle.places.specs.Padding.{no_number, id_alone, reference-numbered, sized-plain, pad_few}
 use Rattle.leaves.specs.declared.plain.Plain.{Plain}

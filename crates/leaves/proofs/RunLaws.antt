@@ -1,12 +1,12 @@
 -- Values one after the other that have no children and need no reader list. Assumes nothing.
-use Rattle.std.specs.Prelude.{◌≡◌, Bool, true, false, cond, List, [], ◌∷◌, eqb, length, get_or, replicate, drop}
+use Rattle.std.specs.Prelude.{◌≡◌, Bool, true, false, cond, List, [], ◌∷◌, eqb, length, get_or, drop}
 use Rattle.std.proofs.Math.Path.{refl}
 use Rattle.std.proofs.Common.{sym, ap, ◌∙◌, add-one, drop_of_length-le, drop-cons, eqb-true}
-use Prim.Native.Nat.{ℕ, zero, suc, ◌+◌, ◌*◌, ◌-◌, ◌/◌, ◌%◌, ◌≤◌, ◌<◌, max}
+use Prim.Native.Nat.{ℕ, zero, suc, ◌+◌, ◌%◌, ◌≤◌, ◌<◌}
 use native.Mathlib.Omega.{arith}
 use Rattle.std.proofs.lemmas.List.{length-replicate, get_or-replicate}
 use Rattle.layout.specs.Image.{levels}
-use Rattle.layout.specs.Slot.{Slot, leaf, level, leaves, pairs, each, Plan, stop, put}
+use Rattle.layout.specs.Slot.{Slot, leaf, level, leaves, each, Plan, stop, put}
 use Rattle.images.specs.Level.{level_size_of}
 use Rattle.images.specs.Laws.{level-size}
 use Rattle.leaves.specs.declared.plain.Plain.{Plain}
@@ -25,7 +25,7 @@ use Rattle.std.specs.Prelude.{Ok, Err}
 use Rattle.walked.specs.Written.{written}
 use Rattle.walked.specs.Contract.{Walk, seen, reaching, padded, Walked}
 use Rattle.walked.specs.Leaf.{leaf_answer}
-use Rattle.walked.specs.Loop.{Reading, start, same, turn, ended, give_up, got, lost, refusing, reading, counted-read, counted-refused}
+use Rattle.walked.specs.Loop.{Reading, start, turn, ended, give_up, got, lost, refusing, reading, counted-read, counted-refused}
 use Rattle.leaves.specs.Plain.{plain_slot, Lawful, Begin, plain_pad, plain_value, value_left}
 use Rattle.leaves.proofs.PlainLaws.{plain_walked}
 use Rattle.leaves.specs.Run.{LawfulRun, begin_on, length-levels, length_pairs, onward, pair_even, pair_odd, run_from, run_of, run_slots, turn_of}

@@ -1,39 +1,33 @@
 -- Values that have no children and need no reader list. Assumes nothing.
-use Rattle.std.specs.Prelude.{◌≡◌, Bool, leb, ltb, eqb, length, get_or, take, drop}
-use Rattle.std.proofs.Math.Path.{refl, ap}
-use Rattle.std.proofs.Common.{◌∙◌}
-use Rattle.std.proofs.Math.Bool.{true, false}
-use mathlib.Core.List.{List, [], ◌∷◌}
+use Rattle.std.specs.Prelude.{◌≡◌, leb, ltb, length, get_or}
+use Rattle.std.proofs.Math.Path.{refl}
+use Rattle.std.proofs.Math.Bool.{false}
+use mathlib.Core.List.{List, []}
 use Prim.Native.Nat.{ℕ, zero, suc, ◌*◌, ◌-◌, ◌≤◌, ◌<◌, ◌^◌}
 use native.Mathlib.Omega.{arith}
-use borrow.Author.Tests.{lt-ltb, le-ltb, ltb-true, le-leb, lt-leb}
+use borrow.Author.Tests.{lt-ltb, le-ltb, le-leb, lt-leb}
 use Rattle.layout.specs.Target.{Target, fixed, char, enum, kind_of, sprite_font}
-use Rattle.layout.specs.Tree.{none, tree, count}
+use Rattle.layout.specs.Tree.{none, count}
 use Rattle.layout.specs.Fixed.{sizes}
-use Rattle.layout.specs.Slot.{field_kind, Leaf, level, blob, leaf_kind, Slot, raw, reference, leaf, Plan, stop}
-use Rattle.layout.specs.Rows.{row, width}
-use Rattle.layout.specs.Shortest.{numbered}
+use Rattle.layout.specs.Slot.{level, blob, Slot, raw, reference, leaf, Plan, stop}
+use Rattle.layout.specs.Rows.{width}
 use Rattle.layout.specs.Mesh.{bone_leaf, code_leaf, size_leaf}
 use Rattle.reading.specs.Answer.{Answer, refused, read, bind, check}
-use Rattle.reading.specs.Seven.{seven_at, seven_next}
-use Rattle.reading.specs.Utf8.{char_at, char_reads}
-use Rattle.reading.specs.Reads.{Small, Reads, reads_bounds, some, some_reads, here_reads, field, field_reads}
-use Rattle.reading.specs.Fixed.{rule, fixed_at, sized, fixed_reads}
-use Rattle.reading.specs.Rules.{same, decided}
+use Rattle.reading.specs.Seven.{seven_at}
+use Rattle.reading.specs.Utf8.{char_at}
+use Rattle.reading.specs.Fixed.{fixed_at, sized}
+use Rattle.reading.specs.Rules.{same}
 use Rattle.reading.specs.Font.{font_ok, font_if}
-use Rattle.reading.specs.Heads.{Opening, head_at, leaf_at, whole, own_at, fixed_head_at, leaf_reads}
-use Rattle.reading.specs.Walk.{Outcome, done, sequence, raw_at, value_at, walk}
+use Rattle.reading.specs.Heads.{head_at, leaf_at, whole}
+use Rattle.reading.specs.Walk.{Outcome, done, raw_at}
 use Rattle.table.specs.declared.Grid.{Grid}
-use Rattle.table.specs.Word.{in_word, in_word_lem}
 use Rattle.walked.specs.declared.Head.{Head}
-use Rattle.walked.specs.Contract.{Seen, seen, Free, Ahead, Walked}
-use Rattle.walked.specs.Loop.{refusing}
-use Rattle.walked.specs.Leaf.{leaf_of, leaf_answer, leaf_words, Pads, leaf_walked}
+use Rattle.walked.specs.Contract.{Seen, seen}
+use Rattle.walked.specs.Leaf.{leaf_of, leaf_words}
 use Rattle.numbers.specs.Padded.{pad_of}
-use Rattle.places.specs.Padding.{no_number, id_alone, reference-numbered, sized-plain, pad_few}
 use Rattle.leaves.specs.declared.plain.Plain.{Plain}
 use Rattle.leaves.specs.declared.plain.Plain.TheVariants.{Fixed, Enum, Char, Level, Reference, Blob, Bone, Code, DataSize}
-use Rattle.reading.specs.Drafts.{nothing, resource, drafted}
+use Rattle.reading.specs.Drafts.{nothing, resource}
 
 -- how the value stands; an enum's name makes no difference to its values, so it stands for those of every name
 abbrev pub plain_slot : Plain → Slot

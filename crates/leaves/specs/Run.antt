@@ -1,30 +1,22 @@
 -- Values one after the other that have no children and need no reader list. Assumes nothing.
-use Rattle.std.specs.Prelude.{◌≡◌, Bool, true, false, cond, List, [], ◌∷◌, eqb, length, get_or, replicate, drop, Ok, Err}
+use Rattle.std.specs.Prelude.{◌≡◌, cond, List, eqb, length, get_or, replicate, Ok, Err}
 use Rattle.std.proofs.Math.Path.{refl}
-use Rattle.std.proofs.Common.{sym, ap, ◌∙◌, add-one, drop_of_length-le, drop-cons, eqb-true}
+use Rattle.std.proofs.Common.{ap}
 use Prim.Native.Nat.{ℕ, zero, suc, ◌+◌, ◌*◌, ◌-◌, ◌/◌, ◌%◌, ◌≤◌, ◌<◌, max}
 use native.Mathlib.Omega.{arith}
-use Rattle.std.proofs.lemmas.List.{length-replicate, get_or-replicate}
 use Rattle.layout.specs.Image.{levels}
-use Rattle.layout.specs.Slot.{Slot, leaf, level, leaves, pairs, each, Plan, stop, put}
+use Rattle.layout.specs.Slot.{Slot, leaves, pairs, Plan}
 use Rattle.images.specs.Level.{level_size_of}
-use Rattle.images.specs.Laws.{level-size}
 use Rattle.leaves.specs.declared.plain.Plain.{Plain}
 use Rattle.leaves.specs.declared.plain.Plain.TheVariants.{Level}
 use Rattle.leaves.specs.declared.run.Run.{Run}
 use Rattle.leaves.specs.declared.run.Run.TheVariants.{Same, Turns, Levels}
-use Rattle.std.proofs.lemmas.Bool.{eqb-false}
-use Rattle.layout.specs.Target.{Target}
-use Rattle.reading.specs.Answer.{Answer}
-use Rattle.reading.specs.Reads.{Small}
-use Rattle.reading.specs.Walk.{Outcome, sequence, walk}
-use Rattle.reading.proofs.Bounds.{walk_bounds, walk_single}
+use Rattle.reading.specs.Walk.{Outcome}
 use Rattle.table.specs.declared.Grid.{Grid}
 use Rattle.table.specs.Word.{in_word}
-use Rattle.walked.specs.Written.{written}
-use Rattle.walked.specs.Contract.{Walk, seen, reaching, padded, Walked}
+use Rattle.walked.specs.Contract.{Walk, reaching}
 use Rattle.walked.specs.Leaf.{leaf_answer}
-use Rattle.walked.specs.Loop.{Reading, start, same, turn, ended, give_up, got, lost, refusing, reading, counted-read, counted-refused}
+use Rattle.walked.specs.Loop.{Reading, same}
 use Rattle.leaves.specs.Plain.{plain_slot, Lawful, Begin, plain_pad, plain_value, value_left}
 
 -- the slots that the values stand in

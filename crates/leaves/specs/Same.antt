@@ -1,29 +1,25 @@
 -- Values of one kind and size that follow each other: how their rows are put at once is how they are put one after the other. Assumes nothing.
-use Rattle.std.specs.Prelude.{◌≡◌, Bool, true, false, ◌||◌, List, ◌∷◌, ℕ, zero, suc, ◌+◌, ◌*◌, ◌-◌, ◌≤◌, ◌<◌, ◌^◌, eqb, leb, ltb, length, get_or, take, drop}
-use Rattle.std.proofs.Math.Path.{refl, ap}
-use Rattle.std.proofs.Common.{sym, ◌∙◌, mul-suc, mul_comm, mul-le-mul_left, add-one, length-drop, drop-cons, length-take-le, get_or-drop}
+use Rattle.std.specs.Prelude.{◌≡◌, Bool, true, false, ◌||◌, List, ℕ, suc, ◌+◌, ◌*◌, ◌≤◌, ◌<◌, leb, ltb, length, get_or, take, drop}
+use Rattle.std.proofs.Common.{mul-suc, mul_comm, mul-le-mul_left, length-drop, drop-cons}
 use native.Mathlib.Omega.{arith}
 use Rattle.std.proofs.Math.Decide.{dec_lt}
-use Rattle.std.proofs.lemmas.List.{length-replicate}
 use borrow.Author.Tests.{le-leb, leb-true, ltb-false, ne_eqb}
-use Rattle.laws.specs.Small.{differ, both, neither}
-use Rattle.layout.specs.Rows.{row, width}
-use Rattle.reading.specs.Answer.{Answer, refused, read, bind, check, within}
+use Rattle.laws.specs.Small.{both, neither}
+use Rattle.layout.specs.Rows.{width}
+use Rattle.reading.specs.Answer.{read, bind, check, within}
 use Rattle.reading.specs.Reads.{some, field}
 use Rattle.reading.specs.Fixed.{is_boolean, rule, fixed_at, sized}
-use Rattle.reading.specs.Utf8.{char_at, char_of, size, size_one, follow, bits, mark}
+use Rattle.reading.specs.Utf8.{char_at, char_of, size, size_one, follow}
 use Rattle.table.specs.declared.Grid.{Grid}
-use Rattle.table.specs.Word.{in_word, in_word_lem}
-use Rattle.table.specs.Put.{put_row}
-use Rattle.table.specs.Runs.{put_run, has_rows}
-use Rattle.walked.specs.declared.Head.{Head}
+use Rattle.table.specs.Word.{in_word}
+use Rattle.table.specs.Runs.{has_rows}
 use Rattle.walked.specs.Contract.{Walk, reaching}
-use Rattle.walked.specs.Leaf.{mute, value_row, leaf_answer, leaf_words}
+use Rattle.walked.specs.Leaf.{mute, leaf_answer}
 use Rattle.leaves.specs.declared.plain.Plain.{Plain}
 use Rattle.leaves.specs.declared.plain.Plain.TheVariants.{Fixed, Enum, Char, Level, Reference, Blob, Bone, Code, DataSize}
 use Rattle.leaves.specs.declared.run.Run.TheVariants.{Same}
-use Rattle.leaves.specs.Plain.{head_of, plain_at, plain_pad, plain_value, plain_words, value_left, value_there}
-use Rattle.leaves.specs.Run.{turn_of, onward, run_from, run_of, run-turn, run_end}
+use Rattle.leaves.specs.Plain.{plain_pad, plain_value, value_left}
+use Rattle.leaves.specs.Run.{turn_of, onward, run_from, run_of}
 
 -- n bytes from a place on are at most `most`
 abbrev pub AtMost : (file : List ℕ) (at n most : ℕ) → Type 0

@@ -10,7 +10,7 @@ use Rattle.reading.specs.Answer.{refused, read, bind}
 use Rattle.reading.specs.Seven.{seven_at}
 use Rattle.table.specs.declared.Grid.{Grid}
 use Rattle.table.specs.Grids.{cell_of}
-use Rattle.std.specs.Prelude.{Result, Ok, Err}
+use Rattle.std.specs.Prelude.{Ok, Err}
 use Rattle.answers.specs.declared.Refusal.{Refusal}
 use Rattle.answers.specs.Refusals.{refusal}
 use Rattle.lookups.specs.Parts.{span, or_refused, kind_of, first_of, length_of, part_of, in_part, lookup}

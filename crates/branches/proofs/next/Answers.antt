@@ -1,4 +1,3 @@
-use borrow.Author.Rules.{rules}
 use Rattle.branches.specs.Next.{branch_in}
 use Rattle.branches.proofs.Laws.{no_row, none, past, behind}
 use Rattle.branches.proofs.next.Goals as goal

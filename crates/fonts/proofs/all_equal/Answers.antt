@@ -1,6 +1,5 @@
 use Rattle.fonts.specs.FontWords.{all_equal}
 use Rattle.fonts.proofs.Laws.{no, yes}
-use Rattle.std.proofs.Common.{rules}
 use Rattle.fonts.proofs.all_equal.Goals as goal
 
 pub returns-then-not-equal_counts : goal.returns-then-not-equal_counts

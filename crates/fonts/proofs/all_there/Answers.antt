@@ -1,6 +1,5 @@
 use Rattle.fonts.specs.FontWords.{all_there}
 use Rattle.fonts.proofs.Laws.{no, yes}
-use Rattle.std.proofs.Common.{rules}
 use Rattle.fonts.proofs.all_there.Goals as goal
 
 pub returns-then-not-filled : goal.returns-then-not-filled

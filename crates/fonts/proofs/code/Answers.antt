@@ -1,4 +1,4 @@
-use Rattle.std.proofs.Common.{sym, ap, ◌∙◌, rules}
+use Rattle.std.proofs.Common.{sym, ap, ◌∙◌}
 use Rattle.answers.specs.Told.{told}
 use Rattle.reading.specs.Walk.{value_or}
 use Rattle.fonts.specs.FontWords.{word_at}

@@ -1,5 +1,4 @@
 use Rattle.fonts.specs.FontWords.{word_at, equal}
-use Rattle.std.proofs.Common.{rules}
 use Rattle.fonts.proofs.equal_counts.Goals as goal
 
 pub returns : goal.returns

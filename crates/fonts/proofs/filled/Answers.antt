@@ -1,5 +1,4 @@
 use Rattle.fonts.specs.FontWords.{word_at, some}
-use Rattle.std.proofs.Common.{rules}
 use Rattle.fonts.proofs.filled.Goals as goal
 
 pub returns : goal.returns

@@ -1,4 +1,4 @@
-use Rattle.std.proofs.Common.{sym, refl, ap, ◌∙◌, rules}
+use Rattle.std.proofs.Common.{sym, refl, ap, ◌∙◌}
 use Rattle.fonts.specs.FontWords.{beyond, word_at, by_rows}
 use Rattle.fonts.proofs.Laws.{no, yes}
 use Rattle.fonts.proofs.font_rule.Goals as goal

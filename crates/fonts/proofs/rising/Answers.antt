@@ -1,12 +1,7 @@
-use Rattle.std.proofs.Common.{◌≡◌, ◌-◌, ◌+◌, ◌<◌, ◌≤◌, sym, refl, ◌∙◌, arith, rules}
+use Rattle.std.proofs.Common.{◌≡◌, ◌-◌, ◌+◌, ◌<◌, ◌≤◌, sym, ◌∙◌, arith}
 use Rattle.fonts.specs.FontWords.{beyond, code_at}
 use Rattle.fonts.proofs.Laws.{few_rise, step_up, no_step}
 use Rattle.fonts.proofs.rising.Goals as goal
-
-pub loop-init : goal.loop-init
-loop-init c =
-    let z : c.args.n - 0 ≡ c.args.n = omega arith in
-    (rw z, c.code-before.ensures)
 
 pub returns-then-next-before : goal.returns-then-next-before
 returns-then-next-before c =

@@ -1,5 +1,4 @@
 use Rattle.fonts.specs.FontWords.{word_at, row_after}
-use Rattle.std.proofs.Common.{rules}
 use Rattle.fonts.proofs.row_after.Goals as goal
 
 pub returns : goal.returns

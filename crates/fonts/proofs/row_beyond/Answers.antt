@@ -1,6 +1,6 @@
 use Rattle.table.specs.Word.{in_word}
 use Rattle.fonts.specs.FontWords.{beyond}
-use Rattle.std.proofs.Common.{refl, rules}
+use Rattle.std.proofs.Common.{refl}
 use Rattle.fonts.proofs.row_beyond.Goals as goal
 
 pub returns : goal.returns

@@ -1,8 +1,6 @@
-use mathlib.Core.Path.{sym, ap, ◌∙◌}
-use Rattle.answers.specs.Told.{told}
+use mathlib.Core.Path.{sym, ◌∙◌}
 use Rattle.std.proofs.lemmas.Result.{err_from_is_err_and}
 use Rattle.lookups.proofs.Laws.{count-refused, count-read}
-use borrow.Author.Rules.{rules}
 use Rattle.lookups.proofs.count_at.Goals as goal
 
 pub returns-in_err-id : goal.returns-in_err-id

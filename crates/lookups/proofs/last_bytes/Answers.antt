@@ -2,7 +2,6 @@ use mathlib.Core.Path.{◌∙◌}
 use native.Mathlib.Omega.{arith}
 use Rattle.reading.specs.Reads.{small_by_index}
 use Rattle.lookups.proofs.Signs.{little-within, last_of}
-use borrow.Author.Rules.{rules}
 use Rattle.lookups.proofs.last_bytes.Goals as goal
 
 pub signed_from-requires : goal.signed_from-requires

@@ -1,6 +1,5 @@
 use native.Mathlib.Omega.{arith}
 use Rattle.lookups.proofs.Laws.{no_row, empty, past, there}
-use borrow.Author.Rules.{rules}
 use Rattle.lookups.proofs.part.Goals as goal
 
 pub returns-then-table-row : goal.returns-then-table-row

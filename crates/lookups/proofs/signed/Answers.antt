@@ -1,11 +1,10 @@
-use mathlib.Core.Path.{sym, ◌∙◌}
+use mathlib.Core.Path.{◌∙◌}
 use native.Mathlib.Omega.{arith}
 use Rattle.std.proofs.lemmas.Result.{err_from_is_err_and}
 use Rattle.lookups.specs.Parts.{refuses}
 use Rattle.lookups.specs.Signs.{signed_in, signed_of}
 use Rattle.lookups.specs.Spans.{inside}
-use Rattle.lookups.proofs.Laws.{lookup-refused, lookup_found, part_length}
-use borrow.Author.Rules.{rules}
+use Rattle.lookups.proofs.Laws.{lookup-refused, lookup_found}
 use Rattle.lookups.proofs.signed.Goals as goal
 
 pub overflow_add-end : goal.overflow_add-end

@@ -3,11 +3,7 @@ use Rattle.answers.specs.Told.{told}
 use Rattle.lookups.specs.Signs.{signed_from}
 use Rattle.lookups.proofs.Signs.{from_number}
 use mathlib.Core.Path.{ap}
-use borrow.Author.Rules.{rules}
 use Rattle.lookups.proofs.signed_from.Goals as goal
-
-pub twos_complement-requires : goal.twos_complement-requires
-twos_complement-requires c = rw (ap told c.in-Ok.is) at c.requires
 
 pub returns-in-Err : goal.returns-in-Err
 unfolding signed_from

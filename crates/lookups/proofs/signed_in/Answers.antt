@@ -2,7 +2,6 @@ use Rattle.std.proofs.Common.{inl, inr}
 use native.Mathlib.Omega.{arith}
 use mathlib.Core.Path.{◌∙◌}
 use Rattle.lookups.proofs.Signs.{kind2, kind3, kind5, kind8, no_kind}
-use borrow.Author.Rules.{rules}
 use Rattle.lookups.proofs.signed_in.Goals as goal
 
 pub returns-in-2 : goal.returns-in-2

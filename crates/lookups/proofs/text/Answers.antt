@@ -1,11 +1,10 @@
-use mathlib.Core.Path.{sym, ◌∙◌}
+use mathlib.Core.Path.{◌∙◌}
 use native.Mathlib.Omega.{arith}
 use Rattle.std.proofs.lemmas.Result.{err_from_is_err_and}
 use Rattle.lookups.specs.Parts.{refuses}
 use Rattle.lookups.specs.Texts.{text_in, text_of}
 use Rattle.lookups.specs.Spans.{inside}
-use Rattle.lookups.proofs.Laws.{lookup-refused, lookup_found, part_length}
-use borrow.Author.Rules.{rules}
+use Rattle.lookups.proofs.Laws.{lookup-refused, lookup_found}
 use Rattle.lookups.proofs.text.Goals as goal
 
 pub overflow_add-end : goal.overflow_add-end
@@ -19,13 +18,6 @@ slice_bounds-text_in-end c =
     let a = c.args in
     let h = inside a.table.grid a.file.now a.table.words.now a.row.0 c.in_ok-first.ensures in
     omega (arith, h)
-
-pub text_in-requires : goal.text_in-requires
-text_in-requires c =
-    let a = c.args in
-    let h = inside a.table.grid a.file.now a.table.words.now a.row.0 c.in_ok-first.ensures in
-    let l = part_length a.table.grid a.file.now a.table.words.now a.row.0 c.in_ok-first.ensures in
-    omega (arith, h, l)
 
 pub returns-in_err-first : goal.returns-in_err-first
 unfolding text_of

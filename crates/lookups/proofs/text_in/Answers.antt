@@ -4,7 +4,6 @@ use Rattle.answers.specs.Told.{told}
 use Rattle.reading.specs.Reads.{small_by_index}
 use Rattle.lookups.specs.Spans.{count_next}
 use Rattle.lookups.proofs.Laws.{other_kind, no_count, other_count, whole-text}
-use borrow.Author.Rules.{rules}
 use Rattle.lookups.proofs.text_in.Goals as goal
 
 pub returns-then-kind-ne-STRING : goal.returns-then-kind-ne-STRING

@@ -4,7 +4,7 @@ use mir.Facts.{to_z-of_z}
 use Rattle.std.specs.Prelude.{Ok}
 use Rattle.std.proofs.lemmas.Result.{err_from_is_err_and}
 use Rattle.ticks.specs.Split.{split_of}
-use mathlib.Core.Path.{sym, ap, ◌∙◌}
+use mathlib.Core.Path.{ap, ◌∙◌}
 use Rattle.lookups.proofs.Times.{time-refused, no_time, a_time}
 use borrow.Author.Rules.{rules}
 use Rattle.lookups.proofs.time.Goals as goal

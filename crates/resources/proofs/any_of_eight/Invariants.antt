@@ -1,14 +1,8 @@
 -- `resources::any_of_eight` meets its contract: before each turn no row so far is a reference unless `found` says that one is. Assumes nothing.
 use mathlib.Core.Path.{◌≡◌}
 use mathlib.Core.Bool.{false}
-use Prim.Native.Nat.{◌+◌, ◌-◌, ◌≤◌}
-use native.Mathlib.Omega.{arith}
-use lib.ListN.{length}
-use Rattle.layout.specs.Table.{shape_of}
-use Rattle.table.specs.Stores.{cell-inside}
+use Prim.Native.Nat.{◌≤◌}
 use Rattle.resources.specs.Total.{NoneAmong}
-use Rattle.resources.proofs.Unmarked.{none_more}
-use borrow.Author.Rules.{rules}
 use Rattle.resources.proofs.any_of_eight.Given as goal
 
 abbrev pub invariant-loop-j : goal.invariant-loop-j

@@ -1,14 +1,7 @@
 -- `resources::any_reference` meets its contract: before each turn the rows from `i` on say whether there is one. Assumes nothing.
-use mathlib.Core.Path.{◌≡◌, sym, ◌∙◌}
-use Prim.Native.Nat.{◌-◌}
-use native.Mathlib.Omega.{arith}
-use Rattle.resources.specs.Total.{any_reference}
+use mathlib.Core.Path.{sym, ◌∙◌}
 use Rattle.resources.proofs.Unmarked.{any_found, any_turn, any_end}
-use borrow.Author.Rules.{rules}
 use Rattle.resources.proofs.any_reference.Goals as goal
-
-pub loop-i-init : goal.loop-i-init
-loop-i-init c = c.past_many-i.ensures
 
 pub returns-then-word-eq-SHARED_REFERENCE : goal.returns-then-word-eq-SHARED_REFERENCE
 returns-then-word-eq-SHARED_REFERENCE c = sym (any_found _ _ _ c.loop-i.i c.loop-i-test.true c.word.ensures c.if-word-eq-SHARED_REFERENCE.true) ∙ c.loop-i.invariant

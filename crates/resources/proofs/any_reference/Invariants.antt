@@ -1,10 +1,7 @@
 -- `resources::any_reference` meets its contract: before each turn the rows from `i` on say whether there is one. Assumes nothing.
-use mathlib.Core.Path.{◌≡◌, sym, ◌∙◌}
+use mathlib.Core.Path.{◌≡◌}
 use Prim.Native.Nat.{◌-◌}
-use native.Mathlib.Omega.{arith}
 use Rattle.resources.specs.Total.{any_reference}
-use Rattle.resources.proofs.Unmarked.{any_found, any_turn, any_end}
-use borrow.Author.Rules.{rules}
 use Rattle.resources.proofs.any_reference.Given as goal
 
 abbrev pub invariant-loop-i : goal.invariant-loop-i

@@ -2,7 +2,6 @@
 use mathlib.Core.Path.{refl}
 use borrow.Author.Tests.{eq-eqb, ne_eqb}
 use Rattle.resources.specs.Total.{null_cleared}
-use borrow.Author.Rules.{rules}
 use Rattle.resources.proofs.clear_null.Goals as goal
 
 named : {A B : Type 0} → A × B → record { value : A; words_after : B }

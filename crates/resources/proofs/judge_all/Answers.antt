@@ -1,9 +1,5 @@
 -- `resources::judge_all` meets its contract: before each turn the rows from `i` on give the answer and the words. Assumes nothing.
-use mathlib.Core.Path.{◌≡◌, refl, sym, ◌∙◌}
-use Prim.Native.Nat.{◌-◌}
-use native.Mathlib.Omega.{arith}
-use lib.ListN.{length}
-use Rattle.resources.specs.Total.{settle_from, settle_of}
+use mathlib.Core.Path.{refl, sym, ◌∙◌}
 use Rattle.resources.proofs.Nulls.{named-row, null_turn, null_end}
 use borrow.Author.Rules.{rules}
 use Rattle.resources.proofs.judge_all.Goals as goal
@@ -13,12 +9,6 @@ both a b = (a, b)
 
 named : {A B : Type 0} → A × B → record { value : A; words_after : B }
 named p = record { value = p.0; words_after = p.1 }
-
-pub loop-i-init : goal.loop-i-init
-loop-i-init c =
-    let used = c.args.used in
-    let z : used - 0 ≡ used = omega arith in
-    (refl, rw z)
 
 pub returns-then-clear_null : goal.returns-then-clear_null
 returns-then-clear_null c =

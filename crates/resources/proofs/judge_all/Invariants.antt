@@ -1,11 +1,7 @@
 -- `resources::judge_all` meets its contract: before each turn the rows from `i` on give the answer and the words. Assumes nothing.
-use mathlib.Core.Path.{◌≡◌, refl, sym, ◌∙◌}
-use Prim.Native.Nat.{◌-◌}
-use native.Mathlib.Omega.{arith}
+use mathlib.Core.Path.{◌≡◌}
 use lib.ListN.{length}
 use Rattle.resources.specs.Total.{settle_from, settle_of}
-use Rattle.resources.proofs.Nulls.{named-row, null_turn, null_end}
-use borrow.Author.Rules.{rules}
 use Rattle.resources.proofs.judge_all.Given as goal
 
 abbrev pub invariant-loop-i : goal.invariant-loop-i

@@ -1,6 +1,5 @@
 -- `resources::judge_from` meets its contract: zeros behind the kinds change nothing. Assumes nothing.
 use Rattle.resources.proofs.Padded.{padded-rows}
-use borrow.Author.Rules.{rules}
 use Rattle.resources.proofs.judge_from.Goals as goal
 
 both : {A B : Type 0} → A → B → A × B

@@ -1,8 +1,5 @@
 -- `resources::judge_rows` meets its contract: before each turn the rows from `i` on give the answer and the words. Assumes nothing.
-use mathlib.Core.Path.{◌≡◌, refl, sym, ◌∙◌}
-use Prim.Native.Nat.{◌-◌}
-use lib.ListN.{length, drop}
-use Rattle.resources.specs.Total.{rows_settled}
+use mathlib.Core.Path.{refl, sym, ◌∙◌}
 use Rattle.resources.proofs.Turns.{rows-turn, rows_end}
 use borrow.Author.Rules.{rules}
 use Rattle.resources.proofs.judge_rows.Goals as goal
@@ -12,9 +9,6 @@ both a b = (a, b)
 
 named : {A B : Type 0} → A × B → record { value : A; words_after : B }
 named p = record { value = p.0; words_after = p.1 }
-
-pub loop-i-init : goal.loop-i-init
-loop-i-init c = (refl, refl)
 
 pub returns-in-Some : goal.returns-in-Some
 returns-in-Some c =

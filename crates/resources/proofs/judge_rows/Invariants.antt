@@ -1,10 +1,8 @@
 -- `resources::judge_rows` meets its contract: before each turn the rows from `i` on give the answer and the words. Assumes nothing.
-use mathlib.Core.Path.{◌≡◌, refl, sym, ◌∙◌}
+use mathlib.Core.Path.{◌≡◌}
 use Prim.Native.Nat.{◌-◌}
 use lib.ListN.{length, drop}
 use Rattle.resources.specs.Total.{rows_settled}
-use Rattle.resources.proofs.Turns.{rows-turn, rows_end}
-use borrow.Author.Rules.{rules}
 use Rattle.resources.proofs.judge_rows.Given as goal
 
 abbrev pub invariant-loop-i : goal.invariant-loop-i

@@ -1,6 +1,5 @@
 -- `resources::note` meets its contract. Assumes nothing.
 use Rattle.resources.proofs.Padded.{no_root, no_room, one_root}
-use borrow.Author.Rules.{rules}
 use Rattle.resources.proofs.note.Goals as goal
 
 pub returns-then-n-ge257 : goal.returns-then-n-ge257

@@ -1,27 +1,12 @@
 -- `resources::past_eights` meets its contract: before each turn the rows from eight times `k` on say whether there is a reference. Assumes nothing.
 use mathlib.Core.Path.{◌≡◌, sym, ◌∙◌}
-use Prim.Native.Nat.{◌+◌, ◌-◌, ◌*◌, ◌/◌}
+use Prim.Native.Nat.{◌+◌, ◌*◌}
 use native.Mathlib.Omega.{arith}
 use Rattle.resources.proofs.Unmarked.{any_past}
-use borrow.Author.Rules.{rules}
 use Rattle.resources.proofs.past_eights.Goals as goal
-
-pub loop-k-init : goal.loop-k-init
-loop-k-init c =
-    let used = c.args.used in
-    let z : used - 0 ≡ used = omega arith in
-    rw z
-
-pub returns-then-any_of_eight : goal.returns-then-any_of_eight
-returns-then-any_of_eight c = c.loop-k.invariant
 
 pub loop-k-preserved : goal.loop-k-preserved
 loop-k-preserved c =
     let a = c.args in
     let z : 8 * (c.loop-k.k + 1) ≡ 8 * c.loop-k.k + 8 = omega arith in
     rw z (sym (any_past a.table.grid a.table.words.now a.used (8 * c.loop-k.k) 8 (omega (arith, c.loop-k-test.true)) (c.any_of_eight.ensures c.if-any_of_eight.false)) ∙ c.loop-k.invariant)
-
-pub returns : goal.returns
-returns c =
-    let z : 8 * c.loop-k.k ≡ c.args.used / 8 * 8 = omega (arith, c.loop-k-test.false, c.loop-k.auto.k-end) in
-    rw z at c.loop-k.invariant

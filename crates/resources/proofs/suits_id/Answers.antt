@@ -11,7 +11,6 @@ use Rattle.ids.specs.Position.{position_of}
 use Rattle.std.specs.Prelude.{Some, None}
 use Rattle.reading.specs.Drafts.{resource}
 use Rattle.reading.specs.Resource.{suit, suits}
-use borrow.Author.Rules.{rules}
 use Rattle.resources.proofs.suits_id.Goals as goal
 
 null_suits : (kinds : List ℕ) (wanted id : ℕ) → position_of id ≡ None → true ≡ suits (drop 1 kinds) (resource wanted) id

@@ -1,4 +1,4 @@
-use Rattle.std.proofs.Common.{sym, ap, ◌∙◌, rules}
+use Rattle.std.proofs.Common.{sym, ap, ◌∙◌}
 use Rattle.fill.specs.Fill.{cleared}
 use Rattle.table.specs.Cleared.{behind_columns, behind_rows}
 use Rattle.table.proofs.clear_behind.Goals as goal

@@ -1,5 +1,5 @@
 -- `clear_columns` meets its contract: before each turn the first `j` columns are cleared. Assumes nothing.
-use Rattle.std.proofs.Common.{◌≡◌, ◌-◌, ◌≤◌, length, refl, ◌∙◌, add-one, arith, rules}
+use Rattle.std.proofs.Common.{◌≡◌, refl, ◌∙◌, add-one, arith, rules}
 use Rattle.table.specs.Cleared.{columns_wiped, columns_cleared}
 use Rattle.table.proofs.clear_columns.Goals as goal
 

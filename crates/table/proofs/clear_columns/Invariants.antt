@@ -1,6 +1,6 @@
 -- `clear_columns` meets its contract: before each turn the first `j` columns are cleared. Assumes nothing.
-use Rattle.std.proofs.Common.{◌≡◌, ◌-◌, ◌≤◌, length, refl, ◌∙◌, add-one, arith, rules}
-use Rattle.table.specs.Cleared.{columns_wiped, columns_cleared}
+use Rattle.std.proofs.Common.{◌≡◌, ◌≤◌, length}
+use Rattle.table.specs.Cleared.{columns_wiped}
 use Rattle.table.proofs.clear_columns.Given as goal
 
 abbrev pub invariant-loop-j : goal.invariant-loop-j

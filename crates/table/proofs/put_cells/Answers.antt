@@ -1,4 +1,4 @@
-use Rattle.std.proofs.Common.{◌≡◌, false, ltb, length, arith, rules, le-ltb}
+use Rattle.std.proofs.Common.{◌≡◌, false, ltb, length, arith, le-ltb}
 use Rattle.table.specs.Grids.{cell_of}
 use Rattle.table.specs.Put.{put_row}
 use Rattle.table.proofs.put_cells.Goals as goal

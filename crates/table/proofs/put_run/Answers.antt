@@ -1,4 +1,4 @@
-use Rattle.std.proofs.Common.{refl, arith, rules}
+use Rattle.std.proofs.Common.{refl, arith}
 use Rattle.table.specs.Runs.{has_rows_lem, no_rows, no_words}
 use Rattle.table.proofs.put_run.Goals as goal
 

@@ -1,4 +1,4 @@
-use Rattle.std.proofs.Common.{◌≡◌, ℕ, ◌≤◌, true, ltb, length, arith, length-set, rules, lt-ltb}
+use Rattle.std.proofs.Common.{◌≡◌, ℕ, ◌≤◌, true, ltb, length, arith, length-set, lt-ltb}
 use Rattle.layout.specs.Table.{shape_of}
 use Rattle.table.specs.declared.Grid.{Grid}
 use Rattle.table.specs.Grids.{cell_of}

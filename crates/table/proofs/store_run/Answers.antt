@@ -1,7 +1,7 @@
 -- `table::store_run` meets its contract: before each turn the first i rows stand in the words. Assumes nothing.
-use Rattle.std.proofs.Common.{◌≡◌, ℕ, suc, ◌+◌, ◌-◌, ◌*◌, ◌≤◌, length, sym, refl, ap, ◌∙◌, add-one, arith, rules}
+use Rattle.std.proofs.Common.{◌≡◌, ℕ, ◌+◌, ◌*◌, length, sym, refl, ap, ◌∙◌, arith, rules}
 use Rattle.layout.specs.Table.{shape_of}
-use Rattle.table.specs.Word.{in_word, word_sum}
+use Rattle.table.specs.Word.{in_word}
 use Rattle.table.specs.Stores.{cell-inside}
 use Rattle.table.specs.Runs.{put_run, run_first, run_more}
 use Rattle.table.proofs.store_run.Goals as goal

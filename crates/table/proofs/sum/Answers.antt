@@ -1,5 +1,5 @@
 use Rattle.table.specs.Word.{in_word}
-use Rattle.std.proofs.Common.{refl, rules}
+use Rattle.std.proofs.Common.{refl}
 use Rattle.table.proofs.sum.Goals as goal
 
 pub returns : goal.returns

@@ -1,4 +1,4 @@
-use Rattle.std.proofs.Common.{refl, rules}
+use Rattle.std.proofs.Common.{refl}
 use Rattle.table.specs.Word.{in_word}
 use Rattle.table.proofs.word.Goals as goal
 

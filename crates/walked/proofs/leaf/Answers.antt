@@ -1,4 +1,4 @@
-use Rattle.std.proofs.Common.{refl, ap, ◌∙◌, rules}
+use Rattle.std.proofs.Common.{refl, ap, ◌∙◌}
 use Rattle.table.specs.Word.{in_word}
 use Rattle.table.specs.Put.{put_row}
 use Rattle.walked.proofs.leaf.Goals as goal

@@ -1,5 +1,4 @@
 use Rattle.leaves.specs.Plain.{plain_at, plain_pad}
-use borrow.Author.Rules.{rules}
 use Rattle.leaves.proofs.plain.plain_value.Goals as goal
 
 both : {A B : Type 0} → A → B → A × B
@@ -23,9 +22,6 @@ returns-in-Char c = named (rw (c.in-Char.is, ← c.char_at.ensures) (both c.leaf
 pub returns-in-Level : goal.returns-in-Level
 unfolding plain_at plain_pad
 returns-in-Level c = named (rw (c.in-Level.is, ← c.level_at-read.ensures) (both c.leaf-in-Level.ensures.value c.leaf-in-Level.ensures.words_after))
-
-pub returns-in-Reference : goal.returns-in-Reference
-returns-in-Reference c = named (rw c.in-Reference.is (both c.reference.ensures.value c.reference.ensures.words_after))
 
 pub returns-in-Blob : goal.returns-in-Blob
 unfolding plain_at plain_pad

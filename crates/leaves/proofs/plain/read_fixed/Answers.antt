@@ -3,7 +3,6 @@ use Rattle.std.proofs.lemmas.Result.{err_from_is_err_and}
 use Rattle.leaves.specs.declared.plain.Plain.TheVariants.{Fixed}
 use Rattle.leaves.specs.Plain.{plain_at}
 use Rattle.leaves.proofs.PlainLaws.{value-stops, value-goes}
-use borrow.Author.Rules.{rules}
 use Rattle.leaves.proofs.plain.read_fixed.Goals as goal
 
 both : {A B : Type 0} → A → B → A × B

@@ -2,7 +2,6 @@ use mathlib.Core.Path.{refl, sym}
 use Rattle.std.proofs.lemmas.Result.{err_from_is_err_and}
 use Rattle.leaves.specs.Plain.{kept}
 use Rattle.leaves.proofs.PlainLaws.{value-stops, value-goes}
-use borrow.Author.Rules.{rules}
 use Rattle.leaves.proofs.plain.read_plain.Goals as goal
 
 both : {A B : Type 0} → A → B → A × B

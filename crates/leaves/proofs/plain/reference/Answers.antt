@@ -1,4 +1,4 @@
-use mathlib.Core.Path.{◌≡◌, refl, sym, ap, ◌∙◌}
+use mathlib.Core.Path.{◌≡◌, refl, sym, ◌∙◌}
 use Prim.Native.Nat.{◌<◌, ◌^◌}
 use native.Mathlib.Omega.{arith}
 use borrow.Author.Tests.{ltb-true, ltb-false}
@@ -6,9 +6,8 @@ use Rattle.std.proofs.lemmas.Result.{err_from_is_err_and}
 use Rattle.reading.specs.Answer.{read}
 use Rattle.reading.specs.Reads.{small_by_index}
 use Rattle.reading.specs.Seven.{seven_at, seven_next}
-use Rattle.numbers.specs.Padded.{pad_of, told_padded, number_read, number-refused}
+use Rattle.numbers.specs.Padded.{pad_of, number_read, number-refused}
 use Rattle.leaves.specs.Plain.{plain_pad, reference-refused, reference-beyond, reference-within}
-use borrow.Author.Rules.{rules}
 use Rattle.leaves.proofs.plain.reference.Goals.{In_ok-number}
 use Rattle.leaves.proofs.plain.reference.Goals as goal
 

@@ -1,13 +1,6 @@
-use mathlib.Core.Path.{◌≡◌, sym, ap, ◌∙◌}
-use native.Mathlib.Omega.{arith}
-use lib.ListN.{length, drop, length-drop}
-use borrow.Author.Tests.{leb-true, not-true, not-false}
+use mathlib.Core.Path.{sym, ◌∙◌}
 use Rattle.std.proofs.lemmas.Result.{err_from_is_err_and}
-use Rattle.reading.specs.Reads.{small_by_index}
-use Rattle.reading.specs.Answer.{read}
-use Rattle.reading.specs.Little.{little_at, little_next}
 use Rattle.leaves.specs.Text.{level-refused, level_other, level-missing, level_there}
-use borrow.Author.Rules.{rules}
 use Rattle.leaves.proofs.read.level_at.Goals as goal
 
 pub returns-then-n-size : goal.returns-then-n-size
@@ -20,13 +13,6 @@ returns-then-not-has_bytes c =
     let a = c.args in
     rw c.at-then-not-has_bytes.ensures
     (level-missing a.file.now a.size a.at _ _ (sym c.in_ok-n.ensures) c.if-n-size.false (sym c.has_bytes.ensures ∙ c.if-not-has_bytes.true))
-
-pub overflow_add-result : goal.overflow_add-result
-overflow_add-result c =
-    let s = c.args.file.now in
-    let n = little_next s (small_by_index s (λ i h. omega (arith, c.type_inv.file i))) 4 _ _ (omega arith) (sym c.in_ok-n.ensures) in
-    let t = leb-true c.in_ok-n.field-0.value (length (drop c.in_ok-n.field-0.next s)) (sym c.has_bytes.ensures ∙ c.if-not-has_bytes.false) in
-    omega (arith, n, t, length-drop c.in_ok-n.field-0.next s)
 
 pub returns-in_err-n : goal.returns-in_err-n
 returns-in_err-n c =

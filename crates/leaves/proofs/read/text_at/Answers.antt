@@ -1,4 +1,4 @@
-use mathlib.Core.Path.{◌≡◌, sym, ap, ◌∙◌}
+use mathlib.Core.Path.{◌≡◌, ◌∙◌}
 use native.Mathlib.Omega.{arith}
 use Rattle.std.proofs.lemmas.Result.{err_from_is_err_and}
 use Rattle.reading.specs.Answer.{read}
@@ -6,7 +6,6 @@ use Rattle.reading.specs.Reads.{small_by_index}
 use Rattle.reading.specs.Seven.{seven_at, seven_next}
 use Rattle.numbers.specs.Padded.{pad_of, number_read, number-refused}
 use Rattle.leaves.specs.Text.{text-counted, text-refused}
-use borrow.Author.Rules.{rules}
 use Rattle.leaves.proofs.read.text_at.Goals.{In_ok-count}
 use Rattle.leaves.proofs.read.text_at.Goals as goal
 

@@ -1,34 +1,20 @@
 use mathlib.Core.Path.{◌≡◌, sym, ◌∙◌}
 use mathlib.Core.Bool.{true}
-use Prim.Native.Nat.{◌+◌, ◌-◌, ◌≤◌}
+use Prim.Native.Nat.{◌+◌, ◌-◌}
 use native.Mathlib.Omega.{arith}
 use lib.Dec.{leb}
-use lib.ListN.{length, drop, length-drop}
-use borrow.Author.Tests.{leb-true, not-true, not-false}
+use lib.ListN.{length, drop}
 use Rattle.leaves.specs.Text.{text-missing, text_there, text-broken}
-use borrow.Author.Rules.{rules}
 use Rattle.leaves.proofs.read.text_bytes.Goals.{Else-not-has_bytes}
 use Rattle.leaves.proofs.read.text_bytes.Goals as goal
 
 there : (c : Else-not-has_bytes) → leb c.args.count (length (drop c.args.start c.args.file.now)) ≡ true
 there c = sym c.has_bytes.ensures ∙ c.if-not-has_bytes.false
 
--- the text's bytes are in the file
-inside : (c : Else-not-has_bytes) → c.args.start + c.args.count ≤ length c.args.file.now
-inside c =
-    let a = c.args in
-    omega (arith, leb-true a.count (length (drop a.start a.file.now)) (there c), length-drop a.start a.file.now, c.requires)
-
 pub returns-then-not-has_bytes : goal.returns-then-not-has_bytes
 returns-then-not-has_bytes c =
     let a = c.args in
     rw c.at.ensures (text-missing a.file.now a.at a.count a.start a.padding (sym c.has_bytes.ensures ∙ c.if-not-has_bytes.true))
-
-pub overflow_add-next : goal.overflow_add-next
-overflow_add-next c = omega (arith, inside c)
-
-pub slice_bounds-is_text-end : goal.slice_bounds-is_text-end
-slice_bounds-is_text-end c = omega (arith, inside c)
 
 pub returns-then-is_text : goal.returns-then-is_text
 returns-then-is_text c =

@@ -1,20 +1,6 @@
-use mathlib.Core.Path.{ap}
-use Prim.Native.Nat.{ℕ, ◌*◌}
 use native.Mathlib.Omega.{arith}
-use borrow.Author.Tests.{not-false}
 use Rattle.leaves.specs.Same.{all_free, all_booleans, all_chars}
-use borrow.Author.Rules.{rules}
 use Rattle.leaves.proofs.run.all_kept.Goals as goal
-
-pub all_at_most-requires : goal.all_at_most-requires
-all_at_most-requires c =
-    let s = c.args.s in
-    omega (arith, c.all_there.ensures c.if-not-all_there.false, ap (λ (z : ℕ). s.count * z) c.if-s-eq1.true)
-
-pub all_at_most-requires-then-s-eq1-2 : goal.all_at_most-requires-then-s-eq1-2
-all_at_most-requires-then-s-eq1-2 c =
-    let s = c.args.s in
-    omega (arith, c.all_there.ensures c.if-not-all_there.false, ap (λ (z : ℕ). s.count * z) c.if-s-eq1-2.true)
 
 pub returns-then-s-eq1 : goal.returns-then-s-eq1
 returns-then-s-eq1 c =

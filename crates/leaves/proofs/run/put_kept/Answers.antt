@@ -1,7 +1,6 @@
 use mathlib.Core.Path.{sym, ◌∙◌}
 use native.Mathlib.Omega.{arith}
 use Rattle.leaves.specs.Same.{rows_fit}
-use borrow.Author.Rules.{rules}
 use Rattle.leaves.proofs.run.put_kept.Goals as goal
 
 pub returns-clause-kept : goal.returns-clause-kept

@@ -1,22 +1,11 @@
-use mathlib.Core.Path.{◌≡◌, refl, sym, ◌∙◌}
+use mathlib.Core.Path.{refl, sym, ◌∙◌}
 use Rattle.std.proofs.lemmas.Result.{err_from_is_err_and}
-use Prim.Native.Nat.{◌-◌}
-use native.Mathlib.Omega.{arith}
 use borrow.Author.Rules.{rules}
-use lib.ListN.{length}
-use Rattle.leaves.specs.Run.{run_slots, run_from, run_of, run-turn, run_end}
+use Rattle.leaves.specs.Run.{run-turn, run_end}
 use Rattle.leaves.proofs.run.read_each.Goals as goal
 
 named : {A B : Type 0} → A × B → record { value : A; words_after : B }
 named p = record { value = p.0; words_after = p.1 }
-
-pub loop-i-init : goal.loop-i-init
-loop-i-init c =
-    let z : c.turns-n.result - 0 ≡ length (run_slots c.args.run) = omega (arith, c.turns-n.ensures) in
-    (c.turns-n.ensures, refl, rw z)
-
-pub turn-requires : goal.turn-requires
-turn-requires c = omega (arith, c.loop-i.invariant.0, c.loop-i-test.true)
 
 pub returns-in_err-reached : goal.returns-in_err-reached
 returns-in_err-reached c =

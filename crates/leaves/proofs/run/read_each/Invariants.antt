@@ -1,9 +1,7 @@
-use mathlib.Core.Path.{◌≡◌, refl, sym, ◌∙◌}
+use mathlib.Core.Path.{◌≡◌}
 use Prim.Native.Nat.{◌-◌}
-use native.Mathlib.Omega.{arith}
-use borrow.Author.Rules.{rules}
 use lib.ListN.{length}
-use Rattle.leaves.specs.Run.{run_slots, run_from, run_of, run-turn, run_end}
+use Rattle.leaves.specs.Run.{run_slots, run_from, run_of}
 use Rattle.leaves.proofs.run.read_each.Given as goal
 
 abbrev pub invariant-loop-i : goal.invariant-loop-i

@@ -1,7 +1,6 @@
-use mathlib.Core.Path.{refl, sym, ◌∙◌}
+use mathlib.Core.Path.{refl}
 use Rattle.std.proofs.lemmas.Result.{err_from_is_err_and}
 use Rattle.leaves.specs.Same.{one_run}
-use borrow.Author.Rules.{rules}
 use Rattle.leaves.proofs.run.read_one.Goals as goal
 
 named : {A B : Type 0} → A × B → record { value : A; words_after : B }

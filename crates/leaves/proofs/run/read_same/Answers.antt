@@ -1,7 +1,6 @@
 use mathlib.Core.Path.{refl}
 use native.Mathlib.Omega.{arith}
 use Rattle.leaves.proofs.SameLaws.{same_run}
-use borrow.Author.Rules.{rules}
 use Rattle.leaves.proofs.run.read_same.Goals as goal
 
 named : {A B : Type 0} → A × B → record { value : A; words_after : B }

@@ -1,7 +1,6 @@
 use native.Mathlib.Omega.{arith}
 use borrow.Author.Tests.{eq-eqb, ne_eqb}
 use Rattle.leaves.specs.Run.{turn_of, length-levels}
-use borrow.Author.Rules.{rules}
 use Rattle.leaves.proofs.run.turn.Goals as goal
 
 pub returns-then-i-eq0 : goal.returns-then-i-eq0

@@ -1,4 +1,3 @@
-use Rattle.std.proofs.Common.{rules}
 use Rattle.layout.specs.Table.{cell}
 use Rattle.table.proofs.Grid.cell.Goals as goal
 
