@@ -1,12 +1,12 @@
 -- Values that have no children and need no reader list. Assumes nothing.
-use Rattle.std.specs.Prelude.{Result, Ok, Err, cond, ◌≡◌, Bool, leb, ltb, eqb, length, get_or, take, drop}
+use Rattle.std.specs.Prelude.{Ok, Err, ◌≡◌, Bool, leb, ltb, eqb, length, get_or, take, drop}
 use Rattle.std.proofs.Math.Path.{refl, ap}
 use Rattle.std.proofs.Common.{◌∙◌}
 use Rattle.std.proofs.Math.Bool.{true, false}
 use mathlib.Core.List.{List, [], ◌∷◌}
 use Prim.Native.Nat.{ℕ, zero, suc, ◌-◌, ◌≤◌, ◌<◌, ◌^◌}
 use native.Mathlib.Omega.{arith}
-use borrow.Author.Tests.{leb-true, leb-false, ne_eqb, lt-ltb, le-ltb, ltb-true}
+use borrow.Author.Tests.{lt-ltb, ltb-true}
 use Rattle.layout.specs.Target.{Target, fixed, char, enum, kind_of, sprite_font}
 use Rattle.layout.specs.Tree.{none, tree}
 use Rattle.layout.specs.Fixed.{sizes}
@@ -24,10 +24,9 @@ use Rattle.reading.specs.Heads.{Opening, head_at, leaf_at, whole, own_at, fixed_
 use Rattle.reading.specs.Walk.{Outcome, done, sequence, value_at, walk}
 use Rattle.table.specs.declared.Grid.{Grid}
 use Rattle.table.specs.Word.{in_word, in_word_lem}
-use Rattle.laws.specs.Small.{differ}
 use Rattle.answers.specs.declared.Refusal.{Refusal}
-use Rattle.answers.specs.Refusals.{refusal}
-use Rattle.walked.specs.Room.{room_as}
+use Rattle.walked.specs.Room.{room_as, has_room, no_room}
+use mathlib.Core.Logic.{⊎_elim}
 use Rattle.walked.specs.declared.Head.{Head}
 use Rattle.walked.specs.Contract.{seen, Free, Ahead, Walked}
 use Rattle.walked.specs.Loop.{refusing}
@@ -37,7 +36,7 @@ use Rattle.places.specs.Padding.{no_number, id_alone, reference-numbered, sized-
 use Rattle.leaves.specs.declared.plain.Plain.{Plain}
 use Rattle.leaves.specs.declared.plain.Plain.TheVariants.{Fixed, Enum, Char, Level, Reference, Blob, Bone, Code, DataSize}
 use Rattle.reading.specs.Drafts.{nothing, resource, drafted}
-use Rattle.leaves.specs.Plain.{Begin, Lawful, Stops, head_of, plain_at, plain_pad, plain_seen, plain_slot, plain_value, plain_words, raw-leaf, value_left}
+use Rattle.leaves.specs.Plain.{Begin, Lawful, Stops, head_of, plain_at, plain_pad, plain_seen, plain_slot, plain_value, plain_words, raw-leaf, value_left, value_deep, value-full, value_there}
 
 -- a raw value has no number, and a reference has its resource id
 module _ (file : List ℕ) (small : Small file) (used at parent : ℕ) where
@@ -217,23 +216,13 @@ fixed_walked file g shared kind size at used w small begin l readers depth paren
     rw (fixed_alike file g.room 0 shared kind size at used depth) (plain_walked file g shared (Fixed kind size) at used w small begin l readers depth parent)
 
 -- a value that may have no row, and one that may
-module _ (file : List ℕ) (room shared : ℕ) (p : Plain) (at used : ℕ) where
-  pub value-stops : (depth : ℕ) → {e : Refusal} → Err e ≡ room_as depth room used at → plain_value file room shared p at used depth ≡ refused e.number e.place
-  unfolding plain_value check
-  value-stops zero {e} h =
-      let z : e ≡ refusal 18 at = cc in
-      rw z
-  value-stops (suc d) {e} h = go (leb room used) refl (rw (ne_eqb (suc d) 0 (λ q. omega arith)) at h) where
-    go : (b : Bool) → leb room used ≡ b → ◌≡◌ {A = Result (Unit {0}) Refusal} (Err e) (cond b (Err (refusal 19 at)) (Ok tt)) → check (ltb used room) 19 at (plain_at file shared p at) ≡ refused e.number e.place
-    go true q r =
-        let z : e ≡ refusal 19 at = cc in
-        rw (z, le-ltb used room (leb-true room used q))
-    go false q r = differ cc
+module _ (file : List ℕ) (room shared : ℕ) (p : Plain) (at used depth : ℕ) where
+  pub value-stops : {e : Refusal} → Err e ≡ room_as depth room used at → plain_value file room shared p at used depth ≡ refused e.number e.place
+  value-stops h =
+      ⊎_elim (λ w. rw w.1 (value_deep file room shared p at used depth w.0)) (λ w. rw w.2 (value-full file room shared p at used depth w.0 w.1))
+      (no_room depth room used at h)
 
-  pub value-goes : (depth : ℕ) → {u : Unit {0}} → Ok u ≡ room_as depth room used at → plain_value file room shared p at used depth ≡ plain_at file shared p at
-  unfolding plain_value check
-  value-goes zero h = differ cc
-  value-goes (suc d) {u} h = go (leb room used) refl (rw (ne_eqb (suc d) 0 (λ q. omega arith)) at h) where
-    go : (b : Bool) → leb room used ≡ b → ◌≡◌ {A = Result (Unit {0}) Refusal} (Ok u) (cond b (Err (refusal 19 at)) (Ok tt)) → check (ltb used room) 19 at (plain_at file shared p at) ≡ plain_at file shared p at
-    go true q r = differ cc
-    go false q r = rw (lt-ltb used room (leb-false room used q))
+  pub value-goes : {u : Unit {0}} → Ok u ≡ room_as depth room used at → plain_value file room shared p at used depth ≡ plain_at file shared p at
+  value-goes h =
+      let r = has_room depth room used at h in
+      value_there file room shared p at used depth r.0 r.1
