@@ -16,6 +16,7 @@ use ids::RowNumber;
 pub const WIDTH: u32 = 7;
 
 // The words of a row, by their places in it.
+// Kept: they are numbers and no enum, as a cell is also asked for the words 0 to WIDTH one after the other.
 pub const KIND: u32 = 0;
 
 pub const FIRST: u32 = 1;
@@ -64,20 +65,6 @@ pub fn shaped(words: usize, columns: bool) -> Grid
         room: room(words),
         columns,
     }
-}
-
-// A table by rows.
-pub fn rows_grid(words: usize) -> Grid
-    ensures { result ≡ rows_grid words }
-{
-    shaped(words, false)
-}
-
-// A table in columns.
-pub fn columns_grid(words: usize) -> Grid
-    ensures { result ≡ columns_grid words }
-{
-    shaped(words, true)
 }
 
 // The product of two words, which has no more than 64 bits.
