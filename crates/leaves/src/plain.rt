@@ -4,6 +4,7 @@ ghost use Rattle.leaves.specs.Same.{Uniform};
 ghost use Rattle.walked.specs.Leaf.{leaf_answer};
 ghost use Rattle.leaves.specs.Plain.{plain_at, plain_pad, plain_value, plain_left, value_left};
 
+use crate::read::level_at;
 use answers::{Read, Rule};
 use ids::ResourceId;
 use names::kinds;
@@ -98,54 +99,21 @@ fn plain_value(
     ensures words_after { words.new ≡ plain_left grid file.now words.old shared slot h }
 {
     let at = h.first;
-    match slot {
-        Plain::Fixed(kind, size) => {
-            let read = values::fixed_at(file, kind, size, at);
-            walked::leaf(words, grid, h, kind, 0, read)
-        }
-        Plain::Enum(size) => {
-            let read = values::fixed_at(file, kinds::ENUM_KIND, size, at);
-            walked::leaf(words, grid, h, kinds::ENUM_KIND, 0, read)
-        }
-        Plain::Char => walked::leaf(words, grid, h, kinds::CHAR, 0, text::char_at(file, at)),
-        Plain::Level(size) => {
-            let read = crate::read::level_at(file, size, at);
-            walked::leaf(words, grid, h, kinds::IMAGE_LEVEL, 0, read)
-        }
-        Plain::Reference(wanted) => reference(file, words, grid, shared, wanted, h),
-        Plain::Blob(size) => walked::leaf(
-            words,
-            grid,
-            h,
-            kinds::DATA_BYTES,
-            0,
-            fields::data_at(file, size, at),
+    let (kind, read) = match slot {
+        Plain::Reference(wanted) => return reference(file, words, grid, shared, wanted, h),
+        Plain::Fixed(kind, size) => (kind, values::fixed_at(file, kind, size, at)),
+        Plain::Enum(size) => (
+            kinds::ENUM_KIND,
+            values::fixed_at(file, kinds::ENUM_KIND, size, at),
         ),
-        Plain::Bone(bones) => walked::leaf(
-            words,
-            grid,
-            h,
-            kinds::BONE_REFERENCE,
-            0,
-            fields::bone_at(file, bones, at),
-        ),
-        Plain::Code(last) => walked::leaf(
-            words,
-            grid,
-            h,
-            kinds::INT_32,
-            0,
-            fields::code_at(file, last, at),
-        ),
-        Plain::DataSize(flag) => walked::leaf(
-            words,
-            grid,
-            h,
-            kinds::UINT_32,
-            0,
-            fields::size_at(file, flag, at),
-        ),
-    }
+        Plain::Char => (kinds::CHAR, text::char_at(file, at)),
+        Plain::Level(size) => (kinds::IMAGE_LEVEL, level_at(file, size, at)),
+        Plain::Blob(size) => (kinds::DATA_BYTES, fields::data_at(file, size, at)),
+        Plain::Bone(bones) => (kinds::BONE_REFERENCE, fields::bone_at(file, bones, at)),
+        Plain::Code(last) => (kinds::INT_32, fields::code_at(file, last, at)),
+        Plain::DataSize(flag) => (kinds::UINT_32, fields::size_at(file, flag, at)),
+    };
+    walked::leaf(words, grid, h, kind, 0, read)
 }
 
 // A raw value of a kind of fixed size, with the depth left: the walk reads one where it stands, without a call of `read_plain`.
