@@ -16,7 +16,7 @@ use objects::start::Started;
 use readers::Readers;
 use steps::{Children, Stepped};
 use table::Grid;
-use walked::{Head, Reached, Walk};
+use walked::{Head, Reached, Spot, Walk};
 
 // A value of a kind without a rule and without a count, once its children are walked: its row.
 fn close_plain(
@@ -77,9 +77,13 @@ fn close_flat(
         }
         Below::Simple(run) => {
             let n = table::word(leaves::run::turns(run));
-            let walked = leaves::run::read_run(
-                file, words, grid, shared, run, next, first, depth, first,
-            );
+            let below = Spot {
+                at: next,
+                used: first,
+                depth,
+                parent: first,
+            };
+            let walked = leaves::run::read_run(file, words, grid, shared, run, below);
             close_plain(words, grid, kind, h, n, walked)
         }
         Below::Nested(nest) => Ok(Stepped::Nested {
@@ -126,37 +130,30 @@ fn value(
     grid: Grid,
     shared: u32,
     slot: Slot,
-    at: usize,
-    used: u32,
-    depth: u32,
-    parent: u32,
+    spot: Spot,
 ) -> Result<Stepped, Refusal>
-    requires { KnownValue file.now codes.now words.old grid slot at used count target }
+    requires { KnownValue file.now codes.now words.old grid slot spot.at spot.used count target }
     ensures { ValueSteps grid file.now codes.now words.old words.new result
-        count target shared slot at used depth parent }
+        count target shared slot spot.at spot.used spot.depth spot.parent }
 {
     let named = target as usize;
     let started = objects::start::start(
-        file, codes, count, named, grid.room, slot, at, used, depth,
+        file, codes, count, named, grid.room, slot, spot.at, spot.used, spot.depth,
     )?;
     match started {
         Started::Plain(plain) => match plain {
             Plain::Fixed(kind, size) => {
-                leaves::plain::read_fixed(
-                    file, words, grid, kind, size, at, used, depth, parent,
-                ).map(Stepped::Done)
+                leaves::plain::read_fixed(file, words, grid, kind, size, spot).map(Stepped::Done)
             }
             _ => {
-                leaves::plain::read_plain(
-                    file, words, grid, shared, plain, at, used, depth, parent,
-                ).map(Stepped::Done)
+                leaves::plain::read_plain(file, words, grid, shared, plain, spot).map(Stepped::Done)
             }
         },
         Started::Null { next, padding } => {
             let h = Head {
-                row: RowNumber(used),
-                first: at,
-                parent,
+                row: RowNumber(spot.used),
+                first: spot.at,
+                parent: spot.parent,
                 detail: 0,
                 padding,
             };
@@ -169,13 +166,23 @@ fn value(
             padding,
         } => {
             let h = Head {
-                row: RowNumber(used),
-                first: at,
-                parent,
+                row: RowNumber(spot.used),
+                first: spot.at,
+                parent: spot.parent,
                 detail: id.0,
                 padding,
             };
-            raw_step(file, codes, words, grid, shared, place, h, from, depth - 1)
+            raw_step(
+                file,
+                codes,
+                words,
+                grid,
+                shared,
+                place,
+                h,
+                from,
+                spot.depth - 1,
+            )
         }
     }
 }
@@ -257,7 +264,19 @@ pub(crate) fn below(
             file, codes, rd, words, grid, shared, slot, n, at, used, depth,
         ),
         _ => nested(
-            file, codes, rd, words, grid, shared, nest, at, used, depth, used,
+            file,
+            codes,
+            rd,
+            words,
+            grid,
+            shared,
+            nest,
+            Spot {
+                at,
+                used,
+                depth,
+                parent: used,
+            },
         ),
     }
 }
@@ -297,10 +316,12 @@ fn list_from(
             grid,
             shared,
             Nest::Each(slot, n),
-            at,
-            used,
-            depth,
-            used,
+            Spot {
+                at,
+                used,
+                depth,
+                parent: used,
+            },
         ),
     }
 }
@@ -335,10 +356,12 @@ fn raws_from(
             grid,
             shared,
             Nest::Each(Slot::Raw(a), n),
-            at,
-            used,
-            depth,
-            used,
+            Spot {
+                at,
+                used,
+                depth,
+                parent: used,
+            },
         ),
     }
 }
@@ -396,10 +419,12 @@ fn objects_from(
         grid,
         shared,
         Nest::Each(Slot::Object(declared), left),
-        front.next,
-        row,
-        depth,
-        used,
+        Spot {
+            at: front.next,
+            used: row,
+            depth,
+            parent: used,
+        },
     )?;
     let reached = rest.reached;
     Ok(Children {
@@ -422,26 +447,28 @@ fn nested(
     grid: Grid,
     shared: u32,
     nest: Nest,
-    at: usize,
-    used: u32,
-    depth: u32,
-    parent: u32,
+    spot: Spot,
 ) -> Result<Children, Refusal>
-    requires { Begin file.now words.old grid at used × Known file.now codes.now rd × KnownNest file.now codes.now nest }
-    ensures { NestWalks grid file.now codes.now rd shared nest at used depth parent
+    requires { Begin file.now words.old grid spot.at spot.used × Known file.now codes.now rd × KnownNest file.now codes.now nest }
+    ensures { NestWalks grid file.now codes.now rd shared nest spot.at spot.used spot.depth spot.parent
         words.old words.new result }
 {
     let mut stage = heads::nest::begin(nest);
-    let mut next = at;
-    let mut row = used;
+    let mut next = spot.at;
+    let mut row = spot.used;
     let mut sum = 0;
     while (stage.next as u64) < stage.count {
         let slot = heads::nest::slot_at(nest, stage);
         let first = next;
         let position = objects::start::reader_position(file, next);
         let target = rd.targets[position];
+        let here = Spot {
+            at: next,
+            used: row,
+            ..spot
+        };
         let step = value(
-            file, codes, words, rd.count, target, grid, shared, slot, next, row, depth, parent,
+            file, codes, words, rd.count, target, grid, shared, slot, here,
         )?;
         let reached = match step {
             Stepped::Done(reached) => reached,
@@ -456,7 +483,7 @@ fn nested(
                 let h = Head {
                     row: RowNumber(row),
                     first: next,
-                    parent,
+                    parent: spot.parent,
                     detail: id.0,
                     padding,
                 };
@@ -472,7 +499,7 @@ fn nested(
                     from,
                     below,
                     inner,
-                    depth - 1,
+                    spot.depth - 1,
                 )?
             }
         };

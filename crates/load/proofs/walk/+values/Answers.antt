@@ -29,8 +29,8 @@ use Rattle.load.proofs.walk.+values.Goals as goal
 nested-walked : (t : ℕ) (c : goal.nested-After-after-stage t) (readers : List Target) (plan : L.Plan) →
     let a = c.args in
     Listed a.file.now a.codes.now a.rd readers → NestIs a.file.now a.codes.now a.nest plan
-    → Standing a.grid a.file.now a.codes.now readers a.shared a.depth plan
-    a.words.now a.at a.used a.parent a.nest c.match-step.words
+    → Standing a.grid a.file.now a.codes.now readers a.shared a.spot.depth plan
+    a.words.now a.spot.at a.spot.used a.spot.parent a.nest c.match-step.words
     (after_of a.file.now c.loop-stage.next a.nest c.loop-stage.stage) c.match-step.reached.next c.match-step.reached.used c.sum-sum.result
     × (c.loop-stage.row < c.match-step.reached.used) × (c.match-step.reached.used ≤ a.grid.room)
 nested-walked t c readers plan l n =
@@ -43,11 +43,11 @@ nested-walked t c readers plan l n =
     (record { counts = refl; at = ap (λ p. get_or a.rd.targets p 0) (sym c.reader_position-position.ensures) })
     l (rw c.slot_at-slot.ensures v.is)) in
     let y : Got a.grid file c.loop-stage.words c.match-step.words c.loop-stage.row
-    (walk file readers a.shared a.grid.room a.depth v.x c.loop-stage.next c.loop-stage.row a.parent) c.match-step.reached.next c.match-step.reached.used c.match-step.reached.padding =
+    (walk file readers a.shared a.grid.room a.spot.depth v.x c.loop-stage.next c.loop-stage.row a.spot.parent) c.match-step.reached.next c.match-step.reached.used c.match-step.reached.padding =
     elim c.match-step.branch [
       | nested-in-Done w ↦ rw (w.words-is, w.reached-is) (got (rw w.in-Done.is at s) refl)
       | nested-in-Nested+in_ok-reached-in-Nested w ↦ let q = rw w.in-Nested.is at s in
-          rw (w.words-is, w.reached-is) (got (left_walked a.grid a.shared (a.depth - 1) a.parent (omega (arith, q.begins.deep)) q
+          rw (w.words-is, w.reached-is) (got (left_walked a.grid a.shared (a.spot.depth - 1) a.spot.parent (omega (arith, q.begins.deep)) q
           (w.raw.ensures readers q.begins.type l q.begins.stands q.opened)) w.in_ok-reached-in-Nested.was)
     ] in
     rw c.sum-sum.ensures (next_walked _ _ _ _ _ _ _ _ _ _ _ _ small c.requires.0 v y)
@@ -140,8 +140,8 @@ nested-returns-in_err-step t c =
     let p = err_from_is_err_and c.from_residual.result c.from_residual.ensures.1 in
     rw (p.1, p.2) (next_lost _ _ _ _ _ _ _ _ _ _ _ _ v (lost s refl))
 
-pub nested-overflow_sub-depth : goal.nested-overflow_sub-depth
-nested-overflow_sub-depth t c =
+pub nested-overflow_sub-spot : goal.nested-overflow_sub-spot
+nested-overflow_sub-spot t c =
     let a = c.args in
     let k = c.requires.1 in
     let inv = c.loop-stage.invariant k.readers c.requires.2.plan k.listed c.requires.2.is in
@@ -189,7 +189,7 @@ nested-returns-in_err-reached-in-Nested t c =
     let s = rw (c.in_ok-step.was, c.in-Nested.is) at (c.value.ensures a.rd readers v.x (record { counts = refl; at = ap (λ p. get_or a.rd.targets p 0) (sym c.reader_position-position.ensures) }) l
     (rw c.slot_at-slot.ensures v.is)) in
     let p = err_from_is_err_and c.from_residual-in_err-reached-in-Nested.result c.from_residual-in_err-reached-in-Nested.ensures.1 in
-    rw (p.1, p.2) (next_lost _ _ _ _ _ _ _ _ _ _ _ _ v (lost (left_walked a.grid a.shared (a.depth - 1) a.parent (omega (
+    rw (p.1, p.2) (next_lost _ _ _ _ _ _ _ _ _ _ _ _ v (lost (left_walked a.grid a.shared (a.spot.depth - 1) a.spot.parent (omega (
       arith,
       s.begins.deep,
     )) s (c.raw.ensures readers s.begins.type l s.begins.stands s.opened)) c.in_err-reached-in-Nested.was))

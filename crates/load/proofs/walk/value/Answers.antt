@@ -27,19 +27,19 @@ use Rattle.load.proofs.walk.value.Goals as goal
 
 -- what the value begins with
 starting : (c : After-start) (rd : Readers) (readers : List Target) (x : Slot)
-    → Has rd c.args.count (position_at c.args.file.now c.args.at) c.args.target
+    → Has rd c.args.count (position_at c.args.file.now c.args.spot.at) c.args.target
     → Listed c.args.file.now c.args.codes.now rd readers
     → SlotIs c.args.file.now c.args.codes.now c.args.slot x
-    → c.args.at ≤ length c.args.file.now
-    → (let a = c.args in Starts a.file.now a.codes.now readers a.grid.room a.depth x a.at a.used c.start.result)
+    → c.args.spot.at ≤ length c.args.file.now
+    → (let a = c.args in Starts a.file.now a.codes.now readers a.grid.room a.spot.depth x a.spot.at a.spot.used c.start.result)
 starting c rd readers x h l s p =
     let a = c.args in
     let small = small_by_index a.file.now (λ i h. omega (arith, c.type_inv.file i)) in
-    rw c.start.ensures (starts_as a.file.now a.codes.now a.count a.target rd readers l small a.grid.room a.slot a.at a.used a.depth x h s p)
+    rw c.start.ensures (starts_as a.file.now a.codes.now a.count a.target rd readers l small a.grid.room a.slot a.spot.at a.spot.used a.spot.depth x h s p)
 
-pub overflow_sub-depth : goal.overflow_sub-depth
-overflow_sub-depth c =
-    let s = rw (c.in_ok-started.was, c.in-Raw.is) at (starting (goal.at.overflow_sub-depth c).After-start c.requires.1.rd c.requires.1.readers c.requires.2.x c.requires.1.has c.requires.1.listed c.requires.2.is c.requires.0.place) in
+pub overflow_sub-spot : goal.overflow_sub-spot
+overflow_sub-spot c =
+    let s = rw (c.in_ok-started.was, c.in-Raw.is) at (starting (goal.at.overflow_sub-spot c).After-start c.requires.1.rd c.requires.1.readers c.requires.2.x c.requires.1.has c.requires.1.listed c.requires.2.is c.requires.0.place) in
     omega (arith, s.deep)
 
 pub raw_step-requires : goal.raw_step-requires
@@ -52,7 +52,7 @@ returns-in_err-started c =
     λ rd readers x h l s.
     let b = rw c.in_err-started.was at (starting (goal.at.returns-in_err-started c).After-start rd readers x h l s c.requires.0.place) in
     let p = err_from_is_err_and c.from_residual.result c.from_residual.ensures.1 in
-    rw (p.1, p.2) (refusing (b c.args.shared c.args.parent))
+    rw (p.1, p.2) (refusing (b c.args.shared c.args.spot.parent))
 
 pub returns-in-Fixed : goal.returns-in-Fixed
 returns-in-Fixed c =
@@ -61,10 +61,10 @@ returns-in-Fixed c =
     let p = c.requires.0 in
     let small = small_by_index a.file.now (λ i h. omega (arith, c.type_inv.file i)) in
     let b = rw (c.in_ok-started.was, c.in-Plain.is, c.in-Fixed.is) at (starting (goal.at.returns-in-Fixed c).After-start rd readers x h l s p.place) in
-    let w = fixed_walked a.file.now a.grid a.shared _ _ a.at a.used a.words.now small p b.1 readers a.depth a.parent in
-    let v = rw (sym (like_walk a.file.now readers a.shared a.grid.room a.depth b.0 a.at a.used a.parent)) at w in
+    let w = fixed_walked a.file.now a.grid a.shared _ _ a.spot.at a.spot.used a.words.now small p b.1 readers a.spot.depth a.spot.parent in
+    let v = rw (sym (like_walk a.file.now readers a.shared a.grid.room a.spot.depth b.0 a.spot.at a.spot.used a.spot.parent)) at w in
     rw (mapped c.read_fixed.result c.map.result c.map.ensures.cases, c.read_fixed.ensures.value, c.read_fixed.ensures.words_after)
-    (value-told a.grid a.file.now a.codes.now readers a.shared a.depth x a.at a.used a.parent _ v)
+    (value-told a.grid a.file.now a.codes.now readers a.shared a.spot.depth x a.spot.at a.spot.used a.spot.parent _ v)
 
 pub returns-in_default : goal.returns-in_default
 returns-in_default c =
@@ -73,9 +73,9 @@ returns-in_default c =
     let p = c.requires.0 in
     let small = small_by_index a.file.now (λ i h. omega (arith, c.type_inv.file i)) in
     let b = rw (c.in_ok-started.was, c.in-Plain.is) at (starting (goal.at.returns-in_default c).After-start rd readers x h l s p.place) in
-    let w = plain_walked a.file.now a.grid a.shared c.in-Plain.plain a.at a.used a.words.now small p b.1 readers a.depth a.parent in
-    let v = rw (sym (like_walk a.file.now readers a.shared a.grid.room a.depth b.0 a.at a.used a.parent)) at w in
-    rw (mapped c.read_plain.result c.map-in_default.result c.map-in_default.ensures.cases, c.read_plain.ensures.value, c.read_plain.ensures.words_after) (value-told a.grid a.file.now a.codes.now readers a.shared a.depth x a.at a.used a.parent _ v)
+    let w = plain_walked a.file.now a.grid a.shared c.in-Plain.plain a.spot.at a.spot.used a.words.now small p b.1 readers a.spot.depth a.spot.parent in
+    let v = rw (sym (like_walk a.file.now readers a.shared a.grid.room a.spot.depth b.0 a.spot.at a.spot.used a.spot.parent)) at w in
+    rw (mapped c.read_plain.result c.map-in_default.result c.map-in_default.ensures.cases, c.read_plain.ensures.value, c.read_plain.ensures.words_after) (value-told a.grid a.file.now a.codes.now readers a.shared a.spot.depth x a.spot.at a.spot.used a.spot.parent _ v)
 
 pub returns-in-Null : goal.returns-in-Null
 unfolding seen
@@ -85,17 +85,17 @@ returns-in-Null c =
     let p = c.requires.0 in
     let small = small_by_index a.file.now (λ i h. omega (arith, c.type_inv.file i)) in
     let b = rw (c.in_ok-started.was, c.in-Null.is) at (starting (goal.at.returns-in-Null c).After-start rd readers x h l s p.place) in
-    let free : Free a.grid a.words.now a.used = record { long = p.long; there = b.free; few = omega (arith, b.free, p.few) } in
-    rw (mapped c.leaf.result c.map-in-Null.result c.map-in-Null.ensures.cases, c.leaf.ensures.value, c.leaf.ensures.words_after, b.is a.shared a.parent)
-    (leaf_walked {A = ℕ} a.grid a.file.now a.words.now (head_of a.used a.at a.parent 0 c.in-Null.padding) 0 nothing (read 0 _) free (
+    let free : Free a.grid a.words.now a.spot.used = record { long = p.long; there = b.free; few = omega (arith, b.free, p.few) } in
+    rw (mapped c.leaf.result c.map-in-Null.result c.map-in-Null.ensures.cases, c.leaf.ensures.value, c.leaf.ensures.words_after, b.is a.shared a.spot.parent)
+    (leaf_walked {A = ℕ} a.grid a.file.now a.words.now (head_of a.spot.used a.spot.at a.spot.parent 0 c.in-Null.padding) 0 nothing (read 0 _) free (
       b.ahead,
       omega (arith, b.inside, p.short),
-    ) (null_pads a.file.now small a.used a.at a.parent b.pads))
+    ) (null_pads a.file.now small a.spot.used a.spot.at a.spot.parent b.pads))
 
 pub returns-in-Raw : goal.returns-in-Raw
 returns-in-Raw c =
     λ rd readers x h l s.
     let a = c.args in
     let b = rw (c.in_ok-started.was, c.in-Raw.is) at (starting (goal.at.returns-in-Raw c).After-start rd readers x h l s c.requires.0.place) in
-    raw_steps a.grid a.file.now a.codes.now readers a.shared a.depth (a.depth - 1) x a.at a.used a.parent _ _ _ _ a.words.now
+    raw_steps a.grid a.file.now a.codes.now readers a.shared a.spot.depth (a.spot.depth - 1) x a.spot.at a.spot.used a.spot.parent _ _ _ _ a.words.now
     c.raw_step.new.words c.raw_step.result (omega (arith, b.deep)) b (c.raw_step.ensures readers b.type b.stands)
