@@ -13,10 +13,7 @@ use answers::{Number, Read, Rule};
 pub fn has_bytes(s: &[u8], at: usize, n: usize) -> bool
     ensures { result ≡ leb n (length (drop at s.now)) }
 {
-    if s.len() < at {
-        return n == 0;
-    }
-    n <= s.len() - at
+    n <= s.len().saturating_sub(at)
 }
 
 // A width of little-endian numbers: how many bytes they have, and the value of those bytes from a place on.

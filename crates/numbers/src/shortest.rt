@@ -30,6 +30,7 @@ fn put(out: &mut [u8], at: usize, n: u32)
 {
     let mut i = at;
     let mut x = n;
+    // Kept: what is left of the number ends the loop, and not the index, so a range is no plainer.
     while 128 <= x {
         out[i] = (x % 128 + 128) as u8;
         x /= 128;

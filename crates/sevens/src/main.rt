@@ -88,6 +88,7 @@ fn show(rt: &(impl Print + Eprint), s: &[u8], start: usize) -> std::io::Result<(
 // One number after the other, the missing one at the input's end too; where one is refused, the next place is tried.
 fn list(rt: &(impl Print + Eprint), s: &[u8]) -> std::io::Result<()> {
     let mut at = 0;
+    // Kept: a turn goes on by the size of a number, so a range is no plainer.
     while at <= s.len() {
         show(rt, s, at)?;
         at = match numbers::seven::seven_at(s, at) {

@@ -1,7 +1,5 @@
 -- `images::level_size` meets its contract: 0 outside the bounds, and inside them the bytes of the halved sides. Assumes nothing.
 use mathlib.Core.Path.{sym, ◌∙◌}
-use Prim.Native.Nat.{◌^◌}
-use native.Mathlib.Nat.{div-le_self}
 use native.Mathlib.Omega.{arith}
 use Rattle.images.specs.Laws.{unlawful_size, lawful_size_lem}
 use Rattle.images.proofs.level_size.Goals as goal
@@ -23,11 +21,6 @@ returns-then-height-gt4096 c = sym (unlawful_size _ _ _ _ (λ b. omega arith))
 
 pub returns-then-level-gt12 : goal.returns-then-level-gt12
 returns-then-level-gt12 c = sym (unlawful_size _ _ _ _ (λ b. omega arith))
-
-pub level_bytes-requires : goal.level_bytes-requires
-level_bytes-requires c =
-    let a = c.args in
-    omega (arith, div-le_self a.width (2 ^ a.level), div-le_self a.height (2 ^ a.level))
 
 pub returns : goal.returns
 returns c =

@@ -1,6 +1,6 @@
 use Rattle.std.proofs.Common.{◌≡◌, sym, ap, ◌∙◌, ℕ, ◌+◌, ◌*◌, ◌%◌, ◌^◌, bit_and, bit_or, arith, lt-ltb, le-ltb}
 use Rattle.std.proofs.lemmas.Result.{err_from_is_err_and}
-use lib.Bits.{and_mask, mask_lt}
+use lib.Bits.{and_mask}
 use Rattle.numbers.specs.Steps.{joined, group}
 use Rattle.numbers.proofs.Found.{Found, cut, found}
 use Rattle.numbers.proofs.seven.group_at.Goals.{In_ok-byte}
@@ -37,9 +37,6 @@ returns-then-byte-lt128 c =
     let f = there (goal.at.returns-then-byte-lt128 c).In_ok-byte in
     let t = lt-ltb c.in_ok-byte.byte 128 (omega (arith, c.if-byte-lt128.true)) in
     simp (f.not_cut, f.byte, t, c.join.ensures, c.requires.1, c.beyond.ensures, c.needed_by-short.ensures)
-
-pub join-requires-2 : goal.join-requires-2
-join-requires-2 c = (mask_lt c.in_ok-byte.byte 7, omega arith)
 
 pub returns : goal.returns
 unfolding group

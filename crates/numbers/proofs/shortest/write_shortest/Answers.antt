@@ -1,25 +1,13 @@
 use mathlib.Core.Path.{◌≡◌, refl, ◌∙◌}
-use mathlib.Core.Bool.{true, false}
+use mathlib.Core.Bool.{true}
 use Prim.Native.Nat.{◌+◌}
 use native.Mathlib.Omega.{arith}
 use lib.Dec.{leb}
 use lib.ListN.{length}
 use lib.Seq.{sets-eq}
-use borrow.Author.Tests.{le-leb, lt-leb}
+use borrow.Author.Tests.{le-leb}
 use Rattle.layout.specs.Shortest.{shortest}
 use Rattle.numbers.proofs.shortest.write_shortest.Goals as goal
-
-pub returns-then-out-at : goal.returns-then-out-at
-returns-then-out-at c =
-    let a = c.args in
-    let t : leb (a.at + length (shortest a.n)) (length a.out.now) ≡ false = lt-leb (a.at + length (shortest a.n)) (length a.out.now) (omega arith) in
-    rw t (refl, refl)
-
-pub returns-then-out-at-2 : goal.returns-then-out-at-2
-returns-then-out-at-2 c =
-    let a = c.args in
-    let t : leb (a.at + length (shortest a.n)) (length a.out.now) ≡ false = lt-leb (a.at + length (shortest a.n)) (length a.out.now) (omega arith) in
-    rw t (refl, refl)
 
 pub returns : goal.returns
 returns c =
