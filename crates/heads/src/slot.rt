@@ -57,19 +57,13 @@ pub fn slot_of(codes: &[u32], a: usize) -> Slot
     ensures { result ≡ slot_by (kind_at codes.now a) a }
 {
     let kind = targets::kind_at(codes, a);
-    if kind == kinds::OBJECT {
-        return Slot::Object(a);
+    match kind {
+        kinds::OBJECT => Slot::Object(a),
+        kinds::CHAR => Slot::Simple(Plain::Char),
+        kinds::NULLABLE_KIND => Slot::Raw(a),
+        _ if bytes_of(kind) == 0 => Slot::Object(a),
+        _ => Slot::Simple(plain_of(kind)),
     }
-    if kind == kinds::CHAR {
-        return Slot::Simple(Plain::Char);
-    }
-    if kind == kinds::NULLABLE_KIND {
-        return Slot::Raw(a);
-    }
-    if bytes_of(kind) != 0 {
-        return Slot::Simple(plain_of(kind));
-    }
-    Slot::Object(a)
 }
 
 // A raw value of the type at a place.
@@ -78,11 +72,9 @@ pub fn raw_of(codes: &[u32], a: usize) -> Slot
     ensures { result ≡ raw_of (kind_at codes.now a) a }
 {
     let kind = targets::kind_at(codes, a);
-    if kind == kinds::CHAR {
-        return Slot::Simple(Plain::Char);
+    match kind {
+        kinds::CHAR => Slot::Simple(Plain::Char),
+        _ if bytes_of(kind) == 0 => Slot::Raw(a),
+        _ => Slot::Simple(plain_of(kind)),
     }
-    if bytes_of(kind) == 0 {
-        return Slot::Raw(a);
-    }
-    Slot::Simple(plain_of(kind))
 }
