@@ -61,7 +61,10 @@ fn rules_kept(file: &[u8], enums: &[u8], rows: UsedRows, loaded: Loaded) -> Resu
 {
     kept(Rule::NotWindows, platform(file))?;
     kept(Rule::NotShortest, numbers(file, rows, loaded))?;
-    kept(Rule::UnusedReader, unused_reader(file, rows, loaded.readers))?;
+    kept(
+        Rule::UnusedReader,
+        unused_reader(file, rows, loaded.readers),
+    )?;
     kept(Rule::EqualReaders, doubled_reader(file, enums))?;
     kept(Rule::RepeatedKey, repeated_keys(file, rows))?;
     kept(Rule::NotPage, no_page(rows))?;
