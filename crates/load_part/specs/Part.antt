@@ -6,7 +6,7 @@ use Rattle.std.proofs.lemmas.List.{length-replicate}
 use Rattle.laws.specs.Small.{differ}
 use Rattle.layout.specs.Rows.{flat, width}
 use Rattle.layout.specs.Table.{room_of}
-use Rattle.reading.specs.Answer.{Answer, read}
+use Rattle.reading.specs.Answer.{Answer}
 use Rattle.reading.specs.File.{Loaded, file_at, Load, refusal, accepted, to_load, table_of, table_in}
 use Rattle.reading.specs.References.{length-flat}
 use Rattle.enums.specs.Judge.{Judgement, lawful, enums_at}
