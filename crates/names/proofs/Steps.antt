@@ -24,7 +24,7 @@ use Rattle.names.specs.Sound.{Ok, NameStands, span_le, sound}
 use Rattle.names.specs.Contract.{rule_by, rule_of, rule_behind, parsed, answer, met, Parses, arguments, tailed, passed, tailed_after, closing}
 use borrow.Author.Tests.{eq-eqb, ne_eqb, eqb-true, eqb-false}
 use Rattle.names.specs.Common.{starts-common}
-use Rattle.names.proofs.Laws.{rest, starts-fits}
+use Rattle.names.proofs.Laws.{starts-fits}
 use Rattle.names.specs.Codes.{heads_few, codes-append, codes-length}
 use Rattle.names.specs.Heading.{Heading, heading, headings}
 use Rattle.names.specs.Kind.{codes, word, kind_in}
@@ -254,16 +254,9 @@ fronted c used x ws p q =
     let z : used + 1 ≡ suc used = omega arith in
     q ∙ rw (p, z)
 
--- a call on `&s[a..]`
-module _ {es : List EnumEntry} {own : Bool} {l : ℕ} (s : List ℕ) (a : ℕ) {at : ℕ} {c c' : List ℕ} {used : ℕ} where
-  part_answer : {r : Result Parsed Refusal} → Parses es own l at (take (length s - a) (drop a s)) c c' used r → Parses es own l at (drop a s) c c' used r
-  part_answer p = rw (rest s a) at p
-
-  pub part_took : {f : Parsed} → a ≤ length s → Parses es own l at (take (length s - a) (drop a s)) c c' used (Result-ok f) → Took s a at used l f
-  part_took h p = took s a at used l h (part_answer p).answers
-
-pub part_length : (s : List ℕ) (a : ℕ) → length (take (length s - a) (drop a s)) ≡ length s - a
-part_length s a = ap length (rest s a) ∙ length-drop a s
+-- a call on what stands from a on
+pub part_took : {es : List EnumEntry} {own : Bool} {l : ℕ} (s : List ℕ) (a : ℕ) {at : ℕ} {c c' : List ℕ} {used : ℕ} {f : Parsed} → a ≤ length s → Parses es own l at (drop a s) c c' used (Result-ok f) → Took s a at used l f
+part_took {l = l} s a {at} {used = used} h p = took s a at used l h p.answers
 
 -- an argument that was read, and a text after it
 pub record Passed (w s : List ℕ) (a k b : ℕ) : Type 0 where
@@ -297,7 +290,7 @@ module _ (w : List ℕ) (at : ℕ) (s : List ℕ) (a : ℕ) (f : Parsed) where
 
 -- the second argument starts within the part, and the codes that are used until then are fewer than the bytes
 pub second_fits : {es : List EnumEntry} {own : Bool} {l : ℕ} (at : ℕ) (s : List ℕ) (a : ℕ) {c c' : List ℕ} {used : ℕ} {f : Parsed} {b : ℕ} → a ≤ length s
-    → Parses es own l (at + a) (take (length s - a) (drop a s)) c c' used (Result-ok f) → passed (ascii "],[") at s a f ≡ Result-ok b → (b ≤ length s) × (f.used + a ≤ used + b)
+    → Parses es own l (at + a) (drop a s) c c' used (Result-ok f) → passed (ascii "],[") at s a f ≡ Result-ok b → (b ≤ length s) × (f.used + a ≤ used + b)
 unfolding ascii
 second_fits at s a {f = f} h p y =
     let t = has-passed (ascii "],[") at s a f y in
@@ -326,18 +319,18 @@ module _ {es : List EnumEntry} {own : Bool} {l at : ℕ} {s c : List ℕ} {used 
 -- behind a head that opens arguments
 module _ (es : List EnumEntry) (own : Bool) (l at : ℕ) (s c : List ℕ) (used h n : ℕ) (e : name_in l at s ≡ after_head (name_in (l - 1)) at s h n) (inside : h ≤ length s) {c₁ c₂ : List ℕ} (w : c₁ ≡ set c used (first es own at s h n)) where
   -- what the codes hold when the first argument was read
-  fronts : {r : Result Parsed Refusal} {ws : List ℕ} → Parses es false (l - 1) (at + (h + 4)) (take (length s - (h + 4)) (drop (h + 4) s)) c₁ c₂ (used + 1) r
+  fronts : {r : Result Parsed Refusal} {ws : List ℕ} → Parses es false (l - 1) (at + (h + 4)) (drop (h + 4) s) c₁ c₂ (used + 1) r
       → ws ≡ codes es own (met at (after_head (name_in (l - 1)) at s h n)) → ws ≡ first es own at s h n ∷ codes es false (met (at + (h + 4)) (name_in (l - 1) (at + (h + 4)) (drop (h + 4) s)))
       → c₂ ≡ sets c used (codes es own (met at (name_in l at s)))
   fronts p i q =
-      fronted c used (first es own at s h n) (codes es false (met (at + (h + 4)) (name_in (l - 1) (at + (h + 4)) (drop (h + 4) s)))) w (part_answer s (h + 4) p).writes ∙ ap (sets c used) (sym q ∙ i ∙ ap (λ (r : Read). codes es own (met at r)) (sym e))
+      fronted c used (first es own at s h n) (codes es false (met (at + (h + 4)) (name_in (l - 1) (at + (h + 4)) (drop (h + 4) s)))) w p.writes ∙ ap (sets c used) (sym q ∙ i ∙ ap (λ (r : Read). codes es own (met at r)) (sym e))
 
-  pub argument-lost : {x : Refusal} → Parses es false (l - 1) (at + (h + 4)) (take (length s - (h + 4)) (drop (h + 4) s)) c₁ c₂ (used + 1) (Err x) → (n ≡ 0 → ⊥) → n ≤ 2 → Parses es own l at s c c₂ used (Err x)
+  pub argument-lost : {x : Refusal} → Parses es false (l - 1) (at + (h + 4)) (drop (h + 4) s) c₁ c₂ (used + 1) (Err x) → (n ≡ 0 → ⊥) → n ≤ 2 → Parses es own l at s c c₂ used (Err x)
   argument-lost {x} p z k =
-      let g = argument_lost es own at s h (length-take-le h s inside) (name_in (l - 1)) (used + 1) used n x (name_in (l - 1) (at + (h + 4)) (drop (h + 4) s)) refl z k (part_answer s (h + 4) p).answers in
+      let g = argument_lost es own at s h (length-take-le h s inside) (name_in (l - 1)) (used + 1) used n x (name_in (l - 1) (at + (h + 4)) (drop (h + 4) s)) refl z k p.answers in
       record { answers = g.0 ∙ ap (answer at used) (sym e); writes = fronts p refl g.1 }
 
-  module _ {f : Parsed} (p : Parses es false (l - 1) (at + (h + 4)) (take (length s - (h + 4)) (drop (h + 4) s)) c₁ c₂ (used + 1) (Result-ok f)) (g : h + 4 ≤ length s) where
+  module _ {f : Parsed} (p : Parses es false (l - 1) (at + (h + 4)) (drop (h + 4) s) c₁ c₂ (used + 1) (Result-ok f)) (g : h + 4 ≤ length s) where
     pub only_done : {r : Result Parsed Refusal} → n ≡ 1 → r ≡ closing at s (h + 4) f → Parses es own l at s c c₂ used r
     unfolding after_head
     only_done z q =
@@ -360,7 +353,7 @@ module _ (es : List EnumEntry) (own : Bool) (l at : ℕ) (s c : List ℕ) (used 
           writes = fronts p refl (ap (λ (r : Read). codes es own (met at r)) i ∙ o.1 ∙ rw (z, k.is));
         }
 
-    module _ {b : ℕ} {c₃ : List ℕ} (z : n ≡ 2) (k : Took s (h + 4) (at + (h + 4)) (used + 1) (l - 1) f) (o : passed (ascii "],[") at s (h + 4) f ≡ Result-ok b) {r : Result Parsed Refusal} (p₂ : Parses es false (l - 1) (at + b) (take (length s - b) (drop b s)) c₂ c₃ f.used r) where
+    module _ {b : ℕ} {c₃ : List ℕ} (z : n ≡ 2) (k : Took s (h + 4) (at + (h + 4)) (used + 1) (l - 1) f) (o : passed (ascii "],[") at s (h + 4) f ≡ Result-ok b) {r : Result Parsed Refusal} (p₂ : Parses es false (l - 1) (at + b) (drop b s) c₂ c₃ f.used r) where
       starts_at : b ≡ h + 4 + long k.n + 3
       unfolding ascii
       starts_at = omega (arith, (has-passed (ascii "],[") at s (h + 4) f o).next, k.size)
@@ -384,13 +377,13 @@ module _ (es : List EnumEntry) (own : Bool) (l at : ℕ) (s c : List ℕ) (used 
           let second = name_in (l - 1) (at + b) (drop b s) in
           let xs = first es own at s h 2 ∷ codes es false (headings (at + (h + 4)) k.n) in
           let ys = codes es false (met (at + b) second) in
-          let w₂ : c₂ ≡ sets c used xs = fronted c used (first es own at s h 2) (codes es false (headings (at + (h + 4)) k.n)) (rw z at w) ((part_answer s (h + 4) p).writes ∙ rw k.is) in
+          let w₂ : c₂ ≡ sets c used xs = fronted c used (first es own at s h 2) (codes es false (headings (at + (h + 4)) k.n)) (rw z at w) (p.writes ∙ rw k.is) in
           let v : f.used ≡ used + length xs = omega (arith, more, codes-length es false (headings (at + (h + 4)) k.n)) in
-          (part_answer s b p₂).writes ∙ rw (w₂, v) (sets-append c used xs ys) ∙ ap (sets c used) (sym (second_met es own at s h (length-take-le h s inside) k.n b starts_at second) ∙ ap (λ (r : Read). codes es own (met at r)) (sym both_is))
+          p₂.writes ∙ rw (w₂, v) (sets-append c used xs ys) ∙ ap (sets c used) (sym (second_met es own at s h (length-take-le h s inside) k.n b starts_at second) ∙ ap (λ (r : Read). codes es own (met at r)) (sym both_is))
 
       pub second-lost : {x : Refusal} → r ≡ Err x → Parses es own l at s c c₃ used (Err x)
       second-lost {x} q = record {
-        answers = second_lost es own at s h (length-take-le h s inside) k.n b starts_at f.used used x (name_in (l - 1) (at + b) (drop b s)) (sym q ∙ (part_answer s b p₂).answers) ∙ ap (answer at used) (sym both_is);
+        answers = second_lost es own at s h (length-take-le h s inside) k.n b starts_at f.used used x (name_in (l - 1) (at + b) (drop b s)) (sym q ∙ p₂.answers) ∙ ap (answer at used) (sym both_is);
         writes = both_writes;
       }
 
@@ -398,6 +391,6 @@ module _ (es : List EnumEntry) (own : Bool) (l at : ℕ) (s c : List ℕ) (used 
       both_done {f₂} fit q d =
           let k₂ = part_took s b {f = f₂} fit (rw q at p₂) in
           record {
-            answers = d ∙ ap (closing at s b) k₂.whole ∙ second_answer es own at s h (length-take-le h s inside) k.n b starts_at f.used used more k₂.n f₂.end ∙ ap (answer at used) (rw (both_is, k₂.is));
+            answers = d ∙ ap (closing at s b) k₂.whole ∙ second_answer es own at s h (length-take-le h s inside) k.n b starts_at f.used used more k₂.n f₂.end ∙ ap (answer at used) (ap (on_second at s h (h + 4) k.n b) (sym k₂.is) ∙ sym both_is);
             writes = both_writes;
           }

@@ -19,6 +19,28 @@ struct Parsed {
     used: usize,
 }
 
+// A reader's name or a part of it, and the place of its first byte in the file, which codes have room for.
+#[derive(Clone, Copy)]
+struct Part<'a> {
+    bytes: &'a [u8],
+    at: usize,
+    ghost placed: { at + length bytes.now ≤ 16777216 },
+}
+
+impl<'a> Part<'a> {
+    // What stands behind the first n bytes.
+    fn behind(self, n: usize) -> Part<'a>
+        requires { n ≤ length self.bytes.now }
+        ensures bytes { result.bytes.now ≡ drop n self.entry.bytes.now }
+        ensures at { result.at ≡ self.entry.at + n }
+    {
+        Part {
+            bytes: &self.bytes[n..],
+            at: self.at + n,
+        }
+    }
+}
+
 // How many bytes a comma and a tail have, if they stand first.
 fn tail_size(s: &[u8]) -> usize
     ensures { result ≡ tail_size s.now }
@@ -51,38 +73,38 @@ fn tailed_at(name: &[u8], at: usize, used: usize, bare: Rule) -> Parsed
 }
 
 // How many arguments a head has that ends at `h`, or the fault of a backquote that opens none.
-fn arguments_at(name: &[u8], h: usize, at: usize) -> Result<u32, Refusal>
-    requires { (h ≤ length name.now) × (at + length name.now ≤ 16777216) }
-    ensures { result ≡ arguments at h name.now }
+fn arguments_at(part: Part, h: usize) -> Result<u32, Refusal>
+    requires { h ≤ length part.bytes.now }
+    ensures { result ≡ arguments part.entry.at h part.entry.bytes.now }
 {
-    if texts::stands(name, h, b"`1[[") {
+    if texts::stands(part.bytes, h, b"`1[[") {
         return Ok(1);
     }
-    if texts::stands(name, h, b"`2[[") {
+    if texts::stands(part.bytes, h, b"`2[[") {
         return Ok(2);
     }
-    if texts::stands(name, h, b"`") {
-        return Err(unopened(name, h, at));
+    if texts::stands(part.bytes, h, b"`") {
+        return Err(unopened(part, h));
     }
     Ok(0)
 }
 
 // The fault behind a head of h bytes whose backquote opens no arguments.
-fn unopened(name: &[u8], h: usize, at: usize) -> Refusal
-    requires { (h ≤ length name.now) × (at + length name.now ≤ 16777216) }
-    ensures { result ≡ refusal (unopened_number (drop h name.now)) (at + (h + unopened_at (drop h name.now))) }
+fn unopened(part: Part, h: usize) -> Refusal
+    requires { h ≤ length part.bytes.now }
+    ensures { result ≡ refusal (unopened_number (drop h part.entry.bytes.now)) (part.entry.at + (h + unopened_at (drop h part.entry.bytes.now))) }
 {
-    let digit = texts::stands(name, h, b"`1") | texts::stands(name, h, b"`2");
-    let bracket = texts::stands(name, h, b"`1[") | texts::stands(name, h, b"`2[");
-    let first = at + h + 1;
-    let second = at + h + 2;
+    let digit = texts::stands(part.bytes, h, b"`1") | texts::stands(part.bytes, h, b"`2");
+    let bracket = texts::stands(part.bytes, h, b"`1[") | texts::stands(part.bytes, h, b"`2[");
+    let first = part.at + h + 1;
+    let second = part.at + h + 2;
     if !digit {
         return Rule::ArgumentDigit.at(first);
     }
     if !bracket {
         return Rule::ArgumentBrackets.at(second);
     }
-    let third = at + h + 3;
+    let third = part.at + h + 3;
     Rule::ArgumentBrackets.at(third)
 }
 
@@ -100,27 +122,27 @@ fn behind_at(name: &[u8], e: usize, other: Rule) -> Rule
 }
 
 // After an argument that was read from `a` on: where the text that must follow it ends.
-fn past(name: &[u8], at: usize, a: usize, argument: Parsed, text: &[u8]) -> Result<usize, Refusal>
-    requires { Inside (length name.now) a argument × (at + length name.now ≤ 16777216) }
-    ensures { result ≡ passed text.now at name.now a argument }
+fn past(part: Part, a: usize, argument: Parsed, text: &[u8]) -> Result<usize, Refusal>
+    requires { Inside (length part.bytes.now) a argument }
+    ensures { result ≡ passed text.now part.entry.at part.entry.bytes.now a argument }
 {
     let e = a + argument.end;
-    let m = texts::matched(name, e, text);
+    let m = texts::matched(part.bytes, e, text);
     let next = e + m;
     if m == text.len() {
         return Ok(next);
     }
-    let place = at + next;
-    Err(behind_at(name, e, argument.wrong).at(place))
+    let place = part.at + next;
+    Err(behind_at(part.bytes, e, argument.wrong).at(place))
 }
 
 // After the last argument, which was read from `a` on: two brackets, and perhaps a tail.
-fn close(name: &[u8], at: usize, a: usize, argument: Parsed) -> Result<Parsed, Refusal>
-    requires { Inside (length name.now) a argument × (at + length name.now ≤ 16777216) }
-    ensures { result ≡ closing at name.now a argument }
+fn close(part: Part, a: usize, argument: Parsed) -> Result<Parsed, Refusal>
+    requires { Inside (length part.bytes.now) a argument }
+    ensures { result ≡ closing part.entry.at part.entry.bytes.now a argument }
 {
-    let end = past(name, at, a, argument, b"]]")?;
-    Ok(tailed_at(name, end, argument.used, Rule::ArgumentBrackets))
+    let end = past(part, a, argument, b"]]")?;
+    Ok(tailed_at(part.bytes, end, argument.used, Rule::ArgumentBrackets))
 }
 
 // The code of a head with n arguments at a place: its kind, 64 times n and 256 times the place.
@@ -140,48 +162,43 @@ fn put(codes: &mut [u32], i: usize, code: u32)
     }
 }
 
-// The name that stands first in `name`, whose first byte is at `at` in the file: where it ends, and its heads' codes into `codes` from `used` on.
+// The name that stands first in a part: where it ends, and its heads' codes into `codes` from `used` on.
 fn parse(
-    name: &[u8],
+    part: Part,
     own: bool,
     level: u32,
-    at: usize,
     enums: &[u8],
     codes: &mut [u32],
     used: usize,
 ) -> Result<Parsed, Refusal>
-    requires { (at + length name.now ≤ 16777216) × (used + length name.now ≤ 33554432) }
-    ensures { Parses (enums_of enums.now) own level at name.now codes.old codes.new used result }
+    requires { used + length part.bytes.now ≤ 33554432 }
+    ensures { Parses (enums_of enums.now) own level part.entry.at part.entry.bytes.now codes.old codes.new used result }
 {
     if level == 0 {
-        return Err(Rule::NestedTooDeep.at(at));
+        return Err(Rule::NestedTooDeep.at(part.at));
     }
-    let h = bytes::long_run(name, Class::Head);
+    let h = bytes::long_run(part.bytes, Class::Head);
     if h == 0 {
-        return Err(Rule::EmptyHead.at(at));
+        return Err(Rule::EmptyHead.at(part.at));
     }
-    let n = arguments_at(name, h, at)?;
-    put(codes, used, word_of(&name[..h], own, n, at, enums));
+    let n = arguments_at(part, h)?;
+    put(
+        codes,
+        used,
+        word_of(&part.bytes[..h], own, n, part.at, enums),
+    );
     let next = used + 1;
     if n == 0 {
-        return Ok(tailed_at(name, h, next, Rule::HeadByte));
+        return Ok(tailed_at(part.bytes, h, next, Rule::HeadByte));
     }
     let a = h + 4;
-    let first = parse(&name[a..], false, level - 1, at + a, enums, codes, next)?;
+    let first = parse(part.behind(a), false, level - 1, enums, codes, next)?;
     if n == 1 {
-        return close(name, at, a, first);
+        return close(part, a, first);
     }
-    let b = past(name, at, a, first, b"],[")?;
-    let second = parse(
-        &name[b..],
-        false,
-        level - 1,
-        at + b,
-        enums,
-        codes,
-        first.used,
-    )?;
-    close(name, at, b, second)
+    let b = past(part, a, first, b"],[")?;
+    let second = parse(part.behind(b), false, level - 1, enums, codes, first.used)?;
+    close(part, b, second)
 }
 
 // Why a reader's name has no codes: it is refused, or there is no room for the codes of its heads or for their places.
@@ -218,7 +235,7 @@ pub fn read_name(
     if 16777216 - name.len() < at {
         return Err(Unnamed::NoRoom);
     }
-    let whole = parse(name, true, 8, at, enums, codes, used)?;
+    let whole = parse(Part { bytes: name, at }, true, 8, enums, codes, used)?;
     if whole.end != name.len() {
         let place = at + whole.end;
         return Err(Unnamed::Broken(whole.wrong.at(place)));

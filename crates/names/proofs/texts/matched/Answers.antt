@@ -16,4 +16,5 @@ returns c =
     let same : ℕ × ℕ → Bool = λ p. eqb p.0 p.1 in
     let second : c.zip.result.b.rest.now ≡ take (length c.args.s.now - c.args.at) r = c.zip.ensures.second.0 in
     let road = YieldsList-from_zip (YieldsList-at c.zip.ensures.first (YieldsList-from_slice t c.iter.ensures.rest)) (YieldsList-from_slice r (second ∙ rest c.args.s.now c.args.at)) in
-    count_from_yields_List c.take_while.result _ c.count.ensures.ran (YieldsList-from_take_while _ same (YieldsList-at c.take_while.ensures.source road) c.take_while.ensures.closure c.take_while.ensures.done (λ x b q k. search (rules, tests))) ∙ length-prefix_len same pairs ∙ common_is_prefix t r
+    count_from_yields_List c.take_while.result _ c.count.ensures.ran (YieldsList-from_take_while _ same (YieldsList-at c.take_while.ensures.source road) c.take_while.ensures.closure c.take_while.ensures.done (λ x b q k. search (rules, tests)))
+    ∙ length-prefix_len same pairs ∙ common_is_prefix t r
