@@ -1,5 +1,5 @@
 -- What the C entries tell, by what their calls answered. Assumes nothing.
-use Rattle.std.specs.Prelude.{Err, Ok, Result, ℤ}
+use Rattle.std.specs.Prelude.{Err, Ok, Result}
 use mathlib.Core.Path.{◌≡◌, refl}
 use mathlib.Core.List.{List}
 use Prim.Native.Nat.{ℕ}
@@ -22,41 +22,30 @@ use Rattle.load.specs.Loads.{loaded}
 use Rattle.answers.specs.Refusals.{refusal as refusal_at}
 use Rattle.answers.specs.declared.Refusal.{Refusal}
 use Rattle.lookups.specs.declared.Span.{Span}
-use Rattle.lookups.specs.Parts.{span}
+use Rattle.load.specs.declared.Loaded.{Loaded}
 
--- an answer that refuses is a refusal
-refusal_of : (file : List ℕ) (x : Load) {n p : ℕ} → Err (refusal_at n p) ≡ answer_of file x → x ≡ refusal n p
-refusal_of file (refusal m q) {n} {p} e =
-    let e₁ : m ≡ n = cc in
-    let e₂ : q ≡ p = cc in
-    rw (e₁, e₂)
-refusal_of file (accepted rows readers shared) e = differ cc
-
-pub load_refused : (file : List ℕ) (x : Load) {n p c : ℕ} → Err (refusal_at n p) ≡ answer_of file x → c ≡ code n p → ◌≡◌ {A = ℕ × ℕ × ℕ × ℕ} (c, 0, 0, 0) (load_told file x)
+pub load_refused : (file : List ℕ) (x : Load) {r : Refusal} {c : ℕ} → Err r ≡ answer_of file x → c ≡ code r.number r.place → ◌≡◌ {A = ℕ × ℕ × ℕ × ℕ} (c, 0, 0, 0) (load_told file x)
 unfolding load_told packed
-load_refused file x e q = rw (refusal_of file x e, q)
+load_refused file (refusal m q) {r} {c} e p =
+    let h : r ≡ refusal_at m q = cc in
+    let d : c ≡ code m q = rw h at p in
+    rw d
+load_refused file (accepted rows readers shared) e p = differ cc
 
-pub load_accepted : (file : List ℕ) (x : Load) {n r s p : ℕ} → Ok (loaded n r s p) ≡ answer_of file x → ◌≡◌ {A = ℕ × ℕ × ℕ × ℕ} (n, r, s, p) (load_told file x)
+pub load_accepted : (file : List ℕ) (x : Load) {r : Loaded} → Ok r ≡ answer_of file x → ◌≡◌ {A = ℕ × ℕ × ℕ × ℕ} (r.rows, r.readers, r.shared, r.padding) (load_told file x)
 unfolding load_told packed
 load_accepted file (refusal m q) e = differ cc
-load_accepted file (accepted rows readers shared) {n} {r} {s} {p} e =
-    let e₁ : n ≡ length rows = cc in
-    let e₂ : r ≡ readers = cc in
-    let e₃ : s ≡ shared = cc in
-    let e₄ : p ≡ file_padding file readers rows = cc in
-    rw (e₄, e₁, e₂, e₃)
+load_accepted file (accepted rows readers shared) {r} e =
+    let h : r ≡ loaded (length rows) readers shared (file_padding file readers rows) = cc in
+    rw h
 
 -- the same of a rewrite
-rewritten_of : (x : Rewritten) {n p : ℕ} → Err (refusal_at n p) ≡ rewrite.answer_of x → x ≡ rewritten.refusal n p
-rewritten_of (rewritten.refusal m q) {n} {p} e =
-    let e₁ : m ≡ n = cc in
-    let e₂ : q ≡ p = cc in
-    rw (e₁, e₂)
-rewritten_of (rewritten.written bytes) e = differ cc
-
-pub rewrite_refused : (x : Rewritten) {n p c : ℕ} → Err (refusal_at n p) ≡ rewrite.answer_of x → c ≡ code n p → c ≡ rewrite_packed x
+pub rewrite_refused : (x : Rewritten) {r : Refusal} {c : ℕ} → Err r ≡ rewrite.answer_of x → c ≡ code r.number r.place → c ≡ rewrite_packed x
 unfolding rewrite_packed
-rewrite_refused x e q = rw (rewritten_of x e, q)
+rewrite_refused (rewritten.refusal m q) {r} {c} e p =
+    let h : r ≡ refusal_at m q = cc in
+    rw h at p
+rewrite_refused (rewritten.written bytes) e p = differ cc
 
 pub rewrite_length : (x : Rewritten) {n : ℕ} → Ok n ≡ rewrite.answer_of x → n ≡ rewrite_packed x
 unfolding rewrite_packed
@@ -69,15 +58,15 @@ unfolding load_told
 load_packed file (refusal number place) = refl
 load_packed file (accepted rows readers shared) = refl
 
-pub span-refused : {x : Result Span Refusal} {n r : ℕ} → x ≡ Err (refusal_at n r) → ◌≡◌ {A = ℕ × ℕ × ℕ} (n, 0, 0) (span_told x)
+pub span-refused : {x : Result Span Refusal} {r : Refusal} → x ≡ Err r → ◌≡◌ {A = ℕ × ℕ × ℕ} (r.number, 0, 0) (span_told x)
 unfolding span_told
 span-refused e = rw e
 
-pub span_found : {x : Result Span Refusal} {first size : ℕ} → x ≡ Ok (span first size) → ◌≡◌ {A = ℕ × ℕ × ℕ} (0, first, size) (span_told x)
+pub span_found : {x : Result Span Refusal} {r : Span} → x ≡ Ok r → ◌≡◌ {A = ℕ × ℕ × ℕ} (0, r.first, r.length) (span_told x)
 unfolding span_told
 span_found e = rw e
 
-pub signed_refused : {x : Result ℤ Refusal} {n r : ℕ} → x ≡ Err (refusal_at n r) → ◌≡◌ {A = ℕ × ℤ} (n, pos 0) (signed_told x)
+pub signed_refused : {x : Result ℤ Refusal} {r : Refusal} → x ≡ Err r → ◌≡◌ {A = ℕ × ℤ} (r.number, pos 0) (signed_told x)
 unfolding signed_told
 signed_refused e = rw e
 
@@ -85,7 +74,7 @@ pub signed_number : {x : Result ℤ Refusal} {z : ℤ} → x ≡ Ok z → SFits 
 unfolding signed_told
 signed_number e f = rw (to_z-of_z {w = w64} f, e)
 
-pub time-refused : {x : Result Time Refusal} {n r : ℕ} → x ≡ Err (refusal_at n r) → ◌≡◌ {A = ℕ × ℤ × ℕ} (n, pos 0, 0) (time_told x)
+pub time-refused : {x : Result Time Refusal} {r : Refusal} → x ≡ Err r → ◌≡◌ {A = ℕ × ℤ × ℕ} (r.number, pos 0, 0) (time_told x)
 unfolding time_told
 time-refused e = rw e
 

@@ -40,8 +40,8 @@ pub fn xnb_report_sum(into: &mut [u64; 132], other: &[u64; 132]) -> u32
     ensures value { result ≡ sum_told (sum_of into.old other.now) }
     ensures into_after { into.new ≡ left (sum_of into.old other.now) into.old }
 {
-    if pack_sums::sum(into, other) {
-        return 0;
+    match pack_sums::sum(into, other) {
+        Err(refusal) => refusal.number,
+        Ok(()) => 0,
     }
-    71
 }

@@ -4,4 +4,4 @@ use borrow.Author.Rules.{rules}
 use Rattle.builder.proofs.xnb_part.Goals as goal
 
 pub returns : goal.returns
-returns c = c.tell_span.ensures ∙ ap span_told c.part.ensures
+returns c = c.tell_span.ensures ∙ ap span_told (rw (c.by_rows.ensures.0, c.by_rows.ensures.1) at c.part.ensures)

@@ -4,4 +4,4 @@ use borrow.Author.Rules.{rules}
 use Rattle.builder.proofs.xnb_time.Goals as goal
 
 pub returns : goal.returns
-returns c = c.tell_time.ensures ∙ ap time_told c.time.ensures
+returns c = c.tell_time.ensures ∙ ap time_told (rw (c.by_rows.ensures.0, c.by_rows.ensures.1) at c.time.ensures)

@@ -9,9 +9,9 @@ both a b = (a, b)
 named : {A B C : Type 0} → A × (B × C) → record { value : A; out_after : B; words_after : C }
 named p = record { value = p.0; out_after = p.1.0; words_after = p.1.1 }
 
-pub returns-in-Refused : goal.returns-in-Refused
-returns-in-Refused c =
-    named ((not_exported _ (sym c.in-Refused.is ∙ c.export.ensures.value) c.refused.ensures, (both c.export.ensures.out_after c.export.ensures.words_after)))
+pub returns-in-Err : goal.returns-in-Err
+returns-in-Err c =
+    named ((not_exported _ (sym c.in-Err.is ∙ c.export.ensures.value) c.packed.ensures, (both c.export.ensures.out_after c.export.ensures.words_after)))
 
-pub returns-in-Exported : goal.returns-in-Exported
-returns-in-Exported c = named ((all_exported _ (sym c.in-Exported.is ∙ c.export.ensures.value), (both c.export.ensures.out_after c.export.ensures.words_after)))
+pub returns-in-Ok : goal.returns-in-Ok
+returns-in-Ok c = named ((all_exported _ (sym c.in-Ok.is ∙ c.export.ensures.value), (both c.export.ensures.out_after c.export.ensures.words_after)))
