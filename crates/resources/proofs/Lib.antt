@@ -1,4 +1,4 @@
-pub mod Padded
+pub mod Noted
 pub mod Turns
 pub mod Unmarked
 pub mod Nulls

@@ -6,9 +6,10 @@ ghost use Rattle.std.specs.Prelude.{◌≡◌, false, ◌+◌, ◌*◌, ◌-◌,
 ghost use Rattle.layout.specs.Rows.{width};
 ghost use Rattle.reading.specs.Drafts.{resource};
 ghost use Rattle.reading.specs.Resource.{suit, suits};
-ghost use Rattle.resources.specs.Roots.{padded, NotesRow};
+ghost use Rattle.resources.specs.Roots.{NotesRow};
 ghost use Rattle.resources.specs.Total.{NoneAmong, any_reference, null_cleared, roots_of, row_settled, rows_settled, settle_from, settle_of};
 
+use arrayvec::ArrayVec;
 use ids::{ResourceId, RowNumber};
 use names::kinds;
 use table::{Grid, Table, WIDTH};
@@ -22,28 +23,26 @@ fn put_word(words: &mut [u32], at: usize, value: u32)
     }
 }
 
-// Puts the kind of a row, if it has no parent, behind the `n` kinds before it, where there is room; how many there are then.
-fn note(kinds: &mut [u32; 257], n: usize, table: Table, row: RowNumber) -> usize
-    ensures { NotesRow table.entry.grid table.entry.words.now row.0 kinds.old kinds.new n result }
+// Puts the kind of a row, if it has no parent, behind the kinds before it, where there is room.
+fn note(kinds: &mut ArrayVec<u32, 257>, table: Table, row: RowNumber)
+    ensures { NotesRow table.entry.grid table.entry.words.now row.0 kinds.old.items kinds.new.items }
 {
-    if 257 <= n {
-        return n;
+    if kinds.is_full() {
+        return;
     }
     if table.word(row, table::PARENT) != 0 {
-        return n;
+        return;
     }
-    kinds[n] = table.word(row, table::KIND);
-    n + 1
+    kinds.push(table.word(row, table::KIND));
 }
 
-// The kinds of the first 257 rows that have no parent: the primary's, then those of the shared objects; zeros behind them.
-fn root_kinds(table: Table, used: u32) -> [u32; 257]
-    ensures { result ≡ padded (roots_of table.entry.grid table.entry.words.now used) }
+// The kinds of the first 257 rows that have no parent: the primary's, then those of the shared objects.
+fn root_kinds(table: Table, used: u32) -> ArrayVec<u32, 257>
+    ensures { result.items ≡ roots_of table.entry.grid table.entry.words.now used }
 {
-    let mut kinds = [0u32; 257];
-    let mut n = 0;
+    let mut kinds = ArrayVec::new();
     for i in 0..used {
-        n = note(&mut kinds, n, table, RowNumber(i));
+        note(&mut kinds, table, RowNumber(i));
     }
     kinds
 }
@@ -119,7 +118,7 @@ fn judge_from(words: &mut [u32], grid: Grid, from: u32, used: u32) -> Option<u32
         grid,
     };
     let kinds = root_kinds(table, used);
-    judge_rows(words, grid, from, used, &kinds)
+    judge_rows(words, grid, from, used, kinds.as_slice())
 }
 
 // Clears the mark of a row that is a null reference; whether the row is a reference that names a resource.
