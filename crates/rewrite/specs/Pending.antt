@@ -1,5 +1,5 @@
 -- How far the output is written while a file is rewritten number by number. Assumes nothing.
-use Rattle.std.specs.Prelude.{◌≡◌, refl, Bool, false, ◌&&◌, List, [], ◌∷◌, ◌++◌, ℕ, ◌+◌, ◌-◌, ◌/◌, ◌%◌, ◌<◌, ◌≤◌, length, take, set, Option, Some, None}
+use Rattle.std.specs.Prelude.{◌≡◌, refl, Bool, false, ◌&&◌, List, [], ◌∷◌, ◌++◌, ℕ, ◌+◌, ◌-◌, ◌<◌, ◌≤◌, length, take, Option, Some, None}
 use Rattle.std.proofs.Common.{sym, ap, ◌∙◌, append_assoc, arith, length-append, drop-drop, take_all, length-take-le}
 use Rattle.std.proofs.Math.Bool.{true}
 use Rattle.std.proofs.Math.Dec.{leb}
@@ -171,4 +171,7 @@ LengthPut n entry exit = (platform flags old : ℕ) (behind : List ℕ) → entr
 -- the bytes of a number put there
 pub length-put : (n : ℕ) (entry exit : List ℕ) → exit ≡ copied entry 6 (little 4 n) 0 4 → LengthPut n entry exit
 unfolding LengthPut header ascii little copied inside pasted
-length-put n entry exit w platform flags old behind e = w ∙ rw e
+length-put n entry exit w platform flags old behind e =
+    let all = header platform flags old ++ behind in
+    let t : leb (6 + 4) (length all) ≡ true = le-leb (6 + 4) (length all) (omega (arith, length-append (header platform flags old) behind, length-header platform flags old)) in
+    w ∙ rw (e, t) refl

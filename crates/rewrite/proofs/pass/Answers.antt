@@ -3,7 +3,6 @@ use native.Mathlib.Omega.{arith}
 use Rattle.reading.specs.Reads.{small_by_index}
 use Rattle.rewrite.specs.Measured.{found}
 use Rattle.rewrite.specs.Pending.{passed_over}
-use borrow.Author.Rules.{rules}
 use Rattle.rewrite.proofs.pass.Goals as goal
 
 pub returns-then-number-eq0 : goal.returns-then-number-eq0

@@ -1,7 +1,7 @@
 use native.Mathlib.Omega.{arith}
 use Rattle.rewrite.specs.Table.{table_places}
 use Rattle.rewrite.specs.Contract.{copy, copy-length, start, finish}
-use borrow.Author.Rules.{rules}
+use Rattle.rewrite.specs.Pending.{length-put}
 use Rattle.rewrite.proofs.write.Goals as goal
 
 pub pass_lists-lists-requires : goal.pass_lists-lists-requires
@@ -21,4 +21,4 @@ returns c =
     let p₀ = start s words a.readers a.rows a.padding w base (omega (arith, n, h)) in
     let p₁ = c.pass_lists-lists.ensures base (table_places s words a.rows 0) whole p₀ in
     let p₂ = c.pass_rows-objects.ensures base whole (omega (arith, w.pads, copy-length s words a.readers a.rows a.padding w)) p₁ in
-    finish s words a.readers a.rows a.padding w base _ _ _ n (c.write_rest.ensures base whole p₂) c.put_length.ensures
+    finish s words a.readers a.rows a.padding w base _ _ _ n (c.write_rest.ensures base whole p₂) (length-put _ _ _ c.put4.ensures)
