@@ -137,9 +137,7 @@ fn value(
         count target shared slot spot.at spot.used spot.depth spot.parent }
 {
     let named = target as usize;
-    let started = objects::start::start(
-        file, codes, count, named, grid.room, slot, spot.at, spot.used, spot.depth,
-    )?;
+    let started = objects::start::start(file, codes, count, named, grid.room, slot, spot)?;
     match started {
         Started::Plain(plain) => match plain {
             Plain::Fixed(kind, size) => {

@@ -10,6 +10,8 @@ use heads::slot::Slot;
 use ids::TypeId;
 use leaves::plain::Plain;
 use names::kinds;
+use walked::Spot;
+use walked::room::room_for;
 
 // A value without children that needs no reader list; null, where it ends and the padding of its type id;
 // or a raw value: the place of its type, its first byte, its type id and the padding of that.
@@ -120,26 +122,24 @@ pub fn start(
     target: usize,
     room: u32,
     slot: Slot,
-    at: usize,
-    used: u32,
-    depth: u32,
+    spot: Spot,
 ) -> Result<Started, Refusal>
-    ensures { result ≡ start_as file.now codes.now count target room slot at used depth }
+    ensures { result ≡ start_as file.now codes.now count target room slot spot.at spot.used spot.depth }
 {
     match slot {
         Slot::Simple(value) => Ok(Started::Plain(value)),
         Slot::Raw(place) => {
-            walked::room::room_for(depth, room, used, at)?;
+            room_for(spot.depth, room, spot.used, spot.at)?;
             Ok(Started::Raw {
                 place,
-                from: at,
+                from: spot.at,
                 id: TypeId(0),
                 padding: 0,
             })
         }
         Slot::Object(declared) => {
-            walked::room::room_for(depth, room, used, at)?;
-            object_start(file, codes, count, target, declared, at)
+            room_for(spot.depth, room, spot.used, spot.at)?;
+            object_start(file, codes, count, target, declared, spot.at)
         }
     }
 }
