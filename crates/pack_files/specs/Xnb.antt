@@ -1,7 +1,8 @@
 -- The figures of a file of a pack under a lent list of enum types, by what loading it answers and leaves. Assumes nothing.
-use Rattle.std.specs.Prelude.{◌≡◌, Bool, ◌&&◌, eqb, take, get_or}
+use Rattle.std.specs.Prelude.{◌≡◌, Bool, ◌&&◌, eqb, nat_eq, take, get_or}
 use Rattle.std.proofs.Math.Path.{refl, ap}
-use Rattle.std.proofs.Common.{sym, ◌∙◌, eq-eqb, ne_eqb}
+use Rattle.std.proofs.Common.{sym, ◌∙◌, eq-eqb, ne_eqb, eqb-true}
+use Rattle.std.proofs.lemmas.Bool.{eqb-false}
 use Rattle.std.proofs.Math.Bool.{true, false, cond}
 use mathlib.Core.List.{List, [], ◌∷◌, ◌++◌}
 use Prim.Native.Nat.{ℕ, ◌+◌, ◌*◌, ◌-◌, ◌/◌, ◌≤◌, ◌<◌, ◌^◌, min}
@@ -23,9 +24,15 @@ use Rattle.enums.specs.Judge.{Judgement, lawful, enums_at}
 use Rattle.enums.specs.Judge.{refused as list-refused}
 use Rattle.readers.specs.Judged.{judged_name, judges}
 use Rattle.table.specs.Grids.{rows_grid}
-use Rattle.load.specs.declared.Loading.TheVariants as code
+use Rattle.std.specs.Prelude.{Ok, Err}
+use Rattle.answers.specs.declared.Refusal.{Refusal}
+use Rattle.load.specs.declared.Loaded as code
 use Rattle.load.specs.Under.{under_list, file_under, load_under}
-use Rattle.load.specs.Loads.{answer_of}
+use Rattle.answers.specs.Refusals.{refusal as broken}
+use Rattle.places.specs.Padding.{file_padding}
+use Rattle.load.specs.Loads.{answer_of, loaded as as_loaded}
+use Rattle.std.specs.List.{starts_with}
+use Rattle.std.specs.Cmp.Lexicographic.{pointwise}
 use Rattle.load_part.specs.Part.{opened, replicate-append}
 use Rattle.pack_figures.specs.Figures.{Figure, files, loaded, text_bytes, image_bytes, refusals, rows, of_other, of_refusal, of_load, of_content}
 use Rattle.pack_figures.specs.Counted.{by_rows, figures_are}
@@ -68,35 +75,23 @@ module _ (enums content : List ℕ) (small : Small content) where
 
 -- ---- The letters that a file starts with
 
-never : (b : Bool) → false ≡ (b && false)
-never true = refl
-never false = refl
+either_way : (x y : ℕ) → eqb x y ≡ eqb y x
+either_way x y = go (eqb y x) refl where
+  go : (t : Bool) → eqb y x ≡ t → eqb x y ≡ t
+  go true e = eq-eqb x y (sym (eqb-true y x e))
+  go false e = ne_eqb x y (λ h. eqb-false y x e (sym h))
 
-pub too_short : (l : List ℕ) → length l < 3 → false ≡ same (take 3 l) (ascii "XNB")
-unfolding same ascii
-too_short [] h = refl
-too_short (a ∷ []) h = never (eqb a 0x58)
-too_short (a ∷ b ∷ []) h = rw (← never (eqb b 0x4E)) (never (eqb a 0x58))
-too_short (a ∷ b ∷ c ∷ l) h = absurd (omega arith)
+pointwise_same : (a b : List ℕ) → pointwise nat_eq a b ≡ same b a
+unfolding same
+pointwise_same [] [] = refl
+pointwise_same [] (y ∷ b) = refl
+pointwise_same (x ∷ a) [] = refl
+pointwise_same (x ∷ a) (y ∷ b) = rw (either_way x y, pointwise_same a b)
 
-letters : (l : List ℕ) → 3 ≤ length l → same (take 3 l) (ascii "XNB") ≡ (eqb (get_or l 0 0) 0x58 && (eqb (get_or l 1 0) 0x4E && (eqb (get_or l 2 0) 0x42 && true)))
-unfolding same ascii
-letters [] h = absurd (omega arith)
-letters (a ∷ []) h = absurd (omega arith)
-letters (a ∷ b ∷ []) h = absurd (omega arith)
-letters (a ∷ b ∷ c ∷ l) h = refl
-
-pub first_letter : (l : List ℕ) → 3 ≤ length l → (get_or l 0 0 ≡ 0x58 → ⊥) → false ≡ same (take 3 l) (ascii "XNB")
-first_letter l h n = rw (letters l h, ne_eqb (get_or l 0 0) 0x58 n)
-
-pub second_letter : (l : List ℕ) → 3 ≤ length l → get_or l 0 0 ≡ 0x58 → (get_or l 1 0 ≡ 0x4E → ⊥) → false ≡ same (take 3 l) (ascii "XNB")
-second_letter l h a n = rw (letters l h, eq-eqb (get_or l 0 0) 0x58 a, ne_eqb (get_or l 1 0) 0x4E n)
-
-pub third_letter : (l : List ℕ) → 3 ≤ length l → get_or l 0 0 ≡ 0x58 → get_or l 1 0 ≡ 0x4E → eqb (get_or l 2 0) 0x42 ≡ same (take 3 l) (ascii "XNB")
-third_letter l h a b = rw (letters l h, eq-eqb (get_or l 0 0) 0x58 a, eq-eqb (get_or l 1 0) 0x4E b) (go (eqb (get_or l 2 0) 0x42)) where
-  go : (t : Bool) → t ≡ (t && true)
-  go true = refl
-  go false = refl
+-- the library's test of the first bytes
+pub starts_so : (l : List ℕ) → starts_with nat_eq l (0x58 ∷ 0x4E ∷ 0x42 ∷ []) ≡ same (take 3 l) (ascii "XNB")
+unfolding ascii
+starts_so l = pointwise_same (0x58 ∷ 0x4E ∷ 0x42 ∷ []) (take 3 l)
 
 -- a file by whether it starts with `XNB`
 pub is_xnb : (opened : List ℕ → Answer Loaded) (content : List ℕ) → same (take 3 content) (ascii "XNB") ≡ true → (f : Figure) → of_load (opened content) f ≡ of_content opened content f
@@ -120,26 +115,28 @@ module _ (enums content entry : List ℕ) (clear : Clear entry) where
   whole = let z : min (length entry / width) 65536 ≡ 65536 = omega (arith, clear.room) in rw z
 
   -- a refusal: the words are zeros again
-  refused_by : (x : Answer Loaded) {n p : ℕ} {exit : List ℕ} → code.Refused n p ≡ answer_of content (to_load x) → exit ≡ table_of (to_load x) (length entry)
-      → ((f : Figure) → of_refusal n f ≡ of_load x f) × (exit ≡ replicate (length entry) 0)
+  refused_by : (x : Answer Loaded) {r : Refusal} {exit : List ℕ} → Err r ≡ answer_of content (to_load x) → exit ≡ table_of (to_load x) (length entry)
+      → ((f : Figure) → of_refusal r.number f ≡ of_load x f) × (exit ≡ replicate (length entry) 0)
   unfolding to_load table_in of_load
-  refused_by (refused m q) {n} e t = let z : n ≡ m = cc in (λ f. rw z, t)
+  refused_by (refused m q) {r} e t = let z : r ≡ broken m q = cc in (λ f. rw z, t)
   refused_by (read a e) q t = differ cc
 
-  pub refused_so : {n p : ℕ} {exit : List ℕ} → code.Refused n p ≡ answer_of content (load_under enums content (length entry))
+  pub refused_so : {r : Refusal} {exit : List ℕ} → Err r ≡ answer_of content (load_under enums content (length entry))
       → (entry ≡ replicate (length entry) 0 → exit ≡ table_of (load_under enums content (length entry)) (length entry))
-      → ((f : Figure) → of_refusal n f ≡ of_load (opened enums content) f) × (exit ≡ replicate (length entry) 0)
+      → ((f : Figure) → of_refusal r.number f ≡ of_load (opened enums content) f) × (exit ≡ replicate (length entry) 0)
   refused_so e t = refused_by (opened enums content) (rw whole at e) (rw whole at (t clear.zeros))
 
   -- rows: they stand at the start of the words, and clearing them leaves zeros
-  loaded_by : Small content → (x : Answer Loaded) → opened enums content ≡ x → {k readers shared padding : ℕ} {exit : List ℕ} → length exit ≡ length entry
-      → code.Loaded k readers shared padding ≡ answer_of content (to_load x) → exit ≡ table_of (to_load x) (length entry)
-      → ((f : Figure) → by_rows content (rows_at (rows_grid (length exit)) exit 0 k) f ≡ of_load x f) × (wiped exit 0 (min (width * k) (length exit)) ≡ replicate (length entry) 0)
+  loaded_by : Small content → (x : Answer Loaded) → opened enums content ≡ x → {told : code.Loaded} {exit : List ℕ} → length exit ≡ length entry
+      → Ok told ≡ answer_of content (to_load x) → exit ≡ table_of (to_load x) (length entry)
+      → ((f : Figure) → by_rows content (rows_at (rows_grid (length exit)) exit 0 told.rows) f ≡ of_load x f) × (wiped exit 0 (min (width * told.rows) (length exit)) ≡ replicate (length entry) 0)
   unfolding to_load table_in wiped
   loaded_by small (refused m q) o n e t = differ cc
-  loaded_by small (read a p) o {k} {readers} {shared} {padding} {exit} n e t =
+  loaded_by small (read a p) o {told} {exit} n e t =
       let rs = bare a.rows in
-      let z : k ≡ length rs = cc in
+      let w : told ≡ as_loaded (length rs) a.readers a.shared (file_padding content a.readers rs) = cc in
+      let k = told.rows in
+      let z : k ≡ length rs = rw w in
       let rest : List ℕ = replicate (length entry - width * length rs) 0 in
       let s : rows_at (rows_grid (length exit)) exit 0 k ≡ rs = rw (z, t) (rows_stand (length (flat rs ++ rest)) rs rest) in
       let l : length exit ≡ width * length rs + (length entry - width * length rs) = ap length t ∙ length-append (flat rs) rest ∙ omega (arith, length-flat rs, length-replicate {A = ℕ} (length entry - width * length rs) 0) in
@@ -149,8 +146,8 @@ module _ (enums content entry : List ℕ) (clear : Clear entry) where
       let q : width * length rs + (length entry - width * length rs) ≡ length entry = omega arith in
       (λ f. rw s (sym (opened_rows enums content small a p o f)), rw (m, d) (replicate-append (width * length rs) (length entry - width * length rs) ∙ rw q refl))
 
-  pub loaded_so : Small content → {k readers shared padding : ℕ} {exit : List ℕ} → length exit ≡ length entry
-      → code.Loaded k readers shared padding ≡ answer_of content (load_under enums content (length entry))
+  pub loaded_so : Small content → {told : code.Loaded} {exit : List ℕ} → length exit ≡ length entry
+      → Ok told ≡ answer_of content (load_under enums content (length entry))
       → (entry ≡ replicate (length entry) 0 → exit ≡ table_of (load_under enums content (length entry)) (length entry))
-      → ((f : Figure) → by_rows content (rows_at (rows_grid (length exit)) exit 0 k) f ≡ of_load (opened enums content) f) × (wiped exit 0 (min (width * k) (length exit)) ≡ replicate (length entry) 0)
+      → ((f : Figure) → by_rows content (rows_at (rows_grid (length exit)) exit 0 told.rows) f ≡ of_load (opened enums content) f) × (wiped exit 0 (min (width * told.rows) (length exit)) ≡ replicate (length entry) 0)
   loaded_so small n e t = loaded_by small (opened enums content) refl n (rw whole at e) (rw whole at (t clear.zeros))
