@@ -1,6 +1,6 @@
 -- What a lookup and the loader say of a file of a pack. Assumes nothing.
 use Rattle.std.specs.Prelude.{◌≡◌, refl, List, ℕ, ◌+◌, ◌-◌, length, take, drop, Option, Some, None}
-use Rattle.std.proofs.Common.{ap, ◌∙◌, arith}
+use Rattle.std.proofs.Common.{ap, arith}
 use Rattle.laws.specs.Small.{differ}
 use Rattle.fill.specs.Fill.{cleared}
 use Rattle.reading.specs.File.{table_of}

@@ -1,5 +1,5 @@
 -- What loading a file of a pack answers (Req 01): "The XNB loader takes the data as a part of the pack". Assumes nothing.
-use Rattle.std.specs.Prelude.{List, ℕ, length, replicate, take, drop, Option, Some, None}
+use Rattle.std.specs.Prelude.{List, ℕ, replicate, take, drop, Option, Some, None}
 use Rattle.reading.specs.File.{Load, table_of}
 use Rattle.load.specs.Under.{load_under}
 use Rattle.pack_reading.specs.Lookup.{Found, absent, found, find_of}

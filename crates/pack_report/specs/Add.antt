@@ -1,7 +1,7 @@
 -- What adding a pack to a report answers in code, and what it leaves (02, Req 14). Assumes nothing.
 use Rattle.std.specs.Prelude.{◌≡◌, true, false, ℕ, ◌+◌, ◌*◌, ◌-◌, ◌≤◌, ◌<◌, ◌^◌, take, drop, Result, Ok, Err, ⊤}
 use Rattle.std.proofs.Math.Path.{refl}
-use Rattle.std.proofs.Common.{ap, ◌∙◌, take-append-drop, le-leb}
+use Rattle.std.proofs.Common.{Bool, is_err, sym, ap, ◌∙◌, take-append-drop, le-leb}
 use mathlib.Core.List.{List, [], ◌∷◌, ◌++◌}
 use native.Mathlib.Omega.{arith}
 use Rattle.std.proofs.Math.ListN.{length, replicate}
@@ -104,13 +104,26 @@ module _ (enums pack : List ℕ) (words : ℕ) {files : ℕ} (h : Has pack words
   unfolding by_pack
   by_sum = rw (h.is, e)
 
-  pub is_added : fits into figures ≡ true → (Ok tt ≡ added_as answer) × (left (sum_of into figures) into ≡ left answer into) × (table_for plain pack words ≡ table_left answer words pack)
-  unfolding sum_of table_left
-  is_added t = rw (by_sum, t) (refl, refl, refl)
+  pub is_value : answer_of (sum_of into figures) ≡ added_as answer
+  is_value = ap answer_of (sym by_sum)
 
-  pub is_not_added : fits into figures ≡ false → (Err (answers.refusal 71 0) ≡ added_as answer) × (left (sum_of into figures) into ≡ left answer into) × (replicate words 0 ≡ table_left answer words pack)
+  pub is_left : left (sum_of into figures) into ≡ left answer into
+  is_left = ap (λ (x : Report.Added). left x into) (sym by_sum)
+
+  -- the table is kept where the sum fits, and else cleared
+  pub table_kept : (r : Adding) → r ≡ answer_of (sum_of into figures) → is_err r ≡ false → table_for plain pack words ≡ table_left answer words pack
   unfolding sum_of table_left
-  is_not_added t = rw (by_sum, t) (refl, refl, refl)
+  table_kept r e o = go (fits into figures) refl where
+    go : (t : Bool) → fits into figures ≡ t → table_for plain pack words ≡ table_left answer words pack
+    go true t = rw (by_sum, t) refl
+    go false t = let z : r ≡ Err (answers.refusal 71 0) = rw t at e in differ (sym (ap is_err z) ∙ o)
+
+  pub table_cleared : (r : Adding) → r ≡ answer_of (sum_of into figures) → is_err r ≡ true → replicate words 0 ≡ table_left answer words pack
+  unfolding sum_of table_left
+  table_cleared r e o = go (fits into figures) refl where
+    go : (t : Bool) → fits into figures ≡ t → replicate words 0 ≡ table_left answer words pack
+    go true t = let z : r ≡ Ok tt = rw t at e in differ (sym (sym (ap is_err z) ∙ o))
+    go false t = rw (by_sum, t) refl
 
 module _ (enums pack into : List ℕ) (row_words words : ℕ) where
   abbrev whole : Report.Added

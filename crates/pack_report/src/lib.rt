@@ -16,10 +16,7 @@ use pack_files::count_file;
 fn word_at(table: &[u64], at: usize) -> u64
     ensures { result ≡ get_or table.now at 0 }
 {
-    if at < table.len() {
-        return table[at];
-    }
-    0
+    table.get(at).copied().unwrap_or(0)
 }
 
 // The data that entry i of a table names, none where it runs past the pack.
@@ -29,14 +26,10 @@ fn content_at<'a>(pack: &'a [u8], table: &[u64], i: usize) -> &'a [u8]
 {
     let first = word_at(table, 4 * i + 2) as usize;
     let count = word_at(table, 4 * i + 3) as usize;
-    if pack.len() < first {
-        return &pack[0..0];
+    if pack.len() < first || pack.len() - first < count {
+        return &[];
     }
-    if pack.len() - first < count {
-        return &pack[0..0];
-    }
-    let end = first + count;
-    &pack[first..end]
+    &pack[first..first + count]
 }
 
 // Counts so many files of a pack, by its table.
