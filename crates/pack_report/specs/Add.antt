@@ -116,13 +116,13 @@ module _ (enums pack : List ℕ) (words : ℕ) {files : ℕ} (h : Has pack words
   table_kept r e o = go (fits into figures) refl where
     go : (t : Bool) → fits into figures ≡ t → table_for plain pack words ≡ table_left answer words pack
     go true t = rw (by_sum, t) refl
-    go false t = let z : r ≡ Err (answers.refusal 71 0) = rw t at e in differ (sym (ap is_err z) ∙ o)
+    go false t = let z : r ≡ Err (answers.refusal 71 0) = rw t at e in let y : true ≡ false = sym (ap is_err z) ∙ o in differ cc
 
   pub table_cleared : (r : Adding) → r ≡ answer_of (sum_of into figures) → is_err r ≡ true → replicate words 0 ≡ table_left answer words pack
   unfolding sum_of table_left
   table_cleared r e o = go (fits into figures) refl where
     go : (t : Bool) → fits into figures ≡ t → replicate words 0 ≡ table_left answer words pack
-    go true t = let z : r ≡ Ok tt = rw t at e in differ (sym (sym (ap is_err z) ∙ o))
+    go true t = let z : r ≡ Ok tt = rw t at e in let y : false ≡ true = sym (ap is_err z) ∙ o in differ cc
     go false t = rw (by_sum, t) refl
 
 module _ (enums pack into : List ℕ) (row_words words : ℕ) where
@@ -137,17 +137,14 @@ module _ (enums pack into : List ℕ) (row_words words : ℕ) where
   unfolding add_of left table_left
   no_room h = rw (lt-leb 65536 (room_of row_words) h) (refl, refl, refl)
 
-  pack_not : (x : Pack) {n p : ℕ} → Err (answers.refusal n p) ≡ packs.answer_of x → (Err (answers.refusal n p) ≡ added_as (by_pack (opened enums) x into)) × (into ≡ left (by_pack (opened enums) x into) into)
+  pack_not : (x : Pack) {r : Refusal} → Err r ≡ packs.answer_of x → (Err r ≡ added_as (by_pack (opened enums) x into)) × (into ≡ left (by_pack (opened enums) x into) into)
       × (table_of plain x words ≡ table_left (by_pack (opened enums) x into) words pack)
   unfolding by_pack left table_left table_of
-  pack_not (refusal m q) {n} {p} e =
-      let a : n ≡ m = cc in
-      let b : p ≡ q = cc in
-      (rw (a, b), refl, refl)
+  pack_not (refusal m q) {r} e = let z : r ≡ answers.refusal m q = cc in (rw z, refl, refl)
   pack_not (accepted fs) e = differ cc
 
-  pub pack_refused : 65536 ≤ room_of row_words → {n p : ℕ} → Err (answers.refusal n p) ≡ packs.answer_of (pack_of plain pack words)
-      → (Err (answers.refusal n p) ≡ added_as whole) × (into ≡ left whole into) × (table_for plain pack words ≡ table_left whole words pack)
+  pub pack_refused : 65536 ≤ room_of row_words → {r : Refusal} → Err r ≡ packs.answer_of (pack_of plain pack words)
+      → (Err r ≡ added_as whole) × (into ≡ left whole into) × (table_for plain pack words ≡ table_left whole words pack)
   pack_refused h e = rw (← room_enough h) (pack_not (pack_of plain pack words) e)
 
 -- zeros from the first word on

@@ -1,5 +1,5 @@
 -- What is demanded of adding packs to a report and of adding reports (02, Req 14). Assumes nothing.
-use Rattle.std.specs.Prelude.{◌≡◌, refl, Bool, true, false, List, [], ◌∷◌, ◌++◌, ℕ, replicate, Err}
+use Rattle.std.specs.Prelude.{◌≡◌, refl, List, [], ◌∷◌, ◌++◌, ℕ, replicate, Ok, Err}
 use Rattle.load_part.specs.Part.{opened}
 use Rattle.pack_figures.specs.Figures.{season}
 use Rattle.pack_figures.specs.Report.{words_from, report_of}
@@ -27,8 +27,8 @@ pub record Carries (enums : List ℕ) (pack_words : ℕ) (pack entry exit : List
   pub refuses : (number place : ℕ) → r ≡ Err (refusal number place) → exit ≡ entry
 
 -- another report was added
-pub record Joins (entry other exit : List ℕ) (r : Bool) : Type 0 where
+pub record Joins (entry other exit : List ℕ) (r : Adding) : Type 0 where
   -- "it is the same however the list is split between two runs whose reports are added"
   pub joins : (enums : List ℕ) (pack_words : ℕ) (packs more : List (List ℕ)) → entry ≡ season_report enums pack_words packs → other ≡ season_report enums pack_words more
-      → r ≡ true → exit ≡ season_report enums pack_words (packs ++ more)
-  pub refuses : r ≡ false → exit ≡ entry
+      → r ≡ Ok tt → exit ≡ season_report enums pack_words (packs ++ more)
+  pub refuses : (number place : ℕ) → r ≡ Err (refusal number place) → exit ≡ entry

@@ -3,7 +3,8 @@
 #![tactic(auto)]
 
 ghost use Rattle.std.specs.Prelude.{◌≡◌, length};
-ghost use Rattle.pack_figures.specs.Report.{fits};
+ghost use Rattle.pack_figures.specs.Report.{sum_of};
+ghost use Rattle.pack_sums.specs.Sum.{answer_of};
 ghost use Rattle.pack_report.specs.Add.{added_as, add_under};
 ghost use Rattle.pack_report_theorems.specs.Runs.{Carries, Joins};
 
@@ -25,9 +26,9 @@ pub fn add_exact(
 }
 
 // A report that is added to a report.
-pub fn sum_exact(into: &mut [u64], other: &[u64]) -> bool
+pub fn sum_exact(into: &mut [u64], other: &[u64]) -> Result<(), Refusal>
     ensures joins { Joins into.old other.now into.new result }
-    ensures value { result ≡ fits into.old other.now }
+    ensures value { result ≡ answer_of (sum_of into.old other.now) }
 {
     pack_sums::sum(into, other)
 }
