@@ -25,7 +25,9 @@ use Rattle.branches.specs.Table.{rows_stand, file_skips}
 use Rattle.shortest.specs.Theorems as S
 use Rattle.readers.specs.Judged.{judged_name, judges}
 use Rattle.std.specs.Prelude.{Ok, Err}
+use Rattle.answers.specs.declared.Refusal.{Refusal}
 use Rattle.answers.specs.Refusals.{refusal as broken}
+use Rattle.load.specs.declared.Loaded.{Loaded}
 use Rattle.load.specs.Under.{load_under, load_lawful, load_refused-list}
 use Rattle.load.specs.Loads.{Loading, loaded as counts, answer_of}
 use Rattle.profile.specs.Profile.{Profile}
@@ -115,17 +117,17 @@ module _ (enums file : List ℕ) (words : ℕ) {left : List ℕ} {r : Loading} (
         go : (x : Offence) → answer_of file (by_fault x (accepted (rows_in f.fits) (length f.fits.tree.names) (count (shared_of f.fits.tree.objects)))) ≡ Err (broken number place) → x ≡ fault number place
         go fine q = differ cc
         go (fault n p) q =
-            let a : n ≡ number = cc in
-            let b : p ≡ place = cc in
-            rw (a, b)
+            let v : broken n p ≡ broken number place = cc in
+            rw (ap (λ (x : Refusal). x.number) v, ap (λ (x : Refusal). x.place) v)
 
   skipped : (used readers shared padding : ℕ) → r ≡ Ok (counts used readers shared padding) → TableSkips by_rows (room_of words) left used
   skipped used readers shared padding e = go (fits (driver_under enums file words) refl (rw (sym answers ∙ e) tt)) where
     go : Passes enums file words → TableSkips by_rows (room_of words) left used
     go (f, p) =
         let l = loaded (f, p) in
-        let q : ◌≡◌ {A = Loading} (Ok (counts used readers shared padding)) (Ok (counts (length (rows_in f.fits)) (length f.fits.tree.names) (count (shared_of f.fits.tree.objects)) 0)) = sym e ∙ l.0 in
-        let u : used ≡ length (rows_in f.fits) = cc in
+        let q = sym e ∙ l.0 in
+        let v : counts used readers shared padding ≡ counts (length (rows_in f.fits)) (length f.fits.tree.names) (count (shared_of f.fits.tree.objects)) 0 = cc in
+        let u : used ≡ length (rows_in f.fits) = ap (λ (x : Loaded). x.rows) v in
         rw u (table-skips f l.1)
 
   pub load_driver_exact : LoadsForDriver enums file words left r

@@ -19,7 +19,12 @@ pub fn load_driver_exact(file: &[u8], enums: &[u8], words: &mut [u32]) -> Loadin
 }
 
 // A file that both load, under one list of enum types: the answer of the plain loader, and that of the driver's.
-pub fn load_both(file: &[u8], enums: &[u8], plain: &mut [u32], words: &mut [u32]) -> (Loading, Loading)
+pub fn load_both(
+    file: &[u8],
+    enums: &[u8],
+    plain: &mut [u32],
+    words: &mut [u32],
+) -> (Loading, Loading)
     ensures beside { Beside (length plain.old) (length words.old) plain.new words.new result }
     ensures plain_value { result.0 ≡ answer_of file.now (load_under enums.now file.now (length plain.old)) }
     ensures driver_value { result.1 ≡ answer_of file.now (driver_under enums.now file.now (length words.old)) }
