@@ -5,27 +5,29 @@ ghost use Rattle.std.specs.Prelude.{◌≡◌, ◌≤◌, length, IfOk};
 ghost use Rattle.io.specs.Counts.{IsPrefixLen};
 ghost use Rattle.reader_names.specs.Lines.{refusal, line_size, Judges};
 
+use answers::Rule;
 use std::io::Read;
 use std::rt::Files;
 use std::{fs, io};
 use targets::Unresolved;
 
 // A name's refusal in one number: 65536 for each of its number, and its place; or 0.
+// Kept: one number and not a refusal, since fixed memory holds one for each of up to 65,536 lines.
 fn judge(name: &[u8]) -> u32
     ensures { result ≡ refusal name.now }
 {
     if name.len() == 0 {
-        return 65536 * 9;
+        return 65536 * Rule::TooLarge.number();
     }
     if 1024 < name.len() {
-        return 65536 * 9;
+        return 65536 * Rule::TooLarge.number();
     }
     let mut codes = [0u32; 187];
     match targets::resolve(name, 0, b"", &mut codes, 0) {
         Ok(_) => 0,
         Err(Unresolved::Broken(refusal)) => 65536 * refusal.number + refusal.place as u32,
-        Err(Unresolved::Unknown(place)) => 65536 * 11 + place as u32,
-        Err(Unresolved::NoRoom) => 65536 * 9,
+        Err(Unresolved::Unknown(place)) => 65536 * Rule::NameHead.number() + place as u32,
+        Err(Unresolved::NoRoom) => 65536 * Rule::TooLarge.number(),
     }
 }
 

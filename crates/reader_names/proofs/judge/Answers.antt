@@ -10,10 +10,10 @@ use borrow.Author.Rules.{rules}
 use Rattle.reader_names.proofs.judge.Goals as goal
 
 pub returns-then-name-eq0 : goal.returns-then-name-eq0
-returns-then-name-eq0 c = empty_is _ (omega arith)
+returns-then-name-eq0 c = rw c.number.ensures (empty_is c.args.name.now (omega arith))
 
 pub returns-then-name-gt1024 : goal.returns-then-name-gt1024
-returns-then-name-gt1024 c = long_is _ (λ z. c.if-name-eq0.false z) c.if-name-gt1024.true
+returns-then-name-gt1024 c = rw c.number-then-name-gt1024.ensures (long_is c.args.name.now (λ z. c.if-name-eq0.false z) c.if-name-gt1024.true)
 
 pub overflow_mul-result-in-Err-Broken : goal.overflow_mul-result-in-Err-Broken
 overflow_mul-result-in-Err-Broken c = let b = bounded _ _ _ _ _ _ _ c.if-name-gt1024.false c.resolve.ensures (ap told (c.in-Err-Broken.is ∙ ap Err c.in-Err-Broken.field-0-is)) in omega (arith, b)
@@ -40,8 +40,8 @@ returns-in-Err-Broken c =
 
 pub returns-in-Err-Unknown : goal.returns-in-Err-Unknown
 returns-in-Err-Unknown c =
-    judged_is _ _ _ _ _ (λ z. c.if-name-eq0.false z) c.if-name-gt1024.false refl (search rules) c.resolve.ensures _ (ap (λ (x : Result ℕ Unresolved). number (told x)) (c.in-Err-Unknown.is ∙ ap Err c.in-Err-Unknown.field-0-is))
+    rw c.number-in-Err-Unknown.ensures (judged_is _ _ _ _ _ (λ z. c.if-name-eq0.false z) c.if-name-gt1024.false refl (search rules) c.resolve.ensures _ (ap (λ (x : Result ℕ Unresolved). number (told x)) (c.in-Err-Unknown.is ∙ ap Err c.in-Err-Unknown.field-0-is)))
 
 pub returns-in-Err-NoRoom : goal.returns-in-Err-NoRoom
 returns-in-Err-NoRoom c =
-    judged_is _ _ _ _ _ (λ z. c.if-name-eq0.false z) c.if-name-gt1024.false refl (search rules) c.resolve.ensures _ (ap (λ (x : Result ℕ Unresolved). number (told x)) (c.in-Err-NoRoom.is ∙ ap Err c.in-Err-NoRoom.field-0-is))
+    rw c.number-in-Err-NoRoom.ensures (judged_is _ _ _ _ _ (λ z. c.if-name-eq0.false z) c.if-name-gt1024.false refl (search rules) c.resolve.ensures _ (ap (λ (x : Result ℕ Unresolved). number (told x)) (c.in-Err-NoRoom.is ∙ ap Err c.in-Err-NoRoom.field-0-is)))
