@@ -20,7 +20,7 @@ returns-then-is_err c =
     record {
       value = c.sum-summed.ensures.value ∙ is_value a.enums.now a.pack.now (length a.table.now) h a.report.now _ e;
       report_after = c.sum-summed.ensures.into_after ∙ is_left a.enums.now a.pack.now (length a.table.now) h a.report.now _ e;
-      table_after = c.clear.ensures ∙ all_cleared a.table.now ∙ table_cleared a.enums.now a.pack.now (length a.table.now) h a.report.now _ e _ c.sum-summed.ensures.value (sym c.is_err.ensures ∙ c.if-is_err.true);
+      table_after = c.clear.ensures ∙ all_cleared a.table.now ∙ table_cleared a.enums.now a.pack.now (length a.table.now) h a.report.now _ e _ c.sum-summed.ensures.value (sym c.is_err.ensures.value ∙ c.if-is_err.true);
       words_unchanged = c.count_files.ensures.words_unchanged;
     }
 
@@ -33,6 +33,6 @@ returns-else-is_err c =
     record {
       value = c.sum-summed.ensures.value ∙ is_value a.enums.now a.pack.now (length a.table.now) h a.report.now _ e;
       report_after = c.sum-summed.ensures.into_after ∙ is_left a.enums.now a.pack.now (length a.table.now) h a.report.now _ e;
-      table_after = c.requires.0.1 ∙ table_kept a.enums.now a.pack.now (length a.table.now) h a.report.now _ e _ c.sum-summed.ensures.value (sym c.is_err.ensures ∙ c.if-is_err.false);
+      table_after = c.requires.0.1 ∙ table_kept a.enums.now a.pack.now (length a.table.now) h a.report.now _ e _ c.sum-summed.ensures.value (sym c.is_err.ensures.value ∙ c.if-is_err.false);
       words_unchanged = c.count_files.ensures.words_unchanged;
     }
