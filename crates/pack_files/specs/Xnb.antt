@@ -1,11 +1,11 @@
 -- The figures of a file of a pack under a lent list of enum types, by what loading it answers and leaves. Assumes nothing.
-use Rattle.std.specs.Prelude.{◌≡◌, Bool, ◌&&◌, eqb, nat_eq, take, get_or}
+use Rattle.std.specs.Prelude.{◌≡◌, Bool, eqb, nat_eq, take}
 use Rattle.std.proofs.Math.Path.{refl, ap}
 use Rattle.std.proofs.Common.{sym, ◌∙◌, eq-eqb, ne_eqb, eqb-true}
 use Rattle.std.proofs.lemmas.Bool.{eqb-false}
 use Rattle.std.proofs.Math.Bool.{true, false, cond}
 use mathlib.Core.List.{List, [], ◌∷◌, ◌++◌}
-use Prim.Native.Nat.{ℕ, ◌+◌, ◌*◌, ◌-◌, ◌/◌, ◌≤◌, ◌<◌, ◌^◌, min}
+use Prim.Native.Nat.{ℕ, ◌+◌, ◌*◌, ◌-◌, ◌/◌, ◌≤◌, ◌^◌, min}
 use native.Mathlib.Omega.{arith}
 use Rattle.std.proofs.Math.ListN.{length, drop, replicate, length-append, length-replicate}
 use Rattle.std.proofs.Math.Seq.{drop-append_seam}
@@ -18,7 +18,7 @@ use Rattle.reading.specs.Reads.{Small}
 use Rattle.reading.specs.Drafts.{bare}
 use Rattle.reading.specs.References.{length-flat}
 use Rattle.reading.specs.Same.{same}
-use Rattle.reading.specs.File.{Loaded, file_at, refusal, to_load, table_of, table_in}
+use Rattle.reading.specs.File.{Loaded, file_at, to_load, table_of, table_in}
 use Rattle.fill.specs.Fill.{wiped}
 use Rattle.enums.specs.Judge.{Judgement, lawful, enums_at}
 use Rattle.enums.specs.Judge.{refused as list-refused}

@@ -1,5 +1,5 @@
 -- What adding a pack to a report answers in code, and what it leaves (02, Req 14). Assumes nothing.
-use Rattle.std.specs.Prelude.{◌≡◌, true, false, ℕ, ◌+◌, ◌*◌, ◌-◌, ◌≤◌, ◌<◌, ◌^◌, take, drop, Result, Ok, Err, ⊤}
+use Rattle.std.specs.Prelude.{◌≡◌, true, false, ℕ, ◌*◌, ◌-◌, ◌≤◌, ◌<◌, ◌^◌, take, drop, Result, Ok, Err, ⊤}
 use Rattle.std.proofs.Math.Path.{refl}
 use Rattle.std.proofs.Common.{Bool, is_err, sym, ap, ◌∙◌, take-append-drop, le-leb}
 use mathlib.Core.List.{List, [], ◌∷◌, ◌++◌}

@@ -1,4 +1,3 @@
-use borrow.Author.Rules.{rules}
 use mathlib.Core.Path.{refl, sym, ◌∙◌}
 use Rattle.load_part.specs.Part.{opened}
 use Rattle.pack_counts.specs.Raise.{counted-alike}

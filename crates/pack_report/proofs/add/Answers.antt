@@ -1,5 +1,5 @@
 use Rattle.std.specs.Prelude.{◌≡◌, length}
-use Rattle.std.proofs.Common.{rules, sym, ◌∙◌}
+use Rattle.std.proofs.Common.{rules, ◌∙◌}
 use Rattle.std.proofs.lemmas.Result.{err_from_is_err_and}
 use Rattle.pack_report.specs.Add.{room_enough, no_room, pack_refused, all_cleared, room_below, room_above, clear_so, listed}
 use Rattle.pack_report.proofs.add.Goals as goal

@@ -7,8 +7,8 @@ pub returns-then-pack-first : goal.returns-then-pack-first
 returns-then-pack-first c =
     let a = c.args in
     past_pack a.pack.now a.table.now a.i c.word_at-first.ensures c.word_at-count.ensures elim c.then-pack-first.branch [
-      then-pack-first-via-then-pack-first w ↦ omega (arith, w.if-pack-first.true)
-    | then-pack-first-via-else-pack-first+then-pack-first-2 w ↦ omega (arith, w.if-pack-first.false, w.if-pack-first-2.true)
+      | then-pack-first-via-then-pack-first w ↦ omega (arith, w.if-pack-first.true)
+      | then-pack-first-via-else-pack-first+then-pack-first-2 w ↦ omega (arith, w.if-pack-first.false, w.if-pack-first-2.true)
     ]
 
 pub returns : goal.returns

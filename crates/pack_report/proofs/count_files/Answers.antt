@@ -1,4 +1,4 @@
-use Rattle.std.proofs.Common.{refl, sym, ◌∙◌, arith}
+use Rattle.std.proofs.Common.{refl, sym, ◌∙◌}
 use Rattle.load_part.specs.Part.{opened}
 use Rattle.pack_files.specs.Xnb.{Clear}
 use Rattle.pack_report.specs.Files.{no_file_yet, one_file, no_file_left}
