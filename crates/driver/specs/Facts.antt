@@ -29,7 +29,6 @@ use Rattle.enums.specs.Judge.{refused as list-refused}
 use Rattle.enums.specs.Lists.{Bytes, enums-sound}
 use Rattle.readers.specs.Judged.{judged_name, judges}
 use Rattle.answers.specs.declared.Refusal.{Refusal}
-use Rattle.answers.specs.Refusals.{refusal as broken}
 use Rattle.load.specs.declared.Loaded.{Loaded}
 use Rattle.load.specs.Under.{load_under, load_lawful, accepted-list, load_refused-list}
 use Rattle.load.specs.Loads.{Loading, loaded, answer_of}

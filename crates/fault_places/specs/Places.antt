@@ -1,10 +1,8 @@
 -- The first and the lowest of places, and their laws. Assumes nothing.
-use Rattle.std.specs.Prelude.{◌≡◌, refl, Bool, true, false, List, [], ◌∷◌, ◌++◌, ◌⊎◌, ℕ, ◌≤◌, ◌<◌, min, leb}
+use Rattle.std.specs.Prelude.{◌≡◌, refl, Bool, true, false, List, [], ◌∷◌, ◌++◌, ◌⊎◌, ℕ, ◌≤◌, ◌<◌, min, leb, Option, None, Some}
 use Rattle.std.proofs.Common.{sym, ap, inl, inr, arith, leb-true, leb-false}
 use Rattle.laws.specs.Small.{differ}
 use Rattle.profile.specs.Offences.{wrong_at, fault, first, lowest, first_lowest, Offence}
-use Rattle.std.specs.Prelude.{Option}
-use Rattle.std.specs.Prelude.{None, Some}
 
 -- the first of some places, and the lowest of them
 abbrev pub first_place : List ℕ → Option ℕ

@@ -68,7 +68,8 @@ impl<'a> Keys<'a> {
 
     // The numbers of so many keys as there are places, and at most of 65,536, in the order of the keys.
     pub fn sort(self, order: &mut [u16])
-        ensures { KeyCertificate self.entry.file.now self.entry.table.grid self.entry.table.words.now self.entry.rows.now (min (length order.old) 65536) order.new }
+        ensures { KeyCertificate self.entry.file.now self.entry.table.grid self.entry.table.words.now self.entry.rows.now
+            (min (length order.old) 65536) order.new }
     {
         let n = order.len().min(65536);
         self.sort_numbers(&mut order[..n]);

@@ -1,5 +1,5 @@
 -- The String keys of a dictionary, gathered by their row numbers, and the contracts over them. Assumes nothing.
-use Rattle.std.specs.Prelude.{◌≡◌, Bool, true, false, eqb, set}
+use Rattle.std.specs.Prelude.{◌≡◌, Bool, true, false, eqb, set, Option}
 use Rattle.std.proofs.Math.Path.{refl, sym, ap}
 use Rattle.std.proofs.Common.{◌∙◌, length-set, length-drop, get_or-set_same, get_or-set_other, eqb-true}
 use mathlib.Core.List.{List, [], ◌∷◌}
@@ -14,7 +14,6 @@ use Rattle.table.specs.declared.Grid.{Grid}
 use Rattle.table.specs.Grids.{cell_of}
 use Rattle.profile.specs.Stand.{text_of}
 use Rattle.profile.specs.Offences.{next, skip, kind_of, key_rows, twins}
-use Rattle.std.specs.Prelude.{Option}
 use Rattle.fault_places.specs.Places.{lowest_place, Lowest}
 use Rattle.used_rows.specs.Held.{word_in, Held, Follows, Tells, kind_word, drop_past}
 use Rattle.key_order.specs.RowText.{text_from_lem}

@@ -1,9 +1,9 @@
 -- The contracts of the search for repeated keys, and its steps. Assumes nothing.
-use Rattle.std.specs.Prelude.{◌≡◌, refl, Bool, true, false, not, eqb, get_or}
+use Rattle.std.specs.Prelude.{◌≡◌, refl, Bool, true, false, eqb, get_or, Option, None, Some}
 use Rattle.std.proofs.Math.Path.{sym, ap}
-use Rattle.std.proofs.Common.{◌∙◌}
+use Rattle.std.proofs.Common.{◌∙◌, Ordering, Equal, Greater}
 use mathlib.Core.List.{List, [], ◌∷◌, ◌++◌}
-use Prim.Native.Nat.{ℕ, zero, suc, ◌+◌, ◌-◌, ◌/◌, ◌<◌, ◌≤◌}
+use Prim.Native.Nat.{ℕ, zero, suc, ◌+◌, ◌/◌, ◌<◌, ◌≤◌}
 use native.Mathlib.Omega.{arith}
 use Rattle.std.proofs.Math.ListN.{drop}
 use borrow.Author.Tests.{eqb-true, eqb-false, eq-eqb, ne_eqb}
@@ -11,12 +11,9 @@ use Rattle.laws.specs.Small.{differ}
 use Rattle.layout.specs.Rows.{Row, words}
 use Rattle.table.specs.declared.Grid.{Grid}
 use Rattle.profile.specs.Offences.{repeated}
-use Rattle.std.specs.Prelude.{Option}
-use Rattle.std.specs.Prelude.{None, Some}
 use Rattle.fault_places.specs.Places.{lowest_place, lower_of, Lowest, lowest-append, lower_assoc, lower-fine}
 use Rattle.used_rows.specs.Held.{word_in, Held, Tells, drop_past, drop-row}
 use Rattle.used_rows.specs.Steps.{head_kind}
-use Rattle.std.proofs.Common.{Ordering, Equal, Greater}
 use Rattle.std.proofs.Common as std
 use Rattle.std.specs.Ordering.{is_eq}
 use Rattle.text_order.specs.Ordered.{order_of, same_means, equal_first, Less, trans, irreflexive}

@@ -1,5 +1,5 @@
 -- The String keys of a dictionary, and the places of those that repeat an earlier one. Assumes nothing.
-use Rattle.std.specs.Prelude.{◌≡◌, Bool, ◌&&◌, ◌||◌, cond, ◌⊎◌}
+use Rattle.std.specs.Prelude.{◌≡◌, Bool, ◌&&◌, ◌||◌, cond, ◌⊎◌, Option}
 use Rattle.std.proofs.Math.Path.{refl, sym, ap}
 use Rattle.std.proofs.Common.{◌∙◌}
 use Rattle.std.proofs.Math.Bool.{true, false}
@@ -15,7 +15,6 @@ use Rattle.layout.specs.Rows.{Row}
 use Rattle.reading.specs.Same.{same, same_sound, same_complete}
 use Rattle.profile.specs.Stand.{text_of}
 use Rattle.profile.specs.Offences.{wrong_at, key_rows, twin, repeats, twins}
-use Rattle.std.specs.Prelude.{Option}
 use Rattle.fault_places.specs.Places.{lowest_place, Lowest, lowest-alike, Among, among-append, append-among, wrong-among, among-wrong, lowest_is}
 use Rattle.key_repeats.specs.Hits.{Repeats, Pair}
 

@@ -1,5 +1,5 @@
 -- Which of the seven-bit numbers at some places is not shortest, and the steps of the search. Assumes nothing.
-use Rattle.std.specs.Prelude.{◌≡◌, Bool, not, ℕ, zero, suc, ◌+◌, ◌*◌, ◌-◌, ◌<◌, ◌≤◌, eqb, length, drop}
+use Rattle.std.specs.Prelude.{◌≡◌, Bool, not, ℕ, suc, ◌+◌, ◌*◌, ◌-◌, ◌<◌, ◌≤◌, eqb, length, drop, Option, Result, Ok, Err, MatchOption, None, Some}
 use Rattle.std.proofs.Math.Path.{refl, sym, ap}
 use Rattle.std.proofs.Common.{◌∙◌, eq-eqb, ne_eqb}
 use Rattle.std.proofs.Math.Bool.{true, false}
@@ -15,8 +15,6 @@ use Rattle.numbers.specs.Padded.{past, pad_of}
 use Rattle.places.specs.Places.{behind_entry, id_places, raw_place, count_places, rows_places, entries_places, entries_end, lists_places, file_places}
 use Rattle.profile.specs.Offences.{wrong_at, kind_of, detail_of, padded}
 use Rattle.profile.specs.Profile.{first_of}
-use Rattle.std.specs.Prelude.{Option, Result, Ok, Err, MatchOption}
-use Rattle.std.specs.Prelude.{None, Some}
 use Rattle.fault_places.specs.Places.{first_place, or_else, first_append, fine-none}
 use Rattle.used_rows.specs.Held.{word_in, Held, Tells, kind_word, first_word, detail_word, drop_past, drop-row}
 use Rattle.number_rules.specs.declared.Entry.{Entry}

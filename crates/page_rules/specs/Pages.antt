@@ -1,5 +1,5 @@
 -- What 46 and 47 say of rows, and the steps of the tests. Assumes nothing.
-use Rattle.std.specs.Prelude.{◌≡◌, ◌&&◌, ℕ, suc, ◌<◌, ◌≤◌, eqb, drop}
+use Rattle.std.specs.Prelude.{◌≡◌, ◌&&◌, ℕ, suc, ◌<◌, ◌≤◌, eqb, drop, None, Some}
 use Rattle.std.proofs.Math.Path.{sym, ap}
 use Rattle.std.proofs.Common.{◌∙◌, arith}
 use mathlib.Core.List.{List, [], ◌∷◌, ◌++◌}
@@ -9,7 +9,6 @@ use Rattle.layout.specs.Rows.{Row}
 use Rattle.table.specs.declared.Grid.{Grid}
 use Rattle.profile.specs.Offences.{wrong_at, next, skip, kind_of, detail_of, no_page, nextless}
 use Rattle.profile.specs.Profile.{first_of}
-use Rattle.std.specs.Prelude.{None, Some}
 use Rattle.fault_places.specs.Places.{first_place, fine-none}
 use Rattle.used_rows.specs.Held.{word_in, Held, Follows, Skips, Tells, Finds, kind_word, first_word, detail_word, drop_past, drop-row}
 use Rattle.used_rows.specs.Steps.{head_kind}

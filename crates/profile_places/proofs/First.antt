@@ -1,5 +1,5 @@
 -- What the driver's loader refuses with, and where, is the first rule that is broken, at its first place. Assumes nothing.
-use Rattle.std.specs.Prelude.{◌≡◌, Bool, not, ◌⊎◌, ℕ, suc, ◌-◌, ◌<◌, ◌≤◌, length, get_or}
+use Rattle.std.specs.Prelude.{◌≡◌, Bool, not, ◌⊎◌, ℕ, suc, ◌-◌, ◌<◌, ◌≤◌, length, get_or, Option, None, Some}
 use Rattle.std.proofs.Math.Path.{refl}
 use Rattle.std.proofs.Common.{sym, ap, ◌∙◌, inl, inr, arith, eqb-true}
 use Rattle.std.proofs.Math.Bool.{true, false}
@@ -18,8 +18,6 @@ use Rattle.places.specs.Places.{file_places}
 use Rattle.profile.specs.Stand.{Stand, file_stand}
 use Rattle.profile.specs.Offences.{wrong_at, other_platform, padded, unused, doubled, repeated, no_page, nextless, fine, fault, first, first_lowest, from47, from46, from45, from44, from43, from42, fault_of, Offence}
 use Rattle.profile.specs.Rules.{platform-none, none-platform}
-use Rattle.std.specs.Prelude.{Option}
-use Rattle.std.specs.Prelude.{None, Some}
 use Rattle.fault_places.specs.Places.{first_place, lowest_place, Lowest}
 use Rattle.profile_places.specs.Broken.{Rule, platform, numbers, used, distinct, keys, page, nexts, refusal_of, PlatformAt, BrokenAt, FirstBroken}
 use Rattle.profile_places.specs.Numbers.{numbers-lowest}

@@ -1,28 +1,25 @@
 -- 45, 46 and 47: the loader's places are those of keys, of the first object and of references that offend, and it answers the lowest. Assumes nothing.
-use Rattle.std.specs.Prelude.{◌≡◌, Bool, not, ◌&&◌, ◌||◌, cond, ◌⊎◌, eqb, get_or}
+use Rattle.std.specs.Prelude.{◌≡◌, Bool, ◌&&◌, ◌||◌, cond, ◌⊎◌, eqb, get_or}
 use Rattle.std.proofs.Math.Path.{refl, sym, ap}
 use Rattle.std.proofs.Common.{◌∙◌}
 use Rattle.std.proofs.Math.Bool.{true, false}
 use mathlib.Core.List.{List, [], ◌∷◌, ◌++◌, append_assoc, append-nil}
 use Rattle.std.proofs.Math.Logic.{inl, inr}
-use Prim.Native.Nat.{ℕ, zero, suc, ◌+◌, ◌*◌, ◌/◌, ◌<◌, ◌≤◌}
+use Prim.Native.Nat.{ℕ, zero, suc, ◌+◌, ◌*◌, ◌/◌, ◌<◌}
 use native.Mathlib.Omega.{arith}
 use Rattle.std.proofs.Math.ListN.{length, drop}
-use Rattle.std.proofs.Math.Seq.{drop-append_seam}
-use borrow.Author.Tests.{eqb-true, eqb-false, eq-eqb}
+use borrow.Author.Tests.{eqb-true, eq-eqb}
 use Rattle.laws.specs.Small.{differ, both}
 use Rattle.layout.specs.Tree.{Trees, none, tree, count, size, kind_at}
 use Rattle.layout.specs.Rows.{Row, row}
 use Rattle.reading.specs.Same.{same, same_sound, same_complete}
-use Rattle.profile.specs.Profile.{Every, own_at, first_of}
+use Rattle.profile.specs.Profile.{own_at, first_of}
 use Rattle.profile.specs.Stand.{text_of, IsRow, Stand}
-use Rattle.profile.specs.Offences.{wrong_at, next, skip, kind_of, detail_of, key_rows, twin, repeats, twins, repeated, no_page, nextless}
+use Rattle.profile.specs.Offences.{wrong_at, skip, key_rows, twin, repeats, twins, repeated}
 use Rattle.profile.specs.Rules.{or_right}
-use Rattle.profile.specs.Keys.{stand_length, stand_next, stand_detail}
-use Rattle.fault_places.specs.Places.{first_place, lowest_place, Lowest, lowest-alike, Among, among-append, append-among, wrong-among, among-wrong, is_lowest}
-use Rattle.profile_places.specs.Broken.{place_at, Placing, Somewhere, LaterKey, NoNext}
-use Rattle.profile_places.specs.Rising.{Least, first_lowest, least-wrong}
-use Rattle.profile_places.specs.Pages.{Flat, RowsRise}
+use Rattle.profile.specs.Keys.{stand_next}
+use Rattle.fault_places.specs.Places.{lowest_place, Lowest, lowest-alike, Among, among-append, append-among, wrong-among, among-wrong, is_lowest}
+use Rattle.profile_places.specs.Broken.{place_at, Somewhere, LaterKey}
 use Rattle.profile_places.specs.Values.{KeyRow, behind_rows, found_somewhere, somewhere_found}
 
 -- ---- Places that are found row by row, as what is said of some value

@@ -1,5 +1,5 @@
 -- Where a file breaks the driver's profile (02, Req 07: "each at the first offence in file order: the byte, number, reader name (the later of two), later key, object or reference"), over its file tree and where its values stand. Assumes nothing.
-use Rattle.std.specs.Prelude.{◌≡◌, List, [], ◌∷◌, ◌++◌, ◌⊎◌, ℕ, zero, suc, ◌+◌, ◌*◌, ◌<◌, ◌≤◌, length, take, drop, get_or}
+use Rattle.std.specs.Prelude.{◌≡◌, List, [], ◌∷◌, ◌++◌, ◌⊎◌, ℕ, zero, suc, ◌*◌, ◌<◌, ◌≤◌, length, take, drop, get_or}
 use Prim.Native.Char.{code}
 use Rattle.layout.specs.Number.{Seven}
 use Rattle.layout.specs.Target.{Target, object}

@@ -1,5 +1,5 @@
 -- What 43 says of the readers of a loaded file, and the steps of the test. Assumes nothing.
-use Rattle.std.specs.Prelude.{◌≡◌, Bool, true, false, not, ◌&&◌, ◌||◌, eqb, length, drop}
+use Rattle.std.specs.Prelude.{◌≡◌, Bool, true, false, not, ◌&&◌, ◌||◌, eqb, length, drop, Option, None, Some}
 use Rattle.std.proofs.Math.Path.{sym, ap}
 use Rattle.std.proofs.Common.{◌∙◌, eq-eqb, ne_eqb}
 use mathlib.Core.List.{List, ◌++◌}
@@ -8,8 +8,6 @@ use native.Mathlib.Omega.{arith}
 use Rattle.layout.specs.Rows.{Row}
 use Rattle.table.specs.declared.Grid.{Grid}
 use Rattle.profile.specs.Offences.{wrong_at, kind_of, detail_of, name_start, uses, unused}
-use Rattle.std.specs.Prelude.{Option}
-use Rattle.std.specs.Prelude.{None, Some}
 use Rattle.fault_places.specs.Places.{first_place}
 use Rattle.used_rows.specs.Held.{word_in, Held, Tells, Tests, kind_word, detail_word, drop_past, drop-row}
 

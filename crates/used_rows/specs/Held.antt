@@ -1,5 +1,5 @@
 -- Rows that a table holds, as the code reads them by their numbers. Assumes nothing.
-use Rattle.std.specs.Prelude.{◌≡◌, refl, Bool, List, [], ◌∷◌, map, ℕ, zero, suc, ◌+◌, ◌<◌, ◌≤◌, length, drop, get_or}
+use Rattle.std.specs.Prelude.{◌≡◌, refl, Bool, List, [], ◌∷◌, map, ℕ, zero, suc, ◌+◌, ◌<◌, ◌≤◌, length, drop, get_or, Option}
 use Rattle.std.proofs.Common.{arith}
 use Rattle.std.proofs.Math.Seq.{drop-nil}
 use Rattle.layout.specs.Rows.{Row, words, width}
@@ -7,7 +7,6 @@ use Rattle.table.specs.declared.Grid.{Grid}
 use Rattle.table.specs.Grids.{cell_of}
 use Rattle.profile.specs.Offences.{next, skip, kind_of, detail_of}
 use Rattle.profile.specs.Profile.{first_of}
-use Rattle.std.specs.Prelude.{Option}
 use Rattle.fault_places.specs.Places.{first_place}
 
 -- word j of row i; 0 where there is none

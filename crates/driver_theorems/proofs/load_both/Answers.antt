@@ -1,5 +1,4 @@
 use lib.ListN.{length}
-use borrow.Author.Rules.{rules}
 use Rattle.driver_theorems.proofs.Laws.{beside}
 use Rattle.driver_theorems.proofs.load_both.Goals as goal
 

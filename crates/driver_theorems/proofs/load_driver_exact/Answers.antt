@@ -1,7 +1,6 @@
 use lib.ListN.{length}
 use native.Mathlib.Omega.{arith}
 use Rattle.reading.specs.Reads.{small_by_index}
-use borrow.Author.Rules.{rules}
 use Rattle.driver_theorems.proofs.Laws.{load_driver_exact}
 use Rattle.driver_theorems.proofs.load_driver_exact.Goals as goal
 

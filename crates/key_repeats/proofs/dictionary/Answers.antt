@@ -1,4 +1,3 @@
-use borrow.Author.Rules.{rules}
 use Rattle.key_repeats.specs.Steps.{no_dictionary, too_many, keys_found}
 use Rattle.key_repeats.proofs.dictionary.Goals as goal
 

@@ -1,4 +1,3 @@
-use borrow.Author.Rules.{rules}
 use Rattle.key_repeats.specs.Steps.{second-outside, second_other, second_same}
 use Rattle.key_repeats.proofs.neighbour_at.Goals as goal
 

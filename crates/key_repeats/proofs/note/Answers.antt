@@ -1,4 +1,3 @@
-use borrow.Author.Rules.{rules}
 use Rattle.key_repeats.specs.Gathered.{other_noted, full-noted, string-noted}
 use Rattle.key_repeats.proofs.note.Goals as goal
 

@@ -1,4 +1,3 @@
-use borrow.Author.Rules.{rules}
 use Rattle.key_order.specs.Texts.{key_text}
 use Rattle.key_repeats.specs.Gathered.{key_place}
 use Rattle.key_repeats.specs.Steps.{no_repeat, a_repeat}

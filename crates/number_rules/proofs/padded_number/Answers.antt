@@ -1,4 +1,3 @@
-use borrow.Author.Rules.{rules}
 use Rattle.number_rules.specs.Numbers.{in_lists, in_rows}
 use Rattle.number_rules.proofs.padded_number.Goals as goal
 

@@ -1,4 +1,3 @@
-use borrow.Author.Rules.{rules}
 use Rattle.number_rules.specs.Numbers.{row_found}
 use Rattle.number_rules.proofs.row_numbers.Goals as goal
 

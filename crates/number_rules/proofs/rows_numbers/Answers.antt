@@ -1,4 +1,4 @@
-use Rattle.std.proofs.Common.{sym, ◌∙◌, add-one}
+use Rattle.std.proofs.Common.{sym, ◌∙◌}
 use Rattle.number_rules.specs.Numbers.{row_fine, row-wrong, no_more-rows}
 use Rattle.number_rules.proofs.rows_numbers.Goals as goal
 

@@ -1,7 +1,4 @@
-use Rattle.std.proofs.Common.{ap, ◌∙◌, ℕ, rules, of_calls}
-use Rattle.places.specs.Places.{count_places}
-use Rattle.profile.specs.Offences.{padded}
-use Rattle.fault_places.specs.Places.{first_place}
+use Rattle.std.proofs.Common.{rules, of_calls}
 use Rattle.number_rules.specs.Numbers.{without_id, with_id}
 use Rattle.number_rules.proofs.value_numbers.Goals as goal
 

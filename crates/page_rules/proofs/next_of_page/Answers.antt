@@ -1,6 +1,5 @@
-use Prim.Native.Nat.{suc, ◌-◌}
+use Prim.Native.Nat.{suc}
 use native.Mathlib.Numerals.{add-one}
-use borrow.Author.Rules.{rules}
 use Rattle.page_rules.specs.Pages.{skips-three}
 use Rattle.page_rules.proofs.next_of_page.Goals as goal
 

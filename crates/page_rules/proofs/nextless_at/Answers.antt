@@ -1,5 +1,3 @@
-use Prim.Native.Nat.{◌-◌}
-use borrow.Author.Rules.{rules}
 use Rattle.page_rules.specs.Pages.{no_page_there, next_there, next_missing}
 use Rattle.page_rules.proofs.nextless_at.Goals as goal
 

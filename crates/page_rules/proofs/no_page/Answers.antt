@@ -1,4 +1,3 @@
-use borrow.Author.Rules.{rules}
 use Rattle.page_rules.specs.Pages.{page_first, other_first}
 use Rattle.page_rules.proofs.no_page.Goals as goal
 

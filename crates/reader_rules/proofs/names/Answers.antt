@@ -1,6 +1,4 @@
 use mathlib.Core.Path.{refl}
-use Prim.Native.Nat.{◌-◌}
-use borrow.Author.Rules.{rules}
 use Rattle.reader_rules.specs.Readers.{other_reader, this_reader}
 use Rattle.reader_rules.proofs.names.Goals as goal
 

@@ -1,4 +1,4 @@
-use Rattle.std.proofs.Common.{sym, refl, length, arith}
+use Rattle.std.proofs.Common.{sym, refl, arith}
 use Rattle.reading.specs.Reads.{small_by_index}
 use Rattle.names.specs.Entries.{enums_of}
 use Rattle.readers.specs.Contract.{lists_total}

@@ -1,4 +1,4 @@
-use Rattle.std.proofs.Common.{length, arith, rules, of_calls}
+use Rattle.std.proofs.Common.{arith, rules, of_calls}
 use Rattle.std.specs.Ordering.{is_lt}
 use Rattle.std.proofs.lemmas.Fn.{always_returns_same}
 use Rattle.key_order.specs.Texts.{key_text, rank_of}
