@@ -22,18 +22,14 @@ use Rattle.pack_reading.specs.Lookup as lookup
 use Rattle.pack_salvage.specs.Scan.{Piece}
 use Rattle.pack_salvage.specs.Salvage.{salvage_for, output_for, list_for}
 use Rattle.pack_salvage.specs.Salvage as salvage
-use Rattle.packs.specs.declared.Reading.{Reading}
-use Rattle.packs.specs.declared.Reading.TheVariants as reading
+use Rattle.std.specs.Prelude.{Result, Ok, Err, Option, Some, None}
+use Rattle.answers.specs.declared.Refusal.{Refusal}
 use Rattle.packs.specs.Files as packs
-use Rattle.marks.specs.declared.Converting.{Converting}
-use Rattle.marks.specs.declared.Converting.TheVariants as converting
 use Rattle.marks.specs.Converting.{converted}
 use Rattle.marks.specs.Converting as marks
-use Rattle.salvage.specs.declared.Salvaging.{Salvaging}
-use Rattle.salvage.specs.declared.Salvaging.TheVariants as salvaging
+use Rattle.salvage.specs.declared.Salvaged.{Salvaged}
 use Rattle.salvage.specs.Salvaging as salvages
-use Rattle.pack_lookup.specs.declared.Found.{Found}
-use Rattle.pack_lookup.specs.declared.Found.TheVariants.{Absent, At}
+use Rattle.pack_lookup.specs.declared.Part.{Part}
 use Rattle.pack_lookup.specs.Lookup.{found_as}
 use Rattle.pack_told.specs.Told.{pack_told, written_told, salvage_told, found_told}
 use Rattle.theorems.specs.Packs.{Reads, Finds}
@@ -57,11 +53,11 @@ not_zero marked number (inr (inr (inr (inr (inr (inr e)))))) z = absurd (omega (
 
 -- ---- Reading
 
-read_zero : {marked : Bool} {file : List ℕ} {words : ℕ} {left : List ℕ} {number : ℕ} (r : Reading) → number ≡ (of_reading r).0 → Reads marked file words left r
+read_zero : {marked : Bool} {file : List ℕ} {words : ℕ} {left : List ℕ} {number : ℕ} (r : Result ℕ Refusal) → number ≡ (of_reading r).0 → Reads marked file words left r
     → (number ≡ 0) ↔ Fitting (mark_of marked) file words
-read_zero {marked} (reading.Refused n p) e w =
-    (λ z. absurd (not_zero marked n (w.inside n p refl).0 (sym e ∙ z)), λ f. let q = (w.files f).0 in differ cc)
-read_zero (reading.Read k) e w = (λ z. w.accepts.0 tt, λ f. e)
+read_zero {marked} (Err r) e w =
+    (λ z. absurd (not_zero marked r.number (w.inside r.number r.place refl).0 (sym e ∙ z)), λ f. let q = (w.files f).0 in differ cc)
+read_zero (Ok k) e w = (λ z. w.accepts.0 tt, λ f. e)
 
 read-numbers : (x : Pack) → pack_told x ≡ of_reading (packs.answer_of x)
 unfolding pack_told
@@ -89,20 +85,20 @@ refusal_not_zero other size n p (inl a) z = absurd (omega arith)
 refusal_not_zero other size n p (inr a) z = not_zero other n a.0 z
 
 module _ {marked : Bool} {file out end : List ℕ} where
-  has_room : (k : ℕ) → Converts marked file out end (converting.Converted k) → (fs : List Stored) → PackLays (mark_of (not marked)) fs file → Dec (length out < length (in_form marked fs))
+  has_room : (k : ℕ) → Converts marked file out end (Ok k) → (fs : List Stored) → PackLays (mark_of (not marked)) fs file → Dec (length out < length (in_form marked fs))
       → length (in_form marked fs) ≤ length out
   unfolding roomy
   has_room k w fs l (yes h) = let q = w.too_small (roomy (mark_of (not marked)) file fs l) h in differ cc
   has_room k w fs l (no h) = omega arith
 
-  convert_zero : {number : ℕ} (r : Converting) → number ≡ (of_converting r).0 → Converts marked file out end r
+  convert_zero : {number : ℕ} (r : Result ℕ Refusal) → number ≡ (of_converting r).0 → Converts marked file out end r
       → (number ≡ 0) ↔ ((fs : List Stored) × PackLays (mark_of (not marked)) fs file × (length (in_form marked fs) ≤ length out))
   unfolding roomy
-  convert_zero (converting.Refused n p) e w = (
-    λ z. absurd (refusal_not_zero (not marked) (length file) n p (w.inside n p refl) (sym e ∙ z)),
+  convert_zero (Err r) e w = (
+    λ z. absurd (refusal_not_zero (not marked) (length file) r.number r.place (w.inside r.number r.place refl) (sym e ∙ z)),
     λ f. let q = (w.converts (roomy (mark_of (not marked)) file f.0 f.1) f.2).0 in differ cc,
   )
-  convert_zero (converting.Converted k) e w =
+  convert_zero (Ok k) e w =
       (λ z. let v = w.written k refl in (v.0, v.1, has_room k w v.0 v.1 (dec_lt (length out) (length (in_form marked v.0)))), λ f. e)
 
 convert-numbers : (x : Rewritten) → written_told x ≡ of_converting (marks.answer_of x)
@@ -121,9 +117,9 @@ converts-told marked file out small told leaves =
 
 -- ---- Salvaging
 
-module _ {file out list end left : List ℕ} {number : ℕ} (r : Salvaging) (e : number ≡ (of_salvaging r).0) (w : Salvages file out list end left r) where
-  by_answer : {x : Salvaging} → r ≡ x → number ≡ (of_salvaging x).0
-  by_answer q = e ∙ ap (λ (x : Salvaging). (of_salvaging x).0) q
+module _ {file out list end left : List ℕ} {number : ℕ} (r : Result Salvaged Refusal) (e : number ≡ (of_salvaging r).0) (w : Salvages file out list end left r) where
+  by_answer : {x : Result Salvaged Refusal} → r ≡ x → number ≡ (of_salvaging x).0
+  by_answer q = e ∙ ap (λ (x : Result Salvaged Refusal). (of_salvaging x).0) q
 
   scanned : number ≡ 0 → Dec (length file < 4) → (ps : List Piece) × Scan file ps × Room ps (length out) (length list)
   scanned z (yes h) = absurd (omega (arith, by_answer (w.short h)))
@@ -161,9 +157,9 @@ salvages_told file out list small told leaves lists =
 
 -- ---- Finding
 
-find_zero : {file table path : List ℕ} {number : ℕ} (r : Found) → number ≡ (of_found r).0 → Finds file table path r → (number ≡ 0) ↔ NoMatch file path (wholes table)
-find_zero Absent e w = (λ z. w.absent.0 refl, λ n. e)
-find_zero (At a n) e w = (λ z. absurd (omega arith), λ m. let q = w.absent.1 m in differ cc)
+find_zero : {file table path : List ℕ} {number : ℕ} (r : Option Part) → number ≡ (of_found r).0 → Finds file table path r → (number ≡ 0) ↔ NoMatch file path (wholes table)
+find_zero None e w = (λ z. w.absent.0 refl, λ n. e)
+find_zero (Some p) e w = (λ z. absurd (omega arith), λ m. let q = w.absent.1 m in differ cc)
 
 find_numbers : (x : lookup.Found) → found_told x ≡ of_found (found_as x)
 unfolding found_told
