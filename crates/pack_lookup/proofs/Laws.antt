@@ -7,7 +7,8 @@ use native.Mathlib.Omega.{arith}
 use lib.Dec.{ltb, leb, eqb}
 use lib.ListN.{length, take, drop, get_or, length-drop}
 use lib.Seq.{drop-cons, length-take-le}
-use borrow.Author.Tests.{ltb-true, ltb-false, leb-true, le-leb, lt-leb, eqb-true, eqb-false, eq-eqb, ne_eqb}
+use borrow.Author.Tests.{ltb-true, ltb-false, leb-true, leb-false, lt-ltb, le-ltb, le-leb, lt-leb, eqb-true, eqb-false, eq-eqb, ne_eqb}
+use Rattle.std.specs.Char.{to_ascii_lowercase}
 use Rattle.laws.specs.Small.{differ}
 use Rattle.pack_layout.specs.Table.{entry, wholes}
 use Rattle.pack_layout.specs.Lookup.{lower, lowered}
@@ -19,17 +20,13 @@ use Rattle.std.specs.Prelude.{Some, None}
 
 -- ---- A byte
 
-pub lower_low : (b : ℕ) → b < 0x41 → b ≡ lower b
+pub lower_is : (b : ℕ) → to_ascii_lowercase b ≡ lower b
 unfolding lower
-lower_low b h = rw (lt-leb 0x41 b h)
-
-pub lower_high : (b : ℕ) → 0x5A < b → b ≡ lower b
-unfolding lower
-lower_high b h = rw (le-leb 0x41 b (omega arith), lt-leb b 0x5A h)
-
-pub lower_letter : (b : ℕ) → 0x41 ≤ b → b ≤ 0x5A → b + 32 ≡ lower b
-unfolding lower
-lower_letter b h k = rw (le-leb 0x41 b h, le-leb b 0x5A k)
+lower_is b = go (leb 0x41 b) (leb b 0x5A) refl refl where
+  go : (s t : Bool) → leb 0x41 b ≡ s → leb b 0x5A ≡ t → to_ascii_lowercase b ≡ cond (leb 0x41 b && leb b 0x5A) (b + 32) b
+  go false t p q = rw (p, lt-ltb b 65 (leb-false 65 b p))
+  go true false p q = rw (p, q, le-ltb b 65 (leb-true 65 b p), le-ltb b 91 (leb-false b 90 q))
+  go true true p q = rw (p, q, le-ltb b 65 (leb-true 65 b p), lt-ltb b 91 (omega (arith, leb-true b 90 q)))
 
 -- ---- Two paths
 

@@ -12,13 +12,7 @@ ghost use Rattle.pack_lookup.specs.Lookup.{entry_at, found_as, data_of};
 fn lower_byte(b: u8) -> u8
     ensures { result ≡ lower b }
 {
-    if b < 0x41 {
-        return b;
-    }
-    if 0x5A < b {
-        return b;
-    }
-    b + 32
+    b.to_ascii_lowercase()
 }
 
 // Whether two paths differ, ASCII letters being lowered, in one of the `n` bytes from `i` on.
@@ -26,11 +20,9 @@ fn differ(a: &[u8], b: &[u8], i: usize, n: usize) -> bool
     requires { (i + n ≤ length a.now) × (i + n ≤ length b.now) }
     ensures { Compared a.now b.now i n result }
 {
-    let mut j = 0;
     let mut other = false;
-    while j < n {
-        other = other | (lower_byte(a[i + j]) != lower_byte(b[i + j]));
-        j += 1;
+    for j in 0..n {
+        other |= lower_byte(a[i + j]) != lower_byte(b[i + j]);
     }
     other
 }
@@ -121,14 +113,13 @@ pub struct Part {
 pub fn find(pack: &[u8], table: &[u64], path: &[u8]) -> Option<Part>
     ensures { result ≡ found_as (find_of pack.now table.now path.now) }
 {
-    let mut i = 0;
-    while 4 <= table.len() - i {
+    for file in 0..table.len() / 4 {
+        let i = 4 * file;
         if entry_matches(pack, table, path, i) {
             let first = table[i + 2] as usize;
             let count = table[i + 3] as usize;
             return Some(Part { first, count });
         }
-        i += 4;
     }
     None
 }

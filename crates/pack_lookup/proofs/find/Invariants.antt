@@ -1,11 +1,7 @@
--- `pack_lookup::find` meets its contract: before each turn no entry before word `i` matches. Assumes nothing.
-use Prim.Native.Nat.{◌-◌}
-use lib.ListN.{length}
+-- `pack_lookup::find` meets its contract: before each turn no entry before that of `file` matches. Assumes nothing.
+use Rattle.std.specs.Prelude.{◌*◌}
 use Rattle.pack_lookup.proofs.Laws.{Looking}
 use Rattle.pack_lookup.proofs.find.Given as goal
 
-abbrev pub invariant-loop-i : goal.invariant-loop-i
-invariant-loop-i l = Looking l.pack l.table l.path l.i
-
-abbrev pub decreases-loop-i : goal.decreases-loop-i
-decreases-loop-i l = length l.table - l.i
+abbrev pub invariant-loop-file : goal.invariant-loop-file
+invariant-loop-file l = Looking l.pack l.table l.path (4 * l.file)
