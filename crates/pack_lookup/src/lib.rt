@@ -36,12 +36,10 @@ fn same_blocks(a: &[u8], b: &[u8], n: usize) -> bool
     if differ(a, b, last, n) {
         return false;
     }
-    let mut i = 0;
-    while i < last {
+    for i in (0..last).step_by(n) {
         if differ(a, b, i, n) {
             return false;
         }
-        i += n;
     }
     true
 }
