@@ -25,14 +25,14 @@ fn past_clear(pack: &[u8], from: usize) -> usize
     requires { from ≤ length pack.now }
     ensures { NoLead pack.now from result }
 {
-    let mut at = from;
-    while 32 <= pack.len() - at {
+    let blocks = (pack.len() - from) / 32;
+    for block in 0..blocks {
+        let at = from + 32 * block;
         if !is_clear(pack, at) {
             return at;
         }
-        at += 32;
     }
-    at
+    from + 32 * blocks
 }
 
 // The first place from `from` on where FD stands, or the end of the pack.
@@ -40,14 +40,12 @@ fn next_lead(pack: &[u8], from: usize) -> usize
     requires { from ≤ length pack.now }
     ensures { NoLead pack.now from result }
 {
-    let mut at = past_clear(pack, from);
-    while at < pack.len() {
+    for at in past_clear(pack, from)..pack.len() {
         if pack[at] == 0xFD {
             return at;
         }
-        at += 1;
     }
-    at
+    pack.len()
 }
 
 // A part of a pack.
@@ -106,6 +104,7 @@ fn measure(pack: &[u8]) -> Size
         stretches: 0,
     };
     let mut at = 4;
+    // Kept: the loop counts the records that it measures, and no index.
     while size.records < 4096 {
         let Some(next) = next_record(pack, at) else {
             break;

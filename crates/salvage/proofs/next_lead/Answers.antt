@@ -1,3 +1,5 @@
+use Rattle.std.specs.Prelude.{◌≡◌, length}
+use Rattle.std.proofs.Common.{arith}
 use Rattle.salvage.proofs.Leads.{one_more}
 use Rattle.salvage.proofs.next_lead.Goals as goal
 
@@ -11,4 +13,6 @@ pub loop-at-preserved : goal.loop-at-preserved
 loop-at-preserved c = one_more _ c.loop-at.invariant c.loop-at-test.true c.if-pack-at.false
 
 pub returns : goal.returns
-returns c = c.loop-at.invariant
+returns c =
+    let e : c.loop-at.at ≡ length c.args.pack.now = omega (arith, c.loop-at.invariant.inside) in
+    rw e at c.loop-at.invariant
