@@ -12,7 +12,7 @@ pub use runs::{first_of, next_of, past_blocks, put_before};
 fn loud(b: u8, most: u8) -> bool
     ensures { (result ≡ false → Quiet most b) × (result ≡ true → Quiet most b → ⊥) }
 {
-    (b < 0x20) | (b == 0x22) | (b == 0x26) | (b == 0x3C) | (b == 0x3E) | (b == 0xEF) | (most < b)
+    (b < 0x20) | (b == b'"') | (b == b'&') | (b == b'<') | (b == b'>') | (b == 0xEF) | (most < b)
 }
 
 // Past the blocks of 32 such bytes from `from` on; `from` itself where it is past the end.

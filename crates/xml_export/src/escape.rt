@@ -32,16 +32,16 @@ fn noncharacter_at(text: &[u8], at: usize) -> bool
 fn escaped_size(b: u8) -> usize
     ensures { result ≡ length (escaped b) }
 {
-    if b == 0x26 {
+    if b == b'&' {
         return 5;
     }
-    if b == 0x3C {
+    if b == b'<' {
         return 4;
     }
-    if b == 0x3E {
+    if b == b'>' {
         return 4;
     }
-    if b == 0x22 {
+    if b == b'"' {
         return 6;
     }
     1
@@ -53,7 +53,7 @@ fn size_at(text: &[u8], at: usize) -> Option<usize>
     ensures { result ≡ byte_size (drop at text.now) }
 {
     let b = text[at];
-    if 0x3E < b {
+    if b'>' < b {
         if b != 0xEF {
             return Some(1);
         }
@@ -81,7 +81,7 @@ fn worth(counts: bool, n: u8) -> u8
 fn extra(b: u8) -> u8
     ensures { (1 + result ≡ length (escaped b)) × (result ≤ 5) }
 {
-    worth(b == 0x26, 4) + worth((b == 0x3C) | (b == 0x3E), 3) + worth(b == 0x22, 5)
+    worth(b == b'&', 4) + worth((b == b'<') | (b == b'>'), 3) + worth(b == b'"', 5)
 }
 
 // Whether a byte may start a character that is not written.
@@ -180,14 +180,14 @@ pub(crate) fn text_size(file: &[u8], first: usize, n: usize) -> Option<usize>
 fn signed(b: u8) -> bool
     ensures { result ≡ false → Alone b }
 {
-    (b == 0x22) | (b == 0x26) | (b == 0x3C) | (b == 0x3E)
+    (b == b'"') | (b == b'&') | (b == b'<') | (b == b'>')
 }
 
 // The same: letters are told by one test.
 fn sign(b: u8) -> bool
     ensures { result ≡ false → Alone b }
 {
-    if 0x3E < b {
+    if b'>' < b {
         return false;
     }
     signed(b)

@@ -4,7 +4,7 @@
 mod escape;
 
 ghost use Rattle.std.specs.Prelude.{◌≡◌, true, ℕ, ◌+◌, ◌-◌, ◌≤◌, length};
-ghost use Rattle.readers.specs.Left.{codes_for, enough};
+ghost use Rattle.readers.specs.Left.{enough};
 ghost use Rattle.lookups.specs.Texts.{rows_text};
 ghost use Rattle.xml_escape.specs.Wrote.{PutTo};
 ghost use Rattle.xml_layout.specs.Xml.{items};
@@ -16,6 +16,7 @@ ghost use Rattle.xml_export.specs.Under.{exported, output_left, words_left};
 
 use answers::{Refusal, Rule};
 use ids::RowNumber;
+use names::kinds;
 use table::Table;
 
 // How many bytes the text of a row has in the XML; refused where there is none, or a character of it is not written.
@@ -84,10 +85,10 @@ fn of_texts(codes: &[u32], place: u16) -> bool
     ensures { OfTexts codes.now place result }
 {
     let at = place as usize;
-    if targets::kind_at(codes, at) != 17 {
+    if targets::kind_at(codes, at) != kinds::ARRAY_KIND {
         return false;
     }
-    targets::kind_at(codes, at + 1) == 13
+    targets::kind_at(codes, at + 1) == kinds::STRING
 }
 
 // Whether the reader that a type id names is one of Arrays of String, where the codes suffice for the file's readers.
@@ -112,46 +113,30 @@ fn listed_reader(file: &[u8], enums: &[u8], codes: &mut [u32], id: u32) -> bool
     }
 }
 
-// The same where the file lists at most 2 readers, at most 8, and at most 64: no more codes are cleared than so many readers need.
-fn of_two(file: &[u8], enums: &[u8], id: u32) -> bool
-    requires { (length file.now ≤ 16777216) × (enough file.now 10 (codes_for 2) ≡ true) }
+// The same with so many codes, where they suffice: no more are cleared.
+fn of_codes<const CODES: usize>(file: &[u8], enums: &[u8], id: u32) -> bool
+    requires { (length file.now ≤ 16777216) × (CODES ≤ 6058) × (enough file.now 10 CODES ≡ true) }
     ensures { TextsReader enums.now file.now id result }
 {
-    let mut codes = [0u32; 292];
+    let mut codes = [0u32; CODES];
     listed_reader(file, enums, &mut codes, id)
 }
 
-fn of_few(file: &[u8], enums: &[u8], id: u32) -> bool
-    requires { (length file.now ≤ 16777216) × (enough file.now 10 (codes_for 8) ≡ true) }
-    ensures { TextsReader enums.now file.now id result }
-{
-    let mut codes = [0u32; 850];
-    listed_reader(file, enums, &mut codes, id)
-}
-
-fn of_many(file: &[u8], enums: &[u8], id: u32) -> bool
-    requires { length file.now ≤ 16777216 }
-    ensures { TextsReader enums.now file.now id result }
-{
-    let mut codes = [0u32; 6058];
-    listed_reader(file, enums, &mut codes, id)
-}
-
-// Whether the reader that a type id names is one of Arrays of String.
+// Whether the reader that a type id names is one of Arrays of String: with the codes for at most 2 readers, at most 8, and at most 64.
 fn texts_reader(file: &[u8], enums: &[u8], id: u32) -> bool
     requires { length file.now ≤ 16777216 }
     ensures { TextsReader enums.now file.now id result }
 {
     match readers::reader_count(file, readers::START) {
-        Err(_) => of_two(file, enums, id),
+        Err(_) => of_codes::<292>(file, enums, id),
         Ok(count) => {
             if count.value <= 2 {
-                return of_two(file, enums, id);
+                return of_codes::<292>(file, enums, id);
             }
             if count.value <= 8 {
-                return of_few(file, enums, id);
+                return of_codes::<850>(file, enums, id);
             }
-            of_many(file, enums, id)
+            of_codes::<6058>(file, enums, id)
         }
     }
 }

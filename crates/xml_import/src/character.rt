@@ -123,7 +123,7 @@ fn top_at(xml: &[u8], at: usize) -> Matched
 pub(crate) fn ordinary(b: u8) -> bool
     ensures { result ≡ stands_alone b }
 {
-    if 0x3E < b {
+    if b'>' < b {
         if 0x7F < b {
             return false;
         }
@@ -132,16 +132,16 @@ pub(crate) fn ordinary(b: u8) -> bool
     if b < 0x20 {
         return false;
     }
-    if b == 0x22 {
+    if b == b'"' {
         return false;
     }
-    if b == 0x26 {
+    if b == b'&' {
         return false;
     }
-    if b == 0x3C {
+    if b == b'<' {
         return false;
     }
-    b != 0x3E
+    b != b'>'
 }
 
 // A character that is not ASCII, by its first byte.
@@ -149,39 +149,19 @@ fn wide_at(xml: &[u8], at: usize) -> Matched
     requires { (at < length xml.now) × (0x80 ≤ get_or xml.now at 0) }
     ensures { PlainAt xml.now at result }
 {
-    let b = xml[at];
     let next = at + 1;
-    if b < 0xC2 {
-        return Err(at);
+    match xml[at] {
+        0xC2..=0xDF => byte_at(xml, next, 0x80, 0xBF),
+        0xE0 => two_at(xml, next, 0xA0, 0xBF, 0xBF),
+        0xE1..=0xEC => two_at(xml, next, 0x80, 0xBF, 0xBF),
+        0xED => two_at(xml, next, 0x80, 0x9F, 0xBF),
+        0xEE => two_at(xml, next, 0x80, 0xBF, 0xBF),
+        0xEF => top_at(xml, next),
+        0xF0 => three_at(xml, next, 0x90, 0xBF),
+        0xF1..=0xF3 => three_at(xml, next, 0x80, 0xBF),
+        0xF4 => three_at(xml, next, 0x80, 0x8F),
+        _ => Err(at),
     }
-    if b < 0xE0 {
-        return byte_at(xml, next, 0x80, 0xBF);
-    }
-    if b == 0xE0 {
-        return two_at(xml, next, 0xA0, 0xBF, 0xBF);
-    }
-    if b < 0xED {
-        return two_at(xml, next, 0x80, 0xBF, 0xBF);
-    }
-    if b == 0xED {
-        return two_at(xml, next, 0x80, 0x9F, 0xBF);
-    }
-    if b == 0xEE {
-        return two_at(xml, next, 0x80, 0xBF, 0xBF);
-    }
-    if b == 0xEF {
-        return top_at(xml, next);
-    }
-    if b == 0xF0 {
-        return three_at(xml, next, 0x90, 0xBF);
-    }
-    if b < 0xF4 {
-        return three_at(xml, next, 0x80, 0xBF);
-    }
-    if b == 0xF4 {
-        return three_at(xml, next, 0x80, 0x8F);
-    }
-    Err(at)
 }
 
 // A character that stands as it is.
@@ -214,28 +194,28 @@ fn other_entity(xml: &[u8], at: usize) -> Result<Entity, usize>
     let a = names::texts::matched_at(xml, at, b"&amp;");
     if a == 5 {
         return Ok(Entity {
-            byte: 0x26,
+            byte: b'&',
             next: at + 5,
         });
     }
     let l = names::texts::matched_at(xml, at, b"&lt;");
     if l == 4 {
         return Ok(Entity {
-            byte: 0x3C,
+            byte: b'<',
             next: at + 4,
         });
     }
     let g = names::texts::matched_at(xml, at, b"&gt;");
     if g == 4 {
         return Ok(Entity {
-            byte: 0x3E,
+            byte: b'>',
             next: at + 4,
         });
     }
     let q = names::texts::matched_at(xml, at, b"&quot;");
     if q == 6 {
         return Ok(Entity {
-            byte: 0x22,
+            byte: b'"',
             next: at + 6,
         });
     }
@@ -252,25 +232,25 @@ pub(crate) fn entity_at(xml: &[u8], at: usize) -> Result<Entity, usize>
     }
     if four_at(xml, at + 1, b"amp;") {
         return Ok(Entity {
-            byte: 0x26,
+            byte: b'&',
             next: at + 5,
         });
     }
     if four_at(xml, at, b"&lt;") {
         return Ok(Entity {
-            byte: 0x3C,
+            byte: b'<',
             next: at + 4,
         });
     }
     if four_at(xml, at, b"&gt;") {
         return Ok(Entity {
-            byte: 0x3E,
+            byte: b'>',
             next: at + 4,
         });
     }
     if four_at(xml, at, b"&quo") && four_at(xml, at + 2, b"uot;") {
         return Ok(Entity {
-            byte: 0x22,
+            byte: b'"',
             next: at + 6,
         });
     }

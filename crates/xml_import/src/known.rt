@@ -8,7 +8,7 @@ use xml_escape::{first_of, next_of, past_blocks, put_before};
 fn marked(b: u8) -> bool
     ensures { (result ≡ false → Unmarked b) × (result ≡ true → Marked b) }
 {
-    (b == 0x26) | (b == 0x3C)
+    (b == b'&') | (b == b'<')
 }
 
 // Past such bytes from `from` on, to the first other: blocks, then 64 bytes at once, or one by one where fewer are left.
@@ -30,13 +30,13 @@ fn unmarked_far(xml: &[u8], from: usize) -> usize
 fn sign(b: u8) -> bool
     ensures { (result ≡ false → Unmarked b) × (result ≡ true → Marked b) }
 {
-    if 0x3C < b {
+    if b'<' < b {
         return false;
     }
-    if b == 0x3C {
+    if b == b'<' {
         return true;
     }
-    b == 0x26
+    b == b'&'
 }
 
 // Past such bytes from `from` on: 64 bytes at once, then blocks.

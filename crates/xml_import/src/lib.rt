@@ -29,7 +29,7 @@ fn filled_at(xml: &[u8], at: usize) -> Result<Texted, usize>
     let mut i = standing::opening(xml, at);
     let mut size = i - at;
     while i < xml.len() {
-        if xml[i] == 0x26 {
+        if xml[i] == b'&' {
             let entity = character::entity_at(xml, i)?;
             size += 1;
             i = entity.next;
@@ -80,7 +80,7 @@ fn known_at(xml: &[u8], at: usize) -> Result<Texted, usize>
     ensures { TextAt xml.now at result }
 {
     if at < xml.len() {
-        if xml[at] == 0x3C {
+        if xml[at] == b'<' {
             return Ok(Texted {
                 size: 0,
                 next: at + 7,
@@ -91,10 +91,10 @@ fn known_at(xml: &[u8], at: usize) -> Result<Texted, usize>
     let mut size = i - at;
     while i < xml.len() {
         let b = xml[i];
-        if b == 0x3C {
+        if b == b'<' {
             return Ok(Texted { size, next: i + 7 });
         }
-        if b == 0x26 {
+        if b == b'&' {
             let entity = character::entity_at(xml, i)?;
             size += 1;
             i = entity.next;
@@ -233,7 +233,7 @@ fn put_text(xml: &[u8], out: &mut [u8], at: usize, to: usize, size: usize)
     let mut i = at;
     let mut j = to;
     while j < end {
-        if xml[i] == 0x26 {
+        if xml[i] == b'&' {
             let Ok(entity) = character::entity_at(xml, i) else {
                 return;
             };
@@ -287,8 +287,7 @@ fn put_strings(xml: &[u8], out: &mut [u8], count: usize, size: usize)
 {
     let mut i = 73;
     let mut to = 133;
-    let mut k = 0;
-    while k < count {
+    for k in 0..count {
         let at = i + 6;
         let Ok(text) = item_at(xml, at, count - k, size - to) else {
             return;
@@ -296,7 +295,6 @@ fn put_strings(xml: &[u8], out: &mut [u8], count: usize, size: usize)
         let plain = text.next - at == text.size + 7;
         to = put_string(xml, out, at, to, text.size, plain);
         i = text.next;
-        k += 1;
     }
 }
 

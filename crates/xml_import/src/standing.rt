@@ -14,17 +14,16 @@ fn cut(xml: &[u8], from: usize) -> usize
     if xml.len() - from <= 1024 {
         return xml.len();
     }
-    let mut end = from + 1024;
-    while from < end {
+    for back in 0..1024 {
+        let end = from + 1024 - back;
         if xml[end] < 0x80 {
             return end;
         }
         if 0xC0 <= xml[end] {
             return end;
         }
-        end -= 1;
     }
-    end
+    from
 }
 
 // Past a run of UTF-8 from `from` on, where a piece is one.
@@ -45,7 +44,7 @@ fn utf8_run(xml: &[u8], from: usize) -> usize
 fn odd(b: u8) -> bool
     ensures { result ≡ false → Quiet 0x7F b }
 {
-    (b < 0x20) | (b == 0x22) | (b == 0x26) | (b == 0x3C) | (b == 0x3E) | (0x7F < b)
+    (b < 0x20) | (b == b'"') | (b == b'&') | (b == b'<') | (b == b'>') | (0x7F < b)
 }
 
 // Past a run of ASCII from `from` on: 32 bytes at once, then blocks, then 32 bytes at once again.
@@ -94,7 +93,7 @@ pub(crate) fn standing(xml: &[u8], from: usize) -> usize
     requires { from < length xml.now }
     ensures { CharsStand xml.now from result }
 {
-    if xml[from] == 0x3C {
+    if xml[from] == b'<' {
         return from;
     }
     if xml[from] < 0x80 {
