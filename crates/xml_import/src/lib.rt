@@ -224,13 +224,23 @@ fn put_front(out: &mut [u8], size: usize, count: usize)
     numbers::little::put4(out, 129, count);
 }
 
-// The text of an item from `at` on, of so many bytes, into the output from `to` on.
-fn put_text(xml: &[u8], out: &mut [u8], at: usize, to: usize, size: usize)
-    requires { Ready xml.now at size × (to + size ≤ length out.old) }
-    ensures { TextPut xml.now at to size out.old out.new }
+// The text of an item that was taken: where it stands in the XML, how many bytes it has, and whether it stands there as it is.
+#[derive(Clone, Copy)]
+struct Text<'a> {
+    xml: &'a [u8],
+    at: usize,
+    size: usize,
+    plain: bool,
+}
+
+// Such a text into the output from `to` on.
+fn put_text(text: Text, out: &mut [u8], to: usize)
+    requires { Ready text.xml.now text.at text.size × (to + text.size ≤ length out.old) }
+    ensures { TextPut text.entry.xml.now text.entry.at to text.entry.size out.old out.new }
 {
-    let end = to + size;
-    let mut i = at;
+    let xml = text.xml;
+    let end = to + text.size;
+    let mut i = text.at;
     let mut j = to;
     while j < end {
         if xml[i] == b'&' {
@@ -249,34 +259,37 @@ fn put_text(xml: &[u8], out: &mut [u8], at: usize, to: usize, size: usize)
 }
 
 // The same, at once where the text stands as it is.
-fn put_taken(xml: &[u8], out: &mut [u8], at: usize, to: usize, size: usize, plain: bool)
-    requires { Ready xml.now at size × (to + size ≤ length out.old) × VerbatimIf plain xml.now at size }
-    ensures { TextPut xml.now at to size out.old out.new }
+fn put_taken(text: Text, out: &mut [u8], to: usize)
+    requires { Ready text.xml.now text.at text.size × (to + text.size ≤ length out.old)
+        × VerbatimIf text.plain text.xml.now text.at text.size }
+    ensures { TextPut text.entry.xml.now text.entry.at to text.entry.size out.old out.new }
 {
-    if plain {
-        fill::copy(out, to, xml, at, size);
+    if text.plain {
+        fill::copy(out, to, text.xml, text.at, text.size);
         return;
     }
-    put_text(xml, out, at, to, size);
+    put_text(text, out, to);
 }
 
 // The same as a String: its type id, its length and the text; answers where it ends.
-fn put_string(xml: &[u8], out: &mut [u8], at: usize, to: usize, size: usize, plain: bool) -> usize
-    requires { Ready xml.now at size × (size < 2 ^ 32) × (to + 1 + length (shortest size) + size ≤ length out.old)
-        × VerbatimIf plain xml.now at size }
-    ensures { StringPut xml.now at to size out.old out.new result }
+fn put_string(text: Text, out: &mut [u8], to: usize) -> usize
+    requires { Ready text.xml.now text.at text.size × (text.size < 2 ^ 32)
+        × (to + 1 + length (shortest text.size) + text.size ≤ length out.old)
+        × VerbatimIf text.plain text.xml.now text.at text.size }
+    ensures { StringPut text.entry.xml.now text.entry.at to text.entry.size out.old out.new result }
 {
+    let size = text.size;
     out[to] = 2;
     let next = to + 1;
     if size < 128 {
         out[next] = size as u8;
         let start = next + 1;
-        put_taken(xml, out, at, start, size, plain);
+        put_taken(text, out, start);
         return start + size;
     }
     numbers::shortest::write_shortest(out, next, size as u32);
     let start = next + length_size(size);
-    put_taken(xml, out, at, start, size, plain);
+    put_taken(text, out, start);
     start + size
 }
 
@@ -289,12 +302,17 @@ fn put_strings(xml: &[u8], out: &mut [u8], count: usize, size: usize)
     let mut to = 133;
     for k in 0..count {
         let at = i + 6;
-        let Ok(text) = item_at(xml, at, count - k, size - to) else {
+        let Ok(item) = item_at(xml, at, count - k, size - to) else {
             return;
         };
-        let plain = text.next - at == text.size + 7;
-        to = put_string(xml, out, at, to, text.size, plain);
-        i = text.next;
+        let text = Text {
+            xml,
+            at,
+            size: item.size,
+            plain: item.next - at == item.size + 7,
+        };
+        to = put_string(text, out, to);
+        i = item.next;
     }
 }
 

@@ -22,7 +22,7 @@ overflow_add-result c = omega (arith, c.requires.2, one _ c.if-size-lt128.true)
 pub shape_of-out-then-size-lt128 : goal.shape_of-out-then-size-lt128
 shape_of-out-then-size-lt128 c =
     let a' = c.args in
-    c.put_taken.auto.out ∙ length-set (set a'.out.now a'.to 2) (a'.to + 1) a'.size ∙ length-set a'.out.now a'.to 2
+    c.put_taken.auto.out ∙ length-set (set a'.out.now a'.to 2) (a'.to + 1) a'.text.size ∙ length-set a'.out.now a'.to 2
 
 pub returns-then-size-lt128 : goal.returns-then-size-lt128
 returns-then-size-lt128 c =

@@ -21,11 +21,11 @@ item_at-requires c =
 pub returns-in_default : goal.returns-in_default
 returns-in_default c = absurd (no_failure c.loop-k.invariant c.loop-k-test.true _ c.in_default.ensures)
 
-pub overflow_sub-plain : goal.overflow_sub-plain
-overflow_sub-plain c = (turn c.loop-k.invariant c.loop-k-test.true _ c.in-Ok.ensures).after
+pub overflow_sub-text : goal.overflow_sub-text
+overflow_sub-text c = (turn c.loop-k.invariant c.loop-k-test.true _ c.in-Ok.ensures).after
 
-pub overflow_add-plain : goal.overflow_add-plain
-overflow_add-plain c =
+pub overflow_add-text : goal.overflow_add-text
+overflow_add-text c =
     let v = turn c.loop-k.invariant c.loop-k-test.true _ c.in-Ok.ensures in
     omega (arith, v.fits_word, v.inside_next)
 
