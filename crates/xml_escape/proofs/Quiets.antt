@@ -2,14 +2,14 @@
 use mathlib.Core.Path.{◌≡◌, refl}
 use mathlib.Core.Bool.{false, ◌||◌}
 use mathlib.Core.List.{List}
-use Prim.Native.Nat.{ℕ, ◌+◌, ◌-◌, ◌≤◌, ◌<◌}
+use Prim.Native.Nat.{ℕ, ◌≤◌, ◌<◌}
 use native.Mathlib.Omega.{arith}
 use lib.Dec.{eqb, ltb}
 use lib.ListN.{length, get_or}
 use borrow.Author.Tests.{ne_eqb, eqb-false, ltb-false, le-ltb}
 use Rattle.laws.specs.Small.{neither}
 use Rattle.xml_escape.specs.Runs.{passed_none}
-use Rattle.xml_escape.specs.Quiet.{Quiet, AllQuiet, Ran, RunEnd}
+use Rattle.xml_escape.specs.Quiet.{Quiet, Ran, RunEnd}
 
 -- ---- One byte
 

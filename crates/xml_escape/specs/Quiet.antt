@@ -1,5 +1,5 @@
 -- Bytes that are written as they are, whatever stands around them. Assumes nothing.
-use Rattle.std.specs.Prelude.{◌≡◌, List, ℕ, ◌-◌, ◌≤◌, ◌<◌, length, get_or}
+use Rattle.std.specs.Prelude.{◌≡◌, List, ℕ, ◌≤◌, ◌<◌, length, get_or}
 use Rattle.xml_escape.specs.Runs.{AllOf, Passed}
 
 -- no control character, none of the four, not the first byte of U+FFFE and U+FFFF, and none above `most`

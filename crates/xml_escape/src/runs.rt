@@ -21,6 +21,7 @@ pub fn past_blocks<F: Fn(u8) -> bool>(s: &[u8], from: usize, class: &F) -> usize
     ensures { Passed (λ b. F.post class.now b false) s.now from result }
 {
     let mut i = from;
+    // Kept: a turn passes more than one byte, so no range or iterator fits.
     while 32 <= s.len() - i {
         if !none_of(s, i, class) {
             return i;

@@ -16,9 +16,9 @@ use Rattle.xml_layout.specs.Xml.{escaped, escape, item_start, item_end}
 use Rattle.xml_reading.specs.Written.{noncharacter, writable}
 use Rattle.xml_escape.specs.Runs.{AllOf, First, cons_at, passed_none, passed_more}
 use Rattle.xml_escape.specs.Quiet.{Quiet, AllQuiet, Ran}
-use Rattle.xml_escape.specs.Wrote.{Wrote, Put, PutTo, put-none, put_copy, put-more, put_one, put_on, take_more, sets, put-each}
+use Rattle.xml_escape.specs.Wrote.{Wrote, Put, PutTo, put-none, put_copy, put-more, put_one, put_on, take_more}
 use Rattle.xml_escape.specs.Sizes.{item, few_bytes, start-long, item-long}
-use Rattle.std.specs.Prelude.{Result, Ok, Err, Option, Some, None}
+use Rattle.std.specs.Prelude.{Some, None}
 use Rattle.xml_export.specs.Escaping.{Alone, byte_size, Grows, Runs, RunPut, EntityPut}
 use Rattle.xml_export.specs.Gathering.{size_of}
 

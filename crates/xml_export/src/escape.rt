@@ -120,6 +120,7 @@ fn filled_size(text: &[u8]) -> Option<usize>
     let mut i = xml_escape::quiet_run(text, 0, 0xFF);
     let mut size = i;
     let mut left = 0usize;
+    // Kept: a turn passes more than one byte, so no range or iterator fits.
     while i < text.len() {
         if left == 0 {
             match block_size(text, i) {
@@ -283,6 +284,7 @@ fn put_text(text: &[u8], out: &mut [u8], to: usize) -> usize
 {
     let mut i = 0;
     let mut j = to;
+    // Kept: a turn passes more than one byte, so no range or iterator fits.
     while i < text.len() {
         let b = text[i];
         match put_entity(out, j, b) {

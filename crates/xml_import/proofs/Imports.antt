@@ -14,13 +14,13 @@ use Rattle.fill.specs.Fill.{copied}
 use Rattle.reading.specs.Output.{Rewritten, refusal, written, fitted, output_of}
 use Rattle.shortest.specs.File.{length_file}
 use Rattle.xml_layout.specs.Tree.{array_name, string_name, text_trees, tree_of}
-use Rattle.xml_reading.specs.Match.{other, document}
+use Rattle.xml_reading.specs.Match.{document}
 use Rattle.xml_reading.specs.Import.{texts_of}
 use Rattle.xml_reading.specs.Laid.{short-array}
 use Rattle.xml_reading.specs.Strings.{built_length}
 use Rattle.xml_reading.specs.Answers.{imported, import_of}
 use Rattle.xml_escape.specs.Wrote.{Wrote, wrote-copy}
-use Rattle.std.specs.Prelude.{Result, Ok, Err}
+use Rattle.std.specs.Prelude.{Ok, Err}
 use Rattle.answers.specs.Refusals.{refusal as refused}
 use Rattle.xml_import.specs.declared.Measured.{Measured}
 use Rattle.xml_import.specs.Places.{Measures}

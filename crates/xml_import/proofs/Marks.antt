@@ -6,11 +6,11 @@ use mathlib.Core.Logic.{◌⊎◌, inl, inr}
 use Prim.Native.Nat.{ℕ, ◌+◌, ◌-◌, ◌≤◌, ◌<◌}
 use native.Mathlib.Omega.{arith}
 use lib.Dec.{eqb}
-use lib.ListN.{length, get_or}
+use lib.ListN.{length}
 use borrow.Author.Tests.{eqb-true, eqb-false}
 use Rattle.laws.specs.Small.{neither}
 use Rattle.xml_escape.specs.Runs.{passed_none, passed_more}
-use Rattle.xml_import.specs.Places.{Unmarked, AllUnmarked, Marked, Before, Passed, Stops}
+use Rattle.xml_import.specs.Places.{Unmarked, Marked, Before, Passed, Stops}
 
 pub unmarked_by : (b : ℕ) → (eqb b 0x26 || eqb b 0x3C) ≡ false → Unmarked b
 unmarked_by b e = let n = neither (eqb b 0x26) (eqb b 0x3C) e in record { no_and = eqb-false b 0x26 n.0; no_less = eqb-false b 0x3C n.1 }

@@ -16,7 +16,7 @@ use Rattle.numbers.specs.Shortest.{written_at}
 use Rattle.reading.specs.Reads.{seam}
 use Rattle.xml_layout.specs.Xml.{item_start, item_end, document_start, document_end}
 use Rattle.xml_layout.specs.Tree.{text_trees}
-use Rattle.xml_reading.specs.Match.{Match, fails, takes, Told, failed, taken as Taken-of, shifted, literal, literal-matches, followed, mapped, until, other, document, whole as whole_xml}
+use Rattle.xml_reading.specs.Match.{Match, fails, takes, Told, failed, taken as Taken-of, shifted, literal, literal-matches, followed, mapped, until, document, whole as whole_xml}
 use Rattle.xml_reading.specs.Text as T
 use Rattle.xml_reading.specs.Text.{joined}
 use Rattle.xml_reading.specs.Plain.{plain-matches}
@@ -27,10 +27,10 @@ use Rattle.xml_reading.specs.Strings.{short-more, built_length}
 use Rattle.xml_reading.specs.Steps.{first_taken}
 use Rattle.xml_escape.specs.Wrote.{Wrote, Put, wrote_one, put_one}
 use Rattle.xml_import.specs.declared.Texted.{Texted}
-use Rattle.std.specs.Prelude.{Result, Ok, Err}
-use Rattle.xml_import.specs.Places.{FailsAt, TakesAt, Known, TextAt, texted, character, text}
+use Rattle.std.specs.Prelude.{Ok, Err}
+use Rattle.xml_import.specs.Places.{Known, TextAt, texted, character, text}
 use Rattle.xml_import.specs.Puts.{taken, text_in, Last, LastIf, Ready, Verbatim, TextPut, string_bytes, StringPut, Fits, StringsPut}
-use Rattle.xml_import.proofs.Whole.{item, texts, short_last}
+use Rattle.xml_import.proofs.Whole.{item, short_last}
 use Rattle.xml_import.proofs.Writing.{text-joined}
 use Rattle.xml_import.proofs.Wholes.{whole, whole-text}
 use Rattle.xml_import.proofs.Runs.{ended_here}

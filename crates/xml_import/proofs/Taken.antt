@@ -7,22 +7,22 @@ use Prim.Native.Nat.{ℕ, ◌+◌, ◌-◌, ◌≤◌, ◌<◌}
 use native.Mathlib.Omega.{arith}
 use native.Mathlib.Decide.{dec_lt}
 use lib.Dec.{eqb}
-use lib.ListN.{length, drop, get_or, length-append, length-drop}
-use lib.Seq.{get_or-drop, length-take-le}
+use lib.ListN.{length, drop, get_or}
+use lib.Seq.{get_or-drop}
 use borrow.Author.Tests.{eqb-true, eqb-false}
 use Rattle.layout.specs.Text.{ascii}
 use Rattle.names.specs.Parse.{common}
 use Rattle.xml_layout.specs.Xml.{item_end}
 use Rattle.xml_reading.specs.Match.{fails, takes, literal, until}
-use Rattle.xml_reading.specs.Text.{Character, character-matches, character-some, character_first, not_first, special_amp}
+use Rattle.xml_reading.specs.Text.{Character, character-matches, character-some, character_first}
 use Rattle.xml_reading.specs.Plain.{plain-matches}
 use Rattle.xml_reading.specs.Steps.{first_taken}
-use Rattle.std.specs.Prelude.{Result, Ok, Err}
+use Rattle.std.specs.Prelude.{Ok, Err}
 use Rattle.xml_import.specs.declared.character.Entity.{Entity}
-use Rattle.xml_import.specs.Places.{FailsAt, TakesAt, EntityAt, TextAt, texted, Known, Runs, Unmarked, Marked, Stops, part, character}
+use Rattle.xml_import.specs.Places.{EntityAt, TextAt, texted, Known, Runs, Unmarked, Marked, Stops, character}
 use Rattle.xml_import.proofs.Literals.{literal-fails}
 use Rattle.xml_import.proofs.Marks.{not_both}
-use Rattle.xml_import.proofs.Texts.{Reading, ends, end-inside, wrong, entity_on, plain_on}
+use Rattle.xml_import.proofs.Texts.{Reading, ends, end-inside, wrong, entity_on}
 use Rattle.xml_import.proofs.Writing.{Putting, next_character, before_end}
 use Rattle.xml_import.proofs.Runs.{no_end, not_ended, told-character, known_on, run_on, opened, runs_by}
 

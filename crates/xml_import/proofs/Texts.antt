@@ -3,20 +3,20 @@ use mathlib.Core.Path.{◌≡◌, refl, sym, ap, ◌∙◌}
 use mathlib.Core.List.{List, [], ◌∷◌, ◌++◌, append-nil, append_assoc}
 use Prim.Native.Nat.{ℕ, ◌+◌, ◌-◌, ◌≤◌, ◌<◌, max}
 use native.Mathlib.Omega.{arith}
-use lib.ListN.{length, take, drop, length-append, length-drop, drop_of_length-le}
+use lib.ListN.{length, drop, length-append, length-drop, drop_of_length-le}
 use lib.Seq.{length-take-le}
 use Rattle.layout.specs.Text.{ascii}
 use Rattle.names.specs.Parse.{common}
 use Rattle.xml_layout.specs.Xml.{item_end}
-use Rattle.xml_reading.specs.Match.{Match, fails, takes, literal, mapped, or_else, until}
+use Rattle.xml_reading.specs.Match.{fails, takes, literal, mapped, or_else, until}
 use Rattle.xml_reading.specs.Ranges.{ranges, any_of}
 use Rattle.xml_reading.specs.Text as T
 use Rattle.xml_reading.specs.Text.{entity, joined, character-matches, character-some}
 use Rattle.xml_reading.specs.Plain.{plain_character, plain-matches}
 use Rattle.xml_reading.specs.Steps.{Going, going, goes_on, goes-wrong, goes_out}
-use Rattle.std.specs.Prelude.{Result, Ok, Err}
+use Rattle.std.specs.Prelude.{Ok, Err}
 use Rattle.xml_import.specs.declared.character.Entity.{Entity}
-use Rattle.xml_import.specs.Places.{FailsAt, TakesAt, part, EntityAt, TextAt, texted, character, text}
+use Rattle.xml_import.specs.Places.{FailsAt, TakesAt, part, EntityAt, TextAt, texted, character}
 use Rattle.xml_import.proofs.Literals.{literal-takes, literal-fails, literal-inside}
 
 joined-more : (us : List (List ℕ)) (t : List ℕ) → joined (us ++ t ∷ []) ≡ joined us ++ t

@@ -2,13 +2,12 @@
 use mathlib.Core.Path.{◌≡◌, refl, sym, ap, subst, ◌∙◌}
 use mathlib.Core.Bool.{Bool, true, false}
 use mathlib.Core.List.{List, [], ◌∷◌, ◌++◌, append-nil, append_assoc}
-use Prim.Native.Nat.{ℕ, ◌+◌, ◌-◌, ◌≤◌, ◌<◌}
+use Prim.Native.Nat.{ℕ, ◌+◌, ◌≤◌, ◌<◌}
 use native.Mathlib.Omega.{arith}
 use lib.Dec.{leb}
 use lib.ListN.{length, drop, length-append, drop_of_length-le}
 use borrow.Author.Tests.{leb-true, leb-false}
 use Rattle.laws.specs.Small.{differ}
-use Rattle.fill.specs.Fill.{inside}
 use Rattle.xml_layout.specs.Xml.{item_end}
 use Rattle.xml_reading.specs.Match.{Match, fails, takes, Told, failed, taken as Taken-of, mapped, until}
 use Rattle.xml_reading.specs.Text as T
@@ -16,9 +15,9 @@ use Rattle.xml_reading.specs.Text.{joined, character-matches, character-some, ch
 use Rattle.xml_reading.specs.Plain.{plain-matches}
 use Rattle.xml_reading.specs.Steps.{first_taken}
 use Rattle.xml_escape.specs.Wrote.{Wrote}
-use Rattle.std.specs.Prelude.{Result, Ok, Err}
+use Rattle.std.specs.Prelude.{Ok, Err}
 use Rattle.xml_import.specs.declared.character.Entity.{Entity}
-use Rattle.xml_import.specs.Places.{FailsAt, TakesAt, EntityAt, character, text}
+use Rattle.xml_import.specs.Places.{TakesAt, EntityAt, character}
 use Rattle.xml_import.specs.Puts.{taken, text_in, Ready, TextPut}
 use Rattle.xml_import.proofs.Texts.{nothing_left}
 

@@ -1,5 +1,5 @@
 -- What matching answers in code, by places in the XML. Assumes nothing.
-use Rattle.std.specs.Prelude.{◌≡◌, Result, Ok, Err, Bool, not, ◌&&◌, List, [], ◌∷◌, ◌⊎◌, ℕ, ◌+◌, ◌-◌, ◌*◌, ◌≤◌, ◌<◌, leb, eqb, length, take, drop, get_or}
+use Rattle.std.specs.Prelude.{◌≡◌, Result, Ok, Err, Bool, not, ◌&&◌, List, [], ◌∷◌, ◌⊎◌, ℕ, ◌+◌, ◌-◌, ◌≤◌, ◌<◌, leb, eqb, length, take, drop, get_or}
 use Rattle.layout.specs.Shortest.{short_file}
 use Rattle.xml_escape.specs.Runs.{AllOf, First, Passed as Passed-of}
 use Rattle.xml_layout.specs.Tree.{tree_of}

@@ -28,6 +28,7 @@ fn filled_at(xml: &[u8], at: usize) -> Result<Texted, usize>
 {
     let mut i = standing::opening(xml, at);
     let mut size = i - at;
+    // Kept: a turn passes more than one byte, so no range or iterator fits.
     while i < xml.len() {
         if xml[i] == b'&' {
             let entity = character::entity_at(xml, i)?;
@@ -89,6 +90,7 @@ fn known_at(xml: &[u8], at: usize) -> Result<Texted, usize>
     }
     let mut i = known::unmarked_rest(xml, at);
     let mut size = i - at;
+    // Kept: a turn passes more than one byte, so no range or iterator fits.
     while i < xml.len() {
         let b = xml[i];
         if b == b'<' {
@@ -176,6 +178,7 @@ fn measure(xml: &[u8]) -> Result<Measured, usize>
     let mut i = 73;
     let mut count = 0;
     let mut size = 133;
+    // Kept: a turn passes more than one byte, so no range or iterator fits.
     while i < xml.len() {
         let s = character::start_at(xml, i);
         if s != 6 {
@@ -242,6 +245,7 @@ fn put_text(text: Text, out: &mut [u8], to: usize)
     let end = to + text.size;
     let mut i = text.at;
     let mut j = to;
+    // Kept: a turn passes more than one byte, so no range or iterator fits.
     while j < end {
         if xml[i] == b'&' {
             let Ok(entity) = character::entity_at(xml, i) else {

@@ -1,9 +1,8 @@
 -- From the contract of `export` to what is demanded of it. Assumes nothing.
 use mathlib.Core.Path.{◌≡◌, refl, sym, ap, subst, ◌∙◌}
-use mathlib.Core.Bool.{false}
 use mathlib.Core.List.{List, [], ◌∷◌, ◌++◌}
 use mathlib.Core.Logic.{◌⊎◌, inl, inr}
-use Prim.Native.Nat.{ℕ, suc, ◌+◌, ◌*◌, ◌-◌, ◌≤◌, ◌<◌}
+use Prim.Native.Nat.{ℕ, suc, ◌*◌, ◌-◌, ◌≤◌, ◌<◌}
 use native.Mathlib.Omega.{arith}
 use lib.ListN.{length, take, drop, replicate, length-append, length-replicate}
 use Rattle.laws.specs.Small.{differ}
@@ -11,19 +10,18 @@ use Rattle.layout.specs.EnumList.{EnumEntry}
 use Rattle.layout.specs.Tree.{Trees, tree, none, count, kind_at}
 use Rattle.layout.specs.Rows.{Row, flat, width}
 use Rattle.layout.specs.File.{FileLays, shared_of, file_rows}
-use Rattle.layout.specs.Table.{by_rows, room_of, table, word_in}
+use Rattle.layout.specs.Table.{by_rows, room_of, table}
 use Rattle.layout.specs.Branches.{TableSkips}
 use Rattle.reading.specs.Answer.{Answer, refused, read}
 use Rattle.reading.specs.Reads.{Small}
 use Rattle.reading.specs.Drafts.{Draft, bare}
-use Rattle.reading.specs.File as reading
-use Rattle.reading.specs.File.{Load, Loaded, file_at, to_load, load_of, table_of}
+use Rattle.reading.specs.File.{Load, Loaded, file_at, to_load, table_of}
 use Rattle.reading.specs.References.{length-flat}
-use Rattle.reading.specs.Accepts.{loaded_of, file_drafts, file_bare}
+use Rattle.reading.specs.Accepts.{file_drafts, file_bare}
 use Rattle.reading.proofs.Accepts.{file_complete}
 use Rattle.reading.specs.Theorems as T
 use Rattle.reading.proofs.Theorems as T-laws
-use Rattle.reading.specs.Output.{Rewritten, refusal, written, fitted, output_of}
+use Rattle.reading.specs.Output.{Rewritten, refusal, written, output_of}
 use Rattle.names.specs.Entries.{enums_of}
 use Rattle.names.specs.EntryLaws.{enums-written}
 use Rattle.enums.specs.Judge.{Judgement, lawful, enums_at}

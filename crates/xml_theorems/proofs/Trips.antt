@@ -1,20 +1,19 @@
 -- An export that is imported, and an import that is exported. Assumes nothing.
-use mathlib.Core.Path.{◌≡◌, refl, sym, ap, ◌∙◌}
-use mathlib.Core.List.{List, [], ◌++◌}
-use Prim.Native.Nat.{ℕ, suc, ◌≤◌, ◌<◌}
+use mathlib.Core.Path.{◌≡◌, refl, ap}
+use mathlib.Core.List.{List}
+use Prim.Native.Nat.{ℕ, suc, ◌≤◌}
 use native.Mathlib.Omega.{arith}
 use lib.ListN.{length, take, drop}
 use Rattle.laws.specs.Small.{differ}
 use Rattle.layout.specs.Tree.{size}
-use Rattle.layout.specs.EnumList.{EnumEntry, write_enums, Enums}
 use Rattle.layout.specs.Table.{room_of}
 use Rattle.layout.specs.Fits.{Fitting}
-use Rattle.xml_layout.specs.Xml.{Each, Writable, exported, Exports}
+use Rattle.xml_layout.specs.Xml.{exported, Exports}
 use Rattle.xml_layout.specs.Tree.{TextFile}
 use Rattle.xml_reading.specs.Strings.{texts-rows, built_short}
 use Rattle.std.specs.Prelude.{Result, Ok, Err}
 use Rattle.answers.specs.declared.Refusal.{Refusal}
-use Rattle.xml_theorems.specs.Import.{file_of, Within, Built, Imports}
+use Rattle.xml_theorems.specs.Import.{file_of, Within, Imports}
 use Rattle.xml_theorems.specs.Export.{TextsIn, Holds, ExportsFile}
 use Rattle.xml_theorems.specs.Trips.{KeepsTexts, ExportsSame}
 use Rattle.xml_theorems.proofs.Imported.{builds, begins_with}

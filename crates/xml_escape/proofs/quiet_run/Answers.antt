@@ -1,10 +1,7 @@
-use Rattle.std.proofs.Common.{arith, rules, length}
+use Rattle.std.proofs.Common.{arith, rules}
 use Rattle.xml_escape.specs.Runs.{passed_none, passed_more}
-use Rattle.xml_escape.proofs.Quiets.{ends_at, past_end}
+use Rattle.xml_escape.proofs.Quiets.{ends_at}
 use Rattle.xml_escape.proofs.quiet_run.Goals as goal
-
-pub returns-then-s-from : goal.returns-then-s-from
-returns-then-s-from c = past_end c.if-s-from.true
 
 pub returns-then-loud : goal.returns-then-loud
 returns-then-loud c = ends_at (passed_none (search rules)) (λ h. c.loud.ensures.1 c.if-loud.true)

@@ -1,4 +1,4 @@
-use Rattle.std.proofs.Common.{arith, rules}
+use Rattle.std.proofs.Common.{rules}
 use Rattle.xml_escape.proofs.quiet_start.Goals as goal
 
 pub returns : goal.returns

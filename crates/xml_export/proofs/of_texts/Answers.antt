@@ -1,4 +1,3 @@
-use borrow.Author.Rules.{rules}
 use Rattle.xml_export.specs.Primary.{OfTexts}
 use Rattle.xml_export.proofs.Codes.{no_array, array_by}
 use mathlib.Core.Path.{sym, ◌∙◌}

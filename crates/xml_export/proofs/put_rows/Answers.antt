@@ -1,7 +1,4 @@
-use borrow.Author.Rules.{rules}
-use Prim.Native.Nat.{◌-◌}
-use native.Mathlib.Omega.{arith}
-use Rattle.xml_export.proofs.Gathers.{Placing, placing_start, row_fits, placed, all_placed}
+use Rattle.xml_export.proofs.Gathers.{placing_start, row_fits, placed, all_placed}
 use Rattle.xml_export.proofs.put_rows.Goals as goal
 
 pub loop-i-init : goal.loop-i-init
@@ -12,9 +9,6 @@ put_row-to-requires c = row_fits c.loop-i.invariant c.loop-i-test.true
 
 pub loop-i-preserved : goal.loop-i-preserved
 loop-i-preserved c = placed c.loop-i.invariant c.loop-i-test.true c.put_row-to.ensures c.put_row-to.auto.out
-
-pub shape_of-out : goal.shape_of-out
-shape_of-out c = c.loop-i.invariant.same
 
 pub returns : goal.returns
 returns c = all_placed c.loop-i.invariant c.loop-i-test.false

@@ -1,4 +1,3 @@
-use borrow.Author.Rules.{rules}
 use mathlib.Core.Path.{refl}
 use Rattle.xml_export.proofs.Codes.{clear_all}
 use Rattle.xml_export.proofs.refuse.Goals as goal

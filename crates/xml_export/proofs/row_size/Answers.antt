@@ -1,5 +1,4 @@
-use Rattle.std.proofs.Common.{arith, ap, ◌∙◌}
-use Rattle.std.specs.Option.{ok_or}
+use Rattle.std.proofs.Common.{arith}
 use Rattle.reading.specs.Reads.{small_by_index}
 use Rattle.lookups.specs.Spans.{text-inside}
 use Rattle.xml_export.proofs.Gathers.{no_size, found_size}

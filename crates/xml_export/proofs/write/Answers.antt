@@ -1,15 +1,8 @@
-use borrow.Author.Rules.{rules}
-use mathlib.Core.Path.{refl, subst, sym}
+use mathlib.Core.Path.{refl}
 use Rattle.layout.specs.Text.{ascii}
 use Rattle.xml_layout.specs.Xml.{document_start, document_end}
-use Rattle.xml_export.specs.Gathering.{Fits}
 use Rattle.xml_export.proofs.Gathers.{whole_xml}
 use Rattle.xml_export.proofs.write.Goals as goal
-
-pub put_rows-end-requires : goal.put_rows-end-requires
-put_rows-end-requires c =
-    let a' = c.args in
-    subst (λ k. Fits a'.file.now a'.words.now a'.rows k) (sym c.copy.auto.out) c.requires
 
 pub returns : goal.returns
 unfolding document_start document_end ascii

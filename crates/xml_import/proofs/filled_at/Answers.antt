@@ -1,35 +1,20 @@
 -- `filled_at` meets its contract: before each turn the text is taken up to i. Assumes nothing.
 use borrow.Author.Rules.{rules}
-use Prim.Native.Nat.{◌-◌}
 use native.Mathlib.Omega.{arith}
-use lib.ListN.{length}
-use Rattle.xml_import.proofs.Texts.{Reading, ends, end-inside, wrong, entity_on, plain_on, stops}
+use Rattle.xml_import.proofs.Texts.{ends, end-inside, wrong, plain_on, stops}
 use Rattle.xml_import.proofs.Runs.{run_on, opened}
 use Rattle.xml_import.proofs.Taken.{amp_wrong, amp_entity}
 use Rattle.xml_import.proofs.Characters.{plain-fails, plain-takes}
 use Rattle.std.proofs.lemmas.Result.{err_from_is_err_and}
 use Rattle.xml_import.proofs.filled_at.Goals as goal
 
-pub opening-i-requires : goal.opening-i-requires
-opening-i-requires c = c.requires
-
-pub overflow_sub-size : goal.overflow_sub-size
-overflow_sub-size c = c.opening-i.ensures.forward
-
 pub loop-i-init : goal.loop-i-init
 loop-i-init c = opened c.requires c.opening-i.ensures
-
-pub entity_at-requires : goal.entity_at-requires
-entity_at-requires c = (c.loop-i-test.true, c.if-xml-i-eq38.true)
 
 pub returns-in_err-entity : goal.returns-in_err-entity
 returns-in_err-entity c =
     let p = err_from_is_err_and c.from_residual.result c.from_residual.ensures.1 in
     rw (p.1, p.2) (amp_wrong c.loop-i.invariant c.loop-i-test.true c.if-xml-i-eq38.true _ c.in_err-entity.ensures)
-
-pub overflow_add-size : goal.overflow_add-size
-overflow_add-size c =
-    let v = amp_entity c.loop-i.invariant c.loop-i-test.true c.if-xml-i-eq38.true _ c.in_ok-entity.ensures in omega (arith, v.0.bound, v.2)
 
 pub loop-i-smaller-then-xml-i-eq38 : goal.loop-i-smaller-then-xml-i-eq38
 loop-i-smaller-then-xml-i-eq38 c = let v = amp_entity c.loop-i.invariant c.loop-i-test.true c.if-xml-i-eq38.true _ c.in_ok-entity.ensures in omega (arith, v.1, v.2)
@@ -37,32 +22,11 @@ loop-i-smaller-then-xml-i-eq38 c = let v = amp_entity c.loop-i.invariant c.loop-
 pub loop-i-preserved-then-xml-i-eq38 : goal.loop-i-preserved-then-xml-i-eq38
 loop-i-preserved-then-xml-i-eq38 c = (amp_entity c.loop-i.invariant c.loop-i-test.true c.if-xml-i-eq38.true _ c.in_ok-entity.ensures).0
 
-pub standing-run-requires : goal.standing-run-requires
-standing-run-requires c = c.loop-i-test.true
-
-pub overflow_sub-size-then-i-run : goal.overflow_sub-size-then-i-run
-overflow_sub-size-then-i-run c = omega (arith, c.if-i-run.true)
-
-pub overflow_add-size-then-i-run : goal.overflow_add-size-then-i-run
-overflow_add-size-then-i-run c = let v = run_on c.loop-i.invariant c.standing-run.ensures in omega (arith, v.bound, c.standing-run.ensures.inside)
-
-pub loop-i-smaller-then-i-run : goal.loop-i-smaller-then-i-run
-loop-i-smaller-then-i-run c = omega (arith, c.if-i-run.true, c.standing-run.ensures.inside)
-
 pub loop-i-preserved-then-i-run : goal.loop-i-preserved-then-i-run
 loop-i-preserved-then-i-run c = run_on c.loop-i.invariant c.standing-run.ensures
 
-pub end_at-n-requires : goal.end_at-n-requires
-end_at-n-requires c = c.loop-i-test.true
-
-pub overflow_add-result : goal.overflow_add-result
-overflow_add-result c = omega (arith, end-inside c.loop-i.invariant c.end_at-n.ensures)
-
 pub returns-then-n-eq7 : goal.returns-then-n-eq7
 returns-then-n-eq7 c = ends c.loop-i.invariant c.end_at-n.ensures c.if-n-eq7.true
-
-pub plain_at-requires : goal.plain_at-requires
-plain_at-requires c = c.loop-i-test.true
 
 pub overflow_add-i : goal.overflow_add-i
 overflow_add-i c = omega (arith, end-inside c.loop-i.invariant c.end_at-n.ensures)
@@ -74,10 +38,6 @@ returns-in-Err c =
 pub overflow_sub-size-in-Ok : goal.overflow_sub-size-in-Ok
 overflow_sub-size-in-Ok c =
     let v = plain_on c.loop-i.invariant c.end_at-n.ensures c.if-n-eq7.false (plain-takes _ _ c.loop-i-test.true c.if-xml-i-eq38.false _ c.in-Ok.ensures) in omega (arith, v.1)
-
-pub overflow_add-size-in-Ok : goal.overflow_add-size-in-Ok
-overflow_add-size-in-Ok c =
-    let v = plain_on c.loop-i.invariant c.end_at-n.ensures c.if-n-eq7.false (plain-takes _ _ c.loop-i-test.true c.if-xml-i-eq38.false _ c.in-Ok.ensures) in omega (arith, v.0.bound, v.2)
 
 pub loop-i-smaller : goal.loop-i-smaller
 loop-i-smaller c =

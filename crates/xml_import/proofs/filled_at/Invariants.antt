@@ -1,10 +1,7 @@
 -- `filled_at` meets its contract: before each turn the text is taken up to i. Assumes nothing.
-use borrow.Author.Rules.{rules}
 use Prim.Native.Nat.{◌-◌}
-use native.Mathlib.Omega.{arith}
 use lib.ListN.{length}
-use Rattle.xml_import.proofs.Texts.{Reading, ends, end-inside, wrong, entity_on, plain_on, stops}
-use Rattle.xml_import.proofs.Runs.{run_on, opened}
+use Rattle.xml_import.proofs.Texts.{Reading}
 use Rattle.xml_import.proofs.filled_at.Given as goal
 
 abbrev pub invariant-loop-i : goal.invariant-loop-i

@@ -1,15 +1,10 @@
-use borrow.Author.Rules.{rules}
 use native.Mathlib.Omega.{arith}
-use Prim.Native.Nat.{◌-◌}
 use lib.ListN.{length}
 use mathlib.Core.Path.{refl}
 use Rattle.xml_import.specs.Puts.{TextOf}
 use Rattle.xml_import.proofs.Lengths.{some}
 use Rattle.xml_import.proofs.Strings.{last_at}
 use Rattle.xml_import.proofs.item_at.Goals as goal
-
-pub overflow_sub-bytes : goal.overflow_sub-bytes
-overflow_sub-bytes c = omega (arith, (c.requires.2 c.if-items-eq1.true).long)
 
 pub text_bytes-requires : goal.text_bytes-requires
 text_bytes-requires c =

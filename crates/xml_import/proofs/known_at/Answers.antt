@@ -1,45 +1,22 @@
-use borrow.Author.Rules.{rules}
-use Prim.Native.Nat.{◌-◌}
 use native.Mathlib.Omega.{arith}
-use lib.ListN.{length}
-use Rattle.xml_import.proofs.Texts.{Reading, start, stops}
+use Rattle.xml_import.proofs.Texts.{start, stops}
 use Rattle.xml_import.proofs.Taken.{amp_wrong, amp_entity, known_start, known_ends, known_run}
 use Rattle.std.proofs.lemmas.Result.{err_from_is_err_and}
 use Rattle.xml_import.proofs.known_at.Goals as goal
 
-pub overflow_add-result : goal.overflow_add-result
-overflow_add-result c = omega (arith, (known_ends (start c.requires.0) c.requires.1 c.if-at-xml.true c.if-xml-at-eq60.true).1)
-
 pub returns-then-xml-at-eq60 : goal.returns-then-xml-at-eq60
 returns-then-xml-at-eq60 c = (known_ends (start c.requires.0) c.requires.1 c.if-at-xml.true c.if-xml-at-eq60.true).0
-
-pub unmarked_rest-i-requires : goal.unmarked_rest-i-requires
-unmarked_rest-i-requires c = c.requires.0
-
-pub overflow_sub-size : goal.overflow_sub-size
-overflow_sub-size c = c.unmarked_rest-i.ensures.passed.forward
 
 pub loop-i-init : goal.loop-i-init
 loop-i-init c = known_start c.requires.0 c.requires.1 c.unmarked_rest-i.ensures
 
-pub overflow_add-result-then-b-eq60 : goal.overflow_add-result-then-b-eq60
-overflow_add-result-then-b-eq60 c = omega (arith, (known_ends c.loop-i.invariant c.requires.1 c.loop-i-test.true c.if-b-eq60.true).1)
-
 pub returns-then-b-eq60 : goal.returns-then-b-eq60
 returns-then-b-eq60 c = (known_ends c.loop-i.invariant c.requires.1 c.loop-i-test.true c.if-b-eq60.true).0
-
-pub entity_at-requires : goal.entity_at-requires
-entity_at-requires c = (c.loop-i-test.true, c.if-b-eq38.true)
 
 pub returns-in_err-entity : goal.returns-in_err-entity
 returns-in_err-entity c =
     let p = err_from_is_err_and c.from_residual.result c.from_residual.ensures.1 in
     rw (p.1, p.2) (amp_wrong c.loop-i.invariant c.loop-i-test.true c.if-b-eq38.true _ c.in_err-entity.ensures)
-
-pub overflow_add-size : goal.overflow_add-size
-overflow_add-size c =
-    let v = amp_entity c.loop-i.invariant c.loop-i-test.true c.if-b-eq38.true _ c.in_ok-entity.ensures in
-    omega (arith, v.0.bound, v.2)
 
 pub loop-i-smaller-then-b-eq38 : goal.loop-i-smaller-then-b-eq38
 loop-i-smaller-then-b-eq38 c =
@@ -48,14 +25,6 @@ loop-i-smaller-then-b-eq38 c =
 
 pub loop-i-preserved-then-b-eq38 : goal.loop-i-preserved-then-b-eq38
 loop-i-preserved-then-b-eq38 c = (amp_entity c.loop-i.invariant c.loop-i-test.true c.if-b-eq38.true _ c.in_ok-entity.ensures).0
-
-pub overflow_sub-size-else-b-eq38 : goal.overflow_sub-size-else-b-eq38
-overflow_sub-size-else-b-eq38 c = c.unmarked_run-run.ensures.passed.forward
-
-pub overflow_add-size-else-b-eq38 : goal.overflow_add-size-else-b-eq38
-overflow_add-size-else-b-eq38 c =
-    let v = known_run c.loop-i.invariant c.requires.1 c.loop-i-test.true c.if-b-eq38.false c.if-b-eq60.false c.unmarked_run-run.ensures in
-    omega (arith, v.0.bound, c.unmarked_run-run.ensures.passed.inside)
 
 pub loop-i-smaller : goal.loop-i-smaller
 loop-i-smaller c =

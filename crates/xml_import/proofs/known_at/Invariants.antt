@@ -1,8 +1,6 @@
-use borrow.Author.Rules.{rules}
 use Prim.Native.Nat.{◌-◌}
-use native.Mathlib.Omega.{arith}
 use lib.ListN.{length}
-use Rattle.xml_import.proofs.Texts.{Reading, start, stops}
+use Rattle.xml_import.proofs.Texts.{Reading}
 use Rattle.xml_import.proofs.known_at.Given as goal
 
 abbrev pub invariant-loop-i : goal.invariant-loop-i

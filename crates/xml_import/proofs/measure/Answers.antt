@@ -1,11 +1,9 @@
 use borrow.Author.Rules.{rules}
 use mathlib.Core.Path.{refl, sym, ◌∙◌}
-use Prim.Native.Nat.{◌-◌}
 use native.Mathlib.Omega.{arith}
-use lib.ListN.{length}
 use Rattle.layout.specs.Text.{ascii}
 use Rattle.xml_layout.specs.Xml.{document_start, document_end, item_start}
-use Rattle.xml_import.proofs.Whole.{Walking, start, no_start, end-inside, left_over, done, larger_inside, no_item_at, item-inside, place_inside, text-wrong, turn, stops}
+use Rattle.xml_import.proofs.Whole.{start, no_start, left_over, done, larger_inside, no_item_at, item-inside, place_inside, text-wrong, turn, stops}
 use Rattle.xml_import.proofs.Words.{start-no_end}
 use Rattle.xml_import.proofs.measure.Goals as goal
 
@@ -16,10 +14,6 @@ returns-then-n-ne73 c = no_start _ c.matched_at-n.ensures c.if-n-ne73.true
 pub loop-i-init : goal.loop-i-init
 unfolding document_start document_end item_start ascii
 loop-i-init c = start _ c.matched_at-n.ensures c.if-n-ne73.false
-
-pub overflow_add-end : goal.overflow_add-end
-unfolding document_start document_end item_start ascii
-overflow_add-end c = omega (arith, end-inside c.loop-i.invariant c.matched_at-e.ensures c.if-e-eq21.true)
 
 pub returns-then-end-xml : goal.returns-then-end-xml
 unfolding document_start document_end item_start ascii
@@ -36,12 +30,6 @@ overflow_add-result c = omega (arith, larger_inside c.loop-i.invariant c.matched
 pub returns-then-s-ne6 : goal.returns-then-s-ne6
 unfolding document_start document_end item_start ascii
 returns-then-s-ne6 c = no_item_at c.loop-i.invariant c.matched_at-e.ensures c.if-e-eq21.false c.start_at-s.ensures c.if-s-ne6.true (search rules)
-
-pub overflow_add-i : goal.overflow_add-i
-unfolding document_start document_end item_start ascii
-overflow_add-i c =
-    let a' = c.args in
-    omega (arith, item-inside c.loop-i.invariant refl (λ q. start-no_end a'.xml.now c.loop-i.i (sym c.if-s-ne6.false ∙ c.start_at-s.ensures) q) c.start_at-s.ensures c.if-s-ne6.false)
 
 pub text_at-requires : goal.text_at-requires
 unfolding document_start document_end item_start ascii
@@ -60,12 +48,6 @@ unfolding document_start document_end item_start ascii
 returns-in-Err c =
     let a' = c.args in
     text-wrong c.loop-i.invariant c.matched_at-e-in-Err.ensures (λ q. start-no_end a'.xml.now c.loop-i.i (sym c.if-s-ne6.false ∙ c.start_at-s.ensures) (sym c.matched_at-e-in-Err.ensures ∙ q)) c.start_at-s.ensures c.if-s-ne6.false _ c.in-Err.ensures (search rules)
-
-pub overflow_add-count : goal.overflow_add-count
-unfolding document_start document_end item_start ascii
-overflow_add-count c =
-    let a' = c.args in
-    let v = turn c.loop-i.invariant refl (λ q. start-no_end a'.xml.now c.loop-i.i (sym c.if-s-ne6.false ∙ c.start_at-s.ensures) q) c.start_at-s.ensures c.if-s-ne6.false _ c.in-Ok.ensures in omega (arith, c.loop-i.invariant.few, v.longer, v.inside)
 
 pub overflow_add-size : goal.overflow_add-size
 unfolding document_start document_end item_start ascii

@@ -3,7 +3,6 @@ use Rattle.layout.specs.Text.{ascii}
 use Rattle.layout.specs.Shortest.{shortest, fewest, short_lists, short_entries, short_entry}
 use Rattle.xml_layout.specs.Tree.{array_name, string_name}
 use Rattle.xml_import.specs.Puts.{front_put, header_bytes, lists_bytes}
-use borrow.Author.Rules.{rules}
 use Rattle.xml_import.proofs.put_front.Goals as goal
 
 pub returns : goal.returns

@@ -1,15 +1,11 @@
 use borrow.Author.Rules.{rules}
-use Prim.Native.Nat.{◌-◌}
 use native.Mathlib.Omega.{arith}
 use borrow.Author.Tests.{eqb-true}
-use Rattle.xml_import.proofs.Strings.{Stringing, start, place_inside, next_item, known_next, last_next, no_failure, turn, ended}
+use Rattle.xml_import.proofs.Strings.{start, place_inside, next_item, known_next, last_next, no_failure, turn, ended}
 use Rattle.xml_import.proofs.put_strings.Goals as goal
 
 pub loop-k-init : goal.loop-k-init
 loop-k-init c = start c.requires
-
-pub overflow_add-at : goal.overflow_add-at
-overflow_add-at c = omega (arith, (next_item c.loop-k.invariant c.loop-k-test.true).at_text)
 
 pub overflow_sub-size : goal.overflow_sub-size
 overflow_sub-size c = place_inside c.loop-k.invariant
@@ -38,9 +34,6 @@ pub loop-k-preserved : goal.loop-k-preserved
 loop-k-preserved c =
     let v = turn c.loop-k.invariant c.loop-k-test.true _ c.in-Ok.ensures in
     v.turns (search rules) c.put_string-to.ensures
-
-pub shape_of-out : goal.shape_of-out
-shape_of-out c = c.loop-k.invariant.same_size
 
 pub returns : goal.returns
 returns c = ended c.loop-k.invariant c.loop-k-test.false

@@ -1,4 +1,3 @@
-use borrow.Author.Rules.{rules}
 use mathlib.Core.Path.{refl}
 use Rattle.xml_import.proofs.Texts.{start, ends}
 use Rattle.xml_import.proofs.text_at.Goals as goal

@@ -2,7 +2,6 @@ use lib.ListN.{length}
 use native.Mathlib.Omega.{arith}
 use Rattle.reading.specs.Reads.{small_by_index}
 use Rattle.xml_theorems.proofs.Fits.{export_exact}
-use borrow.Author.Rules.{rules}
 use Rattle.xml_theorems.proofs.export_exact.Goals as goal
 
 named : {A B : Type 0} → A × B → record { exports_file : A; value : B }

@@ -1,6 +1,4 @@
-use Rattle.std.proofs.Common.{refl, sym}
-use Rattle.std.proofs.Math.Seq.{length-take-le}
-use Rattle.std.proofs.lemmas.Result.{err_from_is_err_and}
+use Rattle.std.proofs.Common.{refl}
 use Rattle.xml_theorems.proofs.Trips.{not_imported, kept}
 use Rattle.xml_theorems.proofs.export_then_import.Goals as goal
 

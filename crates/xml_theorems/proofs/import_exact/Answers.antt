@@ -1,5 +1,4 @@
 use Rattle.xml_theorems.proofs.Imported.{import_exact}
-use borrow.Author.Rules.{rules}
 use Rattle.xml_theorems.proofs.import_exact.Goals as goal
 
 pub returns : goal.returns

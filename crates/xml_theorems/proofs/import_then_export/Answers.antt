@@ -1,5 +1,4 @@
-use Rattle.std.proofs.Common.{refl, sym}
-use Rattle.std.proofs.Math.Seq.{length-take-le}
+use Rattle.std.proofs.Common.{refl}
 use Rattle.xml_theorems.proofs.Trips.{not_exported, same}
 use Rattle.xml_theorems.proofs.import_then_export.Goals as goal
 

@@ -2,7 +2,6 @@ use mathlib.Core.Path.{sym, ap, ◌∙◌}
 use lib.ListN.{length}
 use Rattle.xml_export.specs.Contract.{answer_of}
 use Rattle.xml_theorems.proofs.Fits.{load_first}
-use borrow.Author.Rules.{rules}
 use Rattle.xml_theorems.proofs.load_and_export.Goals as goal
 
 pub returns : goal.returns

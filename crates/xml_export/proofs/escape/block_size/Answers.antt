@@ -1,10 +1,7 @@
 use Rattle.std.proofs.Common.{arith, ◌≡◌, ◌+◌}
 use Rattle.laws.specs.Small.{neither}
-use Rattle.xml_export.proofs.Escapes.{grows_none, grows-more}
+use Rattle.xml_export.proofs.Escapes.{grows-more}
 use Rattle.xml_export.proofs.escape.block_size.Goals as goal
-
-pub loop-j-init : goal.loop-j-init
-loop-j-init c = (omega arith, λ e. grows_none c.requires)
 
 pub loop-j-preserved : goal.loop-j-preserved
 loop-j-preserved c = (

@@ -1,4 +1,3 @@
-use borrow.Author.Rules.{rules}
 use native.Mathlib.Omega.{arith}
 use Rattle.xml_export.proofs.Escapes.{extra_of}
 use Rattle.xml_escape.specs.Sizes.{few_bytes}

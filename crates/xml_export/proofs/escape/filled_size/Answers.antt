@@ -1,31 +1,12 @@
 use Rattle.std.proofs.Common.{arith, rules}
-use Rattle.xml_export.proofs.Escapes.{sized_first, sized_block, sized-blocks, sized_byte, unwritten_byte, sized-end}
+use Rattle.xml_export.proofs.Escapes.{sized_first, sized-blocks, sized_byte, unwritten_byte, sized-end}
 use Rattle.xml_export.proofs.escape.filled_size.Goals as goal
 
 pub loop-i-init : goal.loop-i-init
 loop-i-init c = sized_first (c.quiet_run-i.ensures.run (omega arith))
 
-pub overflow_add-i : goal.overflow_add-i
-overflow_add-i c = omega (arith, c.in-Some-eq32.ensures.inside, c.requires)
-
-pub overflow_sub-size : goal.overflow_sub-size
-overflow_sub-size c = omega (arith, (c.quiet_blocks-next.ensures c.in-Some-eq32.ensures.inside).forward)
-
-pub overflow_add-size : goal.overflow_add-size
-overflow_add-size c =
-    let v = sized-blocks c.loop-i.invariant c.in-Some-eq32.ensures (search rules) (c.quiet_blocks-next.ensures c.in-Some-eq32.ensures.inside) in
-    omega (arith, v.bound, v.inside, c.requires)
-
-pub loop-i-smaller-in-Some-eq32 : goal.loop-i-smaller-in-Some-eq32
-loop-i-smaller-in-Some-eq32 c =
-    let q = c.quiet_blocks-next.ensures c.in-Some-eq32.ensures.inside in
-    omega (arith, q.forward, q.inside, c.loop-i-test.true, c.if-left-eq0.true)
-
 pub loop-i-preserved-in-Some-eq32 : goal.loop-i-preserved-in-Some-eq32
 loop-i-preserved-in-Some-eq32 c = sized-blocks c.loop-i.invariant c.in-Some-eq32.ensures (search rules) (c.quiet_blocks-next.ensures c.in-Some-eq32.ensures.inside)
-
-pub loop-i-preserved-in-Some : goal.loop-i-preserved-in-Some
-loop-i-preserved-in-Some c = sized_block c.loop-i.invariant c.in-Some.ensures
 
 pub returns-in_err-size : goal.returns-in_err-size
 returns-in_err-size c = rw c.from_residual.ensures (unwritten_byte c.loop-i.invariant c.loop-i-test.true c.in_err-size.ensures)

@@ -1,5 +1,4 @@
 use Rattle.xml_export.proofs.Written.{too_few, other_first, other_second, by_third}
-use borrow.Author.Rules.{rules}
 use Rattle.xml_export.proofs.escape.noncharacter_at.Goals as goal
 
 pub returns-then-text-at-lt3 : goal.returns-then-text-at-lt3

@@ -1,16 +1,8 @@
 use Rattle.std.proofs.Common.{arith, rules, ◌≡◌, ◌+◌, ◌-◌}
-use Rattle.xml_escape.specs.Runs.{AllOf, passed_none, passed_more, first_as, passed_as}
+use Rattle.xml_escape.specs.Runs.{AllOf, passed_none, passed_more, passed_as}
 use Rattle.xml_export.specs.Escaping.{Alone, Runs}
-use Rattle.xml_export.proofs.Escapes.{no_run, copy_run}
+use Rattle.xml_export.proofs.Escapes.{copy_run}
 use Rattle.xml_export.proofs.escape.put_far.Goals as goal
-
-pub returns-then-text-from-lt32 : goal.returns-then-text-from-lt32
-returns-then-text-from-lt32 c = no_run c.requires.0
-
-pub put_near-requires : goal.put_near-requires
-put_near-requires c =
-    let b = c.first_of-n.ensures.within in
-    (omega (arith, c.requires.0, c.if-text-from-lt32.false, b), omega (arith, c.requires.0, c.requires.1, c.if-text-from-lt32.false, b), b)
 
 pub returns-then-n-lt32 : goal.returns-then-n-lt32
 returns-then-n-lt32 c =

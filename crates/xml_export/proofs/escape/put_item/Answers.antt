@@ -20,11 +20,6 @@ put-requires-2 c =
     let a = c.args in
     omega (arith, item-long (take a.n (drop a.first a.file.now)), c.requires.1, c.put_part-end.ensures.ends, c.put.auto.out, c.put_part-end.auto.out)
 
-pub overflow_add-result : goal.overflow_add-result
-overflow_add-result c =
-    let a = c.args in
-    omega (arith, item-long (take a.n (drop a.first a.file.now)), c.requires.1, c.put_part-end.ensures.ends)
-
 pub returns : goal.returns
 unfolding item_start item_end ascii
 returns c =

@@ -1,4 +1,3 @@
-use borrow.Author.Rules.{rules}
 use mathlib.Core.Path.{◌≡◌}
 use Prim.Native.Nat.{◌+◌, ◌-◌}
 use native.Mathlib.Omega.{arith}
@@ -11,19 +10,10 @@ returns-then-n-eq0 c =
     let a' = c.args in
     no_put (drop a'.first a'.file.now) a'.n c.if-n-eq0.true a'.out.now a'.to
 
-pub overflow_add-result : goal.overflow_add-result
-overflow_add-result c = omega (arith, c.ranges)
-
 pub returns-then-plain_short : goal.returns-then-plain_short
 returns-then-plain_short c =
     let a' = c.args in
     plain-put a'.file.now a'.n a'.first c.requires.0 (c.plain_short.ensures c.if-plain_short.true) a'.out.now a'.to c.copy.ensures.out_after
-
-pub put_text-requires : goal.put_text-requires
-put_text-requires c =
-    let a' = c.args in
-    let z : a'.first + a'.n - a'.first ≡ a'.n = omega arith in
-    rw z c.requires.1
 
 pub returns : goal.returns
 returns c =

@@ -1,4 +1,3 @@
-use borrow.Author.Rules.{rules}
 use Rattle.xml_export.proofs.Escapes.{letter_alone}
 use Rattle.xml_export.proofs.escape.sign.Goals as goal
 

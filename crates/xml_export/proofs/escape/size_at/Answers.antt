@@ -1,5 +1,4 @@
-use borrow.Author.Rules.{rules}
-use mathlib.Core.Path.{◌≡◌, refl, sym, ap, ◌∙◌}
+use mathlib.Core.Path.{sym, ◌∙◌}
 use Rattle.xml_export.proofs.Escapes.{letter_size, low_size, top_size, other_size}
 use Rattle.xml_export.proofs.escape.size_at.Goals as goal
 

@@ -1,10 +1,8 @@
-use borrow.Author.Rules.{rules}
 use mathlib.Core.Path.{◌≡◌}
 use Prim.Native.Nat.{◌+◌, ◌-◌}
 use native.Mathlib.Omega.{arith}
 use lib.ListN.{drop}
 use Rattle.xml_export.proofs.Escapes.{quiet_size, none-size}
-use Rattle.xml_export.proofs.Gathers.{part-short}
 use Rattle.xml_export.proofs.escape.text_size.Goals as goal
 
 pub returns-then-n-eq0 : goal.returns-then-n-eq0
@@ -16,11 +14,6 @@ pub returns-then-quiet_short : goal.returns-then-quiet_short
 returns-then-quiet_short c =
     let a' = c.args in
     quiet_size a'.file.now a'.n a'.first c.requires.1 (c.quiet_short.ensures c.if-quiet_short.true)
-
-pub filled_size-requires : goal.filled_size-requires
-filled_size-requires c =
-    let a' = c.args in
-    omega (arith, part-short a'.file.now (a'.first + a'.n - a'.first) a'.first, c.requires.0)
 
 pub returns : goal.returns
 returns c =

@@ -1,4 +1,3 @@
-use borrow.Author.Rules.{rules}
 use Rattle.xml_import.proofs.Bytes.{byte_out, byte_low, byte_high, byte_in}
 use Rattle.xml_import.proofs.character.byte_at.Goals as goal
 

@@ -1,4 +1,3 @@
-use borrow.Author.Rules.{rules}
 use Rattle.layout.specs.Text.{ascii}
 use Rattle.xml_layout.specs.Xml.{item_start}
 use Rattle.xml_import.proofs.character.other_start.Goals as goal

@@ -1,6 +1,5 @@
 use mathlib.Core.Path.{sym, ◌∙◌}
 use Rattle.xml_import.proofs.Rows.{alone, not_alone}
-use borrow.Author.Rules.{rules}
 use Rattle.xml_import.proofs.character.plain_at.Goals as goal
 
 pub returns-then-ordinary : goal.returns-then-ordinary

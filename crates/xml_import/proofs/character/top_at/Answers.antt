@@ -1,6 +1,5 @@
 use mathlib.Core.List.{[]}
 use Rattle.xml_import.proofs.Bytes.{then_inside, top_first, top_second}
-use borrow.Author.Rules.{rules}
 use Rattle.xml_import.proofs.character.top_at.Goals as goal
 
 pub byte_at-requires-in-Ok : goal.byte_at-requires-in-Ok

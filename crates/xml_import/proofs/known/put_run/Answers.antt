@@ -3,9 +3,6 @@ use Rattle.xml_escape.specs.Runs.{first_as}
 use Rattle.xml_import.proofs.Puts.{few_put, start-put}
 use Rattle.xml_import.proofs.known.put_run.Goals as goal
 
-pub overflow_add-result : goal.overflow_add-result
-overflow_add-result c = omega (arith, c.put_before-n.ensures.0.within, c.requires.0, c.if-xml-at-lt8.false)
-
 pub returns-then-n-lt8 : goal.returns-then-n-lt8
 returns-then-n-lt8 c =
     few_put (first_as c.put_before-n.ensures.0 (λ b q. search rules) (λ b q. search rules)) c.put_before-n.ensures.1 c.if-n-lt8.true (omega (arith, c.requires.0, c.if-xml-at-lt8.false))

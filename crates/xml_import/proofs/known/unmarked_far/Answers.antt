@@ -1,6 +1,5 @@
 use Rattle.std.proofs.Common.{arith, rules}
 use Rattle.xml_escape.specs.Runs.{passed_as, first_as}
-use Rattle.xml_import.specs.Places.{Before, Passed}
 use Rattle.xml_import.proofs.Marks.{stops_past, stops_here}
 use Rattle.xml_import.proofs.known.unmarked_far.Goals as goal
 

@@ -1,4 +1,3 @@
-use borrow.Author.Rules.{rules}
 use Rattle.xml_import.proofs.Runs.{stands-none, stands-ascii}
 use Rattle.xml_import.proofs.standing.opening.Goals as goal
 

@@ -3,30 +3,15 @@ use Rattle.xml_escape.specs.Quiet.{AllQuiet}
 use Rattle.xml_import.proofs.Usual.{quiet_first, ran_by, ran_on, ran_past}
 use Rattle.xml_import.proofs.standing.usual_rest.Goals as goal
 
-pub returns-then-xml-from-lt32 : goal.returns-then-xml-from-lt32
-returns-then-xml-from-lt32 c = c.quiet_run.ensures.run c.requires
-
 pub returns-then-n-lt32 : goal.returns-then-n-lt32
 returns-then-n-lt32 c =
     ran_by (quiet_first c.first_of-n.ensures (λ b q. search rules)).1 (omega (arith, c.if-n-lt32.true, c.if-xml-from-lt32.false, c.requires))
-
-pub overflow_sub-xml-2 : goal.overflow_sub-xml-2
-overflow_sub-xml-2 c = (c.quiet_blocks-i.ensures (omega (arith, c.if-xml-from-lt32.false, c.requires))).inside
 
 pub returns-then-xml-i-lt32 : goal.returns-then-xml-i-lt32
 returns-then-xml-i-lt32 c =
     let b = c.quiet_blocks-i.ensures (omega (arith, c.if-xml-from-lt32.false, c.requires)) in
     ran_past (quiet_first c.first_of-n.ensures (λ b q. search rules)) c.if-n-lt32.false (omega (arith, c.if-xml-from-lt32.false, c.requires))
     (ran_on b (c.quiet_run-then-xml-i-lt32.ensures.run b.inside))
-
-pub first_of-requires : goal.first_of-requires
-first_of-requires c =
-    let b = c.quiet_blocks-i.ensures (omega (arith, c.if-xml-from-lt32.false, c.requires)) in
-    (omega (arith, c.if-xml-i-lt32.false, b.inside), search rules)
-
-pub overflow_add-result-2 : goal.overflow_add-result-2
-overflow_add-result-2 c =
-    omega (arith, c.if-xml-i-lt32.false, c.first_of.ensures.within, (c.quiet_blocks-i.ensures (omega (arith, c.if-xml-from-lt32.false, c.requires))).inside)
 
 pub returns : goal.returns
 returns c =

@@ -2,9 +2,6 @@ use Rattle.std.proofs.Common.{arith, rules}
 use Rattle.xml_import.proofs.Usual.{quiet_first, ran_by, ran_past}
 use Rattle.xml_import.proofs.standing.usual_run.Goals as goal
 
-pub returns-then-xml-from-lt8 : goal.returns-then-xml-from-lt8
-returns-then-xml-from-lt8 c = c.quiet_run.ensures.run c.requires
-
 pub returns-then-n-lt8 : goal.returns-then-n-lt8
 returns-then-n-lt8 c =
     ran_by (quiet_first c.next_of-n.ensures (λ b q. search rules)).1 (omega (arith, c.if-n-lt8.true, c.if-xml-from-lt8.false, c.requires))

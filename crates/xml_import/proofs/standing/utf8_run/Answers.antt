@@ -1,15 +1,8 @@
 use borrow.Author.Rules.{rules}
 use mathlib.Core.Path.{refl, sym, ◌∙◌}
-use lib.Seq.{length-take-le}
 use Rattle.reading.specs.Utf8.{utf8s-sound}
 use Rattle.xml_import.proofs.Runs.{stands-none, stands_utf8}
 use Rattle.xml_import.proofs.standing.utf8_run.Goals as goal
-
-pub slice_bounds-is_utf8-end : goal.slice_bounds-is_utf8-end
-slice_bounds-is_utf8-end c = sym (length-take-le _ _ (c.quiet_run-n.ensures.run (search rules)).inside)
-
-pub overflow_add-result : goal.overflow_add-result
-overflow_add-result c = search (rules, c.quiet_run-n.ensures.run (search rules))
 
 pub returns-then-is_utf8 : goal.returns-then-is_utf8
 returns-then-is_utf8 c =
