@@ -5,12 +5,12 @@ use Rattle.laws.specs.Small.{differ}
 use Rattle.fill.specs.Fill.{cleared}
 use Rattle.reading.specs.File.{table_of}
 use Rattle.load.specs.Under.{load_under}
-use Rattle.load.specs.Loads.{Loading}
+use Rattle.load.specs.Loads.{Loading, answer_of}
 use Rattle.pack_reading.specs.Lookup.{Found, absent, found}
 use Rattle.pack_lookup.specs.declared.Part.{Part}
 use Rattle.pack_lookup.specs.Lookup as lookup
 use Rattle.pack_lookup.specs.Lookup.{found_as}
-use Rattle.pack_load.specs.Opened.{loaded_as, opening, leaving}
+use Rattle.pack_load.specs.Opened.{opening, leaving}
 
 -- what is told of a file of a pack, and what the words hold
 pub record Told (enums file : List ℕ) (words : ℕ) (x : Found) (r : Option Loading) (exit : List ℕ) : Type 0 where
@@ -27,7 +27,7 @@ abbrev pub part : (file : List ℕ) → Part → List ℕ
 part file p = take (p.first + p.count - p.first) (drop p.first file)
 
 pub told_found : (enums file : List ℕ) (words : ℕ) (x : Found) {p : Part} (r : Loading) (exit : List ℕ) → Some p ≡ found_as x
-    → r ≡ loaded_as (part file p) (load_under enums (part file p) words) → exit ≡ table_of (load_under enums (part file p) words) words → Told enums file words x (Some r) exit
+    → r ≡ answer_of (part file p) (load_under enums (part file p) words) → exit ≡ table_of (load_under enums (part file p) words) words → Told enums file words x (Some r) exit
 told_found enums file words absent r exit q a l = differ cc
 told_found enums file words (found f n) {p} r exit q a l =
     let z : p ≡ lookup.part f n = cc in

@@ -6,13 +6,13 @@ use Rattle.pack_reading.specs.Lookup.{Found, absent, found, find_of}
 use Rattle.load.specs.Loads.{Loading, answer_of}
 
 -- what the loader answers for the data
-abbrev pub loaded_as : (bytes : List ℕ) → Load → Loading
-loaded_as = answer_of
+abbrev pub loaded_as : (bytes : List ℕ) → Load → Option Loading
+loaded_as bytes x = Some (answer_of bytes x)
 
 -- absent, or what the loader answers for the data that a lookup names, under a list of enum types
 abbrev pub opening : (enums file : List ℕ) (words : ℕ) → Found → Option Loading
 opening enums file words absent = None
-opening enums file words (found first count) = Some (loaded_as (take count (drop first file)) (load_under enums (take count (drop first file)) words))
+opening enums file words (found first count) = loaded_as (take count (drop first file)) (load_under enums (take count (drop first file)) words)
 
 abbrev pub opened_of : (enums file table path : List ℕ) (words : ℕ) → Option Loading
 opened_of enums file table path words = opening enums file words (find_of file table path)

@@ -69,7 +69,11 @@ pub record Fits (pack : List ℕ) (out list records : ℕ) : Type 0 where
   pub room : length (new_pack pack) ≤ out
   pub listed : 2 * length (skipped_of pack) ≤ list
 
+-- the length of the new pack, and the number of stretches
+abbrev pub salvaged_so : (length stretches : ℕ) → Salvaged
+salvaged_so length stretches = record { length = length; stretches = stretches }
+
 -- a refusal, or the length of the new pack and the number of stretches
 abbrev pub answer_of : salvage.Salvaged → Result Salvaged Refusal
 answer_of (salvage.refusal number place) = Err (answers.refusal number place)
-answer_of (salvaged bytes l) = Ok (record { length = length bytes; stretches = length l })
+answer_of (salvaged bytes l) = Ok (salvaged_so (length bytes) (length l))

@@ -20,7 +20,7 @@ use Rattle.pack_reading.proofs.Theorems as T
 use Rattle.pack_reading.specs.Lookup as lookup
 use Rattle.pack_reading.specs.Lookup.{wanted, Found, absent, found, find_in, find_of, first_exactly}
 use Rattle.pack_reading.proofs.Lookup.{absent_exactly, looks_up}
-use Rattle.pack_lookup.specs.declared.Found as code
+use Rattle.pack_lookup.specs.declared.Part.{Part}
 use Rattle.pack_lookup.specs.Lookup.{found_as, data_inside}
 use Rattle.pack_load.specs.Opened.{loaded_as, opening, opened_of, leaving, rows_of}
 use Rattle.theorems.specs.Packs.{opened_as, Opens, NotNamed, FirstNamed, Gives}
@@ -113,7 +113,7 @@ looked marked pack words path {table} leaves f =
     let t : table ≡ flat (entries mark 4 fs) ++ replicate (words - 4 * length fs) 0 = leaves ∙ T.table_is mark pack words f in
     ap (λ (l : List ℕ). lookup.bytes_of pack (find_of pack l path)) t ∙ looks_up mark pack path fs (words - 4 * length fs) f.lays
 
-pub gives : (marked : Bool) (pack : List ℕ) (words : ℕ) (path : List ℕ) {table : List ℕ} {r : code.Found} → table ≡ table_for (mark_of marked) pack words → r ≡ found_as (find_of pack table path)
+pub gives : (marked : Bool) (pack : List ℕ) (words : ℕ) (path : List ℕ) {table : List ℕ} {r : Option Part} → table ≡ table_for (mark_of marked) pack words → r ≡ found_as (find_of pack table path)
     → Gives marked pack words path r
 unfolding lookup.bytes_of
 gives marked pack words path {table} leaves answers =

@@ -18,15 +18,16 @@ use Rattle.theorems.specs.MarkLaws.{at_start}
 use Rattle.answers.specs.Refusals.{refusal as refusal_at}
 use Rattle.answers.specs.declared.Refusal.{Refusal}
 use Rattle.salvage.specs.declared.Salvaged.{Salvaged}
-use Rattle.salvage.specs.Contract.{salvaged}
+use Rattle.salvage.specs.Salvaging.{salvaged_so}
 
 module _ {pack out list end left : List ℕ} {r : Result Salvaged Refusal} (c : Salvages pack out list end left r) where
   -- the new pack, where the answer is its length
-  new_pack : (ps : List Piece) → Scan pack ps → Room ps (length out) (length list) → {n m : ℕ} → r ≡ Ok (salvaged n m)
+  new_pack : (ps : List Piece) → Scan pack ps → Room ps (length out) (length list) → {n m : ℕ} → r ≡ Ok (salvaged_so n m)
       → (n ≡ length (new_of ps)) × (take n end ≡ new_of ps) × PackLays marked (kept_of ps) (take n end)
   new_pack ps s h {n} {m} q =
-      let e : Ok (salvaged (length (new_of ps)) (length (skips_of ps))) ≡ Ok (salvaged n m) = sym (c.salvages ps s h).0 ∙ q in
-      let a : n ≡ length (new_of ps) = cc in
+      let e : Ok (salvaged_so (length (new_of ps)) (length (skips_of ps))) ≡ Ok (salvaged_so n m) = sym (c.salvages ps s h).0 ∙ q in
+      let z : salvaged_so (length (new_of ps)) (length (skips_of ps)) ≡ salvaged_so n m = cc in
+      let a : n ≡ length (new_of ps) = sym (ap (λ (s : Salvaged). s.length) z) in
       let t : take n end ≡ new_of ps = rw (a, (c.salvages ps s h).1) (at_start (new_of ps) out h.0).1 in
       let w = c.written n m q in
       let u = c.scans s.long in
@@ -35,10 +36,10 @@ module _ {pack out list end left : List ℕ} {r : Result Salvaged Refusal} (c : 
 
   pub not_read : {number place room : ℕ} {table : List ℕ} {x : Result ℕ Refusal} → r ≡ Err (refusal_at number place) → ReadsSalvaged pack out list room table x
   not_read {number} {place} q = record {
-    accepted = λ ps s h k. let e : Err (refusal_at number place) ≡ Ok (salvaged (length (new_of ps)) (length (skips_of ps))) = sym q ∙ (c.salvages ps s h).0 in differ cc;
+    accepted = λ ps s h k. let e : Err (refusal_at number place) ≡ Ok (salvaged_so (length (new_of ps)) (length (skips_of ps))) = sym q ∙ (c.salvages ps s h).0 in differ cc;
   }
 
-  pub reread : {n m room : ℕ} {table : List ℕ} {x : Result ℕ Refusal} → r ≡ Ok (salvaged n m)
+  pub reread : {n m room : ℕ} {table : List ℕ} {x : Result ℕ Refusal} → r ≡ Ok (salvaged_so n m)
       → x ≡ packs.answer_of (pack_of marked (take n end) room) → table ≡ table_for marked (take n end) room → ReadsSalvaged pack out list room table x
   reread {n} {m} {room} {table} {x} q a t = record {
     accepted = λ ps s h k.
@@ -48,10 +49,10 @@ module _ {pack out list end left : List ℕ} {r : Result Salvaged Refusal} (c : 
 
   pub not_twice : {number place : ℕ} {second end₂ left₂ : List ℕ} {x : Result Salvaged Refusal} → r ≡ Err (refusal_at number place) → SalvagesTwice pack out list left₂ second end₂ x
   not_twice {number} {place} q = record {
-    same = λ ps s h k. let e : Err (refusal_at number place) ≡ Ok (salvaged (length (new_of ps)) (length (skips_of ps))) = sym q ∙ (c.salvages ps s h).0 in differ cc;
+    same = λ ps s h k. let e : Err (refusal_at number place) ≡ Ok (salvaged_so (length (new_of ps)) (length (skips_of ps))) = sym q ∙ (c.salvages ps s h).0 in differ cc;
   }
 
-  pub twice : {n m : ℕ} {second end₂ left₂ : List ℕ} {x : Result Salvaged Refusal} → r ≡ Ok (salvaged n m) → Salvages (take n end) second left end₂ left₂ x → SalvagesTwice pack out list left₂ second end₂ x
+  pub twice : {n m : ℕ} {second end₂ left₂ : List ℕ} {x : Result Salvaged Refusal} → r ≡ Ok (salvaged_so n m) → Salvages (take n end) second left end₂ left₂ x → SalvagesTwice pack out list left₂ second end₂ x
   unfolding files_room
   twice {n} {m} {second} {end₂} {left₂} {x} q d = record {
     same = λ ps s h k.

@@ -41,7 +41,7 @@ use Rattle.rewrite.specs.Contract as contract
 use Rattle.theorems.specs.Loading.{IsLoaded, Loads}
 use Rattle.theorems.specs.Rewriting.{Written, Rewrites, LoadsAgain, RewritesTwice}
 use Rattle.readers.specs.Judged.{judged_name, judges, within-name}
-use Rattle.load.specs.Loads.{loaded}
+use Rattle.load.specs.Loads.{loaded as rows_loaded}
 use Rattle.answers.specs.Refusals.{refusal as refusal_at}
 use Rattle.answers.specs.declared.Refusal.{Refusal}
 
@@ -107,7 +107,7 @@ table-roots {enums} {file} {words} f columns {left} e = file_roots f.es (shape_o
 
 -- what a load answers where a file tree fits
 pub loads : {enums file : List ℕ} {words : ℕ} (f : Fitting enums file words)
-    → answer_of file (load_under enums file words) ≡ Ok (loaded (length (rows_in f.fits)) (length f.fits.tree.names) (count (shared_of f.fits.tree.objects)) (length file - length (short_file f.fits.tree)))
+    → answer_of file (load_under enums file words) ≡ Ok (rows_loaded (length (rows_in f.fits)) (length f.fits.tree.names) (count (shared_of f.fits.tree.objects)) (length file - length (short_file f.fits.tree)))
 loads {enums} {file} {words} f =
     let p : file_padding file (length f.fits.tree.names) (rows_in f.fits) ≡ length file - length (short_file f.fits.tree) = omega (arith, padding_is f) in
     rw (rows_are f, p)
@@ -116,7 +116,7 @@ module _ (enums file : List ℕ) (words : ℕ) (columns : Bool) {left : List ℕ
     (answers : r ≡ answer_of file (load_under enums file words))
     (leaves : left ≡ table_in (shape_of columns) (load_under enums file words) words) where
   loaded : (f : Fitting enums file words)
-      → (r ≡ Ok (loaded (length (rows_in f.fits)) (length f.fits.tree.names) (count (shared_of f.fits.tree.objects)) (length file - length (short_file f.fits.tree)))) × (left ≡ table (shape_of columns) (rows_in f.fits) words)
+      → (r ≡ Ok (rows_loaded (length (rows_in f.fits)) (length f.fits.tree.names) (count (shared_of f.fits.tree.objects)) (length file - length (short_file f.fits.tree)))) × (left ≡ table (shape_of columns) (rows_in f.fits) words)
   loaded f =
       (answers ∙ loads f, leaves ∙ table_in_lem f columns)
 
@@ -145,12 +145,13 @@ module _ (enums file : List ℕ) (words : ℕ) (columns : Bool) {left : List ℕ
       differ cc
   placed (refuses fs v c m q g i) es w b number place e =
       let h : r ≡ Err (refusal_at m q) = refused_is g in
-      let e₁ : number ≡ m = cc in
-      let e₂ : place ≡ q = cc in
+      let z : refusal_at number place ≡ refusal_at m q = cc in
+      let e₁ : number ≡ m = ap (λ (x : Refusal). x.number) z in
+      let e₂ : place ≡ q = ap (λ (x : Refusal). x.place) z in
       rw (e₁, e₂) i
   placed (bad_list i bad none g) es w b number place e = absurd (none es w b)
 
-  skipped : Ends enums file words → (used readers shared padding : ℕ) → r ≡ Ok (loaded used readers shared padding) → TableSkips (shape_of columns) (room_of words) left used
+  skipped : Ends enums file words → (used readers shared padding : ℕ) → r ≡ Ok (rows_loaded used readers shared padding) → TableSkips (shape_of columns) (room_of words) left used
   skipped (refuses es l b m q g i) used readers shared padding e =
       let h : r ≡ Err (refusal_at m q) = refused_is g in
       differ cc
@@ -162,7 +163,7 @@ module _ (enums file : List ℕ) (words : ℕ) (columns : Bool) {left : List ℕ
       let k : length (rows_in f.fits) ≡ used = cc in
       rw k at (table-skips f columns l.1)
 
-  rooted : Ends enums file words → (used readers shared padding : ℕ) → r ≡ Ok (loaded used readers shared padding) → TableRoots (shape_of columns) (room_of words) left used (suc shared)
+  rooted : Ends enums file words → (used readers shared padding : ℕ) → r ≡ Ok (rows_loaded used readers shared padding) → TableRoots (shape_of columns) (room_of words) left used (suc shared)
   rooted (refuses es l b m q g i) used readers shared padding e =
       let h : r ≡ Err (refusal_at m q) = refused_is g in
       differ cc
@@ -245,8 +246,9 @@ module _ (enums file : List ℕ) (words : ℕ) (out : List ℕ) {left end : List
 
   same_refusal : {m q number place : ℕ} → r ≡ Err (refusal_at m q) → r ≡ Err (refusal_at number place) → Rewrite-placed m q → Rewrite-placed number place
   same_refusal {m} {q} {number} {place} e g i =
-      let e₁ : number ≡ m = cc in
-      let e₂ : place ≡ q = cc in
+      let z : refusal_at number place ≡ refusal_at m q = cc in
+      let e₁ : number ≡ m = ap (λ (x : Refusal). x.number) z in
+      let e₂ : place ≡ q = ap (λ (x : Refusal). x.place) z in
       rw (e₁, e₂) i
 
   rewrite_placed : Ends enums file words → (es : List EnumEntry) → Enums es → enums ≡ write_enums es → (number place : ℕ) → r ≡ Err (refusal_at number place) → Rewrite-placed number place

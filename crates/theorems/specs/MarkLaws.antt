@@ -5,7 +5,8 @@ use Rattle.std.proofs.Math.Path.{ap}
 use Rattle.std.proofs.Math.Seq.{take-append_seam}
 use Rattle.std.proofs.lemmas.Bool.{lt-leb}
 use Rattle.laws.specs.Small.{differ}
-use Rattle.reading.specs.Answer.{Answer, refused, read, Ok}
+use Rattle.reading.specs.Answer as answer
+use Rattle.reading.specs.Answer.{Answer, refused, read}
 use Rattle.reading.specs.Reads.{Small}
 use Rattle.reading.specs.Output.{Rewritten, refusal, written, fitted, output_of}
 use Rattle.pack_layout.specs.Pack.{Stored, pack_bytes, PackLays, mark_of}
@@ -30,11 +31,11 @@ left_alone (written bytes) out q = differ cc
 
 no_room_31 : (t : Bool) (bytes : List ℕ) (m : ℕ) {number place : ℕ} → answer_of (cond t (written bytes) (refusal 21 m)) ≡ Err (refusal_at number place) → number ≡ 31 → ⊥
 no_room_31 true bytes m q e = differ cc
-no_room_31 false bytes m {number} q e = let a : 21 ≡ number = cc in absurd (omega arith)
+no_room_31 false bytes m {number} {place} q e = let z : refusal_at 21 m ≡ refusal_at number place = cc in let a : 21 ≡ number = ap (λ (r : Refusal). r.number) z in absurd (omega arith)
 
 never_31 : (to : List ℕ) (x : Answer (List Stored)) (size out : ℕ) → Keeps (λ n. n ≡ 31 → ⊥) size x → {number place : ℕ} → answer_of (by_pack to x out) ≡ Err (refusal_at number place) → number ≡ 31 → ⊥
 unfolding Keeps by_pack fitted
-never_31 to (refused n p) size out k {number} q e = let a : n ≡ number = cc in k.0 (a ∙ e)
+never_31 to (refused n p) size out k {number} {place} q e = let z : refusal_at n p ≡ refusal_at number place = cc in let a : n ≡ number = ap (λ (r : Refusal). r.number) z in k.0 (a ∙ e)
 never_31 to (read fs end) size out k q e = no_room_31 (leb (length (pack_bytes to fs)) out) (pack_bytes to fs) (length (pack_bytes to fs)) q e
 
 -- the number and the place of a refusal
@@ -43,18 +44,19 @@ Within other size number place = (number ≡ 21) ⊎ (PackNumber other number ×
 
 no_room_is : (other : Bool) (size : ℕ) (t : Bool) (bytes : List ℕ) (m : ℕ) {number place : ℕ} → answer_of (cond t (written bytes) (refusal 21 m)) ≡ Err (refusal_at number place) → Within other size number place
 no_room_is other size true bytes m q = differ cc
-no_room_is other size false bytes m {number} q = let a : number ≡ 21 = cc in inl a
+no_room_is other size false bytes m {number} {place} q = let z : refusal_at number place ≡ refusal_at 21 m = cc in inl (ap (λ (r : Refusal). r.number) z)
 
 refused-within : (other : Bool) (to : List ℕ) (x : Answer (List Stored)) (size out : ℕ) → Keeps (PackNumber other) size x → {number place : ℕ} → answer_of (by_pack to x out) ≡ Err (refusal_at number place)
     → Within other size number place
 unfolding Keeps by_pack fitted
 refused-within other to (refused n p) size out k {number} {place} q =
-    let a : n ≡ number = cc in
-    let b : p ≡ place = cc in
+    let z : refusal_at n p ≡ refusal_at number place = cc in
+    let a : n ≡ number = ap (λ (r : Refusal). r.number) z in
+    let b : p ≡ place = ap (λ (r : Refusal). r.place) z in
     inr (rw (← a, ← b) k)
 refused-within other to (read fs end) size out k q = no_room_is other size (leb (length (pack_bytes to fs)) out) (pack_bytes to fs) (length (pack_bytes to fs)) q
 
-none-fits : (from to pack : List ℕ) (x : Answer (List Stored)) (out : ℕ) → Ok (λ fs e. PackLays from fs pack × (length fs ≤ 4096)) x → ((fs : List Stored) → PackLays from fs pack → ⊥)
+none-fits : (from to pack : List ℕ) (x : Answer (List Stored)) (out : ℕ) → answer.Ok (λ fs e. PackLays from fs pack × (length fs ≤ 4096)) x → ((fs : List Stored) → PackLays from fs pack → ⊥)
     → (number : ℕ) × (place : ℕ) × (answer_of (by_pack to x out) ≡ Err (refusal_at number place))
 unfolding by_pack
 none-fits from to pack (refused n p) out k none = (n, p, refl)

@@ -1,5 +1,5 @@
 -- From the contracts of reading a pack and of finding a file to what is demanded of them. Assumes nothing.
-use Rattle.std.specs.Prelude.{◌≡◌, refl, Bool, true, false, List, ℕ, ◌≤◌, length, Err, None, Some, Result}
+use Rattle.std.specs.Prelude.{◌≡◌, refl, Bool, true, false, List, ℕ, ◌≤◌, length, Err, None, Some, Result, Option}
 use Rattle.std.proofs.Common.{sym, ap, subst, ◌∙◌}
 use Rattle.laws.specs.Small.{differ}
 use Rattle.reading.specs.Answer.{Answer, refused, read}
@@ -16,12 +16,12 @@ use Rattle.pack_reading.specs.Parts.{names}
 use Rattle.pack_reading.specs.Lookup.{Found, absent, found, find_in, find_of, Says, find_says}
 use Rattle.pack_reading.proofs.Lookup.{absent_exactly}
 use Rattle.packs.specs.Files.{answer_of}
-use Rattle.pack_lookup.specs.declared.Found as code
+use Rattle.pack_lookup.specs.declared.Part.{Part}
 use Rattle.pack_lookup.specs.Lookup.{found_as}
 use Rattle.theorems.specs.Packs.{IsRead, Reads, Finds}
 use Rattle.answers.specs.Refusals.{refusal as refusal_at}
 use Rattle.answers.specs.declared.Refusal.{Refusal}
-use Rattle.pack_lookup.specs.Found.{part}
+use Rattle.pack_lookup.specs.Lookup.{part}
 
 -- ---- Reading a pack
 
@@ -46,8 +46,9 @@ unfolding pack_of to_pack Keeps
 refused-inside marked pack words {number} {place} q = go (pack_at (mark_of marked) pack (files_room words)) (pack_refusals marked pack (files_room words)) q where
   go : (x : Answer (List Stored)) → Keeps (PackNumber marked) (length pack) x → answer_of (to_pack x) ≡ Err (refusal_at number place) → PackNumber marked number × (place ≤ length pack)
   go (refused n p) k e =
-      let a : n ≡ number = cc in
-      let b : p ≡ place = cc in
+      let z : refusal_at n p ≡ refusal_at number place = cc in
+      let a : n ≡ number = ap (λ (r : Refusal). r.number) z in
+      let b : p ≡ place = ap (λ (r : Refusal). r.place) z in
       rw (← a, ← b) k
   go (read fs e) k r = differ cc
 
@@ -73,11 +74,12 @@ as_absent (found a n) q = differ cc
 pub as_found : (x : Found) (a n : ℕ) → found_as x ≡ Some (part a n) → x ≡ found a n
 as_found absent a n q = differ cc
 as_found (found b m) a n q =
-    let e₁ : b ≡ a = cc in
-    let e₂ : m ≡ n = cc in
+    let z : part b m ≡ part a n = cc in
+    let e₁ : b ≡ a = ap (λ (p : Part). p.first) z in
+    let e₂ : m ≡ n = ap (λ (p : Part). p.count) z in
     rw (e₁, e₂)
 
-pub find_exact : (pack table path : List ℕ) {r : code.Found} → r ≡ found_as (find_of pack table path) → Finds pack table path r
+pub find_exact : (pack table path : List ℕ) {r : Option Part} → r ≡ found_as (find_of pack table path) → Finds pack table path r
 unfolding find_of Says
 find_exact pack table path answers =
     let x = find_in pack path (wholes table) in

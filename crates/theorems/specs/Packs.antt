@@ -11,8 +11,8 @@ use Rattle.theorems.specs.Loading.{Loads}
 use Rattle.load.specs.Loads.{loaded}
 use Rattle.answers.specs.Refusals.{refusal as refusal_at}
 use Rattle.answers.specs.declared.Refusal.{Refusal}
-use Rattle.pack_lookup.specs.declared.Part.{Part}
-use Rattle.pack_lookup.specs.Found.{part}
+use Rattle.pack_lookup.specs.declared.Part as code
+use Rattle.pack_lookup.specs.Lookup.{part}
 
 -- ---- Reading a pack
 
@@ -37,7 +37,7 @@ pub record Reads (marked : Bool) (pack : List ℕ) (words : ℕ) (left : List �
 
 -- ---- Finding a file, by a table of any words
 
-pub record Finds (pack table path : List ℕ) (r : Option Part) : Type 0 where
+pub record Finds (pack table path : List ℕ) (r : Option code.Part) : Type 0 where
   -- ""absent" exactly if no path matches"
   pub absent : (r ≡ None) ↔ NoMatch pack path (wholes table)
   -- "gives the first match's data"
@@ -74,7 +74,7 @@ pub record FirstNamed (path : List ℕ) (fs : List Stored) (g : Stored) : Type 0
   pub earlier : Each (NotNamed path) before
 
 -- For the form, a pack, the number of words lent for its table, a path, and what a lookup in the table that reading the pack left answers.
-pub record Gives (marked : Bool) (pack : List ℕ) (words : ℕ) (path : List ℕ) (r : Option Part) : Type 0 where
+pub record Gives (marked : Bool) (pack : List ℕ) (words : ℕ) (path : List ℕ) (r : Option code.Part) : Type 0 where
   -- ""absent" exactly if no path matches": no file of the pack has this path
   pub absent : (f : Fitting (mark_of marked) pack words) → (r ≡ None) ↔ Each (NotNamed path) f.files
   -- "gives the first match's data": that of the pack's first file of this path, as it stands in the pack

@@ -7,7 +7,7 @@ use Rattle.pack_salvage.specs.Stretches.{Stretch, stretches, words, Apart, Cover
 use Rattle.answers.specs.Refusals.{refusal as refusal_at}
 use Rattle.answers.specs.declared.Refusal.{Refusal}
 use Rattle.salvage.specs.declared.Salvaged.{Salvaged}
-use Rattle.salvage.specs.Contract.{salvaged}
+use Rattle.salvage.specs.Salvaging.{salvaged_so}
 
 -- "From byte 4, if a mark and a whole record that keeps Req 01's limits stand here, keep it and go on after it; otherwise go on one byte. Stop at the end or after 4,096 records"
 pub record Scan (pack : List ℕ) (ps : List Piece) : Type 0 where
@@ -44,16 +44,16 @@ pub record Salvages (pack out list end left : List ℕ) (r : Result Salvaged Ref
   pub list_short : (ps : List Piece) → Scan pack ps → length (new_of ps) ≤ length out → length list / 2 < length (skips_of ps) → r ≡ Err (refusal_at 52 (length (skips_of ps)))
   -- else both are written, "each length answered, the list's in stretches", and what stands behind them stays
   pub salvages : (ps : List Piece) → Scan pack ps → Room ps (length out) (length list)
-      → (r ≡ Ok (salvaged (length (new_of ps)) (length (skips_of ps))))
+      → (r ≡ Ok (salvaged_so (length (new_of ps)) (length (skips_of ps))))
       × (end ≡ new_of ps ++ drop (length (new_of ps)) out)
       × (left ≡ words (skips_of ps) ++ drop (2 * length (skips_of ps)) list)
   -- a refusal leaves the output and the list unchanged
   pub unchanged : (number place : ℕ) → r ≡ Err (refusal_at number place) → (end ≡ out) × (left ≡ list)
   -- what was written is a marked pack of the kept records, and lies in the output
-  pub written : (n m : ℕ) → r ≡ Ok (salvaged n m) → (ps : List Piece) × Scan pack ps × Room ps (length out) (length list) × (n ≤ length end) × PackLays marked (kept_of ps) (take n end)
+  pub written : (n m : ℕ) → r ≡ Ok (salvaged_so n m) → (ps : List Piece) × Scan pack ps × Room ps (length out) (length list) × (n ≤ length end) × PackLays marked (kept_of ps) (take n end)
   -- "An accepted pack comes out byte for byte with nothing skipped"
   pub stays : {room : ℕ} → Fitting marked pack room → length pack ≤ length out
-      → (r ≡ Ok (salvaged (length pack) 0)) × (end ≡ pack ++ drop (length pack) out) × (left ≡ list)
+      → (r ≡ Ok (salvaged_so (length pack) 0)) × (end ≡ pack ++ drop (length pack) out) × (left ≡ list)
 
 -- For a pack that is salvaged and then read: the output and the list as they were lent, the number of words of the table, the table as it is left, and the reader's answer.
 pub record ReadsSalvaged (pack out list : List ℕ) (room : ℕ) (left : List ℕ) (r : Result ℕ Refusal) : Type 0 where
@@ -65,6 +65,6 @@ pub record ReadsSalvaged (pack out list : List ℕ) (room : ℕ) (left : List �
 pub record SalvagesTwice (pack out list left second end : List ℕ) (r : Result Salvaged Refusal) : Type 0 where
   -- the second time gives the same bytes and skips nothing, so the list is as the first time left it
   pub same : (ps : List Piece) → Scan pack ps → Room ps (length out) (length list) → length (new_of ps) ≤ length second
-      → (r ≡ Ok (salvaged (length (new_of ps)) 0))
+      → (r ≡ Ok (salvaged_so (length (new_of ps)) 0))
       × (end ≡ new_of ps ++ drop (length (new_of ps)) second)
       × (left ≡ words (skips_of ps) ++ drop (2 * length (skips_of ps)) list)

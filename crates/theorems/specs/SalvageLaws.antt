@@ -21,7 +21,7 @@ use Rattle.theorems.specs.MarkLaws.{at_start}
 use Rattle.answers.specs.Refusals.{refusal as refusal_at}
 use Rattle.answers.specs.declared.Refusal.{Refusal}
 use Rattle.salvage.specs.declared.Salvaged.{Salvaged}
-use Rattle.salvage.specs.Contract.{salvaged}
+use Rattle.salvage.specs.Salvaging.{salvaged_so}
 
 -- a refusal leaves the output and the list
 left_alone : (x : S.Salvaged) (out list : List ℕ) {number place : ℕ} → answer_of x ≡ Err (refusal_at number place) → (output_of x out ≡ out) × (list_of x list ≡ list)
@@ -30,7 +30,7 @@ left_alone (refusal n p) out list q = (refl, refl)
 left_alone (salvaged bytes l) out list q = differ cc
 
 -- an answer that is no refusal passed every test
-passed : (b : Bool) (number place : ℕ) (x : S.Salvaged) {n m : ℕ} → answer_of (unless b number place x) ≡ Ok (salvaged n m) → (b ≡ true) × (answer_of x ≡ Ok (salvaged n m))
+passed : (b : Bool) (number place : ℕ) (x : S.Salvaged) {n m : ℕ} → answer_of (unless b number place x) ≡ Ok (salvaged_so n m) → (b ≡ true) × (answer_of x ≡ Ok (salvaged_so n m))
 unfolding unless
 passed true number place x q = (refl, q)
 passed false number place x q = differ cc
@@ -57,7 +57,7 @@ module _ (pack out list : List ℕ) (small : Small pack) {end left : List ℕ} {
   unfolding unless
   with_room ps s h = given ps s ∙ rw (le-leb (length (new_of ps)) (length out) h.0, le-leb (length (skips_of ps)) (length list / 2) h.1)
 
-  was_written : (n m : ℕ) → r ≡ Ok (salvaged n m)
+  was_written : (n m : ℕ) → r ≡ Ok (salvaged_so n m)
       → (ps : List Piece) × Scan pack ps × Room ps (length out) (length list) × (n ≤ length end) × PackLays marked (kept_of ps) (take n end)
   unfolding salvage_of output_of
   was_written n m q =
@@ -69,7 +69,8 @@ module _ (pack out list : List ℕ) (small : Small pack) {end left : List ℕ} {
       let h : Room ps (length out) (length list)
       = (leb-true (length (new_of ps)) (length out) p₂.0, leb-true (length (skips_of ps)) (length list / 2) p₃.0) in
       let e : end ≡ new_of ps ++ drop (length (new_of ps)) out = (by (with_room ps s h)).1 in
-      let a : n ≡ length (new_of ps) = cc p₃.1 in
+      let z : salvaged_so (length (new_of ps)) (length (skips_of ps)) ≡ salvaged_so n m = cc p₃.1 in
+      let a : n ≡ length (new_of ps) = sym (ap (λ (s : Salvaged). s.length) z) in
       let w = at_start (new_of ps) out h.0 in
       (ps, s, h, rw (a, e) w.0, subst (PackLays marked (kept_of ps)) (sym (rw (a, e) w.1)) (pack_written pack small))
 

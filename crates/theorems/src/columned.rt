@@ -38,7 +38,7 @@ fn load_both(file: &[u8], enums: &[u8], words: &mut [u32], columns: &mut [u32]) 
 
 // A row that is looked up in a table.
 pub fn look_up(file: &[u8], table: Table, row: RowNumber) -> Lookups
-    ensures { result ≡ looked_up table.grid file.now table.words.now row.0 }
+    ensures { result ≡ looked_up table.entry.grid file.now table.entry.words.now row.0 }
 {
     Lookups {
         part: lookups::part(file, table, row),

@@ -34,12 +34,12 @@ fn find_both(pack: &[u8], out: &mut [u8], table: &mut [u64], path: &[u8], marked
     ensures { FindsSame marked pack.now (length out.old) (length table.old)
         path.now out.new result }
 {
-    packs::read(pack, table, !marked);
+    let _ = packs::read(pack, table, !marked);
     let given = pack_lookup::find(pack, table, path);
     match convert_exact(pack, out, marked) {
         Err(_) => FoundBoth { given, new: None },
         Ok(n) => {
-            packs::read(&out[..n], table, marked);
+            let _ = packs::read(&out[..n], table, marked);
             let new = pack_lookup::find(&out[..n], table, path);
             FoundBoth { given, new }
         }

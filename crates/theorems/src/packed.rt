@@ -46,6 +46,6 @@ pub fn open_exact(
 fn read_and_find(pack: &[u8], table: &mut [u64], path: &[u8], marked: bool) -> Option<Part>
     ensures { Gives marked pack.now (length table.old) path.now result }
 {
-    packs::read(pack, table, marked);
+    let _ = packs::read(pack, table, marked);
     pack_lookup::find(pack, table, path)
 }
