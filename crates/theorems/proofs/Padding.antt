@@ -27,6 +27,7 @@ use Rattle.theorems.specs.Fitted.{least, same_tree}
 use Rattle.layout.specs.Fits.{Fitting, rows_in}
 use Rattle.theorems.specs.Laws.{Ends, fits, refuses, bad_list, ends, loads, handed_on}
 use Rattle.load.specs.Loads.{loaded}
+use Rattle.load.specs.declared.Loaded as load_code
 use Rattle.answers.specs.Refusals.{refusal as refusal_at}
 use Rattle.answers.specs.declared.Refusal.{Refusal}
 
@@ -50,7 +51,8 @@ module _ (enums file : List ℕ) (words : ℕ) (bytes : Bytes enums) (small : Sm
         differ cc
     go (fits f) =
         let a : l ≡ Ok (loaded (length (rows_in f.fits)) (length f.fits.tree.names) (count (shared_of f.fits.tree.objects)) (length file - length (short_file f.fits.tree))) = answers ∙ loads f in
-        record { fitting = f; is = cc; no_longer = (least f file f.fits.lays).no_longer }
+        let z : loaded rows readers shared padding ≡ loaded (length (rows_in f.fits)) (length f.fits.tree.names) (count (shared_of f.fits.tree.objects)) (length file - length (short_file f.fits.tree)) = cc in
+        record { fitting = f; is = ap (λ (y : load_code.Loaded). y.padding) z; no_longer = (least f file f.fits.lays).no_longer }
 
   -- what the rewrite answers then
   by_room : {padding : ℕ} (t : Told padding) {P : Type 0} → (r ≡ Ok (length (short_file t.fitting.fits.tree)) → P) → (r ≡ Err (refusal_at 21 (length (short_file t.fitting.fits.tree))) → P) → P
@@ -68,7 +70,10 @@ module _ (enums file : List ℕ) (words : ℕ) (bytes : Bytes enums) (small : Sm
       → (number ≡ 21) × (place ≤ length file) × (padding ≡ length file - place)
   needed rows readers shared padding number place e w =
       let t = told e in
-      by_room t (λ q. differ cc) (λ q. let k : place ≡ length (short_file t.fitting.fits.tree) = cc in let n : number ≡ 21 = cc in (n, omega (arith, t.no_longer, k), omega (arith, t.is, k)))
+      by_room t (λ q. differ cc) (λ q. let z : refusal_at number place ≡ refusal_at 21 (length (short_file t.fitting.fits.tree)) = cc in
+      let k : place ≡ length (short_file t.fitting.fits.tree) = ap (λ (y : Refusal). y.place) z in
+      let n : number ≡ 21 = ap (λ (y : Refusal). y.number) z in
+      (n, omega (arith, t.no_longer, k), omega (arith, t.is, k)))
 
   pub none : (rows readers shared padding : ℕ) → l ≡ Ok (loaded rows readers shared padding) → (padding ≡ 0) ↔ Shortest enums file words
   none rows readers shared padding e =
@@ -83,8 +88,9 @@ module _ (enums file : List ℕ) (words : ℕ) (bytes : Bytes enums) (small : Sm
     handed : (m q : ℕ) → load_under enums file words ≡ refusal m q → r ≡ Err (refusal_at number place)
     handed m q g =
         let a : l ≡ Err (refusal_at m q) = answers ∙ ap (answer_of file) g in
-        let e₁ : m ≡ number = cc in
-        let e₂ : q ≡ place = cc in
+        let z : refusal_at m q ≡ refusal_at number place = cc in
+        let e₁ : m ≡ number = ap (λ (y : Refusal). y.number) z in
+        let e₂ : q ≡ place = ap (λ (y : Refusal). y.place) z in
         rewrites ∙ ap contract.answer_of (handed_on enums file words (length out) m q g) ∙ rw (e₁, e₂)
 
     go : Ends enums file words → r ≡ Err (refusal_at number place)

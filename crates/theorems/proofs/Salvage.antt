@@ -12,7 +12,6 @@ use Rattle.pack_reading.specs.Pack.{pack_of, table_for}
 use Rattle.pack_reading.proofs.Theorems.{files_are, table_is}
 use Rattle.packs.specs.Files as packs
 use Rattle.pack_salvage.specs.Scan.{Piece, kept_of}
-use Rattle.salvage.specs.Salvaging.{answer_of}
 use Rattle.theorems.specs.Salvage.{Scan, new_of, skips_of, Room, Salvages, ReadsSalvaged, SalvagesTwice}
 use Rattle.theorems.specs.MarkLaws.{at_start}
 use Rattle.answers.specs.Refusals.{refusal as refusal_at}

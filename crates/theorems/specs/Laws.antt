@@ -1,5 +1,5 @@
 -- From the contracts of `load` and `rewrite` to what is demanded of them. Assumes nothing.
-use Rattle.std.specs.Prelude.{◌≡◌, refl, Bool, List, ◌++◌, ◌⊎◌, ℕ, suc, ◌+◌, ◌*◌, ◌-◌, ◌<◌, ◌≤◌, take, drop, replicate, Err, Ok, Result}
+use Rattle.std.specs.Prelude.{◌≡◌, refl, Bool, List, ◌++◌, ◌⊎◌, ℕ, suc, ◌*◌, ◌-◌, ◌<◌, ◌≤◌, take, drop, replicate, Err, Ok, Result}
 use Rattle.std.proofs.Common.{ap, ◌∙◌, inl, inr, arith, length-append}
 use Rattle.std.proofs.Math.Bool.{true, false}
 use Rattle.std.proofs.Math.Dec.{leb}
@@ -12,7 +12,7 @@ use Rattle.layout.specs.Rows.{width}
 use Rattle.layout.specs.File.{shared_of}
 use Rattle.layout.specs.EnumList.{EnumEntry, write_enums, Enums, FirstBad, Unlawful}
 use Rattle.layout.specs.Refusals.{LoadNumber}
-use Rattle.layout.specs.Table.{room_of, by_rows, by_columns, shape_of, table}
+use Rattle.layout.specs.Table.{room_of, by_rows, shape_of, table}
 use Rattle.layout.specs.Branches.{TableSkips, TableRoots}
 use Rattle.layout.specs.Shortest.{short_file}
 use Rattle.enums.specs.Judge.{Judgement, enums_at}
@@ -42,6 +42,7 @@ use Rattle.theorems.specs.Loading.{IsLoaded, Loads}
 use Rattle.theorems.specs.Rewriting.{Written, Rewrites, LoadsAgain, RewritesTwice}
 use Rattle.readers.specs.Judged.{judged_name, judges, within-name}
 use Rattle.load.specs.Loads.{loaded as rows_loaded}
+use Rattle.load.specs.declared.Loaded as load_code
 use Rattle.answers.specs.Refusals.{refusal as refusal_at}
 use Rattle.answers.specs.declared.Refusal.{Refusal}
 
@@ -160,7 +161,8 @@ module _ (enums file : List ℕ) (words : ℕ) (columns : Bool) {left : List ℕ
       differ cc
   skipped (fits f) used readers shared padding e =
       let l = loaded f in
-      let k : length (rows_in f.fits) ≡ used = cc in
+      let z : rows_loaded (length (rows_in f.fits)) (length f.fits.tree.names) (count (shared_of f.fits.tree.objects)) (length file - length (short_file f.fits.tree)) ≡ rows_loaded used readers shared padding = cc in
+      let k : length (rows_in f.fits) ≡ used = ap (λ (x : load_code.Loaded). x.rows) z in
       rw k at (table-skips f columns l.1)
 
   rooted : Ends enums file words → (used readers shared padding : ℕ) → r ≡ Ok (rows_loaded used readers shared padding) → TableRoots (shape_of columns) (room_of words) left used (suc shared)
@@ -172,8 +174,9 @@ module _ (enums file : List ℕ) (words : ℕ) (columns : Bool) {left : List ℕ
       differ cc
   rooted (fits f) used readers shared padding e =
       let l = loaded f in
-      let k : length (rows_in f.fits) ≡ used = cc in
-      let m : count (shared_of f.fits.tree.objects) ≡ shared = cc in
+      let z : rows_loaded (length (rows_in f.fits)) (length f.fits.tree.names) (count (shared_of f.fits.tree.objects)) (length file - length (short_file f.fits.tree)) ≡ rows_loaded used readers shared padding = cc in
+      let k : length (rows_in f.fits) ≡ used = ap (λ (x : load_code.Loaded). x.rows) z in
+      let m : count (shared_of f.fits.tree.objects) ≡ shared = ap (λ (x : load_code.Loaded). x.shared) z in
       rw (k, m) at (table-roots f columns l.1)
 
   pub load_exact : Loads (shape_of columns) enums file words left r

@@ -72,7 +72,7 @@ unfolding output_of
 fit_written new out true e {n} q = let a : n ≡ length new = cc in rw a (at_start new out (leb-true (length new) (length out) e))
 fit_written new out false e q = differ cc
 
-was_written : (from to pack : List ℕ) (x : Answer (List Stored)) (out : List ℕ) → Ok (λ fs e. PackLays from fs pack × (length fs ≤ 4096)) x → {n : ℕ}
+was_written : (from to pack : List ℕ) (x : Answer (List Stored)) (out : List ℕ) → answer.Ok (λ fs e. PackLays from fs pack × (length fs ≤ 4096)) x → {n : ℕ}
     → answer_of (by_pack to x (length out)) ≡ Ok n
     → (fs : List Stored) × PackLays from fs pack × (n ≤ length (output_of (by_pack to x (length out)) out)) × PackLays to fs (take n (output_of (by_pack to x (length out)) out))
 unfolding by_pack fitted

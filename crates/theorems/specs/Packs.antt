@@ -8,7 +8,6 @@ use Rattle.pack_layout.specs.Table.{flat, wholes, entries, Fitting}
 use Rattle.pack_layout.specs.Parts.{Part, Names}
 use Rattle.pack_layout.specs.Lookup.{lowered, NoMatch, FirstMatch}
 use Rattle.theorems.specs.Loading.{Loads}
-use Rattle.load.specs.Loads.{loaded}
 use Rattle.answers.specs.Refusals.{refusal as refusal_at}
 use Rattle.answers.specs.declared.Refusal.{Refusal}
 use Rattle.pack_lookup.specs.declared.Part as code

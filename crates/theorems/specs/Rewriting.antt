@@ -1,5 +1,5 @@
 -- What is demanded of the code of `rewrite`, which is the contract of `rewrite_exact`. `short_file` goes from a file tree to its shortest bytes, with no file in it. Assumes nothing.
-use Rattle.std.specs.Prelude.{◌≡◌, List, ◌++◌, ◌⊎◌, ℕ, suc, ◌+◌, ◌<◌, ◌≤◌, length, take, drop, replicate, Err, Ok, Result}
+use Rattle.std.specs.Prelude.{◌≡◌, List, ◌++◌, ◌⊎◌, ℕ, suc, ◌<◌, ◌≤◌, length, take, drop, replicate, Err, Ok, Result}
 use Rattle.layout.specs.Tree.{count}
 use Rattle.layout.specs.File.{shared_of, FileLays}
 use Rattle.layout.specs.EnumList.{EnumEntry, write_enums, Enums, FirstBad, Unlawful}

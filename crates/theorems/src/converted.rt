@@ -15,7 +15,12 @@ pub fn convert_exact(pack: &[u8], out: &mut [u8], marked: bool) -> Result<usize,
 }
 
 // A pack that is converted to the form `marked` and then back, into a second output.
-fn there_and_back(pack: &[u8], out: &mut [u8], second: &mut [u8], marked: bool) -> Result<usize, Refusal>
+fn there_and_back(
+    pack: &[u8],
+    out: &mut [u8],
+    second: &mut [u8],
+    marked: bool,
+) -> Result<usize, Refusal>
     ensures { ConvertsBack marked pack.now (length out.old) second.old second.new result }
 {
     let n = convert_exact(pack, out, marked)?;

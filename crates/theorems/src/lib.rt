@@ -51,7 +51,12 @@ pub fn load_columns_exact(file: &[u8], enums: &[u8], words: &mut [u32]) -> Loadi
 }
 
 // A file that is rewritten, under a list of enum types.
-pub fn rewrite_exact(file: &[u8], enums: &[u8], words: &mut [u32], out: &mut [u8]) -> Result<usize, Refusal>
+pub fn rewrite_exact(
+    file: &[u8],
+    enums: &[u8],
+    words: &mut [u32],
+    out: &mut [u8],
+) -> Result<usize, Refusal>
     ensures rewrites { Rewrites enums.now file.now (length words.old) words.new
         out.old out.new result }
     ensures value { result ≡ rewriting.answer_of (rewritten enums.now file.now words.old out.old) }

@@ -13,7 +13,12 @@ pub fn salvage_exact(pack: &[u8], out: &mut [u8], list: &mut [u64]) -> Result<Sa
 }
 
 // A pack that is salvaged and then read.
-fn salvage_and_read(pack: &[u8], out: &mut [u8], list: &mut [u64], table: &mut [u64]) -> Result<usize, Refusal>
+fn salvage_and_read(
+    pack: &[u8],
+    out: &mut [u8],
+    list: &mut [u64],
+    table: &mut [u64],
+) -> Result<usize, Refusal>
     ensures { ReadsSalvaged pack.now out.old list.old (length table.old) table.new result }
 {
     let salvaged = salvage_exact(pack, out, list)?;
@@ -21,7 +26,12 @@ fn salvage_and_read(pack: &[u8], out: &mut [u8], list: &mut [u64], table: &mut [
 }
 
 // A pack that is salvaged and then salvaged again, into a second output.
-fn salvage_twice(pack: &[u8], out: &mut [u8], list: &mut [u64], second: &mut [u8]) -> Result<Salvaged, Refusal>
+fn salvage_twice(
+    pack: &[u8],
+    out: &mut [u8],
+    list: &mut [u64],
+    second: &mut [u8],
+) -> Result<Salvaged, Refusal>
     ensures { SalvagesTwice pack.now out.old list.old list.new
         second.old second.new result }
 {

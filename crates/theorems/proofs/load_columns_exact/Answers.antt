@@ -2,7 +2,6 @@ use mathlib.Core.Bool.{true}
 use lib.ListN.{length}
 use native.Mathlib.Omega.{arith}
 use Rattle.reading.specs.Reads.{small_by_index}
-use borrow.Author.Rules.{rules}
 use Rattle.theorems.specs.Laws.{load_exact}
 use Rattle.theorems.proofs.load_columns_exact.Goals as goal
 

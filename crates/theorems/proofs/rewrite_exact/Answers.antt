@@ -1,7 +1,6 @@
 use lib.ListN.{length}
 use native.Mathlib.Omega.{arith}
 use Rattle.reading.specs.Reads.{small_by_index}
-use borrow.Author.Rules.{rules}
 use Rattle.theorems.specs.Laws.{rewrite_exact}
 use Rattle.theorems.proofs.rewrite_exact.Goals as goal
 

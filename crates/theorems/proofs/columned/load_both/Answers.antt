@@ -5,7 +5,6 @@ use lib.ListN.{length}
 use Rattle.reading.specs.Reads.{small_by_index}
 use Rattle.load.specs.Loads.{answer_of}
 use Rattle.enums.specs.Lists.{Bytes}
-use borrow.Author.Rules.{rules}
 use Rattle.theorems.specs.Laws.{load_exact}
 use Rattle.theorems.proofs.Both.{same_load, same_rows}
 use Rattle.theorems.proofs.columned.load_both.Goals as goal
@@ -21,11 +20,11 @@ returns c =
     let small = small_by_index file (λ i h. omega (arith, c.type_inv.file i)) in
     record {
       loads_both = record {
-        by_rows_lem = load_exact enums file n false bytes small c.load-by_rows.ensures.value c.load-by_rows.ensures.words_after;
-        by_columns_lem = load_exact enums file m true bytes small c.load_columns-by_columns.ensures.value c.load_columns-by_columns.ensures.words_after;
+        by_rows_lem = load_exact enums file n false bytes small c.load.ensures.value c.load.ensures.words_after;
+        by_columns_lem = load_exact enums file m true bytes small c.load_columns.ensures.value c.load_columns.ensures.words_after;
         same = λ room.
-            (c.load-by_rows.ensures.value ∙ ap (answer_of file) (same_load enums file n m room) ∙ sym c.load_columns-by_columns.ensures.value, same_rows enums file n m bytes small room c.load-by_rows.ensures.words_after c.load_columns-by_columns.ensures.words_after);
+            (c.load.ensures.value ∙ ap (answer_of file) (same_load enums file n m room) ∙ sym c.load_columns.ensures.value, same_rows enums file n m bytes small room c.load.ensures.words_after c.load_columns.ensures.words_after);
       };
-      rows_value = c.load-by_rows.ensures.value;
-      columns_value = c.load_columns-by_columns.ensures.value;
+      rows_value = c.load.ensures.value;
+      columns_value = c.load_columns.ensures.value;
     }

@@ -1,7 +1,6 @@
 use native.Mathlib.Omega.{arith}
 use Rattle.reading.specs.Reads.{small_by_index}
 use Rattle.theorems.specs.MarkLaws.{convert-exact}
-use borrow.Author.Rules.{rules}
 use Rattle.theorems.proofs.converted.convert_exact.Goals as goal
 
 pub returns : goal.returns

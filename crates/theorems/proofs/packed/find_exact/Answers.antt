@@ -1,5 +1,4 @@
 use Rattle.theorems.specs.PackLaws.{find_exact}
-use borrow.Author.Rules.{rules}
 use Rattle.theorems.proofs.packed.find_exact.Goals as goal
 
 pub returns : goal.returns

@@ -3,7 +3,6 @@ use Rattle.reading.specs.Reads.{small_by_index}
 use lib.ListN.{length}
 use Rattle.enums.specs.Lists.{Bytes}
 use Rattle.theorems.proofs.Files.{open_exact}
-use borrow.Author.Rules.{rules}
 use Rattle.theorems.proofs.packed.open_exact.Goals as goal
 
 pub returns : goal.returns

@@ -1,6 +1,5 @@
 use lib.ListN.{length}
 use Rattle.theorems.proofs.Files.{gives}
-use borrow.Author.Rules.{rules}
 use Rattle.theorems.proofs.packed.read_and_find.Goals as goal
 
 pub returns : goal.returns

@@ -2,7 +2,6 @@ use native.Mathlib.Omega.{arith}
 use Rattle.reading.specs.Reads.{small_by_index}
 use lib.ListN.{length}
 use Rattle.theorems.specs.PackLaws.{read-exact}
-use borrow.Author.Rules.{rules}
 use Rattle.theorems.proofs.packed.read_exact.Goals as goal
 
 pub returns : goal.returns

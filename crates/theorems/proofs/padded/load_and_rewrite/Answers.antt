@@ -4,7 +4,6 @@ use Rattle.theorems.specs.Fitted.{padding_is}
 use Rattle.theorems.specs.Laws.{load_exact, rewrite_exact}
 use Rattle.theorems.proofs.Padding.{total, needed, none, refused}
 use Rattle.enums.specs.Lists.{Bytes}
-use borrow.Author.Rules.{rules}
 use Rattle.theorems.proofs.padded.load_and_rewrite.Goals as goal
 
 pub returns : goal.returns

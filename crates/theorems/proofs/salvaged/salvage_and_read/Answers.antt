@@ -1,18 +1,20 @@
 use mathlib.Core.Path.{sym}
 use lib.Seq.{length-take-le}
 use native.Mathlib.Omega.{arith}
+use Rattle.std.proofs.lemmas.Result.{err_from_is_err_and}
 use Rattle.theorems.proofs.Salvage.{not_read, reread}
-use borrow.Author.Rules.{rules}
 use Rattle.theorems.proofs.salvaged.salvage_and_read.Goals as goal
 
 pub slice_bounds-read-end : goal.slice_bounds-read-end
-slice_bounds-read-end c = omega (arith, (c.salvage_exact.ensures.written _ _ c.in-Salvaged.is).3)
+slice_bounds-read-end c = omega (arith, (c.salvage_exact.ensures.written _ _ c.in_ok-salvaged.was).3)
 
-pub slice_bounds-read-end-in-Salvaged : goal.slice_bounds-read-end-in-Salvaged
-slice_bounds-read-end-in-Salvaged c = sym (length-take-le _ _ (c.salvage_exact.ensures.written _ _ c.in-Salvaged.is).3)
+pub slice_bounds-read-end-2 : goal.slice_bounds-read-end-2
+slice_bounds-read-end-2 c = sym (length-take-le _ _ (c.salvage_exact.ensures.written _ _ c.in_ok-salvaged.was).3)
 
-pub returns-in-Refused : goal.returns-in-Refused
-returns-in-Refused c = not_read c.salvage_exact.ensures c.in-Refused.is
+pub returns-in_err-salvaged : goal.returns-in_err-salvaged
+returns-in_err-salvaged c =
+    let p = err_from_is_err_and c.from_residual.result c.from_residual.ensures.1 in
+    rw (p.1, p.2) (not_read c.salvage_exact.ensures c.in_err-salvaged.was)
 
-pub returns-in-Salvaged : goal.returns-in-Salvaged
-returns-in-Salvaged c = reread c.salvage_exact.ensures c.in-Salvaged.is c.read.ensures.value c.read.ensures.table_after
+pub returns : goal.returns
+returns c = reread c.salvage_exact.ensures c.in_ok-salvaged.was c.read.ensures.value c.read.ensures.table_after

@@ -1,7 +1,6 @@
 use native.Mathlib.Omega.{arith}
 use Rattle.reading.specs.Reads.{small_by_index}
 use Rattle.theorems.specs.SalvageLaws.{salvage_exact}
-use borrow.Author.Rules.{rules}
 use Rattle.theorems.proofs.salvaged.salvage_exact.Goals as goal
 
 pub returns : goal.returns

@@ -1,18 +1,20 @@
 use mathlib.Core.Path.{sym}
 use lib.Seq.{length-take-le}
 use native.Mathlib.Omega.{arith}
+use Rattle.std.proofs.lemmas.Result.{err_from_is_err_and}
 use Rattle.theorems.proofs.Salvage.{not_twice, twice}
-use borrow.Author.Rules.{rules}
 use Rattle.theorems.proofs.salvaged.salvage_twice.Goals as goal
 
 pub slice_bounds-salvage_exact-end : goal.slice_bounds-salvage_exact-end
-slice_bounds-salvage_exact-end c = omega (arith, (c.salvage_exact.ensures.written _ _ c.in-Salvaged.is).3)
+slice_bounds-salvage_exact-end c = omega (arith, (c.salvage_exact.ensures.written _ _ c.in_ok-salvaged.was).3)
 
-pub slice_bounds-salvage_exact-end-in-Salvaged : goal.slice_bounds-salvage_exact-end-in-Salvaged
-slice_bounds-salvage_exact-end-in-Salvaged c = sym (length-take-le _ _ (c.salvage_exact.ensures.written _ _ c.in-Salvaged.is).3)
+pub slice_bounds-salvage_exact-end-2 : goal.slice_bounds-salvage_exact-end-2
+slice_bounds-salvage_exact-end-2 c = sym (length-take-le _ _ (c.salvage_exact.ensures.written _ _ c.in_ok-salvaged.was).3)
 
-pub returns-in-Refused : goal.returns-in-Refused
-returns-in-Refused c = not_twice c.salvage_exact.ensures c.in-Refused.is
+pub returns-in_err-salvaged : goal.returns-in_err-salvaged
+returns-in_err-salvaged c =
+    let p = err_from_is_err_and c.from_residual.result c.from_residual.ensures.1 in
+    rw (p.1, p.2) (not_twice c.salvage_exact.ensures c.in_err-salvaged.was)
 
-pub returns-in-Salvaged : goal.returns-in-Salvaged
-returns-in-Salvaged c = twice c.salvage_exact.ensures c.in-Salvaged.is c.salvage_exact-in-Salvaged.ensures
+pub returns : goal.returns
+returns c = twice c.salvage_exact.ensures c.in_ok-salvaged.was c.salvage_exact-2.ensures

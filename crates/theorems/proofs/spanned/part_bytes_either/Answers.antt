@@ -1,15 +1,20 @@
-use mathlib.Core.Path.{sym, ap, ◌∙◌}
-use Rattle.table.specs.declared.Grid.{Grid}
-use Rattle.lookups.specs.Parts.{spanned, part_of}
+use Rattle.std.specs.Prelude.{◌≡◌, Bool, true, false, cond, List, ℕ, length}
+use Rattle.std.proofs.Common.{refl, sym, ap, ◌∙◌}
+use Rattle.table.specs.Grids.{rows_grid, columns_grid}
+use Rattle.lookups.specs.Parts.{spanned}
+use Rattle.lookups.specs.Parts.{part_of}
 use Rattle.lookups.specs.Same.{same_part}
-use borrow.Author.Rules.{rules}
+use Rattle.table.specs.Same.{SameRows}
 use Rattle.theorems.proofs.spanned.part_bytes_either.Goals as goal
 
-pub returns-then-in_columns : goal.returns-then-in_columns
-returns-then-in_columns c =
+-- whichever of two tables with the same rows is asked
+asked : (b : Bool) (file words columns : List ℕ) (row : ℕ) → SameRows (rows_grid (length words)) (columns_grid (length columns)) words columns
+    → part_of (cond b (columns_grid (length columns)) (rows_grid (length words))) file (cond b columns words) row ≡ part_of (rows_grid (length words)) file words row
+asked true file words columns row s = sym (same_part s file row)
+asked false file words columns row s = refl
+
+pub returns : goal.returns
+returns c =
     λ s.
     let a = c.args in
-    let file = a.file.now in
-    let w = a.columns.now in
-    let row = a.row.0 in
-    c.part_bytes_of.ensures ∙ ap (spanned file) (ap (λ (g : Grid). part_of g file w row) c.columns_grid-grid.ensures ∙ sym (same_part s file row))
+    rw (c.either.ensures.grid, c.either.ensures.words) at c.part_bytes.ensures ∙ ap (spanned a.file.now) (asked a.in_columns a.file.now a.words.now a.columns.now a.row.0 s)
