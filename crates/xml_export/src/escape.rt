@@ -112,7 +112,8 @@ fn block_size(text: &[u8], i: usize) -> Option<usize>
     Some(32 + more as usize)
 }
 
-// How many bytes a text has in the XML, where every character of it is written: a run of quiet bytes, then blocks, and 32 bytes one by one where a block is not seen at once.
+// How many bytes a text has in the XML, where every character of it is written:
+// a run of quiet bytes, then blocks, and 32 bytes one by one where a block is not seen at once.
 fn filled_size(text: &[u8]) -> Option<usize>
     requires { length text.now ≤ 16777216 }
     ensures { result ≡ size_of text.now }
