@@ -1,5 +1,4 @@
 use Rattle.pack_entry_theorems.proofs.Laws.{finds_told}
-use borrow.Author.Rules.{rules}
 use Rattle.pack_entry_theorems.proofs.find.Goals as goal
 
 pub returns : goal.returns

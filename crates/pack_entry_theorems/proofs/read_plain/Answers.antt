@@ -3,7 +3,6 @@ use native.Mathlib.Omega.{arith}
 use lib.ListN.{length}
 use Rattle.reading.specs.Reads.{small_by_index}
 use Rattle.pack_entry_theorems.proofs.Laws.{reads_told}
-use borrow.Author.Rules.{rules}
 use Rattle.pack_entry_theorems.proofs.read_plain.Goals as goal
 
 pub returns : goal.returns

@@ -1,7 +1,6 @@
 use native.Mathlib.Omega.{arith}
 use Rattle.reading.specs.Reads.{small_by_index}
 use Rattle.pack_entry_theorems.proofs.Laws.{salvages_told}
-use borrow.Author.Rules.{rules}
 use Rattle.pack_entry_theorems.proofs.salvage.Goals as goal
 
 pub returns : goal.returns

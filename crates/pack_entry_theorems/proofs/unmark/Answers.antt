@@ -2,7 +2,6 @@ use mathlib.Core.Bool.{false}
 use native.Mathlib.Omega.{arith}
 use Rattle.reading.specs.Reads.{small_by_index}
 use Rattle.pack_entry_theorems.proofs.Laws.{converts-told}
-use borrow.Author.Rules.{rules}
 use Rattle.pack_entry_theorems.proofs.unmark.Goals as goal
 
 pub returns : goal.returns

@@ -1,4 +1,3 @@
-use borrow.Author.Rules.{rules}
 use lib.ListN.{length}
 use Rattle.pack_report_theorems.proofs.Laws.{carry}
 use Rattle.pack_report_theorems.proofs.add_exact.Goals as goal

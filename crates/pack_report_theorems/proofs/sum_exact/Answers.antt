@@ -1,4 +1,3 @@
-use borrow.Author.Rules.{rules}
 use Rattle.pack_report_theorems.proofs.Laws.{join}
 use Rattle.pack_report_theorems.proofs.sum_exact.Goals as goal
 
