@@ -40,6 +40,9 @@ use Rattle.retyped.proofs.Strings.{every_string}
 use Rattle.two_runs.specs.Texts.{Read, SameButTexts, plain}
 use Rattle.answers.specs.declared.Refusal.{Refusal}
 use Rattle.std.specs.Prelude.{Result}
+use Rattle.load.specs.declared.Loaded.{Loaded}
+use Rattle.load.specs.Loads.{Loading, loaded}
+use Rattle.std.specs.Prelude.{Ok}
 
 -- ---- Under the lent list of enum types
 
@@ -56,6 +59,9 @@ same_load enums f g n m bytes small r room = go (enums_at enums) refl where
   go (lawful es) e =
       load_lawful enums f n es e ∙ never_steers (judged_name es) f g n m small room (texts enums bytes (room_of n) f g r es e) ∙ sym (load_lawful enums g m es e)
 
+abbrev answer : Loaded → Loading
+answer r = Ok r
+
 -- the answer with its padding
 pub same_answer : (enums f g : List ℕ) (n m : ℕ) → Bytes enums → Small f → Small g → SameButTexts enums (room_of n) f g → room_of n ≡ room_of m
     → answer_of f (load_under enums f n) ≡ answer_of g (load_under enums g m)
@@ -67,7 +73,7 @@ same_answer enums f g n m bytes small small' r room =
           let d = accepted-list enums f n rows readers shared e in
           let es = d.0 in
           let q : load_of (judged_name es) f n ≡ accepted rows readers shared = sym (load_lawful enums f n es d.1) ∙ e in
-          ap (λ (p : ℕ). Ok {T = Loaded} {E = Refusal} (loaded (length rows) readers shared p)) (padding_same es (judged_name es) (judges es) f g n small small' (texts enums bytes (room_of n) f g r es d.1) rows readers shared q)
+          ap (λ (p : ℕ). answer (loaded (length rows) readers shared p)) (padding_same es (judged_name es) (judges es) f g n small small' (texts enums bytes (room_of n) f g r es d.1) rows readers shared q)
 
 -- "the rewritten length"
 same_rewrite : (enums f g : List ℕ) (n m out : ℕ) → Bytes enums → Small f → SameButTexts enums (room_of n) f g → room_of n ≡ room_of m

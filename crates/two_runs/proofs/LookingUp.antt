@@ -40,7 +40,10 @@ use Rattle.two_runs.proofs.Counting.{same_count, text_by}
 use Rattle.two_runs.proofs.Laws.{texts, same_rows, row_there, read-text, table-length}
 use Rattle.answers.specs.Refusals.{refusal as refusal_at}
 use Rattle.answers.specs.declared.Refusal.{Refusal}
-use Rattle.lookups.specs.Parts.{span}
+use Rattle.lookups.specs.Parts.{span, refuses}
+
+abbrev no_span : (row : ℕ) → Result lookups.Span Refusal
+no_span row = Err (refusal_at 23 row)
 
 no_part : (grid : Grid) (file v : List ℕ) (row : ℕ) → ltb row grid.room ≡ false → part_of grid file v row ≡ Err (refusal_at 23 row)
 unfolding part_of or_refused
@@ -49,14 +52,16 @@ no_part grid file v row e = rw e
 no_bytes : (grid : Grid) (file v : List ℕ) (row : ℕ) → ltb 0 (length_of grid v row) ≡ false → part_of grid file v row ≡ Err (refusal_at 23 row)
 unfolding part_of or_refused
 no_bytes grid file v row e = rw e (go (ltb row grid.room)) where
-  go : (b : Bool) → cond b (Err (refusal_at 23 row)) (Err (refusal_at 23 row)) ≡ Err (refusal_at 23 row)
+  go : (b : Bool) → cond b (no_span row) (no_span row) ≡ no_span row
   go true = refl
   go false = refl
 
 -- a part that was found has its row's two words
 found_words : (b c d : Bool) (row a k first size : ℕ) → or_refused b 23 row (or_refused c 23 row (or_refused d 23 row (Ok (span a k)))) ≡ Ok (span first size) → (a ≡ first) × (k ≡ size)
 unfolding or_refused
-found_words true true true row a k first size e = (cc, cc)
+found_words true true true row a k first size e =
+    let h : span a k ≡ span first size = cc in
+    (ap (λ (s : lookups.Span). s.first) h, ap (λ (s : lookups.Span). s.length) h)
 found_words true true false row a k first size e = differ cc
 found_words true false d row a k first size e = differ cc
 found_words false c d row a k first size e = differ cc
@@ -71,11 +76,11 @@ lookup_file : {A : Type 0} (refuse : ℕ → ℕ → A) (found : List ℕ → �
     → ((first size : ℕ) → part_of grid f v row ≡ Ok (span first size) → found (take size (drop first f)) first (kind_of grid v row) ≡ found (take size (drop first g)) first (kind_of grid v row))
     → lookup refuse found grid f v row ≡ lookup refuse found grid g v row
 unfolding lookup in_part
-lookup_file {A} refuse found grid f g v row e h = go (part_of grid f v row) refl ∙ ap (λ (s : lookups.Span). by g s) e where
-  by : List ℕ → lookups.Span → A
+lookup_file {A} refuse found grid f g v row e h = go (part_of grid f v row) refl ∙ ap (λ (s : Result lookups.Span Refusal). by g s) e where
+  by : List ℕ → Result lookups.Span Refusal → A
   by file s = in_part refuse s (λ first size. found (take size (drop first file)) first (kind_of grid v row))
 
-  go : (s : lookups.Span) → part_of grid f v row ≡ s → by f s ≡ by g s
+  go : (s : Result lookups.Span Refusal) → part_of grid f v row ≡ s → by f s ≡ by g s
   go (Err e) q = refl
   go (Ok r) q = h r.first r.length q
 
@@ -143,7 +148,7 @@ module _ (columns : Bool) (enums f g : List ℕ) (n m : ℕ) (bytes : Bytes enum
   signed_file : (row : ℕ) → signed_of grid f v row ≡ signed_of grid g v row
   unfolding signed_of
   signed_file row =
-      lookup_file Err (refusal_at (λ bs first kind. signed_in bs kind row) grid) f g v row (part_file row) (λ first size h. signed_by (take size (drop first f)) (take size (drop first g)) (kind_of grid v row) row (same first size h (at_row row))) where
+      lookup_file refuses (λ bs first kind. signed_in bs kind row) grid f g v row (part_file row) (λ first size h. signed_by (take size (drop first f)) (take size (drop first g)) (kind_of grid v row) row (same first size h (at_row row))) where
         same : (first size : ℕ) → part_of grid f v row ≡ Ok (span first size) → At row → is_signed (kind_of grid v row) ≡ true → take size (drop first f) ≡ take size (drop first g)
         same first size h (none a b) k = differ (cc (sym a ∙ h))
         same first size h (there es l x a o e kind i j) k =
@@ -155,7 +160,7 @@ module _ (columns : Bool) (enums f g : List ℕ) (n m : ℕ) (bytes : Bytes enum
   text_file : (row : ℕ) → text_of grid f v row ≡ text_of grid g v row
   unfolding text_of
   text_file row =
-      lookup_file Err (refusal_at (λ bs first kind. text_in bs first kind row) grid) f g v row (part_file row) (λ first size h. same first size h (at_row row)) where
+      lookup_file refuses (λ bs first kind. text_in bs first kind row) grid f g v row (part_file row) (λ first size h. same first size h (at_row row)) where
         same : (first size : ℕ) → part_of grid f v row ≡ Ok (span first size) → At row
             → text_in (take size (drop first f)) first (kind_of grid v row) row ≡ text_in (take size (drop first g)) first (kind_of grid v row) row
         same first size h (none a b) = differ (cc (sym a ∙ h))

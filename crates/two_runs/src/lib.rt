@@ -79,8 +79,8 @@ fn look_up_two(
     ensures lookups_are { LookupsAre columns enums.now file.now (length words.old) row.0 result.first }
     ensures lookups_are_2 { LookupsAre columns enums.now other.now (length others.old) row.0 result.second }
 {
-    load::load_in(file, enums, words, columns);
-    load::load_in(other, enums, others, columns);
+    let _ = load::load_in(file, enums, words, columns);
+    let _ = load::load_in(other, enums, others, columns);
     let first = look_up(file, Table::shaped(words, columns), row);
     let second = look_up(other, Table::shaped(others, columns), row);
     Two { first, second }

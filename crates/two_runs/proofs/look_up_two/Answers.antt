@@ -25,9 +25,12 @@ returns c =
       c.type_inv.enums i,
     ) in
     let n = length a.words.now in
-    let m = length a.others.now in record {
+    let m = length a.others.now in
+    let first = rw (c.shaped.ensures.0, c.shaped.ensures.1) at c.look_up-first.ensures in
+    let second = rw (c.shaped-2.ensures.0, c.shaped-2.ensures.1) at c.look_up-second.ensures in
+    record {
       lookups_alike = λ room r.
-          lookups_alike a.columns enums file other n m bytes small small' r room c.load_in.ensures.words_after c.load_in-2.ensures.words_after a.row.0 c.look_up-first.ensures c.look_up-second.ensures;
-      lookups_are = looked_up a.columns enums file n small c.load_in.ensures.words_after a.row.0 c.look_up-first.ensures;
-      lookups_are_2 = looked_up a.columns enums other m small' c.load_in-2.ensures.words_after a.row.0 c.look_up-second.ensures;
+          lookups_alike a.columns enums file other n m bytes small small' r room c.load_in.ensures.words_after c.load_in-2.ensures.words_after a.row.0 first second;
+      lookups_are = looked_up a.columns enums file n small c.load_in.ensures.words_after a.row.0 first;
+      lookups_are_2 = looked_up a.columns enums other m small' c.load_in-2.ensures.words_after a.row.0 second;
     }
