@@ -137,9 +137,9 @@ fn value(
         count target shared slot spot.at spot.used spot.depth spot.parent }
 {
     let named = target as usize;
-    let started = objects::start::start(file, codes, count, named, grid.room, slot, spot)?;
-    match started {
-        Started::Plain(plain) => match plain {
+    match objects::start::start(file, codes, count, named, grid.room, slot, spot) {
+        Err(refusal) => Err(refusal),
+        Ok(Started::Plain(plain)) => match plain {
             Plain::Fixed(kind, size) => {
                 leaves::plain::read_fixed(file, words, grid, kind, size, spot).map(Stepped::Done)
             }
@@ -147,7 +147,7 @@ fn value(
                 leaves::plain::read_plain(file, words, grid, shared, plain, spot).map(Stepped::Done)
             }
         },
-        Started::Null { next, padding } => {
+        Ok(Started::Null { next, padding }) => {
             let h = Head {
                 row: RowNumber(spot.used),
                 first: spot.at,
@@ -157,12 +157,14 @@ fn value(
             };
             walked::leaf(words, grid, h, 0, 0, Ok(Read { value: 0, next })).map(Stepped::Done)
         }
-        Started::Raw {
-            place,
-            from,
-            id,
-            padding,
-        } => {
+        Ok(
+            Started::Raw {
+                place,
+                from,
+                id,
+                padding,
+            },
+        ) => {
             let h = Head {
                 row: RowNumber(spot.used),
                 first: spot.at,
