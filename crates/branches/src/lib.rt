@@ -8,6 +8,7 @@ use ids::RowNumber;
 use table::Table;
 
 // The number of the row behind a row and all below it, 0 where there is none in the room.
+// Kept: 0 and no None, as the C functions xnb_next and xnb_columns_next answer it as it is, and `next_of` of the theorems.
 pub fn next(table: Table, row: RowNumber) -> u32
     ensures { result ≡ next_of table.entry.grid table.entry.words.now row.0 }
 {

@@ -1,4 +1,5 @@
 // The types that fonts, pages and meshes declare, by their places at the start of the codes; an argument is behind its type.
+// Kept: a type is a place in an array of codes and no tree of boxes, as there is no heap (a rule of the project).
 pub const TEXTURE_2D: usize = 0;
 
 // A list of Rectangle.

@@ -14,6 +14,7 @@ pub enum Slot {
 }
 
 // How many bytes a value of a kind has, as a type's code has the kind: the last four are enums by their sizes. 0 where none is fixed.
+// Kept: 0 and no option, as the table of sizes has 0 there too (definition `sizes` of layout, and `bytes_of`).
 #[tactic(auto, unfolding(crate::specs::Placed::bytes_of))]
 pub fn bytes_of(kind: u32) -> usize
     ensures { result ≡ bytes_of kind }

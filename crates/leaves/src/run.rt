@@ -47,7 +47,9 @@ fn turn(run: Run, i: usize) -> Plain
     }
 }
 
-// The values from `at` on, with their rows from `used` on, one after the other.
+// The values from a spot on, with their rows, one after the other.
+// Kept: the file, the words, the grid and the shared count are no struct, as the words are lent anew at each call,
+// and a struct that holds a `&mut` has to say in each contract that it keeps the reference.
 fn read_each(file: &[u8], words: &mut [u32], grid: Grid, shared: u32, run: Run, spot: Spot) -> Walk
     ensures value { result ≡ (run_of grid file.now shared run spot.depth spot.parent spot.at spot.used words.old).0 }
     ensures words_after { words.new ≡ (run_of grid file.now shared run spot.depth spot.parent spot.at spot.used words.old).1 }
@@ -183,7 +185,7 @@ fn read_one(
     })
 }
 
-// The values from `at` on, with their rows from `used` on. The shape of the table is told apart here so that many values are read out of the walk's way.
+// The values from a spot on, with their rows. The shape of the table is told apart here so that many values are read out of the walk's way.
 pub fn read_run(
     file: &[u8],
     words: &mut [u32],

@@ -457,6 +457,7 @@ fn nested(
     let mut next = spot.at;
     let mut row = spot.used;
     let mut sum = 0;
+    // Kept: a turn goes on by what the nest says stands next, so no range fits.
     while (stage.next as u64) < stage.count {
         let slot = heads::nest::slot_at(nest, stage);
         let first = next;

@@ -1,4 +1,5 @@
 // Kinds that code names, as 01, "Values and kinds", numbers them, and the first bytes of the codes of heads with arguments.
+// Kept: kinds are numbers and no enum, as a row's word holds one for C (C interface), and a code one with 64 for each argument.
 pub const NULL: u32 = 0;
 
 pub const BYTE: u32 = 1;

@@ -14,6 +14,7 @@ use answers::{Number, Refusal, Rule};
 use targets::Unresolved;
 
 // The types and names of the first `count` readers.
+// Kept: two arrays and not one of pairs, since what may not change, `Listed` and `lists_left` in specs/, has each list by itself.
 #[derive(Clone, Copy)]
 pub struct Readers {
     pub count: u32,
