@@ -75,7 +75,10 @@ pub fn xnb_columns_text(
 pub fn xnb_columns_signed(file: &[u8], words: &[u32], row: u32, value: &mut i64) -> u32
     ensures { (result, value.new) ≡ signed_told (columns_signed file.now words.now row) }
 {
-    crate::tell_signed(lookups::signed(file, Table::in_columns(words), RowNumber(row)), value)
+    crate::tell_signed(
+        lookups::signed(file, Table::in_columns(words), RowNumber(row)),
+        value,
+    )
 }
 
 // The time of a row in seconds and ticks.

@@ -24,8 +24,8 @@ ghost use Rattle.rewrite.specs.Whole.{rewritten, output_left, words_left};
 ghost use Rattle.builder.specs.Packed.{code, packed, rewrite_packed};
 ghost use Rattle.builder.specs.Told.{load_told, span_told, signed_told, time_told};
 
-use ids::RowNumber;
 use answers::Refusal;
+use ids::RowNumber;
 use load::Loading;
 use lookups::Span;
 use table::Table;
@@ -145,7 +145,11 @@ pub(crate) fn tell_span(looked: Result<Span, Refusal>, first: &mut usize, len: &
 pub fn xnb_part(file: &[u8], words: &[u32], row: u32, first: &mut usize, len: &mut usize) -> u32
     ensures { (result, first.new, len.new) ≡ span_told (rows_part file.now words.now row) }
 {
-    tell_span(lookups::part(file, Table::by_rows(words), RowNumber(row)), first, len)
+    tell_span(
+        lookups::part(file, Table::by_rows(words), RowNumber(row)),
+        first,
+        len,
+    )
 }
 
 // The number of the row behind a row and all below it, 0 where there is none in the room.
@@ -159,7 +163,11 @@ pub fn xnb_next(words: &[u32], row: u32) -> u32
 pub fn xnb_text(file: &[u8], words: &[u32], row: u32, first: &mut usize, len: &mut usize) -> u32
     ensures { (result, first.new, len.new) ≡ span_told (rows_text file.now words.now row) }
 {
-    tell_span(lookups::text(file, Table::by_rows(words), RowNumber(row)), first, len)
+    tell_span(
+        lookups::text(file, Table::by_rows(words), RowNumber(row)),
+        first,
+        len,
+    )
 }
 
 // A signed number, 0 on a refusal: the answer is the refusal's number, or 0.
@@ -200,12 +208,19 @@ pub(crate) fn tell_time(looked: Result<Time, Refusal>, seconds: &mut i64, ticks:
 pub fn xnb_signed(file: &[u8], words: &[u32], row: u32, value: &mut i64) -> u32
     ensures { (result, value.new) ≡ signed_told (rows_signed file.now words.now row) }
 {
-    tell_signed(lookups::signed(file, Table::by_rows(words), RowNumber(row)), value)
+    tell_signed(
+        lookups::signed(file, Table::by_rows(words), RowNumber(row)),
+        value,
+    )
 }
 
 // The time of a row in seconds and ticks.
 pub fn xnb_time(file: &[u8], words: &[u32], row: u32, seconds: &mut i64, ticks: &mut u32) -> u32
     ensures { (result, seconds.new, ticks.new) ≡ time_told (rows_time file.now words.now row) }
 {
-    tell_time(lookups::time(file, Table::by_rows(words), RowNumber(row)), seconds, ticks)
+    tell_time(
+        lookups::time(file, Table::by_rows(words), RowNumber(row)),
+        seconds,
+        ticks,
+    )
 }

@@ -41,7 +41,12 @@ pub fn bone_at(file: &[u8], bones: u32, at: usize) -> Number
     if bones < 255 {
         return at_most(numbers::little::little::<u8>(file, at), bones as u64, 1, at);
     }
-    at_most(numbers::little::little::<u32>(file, at), bones as u64, 4, at)
+    at_most(
+        numbers::little::little::<u32>(file, at),
+        bones as u64,
+        4,
+        at,
+    )
 }
 
 // One of the codes 0 to `last`.
