@@ -8,7 +8,8 @@ ghost use Rattle.names.specs.Entries.{entries_of, enums_of};
 use crate::kinds::{ENUM_OF_1, ENUM_OF_2, ENUM_OF_4, ENUM_OF_8};
 
 // What a list of entries has for a head: a name length byte, a name and a byte for each; 0 if no whole entry has this name.
-// Kept: 0 and not an option, here and for kinds below, since what may not change, `size_in` and `lookup` of layout/ and `kind_in` of specs/Kind.antt, has 0 there.
+// Kept: 0 and not an option, here and for kinds below, since what may not change, `size_in` and `lookup` of
+// layout/ and `kind_in` of specs/Kind.antt, has 0 there.
 pub fn find(entries: &[u8], head: &[u8]) -> u8
     ensures { result ≡ size_in (entries_of entries.now) head.now }
 {

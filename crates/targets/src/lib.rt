@@ -214,7 +214,8 @@ impl From<Unnamed> for Unresolved {
     }
 }
 
-// Reads a whole reader name, whose first byte is at `at` in the file, and leaves the codes of its target in `codes` from `used` on: how many codes are used then.
+// Reads a whole reader name, whose first byte is at `at` in the file, and leaves the codes of its target in
+// `codes` from `used` on: how many codes are used then.
 pub fn resolve(
     name: &[u8],
     at: usize,
