@@ -10,7 +10,8 @@ use Rattle.layout.specs.Slot.{Rule, uint_field, numeric, raw, object, leaf, Plan
 use Rattle.layout.specs.Mesh.{times, then, uint, code, data_size, bone, element_plan, bone_plan, kin_plan, part_plan, mesh_plan, index_plan, declaration_plan, buffer_plan, model_plan, plan_of}
 use Rattle.leaves.specs.Plain.{plain_slot, Lawful}
 use Rattle.meshes.specs.declared.Step.{Step}
-use Rattle.meshes.specs.declared.Step.TheVariants.{Flag, IndexData, Stride, ElementCount, Offset, Format, Usage, UsageIndex, VertexCount, VertexData, BoneCount, BoneName, BoneTransform, BoneParent, ChildCount, Child, MeshCount, MeshName, MeshParent, Center, Radius, MeshTag, PartCount, VertexOffset, Vertices, StartIndex, Primitives, PartTag, VertexBuffer, IndexBuffer, Effect, Root, ModelTag, End}
+use Rattle.meshes.specs.declared.Step.TheVariants.{Flag, IndexData, Stride, ElementCount, Offset, Format, Usage, UsageIndex, VertexCount, VertexData, BoneCount, BoneName, BoneTransform, BoneParent, ChildCount, Child, MeshCount}
+use Rattle.meshes.specs.declared.Step.TheVariants.{MeshName, MeshParent, Center, Radius, MeshTag, PartCount, VertexOffset, Vertices, StartIndex, Primitives, PartTag, VertexBuffer, IndexBuffer, Effect, Root, ModelTag, End}
 use Rattle.meshes.specs.declared.Step.TheVariants.{DataSize as SizeField, Declaration as DeclarationField}
 use Rattle.meshes.specs.declared.Stage.{Stage}
 use Rattle.meshes.specs.declared.Field.{Field}

@@ -5,7 +5,8 @@ use Rattle.reading.specs.Answer.{Answer, refused, read}
 use Rattle.reading.specs.Little.{little_at}
 use Rattle.leaves.specs.declared.plain.Plain.TheVariants.{Fixed, Reference, Blob, Bone, Code, DataSize}
 use Rattle.meshes.specs.declared.Step.{Step}
-use Rattle.meshes.specs.declared.Step.TheVariants.{Flag, IndexData, Stride, ElementCount, Offset, Format, Usage, UsageIndex, VertexCount, VertexData, BoneCount, BoneName, BoneTransform, BoneParent, ChildCount, Child, MeshCount, MeshName, MeshParent, Center, Radius, MeshTag, PartCount, VertexOffset, Vertices, StartIndex, Primitives, PartTag, VertexBuffer, IndexBuffer, Effect, Root, ModelTag, End}
+use Rattle.meshes.specs.declared.Step.TheVariants.{Flag, IndexData, Stride, ElementCount, Offset, Format, Usage, UsageIndex, VertexCount, VertexData, BoneCount, BoneName, BoneTransform, BoneParent, ChildCount, Child, MeshCount}
+use Rattle.meshes.specs.declared.Step.TheVariants.{MeshName, MeshParent, Center, Radius, MeshTag, PartCount, VertexOffset, Vertices, StartIndex, Primitives, PartTag, VertexBuffer, IndexBuffer, Effect, Root, ModelTag, End}
 use Rattle.meshes.specs.declared.Step.TheVariants.{DataSize as SizeField, Declaration as DeclarationField}
 use Rattle.meshes.specs.declared.Stage.{Stage}
 use Rattle.meshes.specs.declared.Field.{Field}
