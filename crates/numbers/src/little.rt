@@ -16,15 +16,15 @@ pub fn has_bytes(s: &[u8], at: usize, n: usize) -> bool
     n <= s.len().saturating_sub(at)
 }
 
-// A width of little-endian numbers: how many bytes they have, and the value of those bytes from a place on.
+// A width of little-endian numbers: how many bytes they have, and the value of those bytes from a place on; 0 where fewer are left.
 pub trait Width {
     ghost BYTES: { ℕ };
 
     const BYTES: usize;
 
     fn value(s: &[u8], i: usize) -> u64
-        requires { i + BYTES ≤ length s.now }
-        ensures { Little s.now i BYTES result };
+        ensures there { i + BYTES ≤ length s.now → Little s.now i BYTES result }
+        ensures missing { length s.now < i + BYTES → result ≡ 0 };
 
     ghost some: { 1 ≤ BYTES };
 }
@@ -35,6 +35,9 @@ impl Width for u8 {
     const BYTES: usize = 1;
 
     fn value(s: &[u8], i: usize) -> u64 {
+        if !has_bytes(s, i, 1) {
+            return 0;
+        }
         u64::from(s[i])
     }
 
@@ -47,6 +50,9 @@ impl Width for u16 {
     const BYTES: usize = 2;
 
     fn value(s: &[u8], i: usize) -> u64 {
+        if !has_bytes(s, i, 2) {
+            return 0;
+        }
         u64::from(u16::from_le_bytes([s[i], s[i + 1]]))
     }
 
@@ -59,6 +65,9 @@ impl Width for u32 {
     const BYTES: usize = 4;
 
     fn value(s: &[u8], i: usize) -> u64 {
+        if !has_bytes(s, i, 4) {
+            return 0;
+        }
         u64::from(u32::from_le_bytes([s[i], s[i + 1], s[i + 2], s[i + 3]]))
     }
 
@@ -71,6 +80,9 @@ impl Width for u64 {
     const BYTES: usize = 8;
 
     fn value(s: &[u8], i: usize) -> u64 {
+        if !has_bytes(s, i, 8) {
+            return 0;
+        }
         u64::from_le_bytes([
             s[i],
             s[i + 1],

@@ -6,13 +6,27 @@ mod runs;
 ghost use Rattle.std.specs.Prelude.{◌≡◌, true, false, ◌≤◌, length};
 ghost use Rattle.xml_escape.specs.Quiet.{Quiet, AllQuiet, Ran, RunEnd};
 
-pub use runs::{first_of, next_of, past_blocks, put_before};
+pub use runs::{Class, first_of, next_of, past_blocks};
 
 // Whether a byte may be one that is not written as it is, or that starts a character which is not written; or is above `most`.
 fn loud(b: u8, most: u8) -> bool
     ensures { (result ≡ false → Quiet most b) × (result ≡ true → Quiet most b → ⊥) }
 {
     (b < 0x20) | (b == b'"') | (b == b'&') | (b == b'<') | (b == b'>') | (b == 0xEF) | (most < b)
+}
+
+// Those bytes, above `most` too.
+#[derive(Clone, Copy)]
+struct LoudBytes {
+    most: u8,
+}
+
+impl Class for LoudBytes {
+    ghost Tells = { λ c b r. (r ≡ false → Quiet c.most b) × (r ≡ true → Quiet c.most b → ⊥) };
+
+    fn has(&self, b: u8) -> bool {
+        loud(b, self.most)
+    }
 }
 
 // Past the blocks of 32 such bytes from `from` on; `from` itself where it is past the end.
@@ -22,7 +36,7 @@ pub fn quiet_blocks(s: &[u8], from: usize, most: u8) -> usize
     if s.len() <= from {
         return from;
     }
-    past_blocks(s, from, &|b| loud(b, most))
+    past_blocks(s, from, &LoudBytes { most })
 }
 
 // Past such bytes from `from` on, to the first that may be another; `from` itself where it is past the end.
@@ -36,7 +50,7 @@ pub fn quiet_run(s: &[u8], from: usize, most: u8) -> usize
         return from;
     }
     let i = quiet_blocks(s, from, most);
-    i + next_of(s, i, s.len() - i, &|b| loud(b, most))
+    i + next_of(s, i, s.len() - i, &LoudBytes { most })
 }
 
 // How many of the 32 bytes from i on stand before the first that may be one; none where fewer than 32 are left.
@@ -49,5 +63,5 @@ pub fn quiet_start(s: &[u8], i: usize) -> usize
     if s.len() - 32 < i {
         return 0;
     }
-    first_of::<32, _>(s, i, &|b| loud(b, 0xFF))
+    first_of::<32, _>(s, i, &LoudBytes { most: 0xFF })
 }

@@ -2,14 +2,14 @@
 ghost use Rattle.std.specs.Prelude.{◌≡◌, true, false, cond, [], ◌∷◌, ◌+◌, ◌-◌, ◌≤◌, ◌<◌, IfSome, length, take, drop};
 ghost use Rattle.xml_layout.specs.Xml.{escaped, escape};
 ghost use Rattle.xml_reading.specs.Written.{noncharacter};
-ghost use Rattle.xml_escape.specs.Runs.{AllOf};
+ghost use Rattle.xml_escape.specs.Runs.{AllOf, First};
 ghost use Rattle.xml_escape.specs.Quiet.{AllQuiet};
 ghost use Rattle.xml_escape.specs.Sizes.{item};
 ghost use Rattle.xml_escape.specs.Wrote.{Put, PutTo, sets};
 ghost use Rattle.xml_export.specs.Gathering.{size_of};
 ghost use Rattle.xml_export.specs.Escaping.{Alone, byte_size, Grows, RunPut, EntityPut};
 
-use xml_escape::{first_of, past_blocks, put_before};
+use xml_escape::{Class, first_of, past_blocks};
 
 // Whether U+FFFE or U+FFFF stands from `at` on.
 fn noncharacter_at(text: &[u8], at: usize) -> bool
@@ -185,6 +185,18 @@ fn signed(b: u8) -> bool
     (b == b'"') | (b == b'&') | (b == b'<') | (b == b'>')
 }
 
+// Those bytes, told by one expression.
+#[derive(Clone, Copy)]
+struct SignedBytes;
+
+impl Class for SignedBytes {
+    ghost Tells = { λ c b r. r ≡ false → Alone b };
+
+    fn has(&self, b: u8) -> bool {
+        signed(b)
+    }
+}
+
 // The same: letters are told by one test.
 fn sign(b: u8) -> bool
     ensures { result ≡ false → Alone b }
@@ -195,12 +207,32 @@ fn sign(b: u8) -> bool
     signed(b)
 }
 
-// Bytes into the output: the compiler stores those of a literal at once.
-fn put(out: &mut [u8], to: usize, bytes: &[u8])
+// Those bytes, letters by one test.
+#[derive(Clone, Copy)]
+struct SignBytes;
+
+impl Class for SignBytes {
+    ghost Tells = { λ c b r. r ≡ false → Alone b };
+
+    fn has(&self, b: u8) -> bool {
+        sign(b)
+    }
+}
+
+// Bytes into the output.
+fn put_slice(out: &mut [u8], to: usize, bytes: &[u8])
     requires { to + length bytes.now ≤ length out.old }
     ensures { Put bytes.now to out.old out.new }
 {
     out[to..to + bytes.len()].copy_from_slice(bytes);
+}
+
+// The bytes of a literal into the output: by value, so that the compiler stores them at once.
+fn put<const N: usize>(out: &mut [u8], to: usize, bytes: [u8; N])
+    requires { to + length bytes ≤ length out.old }
+    ensures { Put bytes.entry to out.old out.new }
+{
+    put_slice(out, to, &bytes);
 }
 
 // n bytes from `from` on, 32 at most, into the output: 16 or more by two blocks of 16 that may overlap.
@@ -213,8 +245,8 @@ fn put_near(text: &[u8], out: &mut [u8], from: usize, to: usize, n: usize)
         return;
     }
     let more = n - 16;
-    put(out, to, &text[from..from + 16]);
-    put(out, to + more, &text[from + more..from + more + 16]);
+    put_slice(out, to, &text[from..from + 16]);
+    put_slice(out, to + more, &text[from + more..from + more + 16]);
 }
 
 // Puts such bytes from `from` on: up to the first of 32 that is not, or blocks; none where fewer than 32 are left. Answers where they end.
@@ -225,14 +257,31 @@ fn put_far(text: &[u8], out: &mut [u8], from: usize, to: usize) -> usize
     if text.len() - from < 32 {
         return from;
     }
-    let n = first_of::<32, _>(text, from, &signed);
+    let n = first_of::<32, _>(text, from, &SignedBytes);
     if n < 32 {
         put_near(text, out, from, to, n);
         return from + n;
     }
-    let end = past_blocks(text, from + 32, &signed);
+    let end = past_blocks(text, from + 32, &SignedBytes);
     fill::copy(out, to, text, from, end - from);
     end
+}
+
+// Puts the bytes of the text from i on that are not of the class into the output from `to` on, up to n of them; answers how many.
+// Kept: xml_import has the same; as one public function it would have to test its places, which took a quarter more where entities stand close together.
+fn put_before<C: Class>(s: &[u8], out: &mut [u8], i: usize, to: usize, n: usize, class: &C) -> usize
+    requires { (i + n ≤ length s.now) × (to + n ≤ length out.old) }
+    ensures { First (λ b. C.Tells class.now b false) (λ b. C.Tells class.now b true) s.now i n result
+        × Put (take result (drop i s.now)) to out.old out.new }
+{
+    for k in 0..n {
+        let b = s[i + k];
+        if class.has(b) {
+            return k;
+        }
+        out[to + k] = b;
+    }
+    n
 }
 
 // The same: up to eight one by one, then the rest at once.
@@ -242,9 +291,9 @@ fn put_run(text: &[u8], out: &mut [u8], from: usize, to: usize) -> usize
 {
     let rest = text.len() - from;
     if rest < 8 {
-        return from + put_before(text, out, from, to, rest, &sign);
+        return from + put_before(text, out, from, to, rest, &SignBytes);
     }
-    let n = put_before(text, out, from, to, 8, &sign);
+    let n = put_before(text, out, from, to, 8, &SignBytes);
     if n < 8 {
         return from + n;
     }
@@ -257,22 +306,22 @@ fn put_entity(out: &mut [u8], to: usize, b: u8) -> Option<usize>
     ensures { EntityPut b to out.old out.new result }
 {
     if b == b'&' {
-        put(out, to, b"&amp;");
+        put(out, to, *b"&amp;");
         return Some(5);
     }
     if b'>' < b {
         return None;
     }
     if b == b'<' {
-        put(out, to, b"&lt;");
+        put(out, to, *b"&lt;");
         return Some(4);
     }
     if b == b'>' {
-        put(out, to, b"&gt;");
+        put(out, to, *b"&gt;");
         return Some(4);
     }
     if b == b'"' {
-        put(out, to, b"&quot;");
+        put(out, to, *b"&quot;");
         return Some(6);
     }
     None
@@ -318,7 +367,7 @@ fn plain_short(file: &[u8], first: usize, n: usize) -> bool
     if file.len() - first < 32 {
         return false;
     }
-    if n <= first_of::<32, _>(file, first, &signed) {
+    if n <= first_of::<32, _>(file, first, &SignedBytes) {
         return true;
     }
     false
@@ -345,8 +394,8 @@ pub(crate) fn put_item(file: &[u8], out: &mut [u8], first: usize, n: usize, to: 
     requires { (first + n ≤ length file.now) × (to + length (item (take n (drop first file.now))) ≤ length out.old) }
     ensures { PutTo (item (take n (drop first file.now))) to out.old out.new result }
 {
-    put(out, to, b"<Item>");
+    put(out, to, *b"<Item>");
     let end = put_part(file, out, first, n, to + 6);
-    put(out, end, b"</Item>");
+    put(out, end, *b"</Item>");
     end + 7
 }

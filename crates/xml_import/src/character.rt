@@ -187,6 +187,7 @@ pub struct Entity {
 }
 
 // One of the four entities, or where none stands.
+#[inline(never)]
 fn other_entity(xml: &[u8], at: usize) -> Result<Entity, usize>
     requires { (at < length xml.now) × (get_or xml.now at 0 ≡ 0x26) }
     ensures { EntityAt xml.now at result }
@@ -222,7 +223,8 @@ fn other_entity(xml: &[u8], at: usize) -> Result<Entity, usize>
     Err(at + a.max(l).max(g).max(q))
 }
 
-// The same: four bytes are compared at once.
+// The same: four bytes are compared at once. In its callers no answer goes through memory.
+#[inline(always)]
 pub(crate) fn entity_at(xml: &[u8], at: usize) -> Result<Entity, usize>
     requires { (at < length xml.now) × (get_or xml.now at 0 ≡ 0x26) }
     ensures { EntityAt xml.now at result }

@@ -1,8 +1,10 @@
 // Texts that were taken before: runs of their characters, none of which is judged again.
-ghost use Rattle.std.specs.Prelude.{◌≡◌, true, false, ◌+◌, ◌≤◌, length};
+ghost use Rattle.std.specs.Prelude.{◌≡◌, true, false, ◌+◌, ◌≤◌, length, take, drop};
+ghost use Rattle.xml_escape.specs.Runs.{First};
+ghost use Rattle.xml_escape.specs.Wrote.{Put};
 ghost use Rattle.xml_import.specs.Places.{Unmarked, Marked, Stops, RunPut};
 
-use xml_escape::{first_of, next_of, past_blocks, put_before};
+use xml_escape::{Class, first_of, next_of, past_blocks};
 
 // Whether a byte starts an entity or the end of an item.
 fn marked(b: u8) -> bool
@@ -11,19 +13,31 @@ fn marked(b: u8) -> bool
     (b == b'&') | (b == b'<')
 }
 
+// Those bytes, told by one expression.
+#[derive(Clone, Copy)]
+struct MarkedBytes;
+
+impl Class for MarkedBytes {
+    ghost Tells = { λ c b r. (r ≡ false → Unmarked b) × (r ≡ true → Marked b) };
+
+    fn has(&self, b: u8) -> bool {
+        marked(b)
+    }
+}
+
 // Past such bytes from `from` on, to the first other: blocks, then 64 bytes at once, or one by one where fewer are left.
 fn unmarked_far(xml: &[u8], from: usize) -> usize
     requires { from ≤ length xml.now }
     ensures { Stops xml.now from result }
 {
-    let i = past_blocks(xml, from, &marked);
+    let i = past_blocks(xml, from, &MarkedBytes);
     if 64 <= xml.len() - i {
-        let n = first_of::<64, _>(xml, i, &marked);
+        let n = first_of::<64, _>(xml, i, &MarkedBytes);
         if n < 64 {
             return i + n;
         }
     }
-    i + next_of(xml, i, xml.len() - i, &marked)
+    i + next_of(xml, i, xml.len() - i, &MarkedBytes)
 }
 
 // Whether a byte starts an entity or the end of an item: letters are told by one test.
@@ -39,6 +53,18 @@ fn sign(b: u8) -> bool
     b == b'&'
 }
 
+// Those bytes, letters by one test.
+#[derive(Clone, Copy)]
+struct SignBytes;
+
+impl Class for SignBytes {
+    ghost Tells = { λ c b r. (r ≡ false → Unmarked b) × (r ≡ true → Marked b) };
+
+    fn has(&self, b: u8) -> bool {
+        sign(b)
+    }
+}
+
 // Past such bytes from `from` on: 64 bytes at once, then blocks.
 pub(crate) fn unmarked_rest(xml: &[u8], from: usize) -> usize
     requires { from ≤ length xml.now }
@@ -47,7 +73,7 @@ pub(crate) fn unmarked_rest(xml: &[u8], from: usize) -> usize
     if xml.len() - from < 64 {
         return unmarked_far(xml, from);
     }
-    let n = first_of::<64, _>(xml, from, &marked);
+    let n = first_of::<64, _>(xml, from, &MarkedBytes);
     if n < 64 {
         return from + n;
     }
@@ -62,7 +88,7 @@ pub(crate) fn unmarked_run(xml: &[u8], from: usize) -> usize
     if xml.len() - from < 8 {
         return unmarked_far(xml, from);
     }
-    let n = next_of(xml, from, 8, &sign);
+    let n = next_of(xml, from, 8, &SignBytes);
     if n < 8 {
         return from + n;
     }
@@ -79,6 +105,23 @@ fn put_far(xml: &[u8], out: &mut [u8], at: usize, to: usize) -> usize
     run
 }
 
+// Puts the bytes of the XML from i on that are not of the class into the output from `to` on, up to n of them; answers how many.
+// Kept: xml_export has the same; as one public function it would have to test its places, which took a quarter more where entities stand close together.
+fn put_before<C: Class>(s: &[u8], out: &mut [u8], i: usize, to: usize, n: usize, class: &C) -> usize
+    requires { (i + n ≤ length s.now) × (to + n ≤ length out.old) }
+    ensures { First (λ b. C.Tells class.now b false) (λ b. C.Tells class.now b true) s.now i n result
+        × Put (take result (drop i s.now)) to out.old out.new }
+{
+    for k in 0..n {
+        let b = s[i + k];
+        if class.has(b) {
+            return k;
+        }
+        out[to + k] = b;
+    }
+    n
+}
+
 // The same: up to eight one by one, then the rest at once.
 pub(crate) fn put_run(xml: &[u8], out: &mut [u8], at: usize, to: usize) -> usize
     requires { (at ≤ length xml.now) × (to ≤ length out.old) }
@@ -90,7 +133,7 @@ pub(crate) fn put_run(xml: &[u8], out: &mut [u8], at: usize, to: usize) -> usize
     if out.len() - to < 8 {
         return put_far(xml, out, at, to);
     }
-    let n = put_before(xml, out, at, to, 8, &sign);
+    let n = put_before(xml, out, at, to, 8, &SignBytes);
     if n < 8 {
         return at + n;
     }

@@ -4,7 +4,7 @@ ghost use Rattle.xml_escape.specs.Quiet.{Quiet, AllQuiet, Ran};
 ghost use Rattle.xml_import.specs.Places.{CharsStand};
 
 use crate::character;
-use xml_escape::{first_of, next_of};
+use xml_escape::{Class, first_of, next_of};
 
 // Where a piece of the XML from `from` on ends that is judged at once: at most 1,024 bytes further, where a character starts.
 fn cut(xml: &[u8], from: usize) -> usize
@@ -47,6 +47,18 @@ fn odd(b: u8) -> bool
     (b < 0x20) | (b == b'"') | (b == b'&') | (b == b'<') | (b == b'>') | (0x7F < b)
 }
 
+// Those bytes.
+#[derive(Clone, Copy)]
+struct OddBytes;
+
+impl Class for OddBytes {
+    ghost Tells = { λ c b r. r ≡ false → Quiet 0x7F b };
+
+    fn has(&self, b: u8) -> bool {
+        odd(b)
+    }
+}
+
 // Past a run of ASCII from `from` on: 32 bytes at once, then blocks, then 32 bytes at once again.
 fn usual_rest(xml: &[u8], from: usize) -> usize
     requires { from ≤ length xml.now }
@@ -55,7 +67,7 @@ fn usual_rest(xml: &[u8], from: usize) -> usize
     if xml.len() - from < 32 {
         return xml_escape::quiet_run(xml, from, 0x7F);
     }
-    let n = first_of::<32, _>(xml, from, &odd);
+    let n = first_of::<32, _>(xml, from, &OddBytes);
     if n < 32 {
         return from + n;
     }
@@ -63,7 +75,7 @@ fn usual_rest(xml: &[u8], from: usize) -> usize
     if xml.len() - i < 32 {
         return xml_escape::quiet_run(xml, i, 0x7F);
     }
-    i + first_of::<32, _>(xml, i, &odd)
+    i + first_of::<32, _>(xml, i, &OddBytes)
 }
 
 // The same as `odd`: letters are told by two tests.
@@ -71,6 +83,18 @@ fn unusual(b: u8) -> bool
     ensures { result ≡ false → Quiet 0x7F b }
 {
     !character::ordinary(b)
+}
+
+// Those bytes, letters by two tests.
+#[derive(Clone, Copy)]
+struct UnusualBytes;
+
+impl Class for UnusualBytes {
+    ghost Tells = { λ c b r. r ≡ false → Quiet 0x7F b };
+
+    fn has(&self, b: u8) -> bool {
+        unusual(b)
+    }
 }
 
 // The same as `usual_rest`: eight bytes one by one, then the rest.
@@ -81,7 +105,7 @@ fn usual_run(xml: &[u8], from: usize) -> usize
     if xml.len() - from < 8 {
         return xml_escape::quiet_run(xml, from, 0x7F);
     }
-    let n = next_of(xml, from, 8, &unusual);
+    let n = next_of(xml, from, 8, &UnusualBytes);
     if n < 8 {
         return from + n;
     }

@@ -8,7 +8,7 @@ returns-then-loud c = ends_at (passed_none (search rules)) (λ h. c.loud.ensures
 
 pub returns : goal.returns
 returns c =
-    let n = c.next_of.ensures in
     let r = c.quiet_blocks-i.ensures (search rules) in
+    let n = c.next_of.ensures.found (omega (arith, r.inside)) in
     ends_at (passed_more r c.next_of.result (omega (arith, r.inside, n.within)) (λ k l. let q = n.before k l in search rules))
     (λ h q. let t = n.there (omega (arith, n.within)) in search rules)

@@ -1,5 +1,5 @@
 use Rattle.std.proofs.Common.{sym, ◌∙◌}
-use Rattle.numbers.specs.Bytes.{is_there, is_missing}
+use Rattle.numbers.specs.Bytes.{inside, is_there, is_missing}
 use Rattle.numbers.proofs.little.little.Goals as goal
 
 pub returns-then-not-has_bytes : goal.returns-then-not-has_bytes
@@ -10,4 +10,5 @@ returns-then-not-has_bytes g c =
 pub returns : goal.returns
 returns g c =
     let a = c.args in
-    rw c.BYTES-2.ensures (is_there a.s.now g.W.Width.BYTES a.at (rw c.BYTES.ensures at (sym c.has_bytes.ensures ∙ c.if-not-has_bytes.false)) c.value.ensures)
+    let e = rw c.BYTES.ensures at (sym c.has_bytes.ensures ∙ c.if-not-has_bytes.false) in
+    rw c.BYTES-2.ensures (is_there a.s.now g.W.Width.BYTES a.at e (c.value.ensures.there (inside a.s.now g.W.Width.BYTES a.at g.met.W.Width.some e)))

@@ -13,4 +13,4 @@ returns c =
     let a = c.args in
     let y : a.from + 16 - a.from ≡ 16 = omega arith in
     let z : a.from + (a.n - 16) + 16 - (a.from + (a.n - 16)) ≡ 16 = omega arith in
-    put_over a.text.now a.from a.n 16 a.to (omega (arith, c.if-n-lt16.false)) (omega (arith, c.requires.2)) c.requires.0 (rw y at c.put.ensures) (rw z at c.put-2.ensures)
+    put_over a.text.now a.from a.n 16 a.to (omega (arith, c.if-n-lt16.false)) (omega (arith, c.requires.2)) c.requires.0 (rw y at c.put_slice.ensures) (rw z at c.put_slice-2.ensures)

@@ -5,9 +5,9 @@ use Rattle.xml_import.proofs.known.unmarked_rest.Goals as goal
 
 pub returns-then-n-lt64 : goal.returns-then-n-lt64
 returns-then-n-lt64 c =
-    stops_by (first_as c.first_of-n.ensures (λ b q. search rules) (λ b q. search rules)) c.if-n-lt64.true (omega (arith, c.if-xml-from-lt64.false, c.requires))
+    stops_by (first_as (c.first_of-n.ensures.found (omega (arith, c.if-xml-from-lt64.false, c.requires))) (λ b q. search rules) (λ b q. search rules)) c.if-n-lt64.true (omega (arith, c.if-xml-from-lt64.false, c.requires))
 
 pub returns : goal.returns
 returns c =
-    stops_on (first_as c.first_of-n.ensures (λ b q. search rules) (λ b q. search rules)) c.if-n-lt64.false (omega (arith, c.if-xml-from-lt64.false, c.requires))
+    stops_on (first_as (c.first_of-n.ensures.found (omega (arith, c.if-xml-from-lt64.false, c.requires))) (λ b q. search rules) (λ b q. search rules)) c.if-n-lt64.false (omega (arith, c.if-xml-from-lt64.false, c.requires))
     c.unmarked_far-2.ensures

@@ -5,9 +5,9 @@ use Rattle.xml_import.proofs.known.unmarked_run.Goals as goal
 
 pub returns-then-n-lt8 : goal.returns-then-n-lt8
 returns-then-n-lt8 c =
-    stops_by (first_as c.next_of-n.ensures (λ b q. search rules) (λ b q. search rules)) c.if-n-lt8.true (omega (arith, c.if-xml-from-lt8.false, c.requires))
+    stops_by (first_as (c.next_of-n.ensures.found (omega (arith, c.if-xml-from-lt8.false, c.requires))) (λ b q. search rules) (λ b q. search rules)) c.if-n-lt8.true (omega (arith, c.if-xml-from-lt8.false, c.requires))
 
 pub returns : goal.returns
 returns c =
-    stops_on (first_as c.next_of-n.ensures (λ b q. search rules) (λ b q. search rules)) c.if-n-lt8.false (omega (arith, c.if-xml-from-lt8.false, c.requires))
+    stops_on (first_as (c.next_of-n.ensures.found (omega (arith, c.if-xml-from-lt8.false, c.requires))) (λ b q. search rules) (λ b q. search rules)) c.if-n-lt8.false (omega (arith, c.if-xml-from-lt8.false, c.requires))
     c.unmarked_rest.ensures

@@ -1,6 +1,6 @@
 use Rattle.std.proofs.Common.{arith, rules}
 use Rattle.xml_escape.specs.Wrote.{put_next}
-use Rattle.xml_escape.proofs.runs.put_before.Goals as goal
+use Rattle.xml_export.proofs.escape.put_before.Goals as goal
 
 pub loop-k-preserved : goal.loop-k-preserved
 loop-k-preserved g c = record {

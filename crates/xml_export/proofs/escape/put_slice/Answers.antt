@@ -1,7 +1,7 @@
 use Rattle.std.proofs.Common.{◌≡◌, refl, sym, ◌∙◌, ◌+◌, ◌-◌, length, arith}
 use Rattle.fill.proofs.Laws.{put_pasted, in_both}
 use Rattle.xml_escape.specs.Sizes.{take_whole, whole-put}
-use Rattle.xml_export.proofs.escape.put.Goals as goal
+use Rattle.xml_export.proofs.escape.put_slice.Goals as goal
 
 pub returns : goal.returns
 returns c =
