@@ -6,7 +6,7 @@ use Rattle.layout.specs.Table.{room_of, by_rows, table}
 use Rattle.layout.specs.EnumList.{FirstBad, Unlawful}
 use Rattle.layout.specs.Branches.{TableSkips}
 use Rattle.answers.specs.Refusals.{refusal}
-use Rattle.load.specs.Loads.{Loading, loaded}
+use Rattle.load.specs.Written.{Loading, loaded}
 use Rattle.layout.specs.Fits.{Fitting, rows_in}
 use Rattle.theorems.specs.Loading.{IsLoaded}
 use Rattle.profile.specs.Profile.{Profile}

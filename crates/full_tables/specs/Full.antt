@@ -6,7 +6,7 @@ use Rattle.layout.specs.File.{FileTree, FileLays, file_rows}
 use Rattle.layout.specs.EnumList.{EnumEntry, write_enums, Enums}
 use Rattle.layout.specs.Table.{room_of}
 use Rattle.answers.specs.Refusals.{refusal}
-use Rattle.load.specs.Loads.{Loading}
+use Rattle.load.specs.Written.{Loading}
 
 -- the first byte of row i
 unfoldable pub first_of : List Row → (i : ℕ) → ℕ

@@ -2,3 +2,4 @@ pub mod Under
 pub mod Loads
 pub mod Promises
 pub mod Laws
+pub mod Written

@@ -12,16 +12,8 @@ use Rattle.layout.specs.Rows.{Row}
 use Rattle.layout.specs.Table.{words_with, shape_of}
 use Rattle.places.specs.Padding.{file_padding}
 use Rattle.readers.specs.Judged.{judged_name}
-use Rattle.load.specs.declared.Loaded.{Loaded}
 use Rattle.reading.specs.Drafts.{bare}
-
--- what loading a file answers in code
-abbrev pub Loading : Type 0
-Loading = Result Loaded Refusal
-
--- so many rows and readers, this shared count and this padding
-abbrev pub loaded : (rows readers shared padding : ℕ) → Loaded
-loaded rows readers shared padding = record { rows = rows; readers = readers; shared = shared; padding = padding }
+pub use Rattle.load.specs.Written.{Loading, loaded}
 
 -- 01's answer in code: a refusal's number and place, or the number of rows, the number of readers and the shared count, and (02, Req 06) "the file's total": how many bytes its seven-bit numbers have beyond their shortest forms
 abbrev pub answer_of : (file : List ℕ) → File.Load → Loading

@@ -9,7 +9,7 @@ use Rattle.layout.specs.Named.{unknown, reader_of}
 use Rattle.layout.specs.Fault.{Fault}
 use Rattle.layout.specs.Complaint.{reader_faults}
 use Rattle.answers.specs.Refusals.{refusal}
-use Rattle.load.specs.Loads.{Loading}
+use Rattle.load.specs.Written.{Loading}
 
 -- the first reader whose name is not lawful under a list of enum types: of the name and of the place of its first byte P holds
 pub record FirstName (es : List EnumEntry) (file : List ℕ) (P : (name : List ℕ) (first : ℕ) → Type 0) : Type 0 where

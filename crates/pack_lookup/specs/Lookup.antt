@@ -6,14 +6,11 @@ use Rattle.pack_layout.specs.Table.{Entry, entry, wholes}
 use Rattle.pack_layout.specs.Lookup.{FirstMatch}
 use Rattle.pack_reading.specs.Lookup.{Found, absent, found, find_in, find_of, Says, find_says}
 use Rattle.pack_lookup.specs.declared.Part.{Part}
+pub use Rattle.pack_lookup.specs.Written.{part}
 
 -- the entry at word i of a table
 abbrev pub entry_at : (table : List ℕ) (i : ℕ) → Entry
 entry_at table i = entry (get_or table i 0) (get_or table (i + 1) 0) (get_or table (i + 2) 0) (get_or table (i + 3) 0)
-
--- a part that starts at a place and has so many bytes
-abbrev pub part : (first count : ℕ) → Part
-part first count = record { first = first; count = count }
 
 -- nothing, or where the data starts and how many bytes it has
 abbrev pub found_as : Found → Option Part

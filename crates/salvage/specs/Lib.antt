@@ -1,1 +1,2 @@
 pub mod Salvaging
+pub mod Written

@@ -9,6 +9,7 @@ use Rattle.pack_salvage.specs.Salvage.{pieces_of, new_pack, skipped_of, salvaged
 use Rattle.salvage.specs.declared.Size.{Size}
 use Rattle.salvage.specs.declared.Span.{Span}
 use Rattle.salvage.specs.declared.Salvaged.{Salvaged}
+pub use Rattle.salvage.specs.Written.{salvaged_so}
 use Rattle.answers.specs.declared.Refusal.{Refusal}
 use Rattle.answers.specs.Refusals as answers
 
@@ -68,10 +69,6 @@ pub record Fits (pack : List ℕ) (out list records : ℕ) : Type 0 where
   pub count : records ≡ length (kept_of (pieces_of pack))
   pub room : length (new_pack pack) ≤ out
   pub listed : 2 * length (skipped_of pack) ≤ list
-
--- the length of the new pack, and the number of stretches
-abbrev pub salvaged_so : (length stretches : ℕ) → Salvaged
-salvaged_so length stretches = record { length = length; stretches = stretches }
 
 -- a refusal, or the length of the new pack and the number of stretches
 abbrev pub answer_of : salvage.Salvaged → Result Salvaged Refusal

@@ -3,7 +3,7 @@ use Rattle.std.specs.Prelude.{◌≡◌, List, ℕ, ◌+◌, ◌<◌, ◌≤◌,
 use Rattle.layout.specs.Table.{room_of, by_rows, cell}
 use Rattle.theorems.specs.Loading.{Loads}
 use Rattle.theorems.specs.declared.branched.Skipped.{Skipped}
-use Rattle.load.specs.Loads.{loaded}
+use Rattle.load.specs.Written.{loaded}
 
 -- For the lent list of enum types, a file that is loaded, the number of words lent, the words as they are left, a row's number and the answers.
 pub record SkipsRow (enums file : List ℕ) (words : ℕ) (left : List ℕ) (row : ℕ) (r : Skipped) : Type 0 where

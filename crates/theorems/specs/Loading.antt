@@ -7,9 +7,9 @@ use Rattle.layout.specs.Refusals.{LoadNumber}
 use Rattle.layout.specs.Table.{room_of, Shape, table}
 use Rattle.layout.specs.Branches.{TableSkips, TableRoots}
 use Rattle.layout.specs.Shortest.{short_file}
-use Rattle.load.specs.Loads.{Loading}
+use Rattle.load.specs.Written.{Loading}
 use Rattle.layout.specs.Fits.{Fitting, rows_in}
-use Rattle.load.specs.Loads.{loaded}
+use Rattle.load.specs.Written.{loaded}
 use Rattle.answers.specs.Refusals.{refusal as refusal_at}
 
 -- the answer is no refusal

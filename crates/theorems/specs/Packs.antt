@@ -1,7 +1,7 @@
 -- Req 01 of the code: what is demanded of reading a pack, of finding a file by its path, and of loading its data. Each record is the contract of a function that calls the code. Assumes nothing.
 use Rattle.std.specs.Prelude.{◌≡◌, Bool, List, ◌∷◌, ◌++◌, ◌↔◌, ℕ, ◌*◌, ◌-◌, ◌≤◌, length, take, drop, replicate, Err, None, Ok, Some, Result, Option}
 use Rattle.layout.specs.Table.{by_rows}
-use Rattle.load.specs.Loads.{Loading}
+use Rattle.load.specs.Written.{Loading}
 use Rattle.pack_layout.specs.Pack.{Stored, Each, mark_of}
 use Rattle.pack_layout.specs.Numbers.{PackNumber}
 use Rattle.pack_layout.specs.Table.{flat, wholes, entries, Fitting}
@@ -11,7 +11,7 @@ use Rattle.theorems.specs.Loading.{Loads}
 use Rattle.answers.specs.Refusals.{refusal as refusal_at}
 use Rattle.answers.specs.declared.Refusal.{Refusal}
 use Rattle.pack_lookup.specs.declared.Part as code
-use Rattle.pack_lookup.specs.Lookup.{part}
+use Rattle.pack_lookup.specs.Written.{part}
 
 -- ---- Reading a pack
 

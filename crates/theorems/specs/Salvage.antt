@@ -7,7 +7,7 @@ use Rattle.pack_salvage.specs.Stretches.{Stretch, stretches, words, Apart, Cover
 use Rattle.answers.specs.Refusals.{refusal as refusal_at}
 use Rattle.answers.specs.declared.Refusal.{Refusal}
 use Rattle.salvage.specs.declared.Salvaged.{Salvaged}
-use Rattle.salvage.specs.Salvaging.{salvaged_so}
+use Rattle.salvage.specs.Written.{salvaged_so}
 
 -- "From byte 4, if a mark and a whole record that keeps Req 01's limits stand here, keep it and go on after it; otherwise go on one byte. Stop at the end or after 4,096 records"
 pub record Scan (pack : List ℕ) (ps : List Piece) : Type 0 where

@@ -169,29 +169,19 @@ const STATED: [&str; 5] = [
     "pack_salvage/specs/Stretches.antt",
 ];
 
-/// How an answer in code is written: definitions of a type of code alone, by their modules. Of these modules a demand may name nothing else.
-const ANSWERS: [(&str, &[&str]); 4] = [
-    ("answers/specs/Refusals.antt", &["refusal"]),
-    ("load/specs/Loads.antt", &["Loading", "loaded"]),
-    ("pack_lookup/specs/Lookup.antt", &["part"]),
-    ("salvage/specs/Salvaging.antt", &["salvaged_so"]),
+/// How an answer of the code is written: definitions over the code's own types alone, which these modules import and nothing else of ours.
+const WRITTEN: [&str; 4] = [
+    "answers/specs/Refusals.antt",
+    "load/specs/Written.antt",
+    "pack_lookup/specs/Written.antt",
+    "salvage/specs/Written.antt",
 ];
-
-/// Whether an import of a module names nothing but how an answer is written.
-fn of_answers(module: &str, line: &str) -> bool {
-    let braced = line.split_once('{').and_then(|(_, it)| it.split_once('}'));
-    let said = ANSWERS.into_iter().find(|(of, _)| *of == module);
-    braced.zip(said).is_some_and(|((names, _), (_, said))| {
-        names
-            .split(',')
-            .filter_map(|name| name.split_whitespace().next())
-            .all(|name| said.contains(&name))
-    })
-}
 
 /// The module that an import names, as its file below `crates/`; the kit's, the layouts and the types of code have none here.
 fn imported(line: &str) -> Option<String> {
-    let path = line.strip_prefix("use Rattle.")?;
+    let path = line
+        .trim_start_matches("pub ")
+        .strip_prefix("use Rattle.")?;
     let path = path.split([' ', '{']).next()?.trim_end_matches('.');
     let (from, folder, module) = ["specs", "proofs"].into_iter().find_map(|folder| {
         let (from, module) = path.split_once(&format!(".{folder}."))?;
@@ -241,16 +231,14 @@ fn no_line_of_a_proof_passes_300_characters() {
 
 #[test]
 fn demands_name_layouts_and_types_of_code_alone() {
-    for module in DEMANDS.into_iter().chain(STATED) {
+    for module in DEMANDS.into_iter().chain(STATED).chain(WRITTEN) {
         let text = fs::read_to_string(root().join("crates").join(module)).expect(module);
         assert!(text.contains("use Rattle."), "{module} imports nothing");
-        for line in text.lines() {
-            let Some(named) = imported(line) else {
-                continue;
-            };
+        for named in text.lines().filter_map(imported) {
             let named = named.as_str();
+            let stated = DEMANDS.contains(&named) || STATED.contains(&named);
             assert!(
-                DEMANDS.contains(&named) || STATED.contains(&named) || of_answers(named, line),
+                WRITTEN.contains(&named) || (stated && !WRITTEN.contains(&module)),
                 "{module} imports {named}"
             );
         }
