@@ -161,6 +161,7 @@ fn many_keys<const N: usize>(file: &[u8], rows: UsedRows, first: u32, n: u32) ->
 {
     let mut keys = [0u32; N];
     let mut order = [0u16; N];
+    let mut spare = [0u16; N];
     let m = gather(rows, first, n, &mut keys);
     let keys = Keys {
         file,
@@ -168,7 +169,7 @@ fn many_keys<const N: usize>(file: &[u8], rows: UsedRows, first: u32, n: u32) ->
         rows: &keys,
     };
     let order = &mut order[..m as usize];
-    keys.sort(order);
+    keys.sort(order, &mut spare);
     neighbours(keys, order, m)
 }
 

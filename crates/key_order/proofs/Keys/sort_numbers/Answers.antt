@@ -1,4 +1,4 @@
-use Rattle.std.proofs.Common.{arith, rules, of_calls}
+use Rattle.std.proofs.Common.{rules, of_calls}
 use Rattle.std.specs.Ordering.{is_lt}
 use Rattle.std.proofs.lemmas.Fn.{always_returns_same}
 use Rattle.key_order.specs.Texts.{key_text, rank_of}
@@ -9,5 +9,5 @@ pub returns : goal.returns
 returns c =
     let s = c.args.self in
     let text = key_text s.file.now s.table.grid s.table.words.now s.rows.now in
-    rw c.loop-i.invariant.0 at (sorted_certificate text c.loop-i.order _ (λ i h. c.loop-i.invariant.1 i (omega arith)) c.sort_unstable_by.ensures.permutation
+    rw c.count_up.ensures.0 at (sorted_certificate text c.count_up.new.order _ c.count_up.ensures.1 c.sort_unstable_by.ensures.permutation
     (c.sort_unstable_by.ensures.sorted (λ a b. is_lt (rank_of text a b)) (ranks text) (always_returns_same _ _ _ (λ a r f k. search (rules, of_calls)))))
