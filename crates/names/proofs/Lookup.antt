@@ -10,6 +10,7 @@ use borrow.Author.Tests.{lt-ltb, le-ltb, le-leb, eq-eqb, ne_eqb, eqb-true, eqb-f
 use Rattle.layout.specs.Number.{between}
 use Rattle.layout.specs.Kind.{KindEntry, kind_entry, alike, lookup}
 use Rattle.layout.specs.EnumList.{EnumEntry, entry, write_enums, size_in}
+use Rattle.names.specs.Codes.{alike_then}
 use Rattle.names.specs.Entries.{entries_in, entries_of, listing}
 use Rattle.names.specs.EntryLaws.{entries-written, listing_is}
 use Rattle.std.specs.Cmp.Lexicographic.{pointwise}
@@ -41,6 +42,11 @@ alike_turned [] [] e = e
 alike_turned [] (y ∷ b) e = e
 alike_turned (x ∷ a) [] e = e
 alike_turned (x ∷ a) (y ∷ b) e = rw (turned x y (eqb x y) refl, alike_turned a b refl) e
+
+-- texts that are not the same are not alike
+pub alike_apart : (a b : List ℕ) → (b ≡ a → ⊥) → alike a b ≡ false
+alike_apart a b n =
+    elim (alike a b) as (λ r. alike a b ≡ r → r ≡ false) [ true ↦ (λ e. absurd (n (sym (alike_then a b e)))) | false ↦ (λ e. refl) ] refl
 
 pub no_bytes : (s : List ℕ) → length s ≡ 0 → s ≡ []
 no_bytes [] e = refl

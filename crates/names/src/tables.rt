@@ -6,6 +6,7 @@ ghost use Rattle.names.specs.Kind.{listed, enum_kind, kind_in};
 ghost use Rattle.names.specs.Entries.{entries_of, enums_of};
 
 use crate::kinds::{ENUM_OF_1, ENUM_OF_2, ENUM_OF_4, ENUM_OF_8};
+use crate::texts;
 
 // What a list of entries has for a head: a name length byte, a name and a byte for each; 0 if no whole entry has this name.
 // Kept: 0 and not an option, here and for kinds below, since what may not change, `size_in` and `lookup` of
@@ -19,7 +20,8 @@ pub fn find(entries: &[u8], head: &[u8]) -> u8
         if behind.len() <= size {
             return 0;
         }
-        if &behind[..size] == head {
+        let name = &behind[..size];
+        if !texts::ends_apart(name, head) && name == head {
             return behind[size];
         }
         rest = &behind[size + 1..];
