@@ -94,7 +94,8 @@ fn text_in(bytes: &[u8], first: usize, kind: u32, row: u32) -> Result<Span, Refu
     })
 }
 
-// The bytes of a text behind its type id and count.
+// The bytes of a text behind its type id and count. In its callers no answer goes through memory.
+#[inline(always)]
 pub fn text(file: &[u8], table: Table, row: RowNumber) -> Result<Span, Refusal>
     ensures { result ≡ text_of table.entry.grid file.now table.entry.words.now row.0 }
 {

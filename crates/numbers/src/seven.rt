@@ -66,6 +66,7 @@ pub fn fifth(s: &[u8], start: usize, so_far: Result<Step, Refusal>) -> Result<Pa
 }
 
 // The five steps one after the other: the seven-bit number at a place, with its padding.
+#[inline(never)]
 fn all_steps(s: &[u8], start: usize) -> Result<Padded, Refusal>
     ensures { told_padded result ≡ padded start (seven_at s.now start) }
 {
@@ -76,7 +77,8 @@ fn all_steps(s: &[u8], start: usize) -> Result<Padded, Refusal>
     fifth(s, start, four)
 }
 
-// The seven-bit number at a place, with its padding. Most numbers have one byte, and those are read without the other four steps.
+// The seven-bit number at a place, with its padding. Most numbers have one byte, and those are read without the other four steps, where the number is asked for.
+#[inline(always)]
 pub fn seven_padded(s: &[u8], start: usize) -> Result<Padded, Refusal>
     ensures { told_padded result ≡ padded start (seven_at s.now start) }
 {
@@ -87,6 +89,7 @@ pub fn seven_padded(s: &[u8], start: usize) -> Result<Padded, Refusal>
 }
 
 // The seven-bit number at a place.
+#[inline]
 pub fn seven_at(s: &[u8], start: usize) -> Number
     ensures { told result ≡ seven_at s.now start }
 {

@@ -83,6 +83,7 @@ fn content_at(pack: &[u8], path: Path) -> Result<Record, Refusal>
 }
 
 // The file record at a place.
+#[inline(always)]
 pub fn record_at(pack: &[u8], at: usize, marked: bool) -> Result<Record, Refusal>
     ensures { result ≡ recorded (mark_of marked) at (record_at (mark_of marked) pack.now at) }
 {

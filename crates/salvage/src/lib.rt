@@ -21,6 +21,7 @@ fn is_clear(pack: &[u8], from: usize) -> bool
 }
 
 // Past the blocks of 32 bytes from `from` on that have no FD.
+#[inline(always)]
 fn past_clear(pack: &[u8], from: usize) -> usize
     requires { from ≤ length pack.now }
     ensures { NoLead pack.now from result }
@@ -36,6 +37,7 @@ fn past_clear(pack: &[u8], from: usize) -> usize
 }
 
 // The first place from `from` on where FD stands, or the end of the pack.
+#[inline(always)]
 fn next_lead(pack: &[u8], from: usize) -> usize
     requires { from ≤ length pack.now }
     ensures { NoLead pack.now from result }
@@ -56,6 +58,7 @@ struct Span {
 }
 
 // The first record with its mark that stands at `from` or behind it.
+#[inline(always)]
 fn next_record(pack: &[u8], from: usize) -> Option<Span>
     requires { from ≤ length pack.now }
     ensures { Next pack.now from result }
