@@ -36,7 +36,7 @@ pub fn quiet_blocks(s: &[u8], from: usize, most: u8) -> usize
     if s.len() <= from {
         return from;
     }
-    past_blocks(s, from, &LoudBytes { most })
+    from + past_blocks(&s[from..], &LoudBytes { most })
 }
 
 // Past such bytes from `from` on, to the first that may be another; `from` itself where it is past the end.
@@ -50,18 +50,18 @@ pub fn quiet_run(s: &[u8], from: usize, most: u8) -> usize
         return from;
     }
     let i = quiet_blocks(s, from, most);
-    i + next_of(s, i, s.len() - i, &LoudBytes { most })
+    i + next_of(&s[i..], &LoudBytes { most })
 }
 
 // How many of the 32 bytes from i on stand before the first that may be one; none where fewer than 32 are left.
 pub fn quiet_start(s: &[u8], i: usize) -> usize
     ensures { AllQuiet 0xFF s.now i result }
 {
-    if s.len() < 32 {
+    if s.len() <= i {
         return 0;
     }
-    if s.len() - 32 < i {
+    let Some(block) = s[i..].first_chunk::<32>() else {
         return 0;
-    }
-    first_of::<32, _>(s, i, &LoudBytes { most: 0xFF })
+    };
+    first_of(block, &LoudBytes { most: 0xFF })
 }

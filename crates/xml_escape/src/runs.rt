@@ -1,5 +1,5 @@
 // Runs of bytes that are not of a class.
-ghost use Rattle.std.specs.Prelude.{◌≡◌, ℕ, Bool, true, false, ◌+◌, ◌≤◌, ◌<◌, length};
+ghost use Rattle.std.specs.Prelude.{◌≡◌, ℕ, Bool, true, false, ◌+◌, ◌≤◌, length};
 ghost use Rattle.xml_escape.specs.Runs.{AllOf, First, Passed};
 
 // A class of bytes, told by one expression, so that the compiler compares the bytes of a block at once.
@@ -23,15 +23,11 @@ fn none_of<C: Class>(s: &[u8], i: usize, class: &C) -> bool
     !other
 }
 
-// Past the blocks of 32 bytes from `from` on of which none is of the class; `from` itself where it is past the end.
-pub fn past_blocks<C: Class>(s: &[u8], from: usize, class: &C) -> usize
-    ensures passed { from ≤ length s.now → Passed (λ b. C.Tells class.now b false) s.now from result }
-    ensures stays { length s.now < from → result ≡ from }
+// Past the blocks of 32 bytes from the first on of which none is of the class.
+pub fn past_blocks<C: Class>(s: &[u8], class: &C) -> usize
+    ensures { Passed (λ b. C.Tells class.now b false) s.now 0 result }
 {
-    if s.len() < from {
-        return from;
-    }
-    let mut i = from;
+    let mut i = 0;
     // Kept: a turn passes more than one byte, so no range or iterator fits.
     while 32 <= s.len() - i {
         if !none_of(s, i, class) {
@@ -42,41 +38,30 @@ pub fn past_blocks<C: Class>(s: &[u8], from: usize, class: &C) -> usize
     i
 }
 
-// How many of the N bytes from i on stand before the first of the class: all are looked at. None where fewer than N are left.
-pub fn first_of<const N: u8, C: Class>(s: &[u8], i: usize, class: &C) -> usize
-    ensures found { i + N ≤ length s.now → First (λ b. C.Tells class.now b false) (λ b. C.Tells class.now b true) s.now i N result }
-    ensures none { length s.now < i + N → result ≡ 0 }
+// How many bytes stand before the first of the class, one by one.
+pub fn next_of<C: Class>(s: &[u8], class: &C) -> usize
+    ensures { First (λ b. C.Tells class.now b false) (λ b. C.Tells class.now b true) s.now 0 (length s.now) result }
 {
-    let n = N as usize;
-    if s.len() < n {
-        return 0;
-    }
-    if s.len() - n < i {
-        return 0;
-    }
-    let mut first = N;
-    for j in 0..N {
-        let here = if class.has(s[i + j as usize]) { j } else { N };
-        first = first.min(here);
-    }
-    first as usize
-}
-
-// How many of the n bytes from i on stand before the first of the class, one by one. None where fewer than n are left.
-pub fn next_of<C: Class>(s: &[u8], i: usize, n: usize, class: &C) -> usize
-    ensures found { i + n ≤ length s.now → First (λ b. C.Tells class.now b false) (λ b. C.Tells class.now b true) s.now i n result }
-    ensures none { length s.now < i + n → result ≡ 0 }
-{
-    if s.len() < n {
-        return 0;
-    }
-    if s.len() - n < i {
-        return 0;
-    }
-    for k in 0..n {
-        if class.has(s[i + k]) {
+    for k in 0..s.len() {
+        if class.has(s[k]) {
             return k;
         }
     }
-    n
+    s.len()
+}
+
+// The same of N bytes: all are looked at, where they are 255 at most.
+pub fn first_of<const N: usize, C: Class>(s: &[u8; N], class: &C) -> usize
+    ensures { First (λ b. C.Tells class.now b false) (λ b. C.Tells class.now b true) s.now 0 N result }
+{
+    if 255 < N {
+        return next_of(s, class);
+    }
+    let n = N as u8;
+    let mut first = n;
+    for j in 0..n {
+        let here = if class.has(s[j as usize]) { j } else { n };
+        first = first.min(here);
+    }
+    first as usize
 }

@@ -254,15 +254,16 @@ fn put_far(text: &[u8], out: &mut [u8], from: usize, to: usize) -> usize
     requires { (from ≤ length text.now) × (to + (length text.now - from) ≤ length out.old) }
     ensures { RunPut text.now from to out.old out.new result }
 {
-    if text.len() - from < 32 {
+    let Some(block) = text[from..].first_chunk::<32>() else {
         return from;
-    }
-    let n = first_of::<32, _>(text, from, &SignedBytes);
+    };
+    let n = first_of(block, &SignedBytes);
     if n < 32 {
         put_near(text, out, from, to, n);
         return from + n;
     }
-    let end = past_blocks(text, from + 32, &SignedBytes);
+    let next = from + 32;
+    let end = next + past_blocks(&text[next..], &SignedBytes);
     fill::copy(out, to, text, from, end - from);
     end
 }
@@ -364,10 +365,10 @@ fn plain_short(file: &[u8], first: usize, n: usize) -> bool
     if 32 < n {
         return false;
     }
-    if file.len() - first < 32 {
+    let Some(block) = file[first..].first_chunk::<32>() else {
         return false;
-    }
-    if n <= first_of::<32, _>(file, first, &SignedBytes) {
+    };
+    if n <= first_of(block, &SignedBytes) {
         return true;
     }
     false

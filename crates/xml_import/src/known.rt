@@ -30,14 +30,14 @@ fn unmarked_far(xml: &[u8], from: usize) -> usize
     requires { from ≤ length xml.now }
     ensures { Stops xml.now from result }
 {
-    let i = past_blocks(xml, from, &MarkedBytes);
-    if 64 <= xml.len() - i {
-        let n = first_of::<64, _>(xml, i, &MarkedBytes);
+    let i = from + past_blocks(&xml[from..], &MarkedBytes);
+    if let Some(block) = xml[i..].first_chunk::<64>() {
+        let n = first_of(block, &MarkedBytes);
         if n < 64 {
             return i + n;
         }
     }
-    i + next_of(xml, i, xml.len() - i, &MarkedBytes)
+    i + next_of(&xml[i..], &MarkedBytes)
 }
 
 // Whether a byte starts an entity or the end of an item: letters are told by one test.
@@ -70,10 +70,10 @@ pub(crate) fn unmarked_rest(xml: &[u8], from: usize) -> usize
     requires { from ≤ length xml.now }
     ensures { Stops xml.now from result }
 {
-    if xml.len() - from < 64 {
+    let Some(block) = xml[from..].first_chunk::<64>() else {
         return unmarked_far(xml, from);
-    }
-    let n = first_of::<64, _>(xml, from, &MarkedBytes);
+    };
+    let n = first_of(block, &MarkedBytes);
     if n < 64 {
         return from + n;
     }
@@ -85,10 +85,10 @@ pub(crate) fn unmarked_run(xml: &[u8], from: usize) -> usize
     requires { from ≤ length xml.now }
     ensures { Stops xml.now from result }
 {
-    if xml.len() - from < 8 {
+    let Some(start) = xml[from..].first_chunk::<8>() else {
         return unmarked_far(xml, from);
-    }
-    let n = next_of(xml, from, 8, &SignBytes);
+    };
+    let n = next_of(start, &SignBytes);
     if n < 8 {
         return from + n;
     }

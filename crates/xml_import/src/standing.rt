@@ -64,18 +64,18 @@ fn usual_rest(xml: &[u8], from: usize) -> usize
     requires { from ≤ length xml.now }
     ensures { Ran 0x7F xml.now from result }
 {
-    if xml.len() - from < 32 {
+    let Some(block) = xml[from..].first_chunk::<32>() else {
         return xml_escape::quiet_run(xml, from, 0x7F);
-    }
-    let n = first_of::<32, _>(xml, from, &OddBytes);
+    };
+    let n = first_of(block, &OddBytes);
     if n < 32 {
         return from + n;
     }
     let i = xml_escape::quiet_blocks(xml, from + 32, 0x7F);
-    if xml.len() - i < 32 {
+    let Some(block) = xml[i..].first_chunk::<32>() else {
         return xml_escape::quiet_run(xml, i, 0x7F);
-    }
-    i + first_of::<32, _>(xml, i, &OddBytes)
+    };
+    i + first_of(block, &OddBytes)
 }
 
 // The same as `odd`: letters are told by two tests.
@@ -102,10 +102,10 @@ fn usual_run(xml: &[u8], from: usize) -> usize
     requires { from ≤ length xml.now }
     ensures { Ran 0x7F xml.now from result }
 {
-    if xml.len() - from < 8 {
+    let Some(start) = xml[from..].first_chunk::<8>() else {
         return xml_escape::quiet_run(xml, from, 0x7F);
-    }
-    let n = next_of(xml, from, 8, &UnusualBytes);
+    };
+    let n = next_of(start, &UnusualBytes);
     if n < 8 {
         return from + n;
     }

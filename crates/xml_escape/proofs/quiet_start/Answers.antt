@@ -1,5 +1,6 @@
-use Rattle.std.proofs.Common.{arith, rules}
+use Rattle.std.proofs.Common.{refl, arith, rules}
+use Rattle.xml_escape.proofs.Cuts.{block_cut}
 use Rattle.xml_escape.proofs.quiet_start.Goals as goal
 
 pub returns : goal.returns
-returns c = λ k h. let q = (c.first_of.ensures.found (omega (arith, c.if-s-lt32.false, c.if-s-i.false))).before k h in search rules
+returns c = λ k h. let q = (block_cut c.args.s.now c.args.i (omega arith) c.in-Some.ensures.cases refl c.first_of.ensures).before k h in search rules
