@@ -262,12 +262,15 @@ fn put_text(text: Text, out: &mut [u8], to: usize)
     }
 }
 
-// The same, at once where the text stands as it is.
+// The same, at once where the text stands as it is; an empty one is put without a copy.
 fn put_taken(text: Text, out: &mut [u8], to: usize)
     requires { Ready text.xml.now text.at text.size × (to + text.size ≤ length out.old)
         × VerbatimIf text.plain text.xml.now text.at text.size }
     ensures { TextPut text.entry.xml.now text.entry.at to text.entry.size out.old out.new }
 {
+    if text.size == 0 {
+        return;
+    }
     if text.plain {
         fill::copy(out, to, text.xml, text.at, text.size);
         return;
