@@ -111,6 +111,7 @@ impl<'a> Keys<'a> {
         ensures { (length order.new ≡ length order.old) × (length spare.new ≡ length spare.old) }
     {
         let mut width = 1;
+        // Kept: a turn takes the width four times, so no range or iterator fits.
         while width < order.len() {
             self.pass(order, spare, width);
             self.pass(spare, order, 2 * width);
@@ -137,7 +138,8 @@ impl<'a> Keys<'a> {
         self.rising(order) && covered(order, of)
     }
 
-    // The same with a spare list: keys that rise or fall already take one comparison each; all others are merged, which takes fewer comparisons than the library's sort, above all at its worst.
+    // The same with a spare list: keys that rise or fall already take one comparison each, and all others are merged.
+    // Merging takes fewer comparisons than the library's sort, above all at its worst.
     fn sort_with(self, order: &mut [u16], spare: &mut [u16])
         requires { (length order.old ≤ 65536) × (length spare.old ≡ length order.old) }
         ensures { KeyCertificate self.entry.file.now self.entry.table.grid self.entry.table.words.now self.entry.rows.now (length order.old) order.new }

@@ -1,3 +1,4 @@
+mod Ends
 pub mod Laws
 pub mod Lookup
 pub mod Steps

@@ -6,7 +6,7 @@ use Prim.Native.Nat.{ℕ, zero, suc, ◌+◌, ◌-◌, ◌≤◌, ◌<◌}
 use native.Mathlib.Omega.{arith}
 use lib.Dec.{eqb, ltb}
 use lib.ListN.{length, take, drop, get_or, length-drop}
-use borrow.Author.Tests.{lt-ltb, le-ltb, le-leb, eq-eqb, ne_eqb, eqb-true, eqb-false}
+use borrow.Author.Tests.{lt-ltb, le-ltb, le-leb}
 use Rattle.layout.specs.Number.{between}
 use Rattle.layout.specs.Kind.{KindEntry, kind_entry, alike, lookup}
 use Rattle.layout.specs.EnumList.{EnumEntry, entry, write_enums, size_in}
@@ -30,18 +30,6 @@ alike_is [] [] = refl
 alike_is [] (y ∷ b) = refl
 alike_is (x ∷ a) [] = refl
 alike_is (x ∷ a) (y ∷ b) = rw (alike_is a b)
-
--- and the other way round
-turned : (x y : ℕ) (b : Bool) → eqb x y ≡ b → eqb y x ≡ b
-turned x y true e = eq-eqb y x (sym (eqb-true x y e))
-turned x y false e = ne_eqb y x (λ q. eqb-false x y e (sym q))
-
-pub alike_turned : (a b : List ℕ) {r : Bool} → pointwise eqb a b ≡ r → alike b a ≡ r
-unfolding alike
-alike_turned [] [] e = e
-alike_turned [] (y ∷ b) e = e
-alike_turned (x ∷ a) [] e = e
-alike_turned (x ∷ a) (y ∷ b) e = rw (turned x y (eqb x y) refl, alike_turned a b refl) e
 
 -- texts that are not the same are not alike
 pub alike_apart : (a b : List ℕ) → (b ≡ a → ⊥) → alike a b ≡ false

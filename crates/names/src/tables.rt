@@ -21,7 +21,7 @@ pub fn find(entries: &[u8], head: &[u8]) -> u8
             return 0;
         }
         let name = &behind[..size];
-        if !texts::ends_apart(name, head) && name == head {
+        if texts::same_text(head, name) {
             return behind[size];
         }
         rest = &behind[size + 1..];

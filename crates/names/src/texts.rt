@@ -1,5 +1,6 @@
-// Texts compared: one in another from a place on, and two by their ends.
-ghost use Rattle.std.specs.Prelude.{◌≡◌, ◌≢◌, ◌≤◌, length, drop, true};
+// Texts compared: one in another from a place on, and two whole ones.
+ghost use Rattle.std.specs.Prelude.{◌≡◌, ◌≤◌, length, drop};
+ghost use Rattle.layout.specs.Kind.{alike};
 ghost use Rattle.names.specs.Parse.{starts, common};
 
 // How many bytes of the text stand in s from `at` on, up to the first that does not.
@@ -31,16 +32,31 @@ pub(crate) fn stands(s: &[u8], at: usize, text: &[u8]) -> bool
     s[at..].starts_with(text)
 }
 
-// Two texts are seen to differ by their last eight bytes, since names begin alike; false says nothing.
-#[inline]
-pub(crate) fn ends_apart(a: &[u8], b: &[u8]) -> bool
-    ensures { result ≡ true → a.now ≢ b.now }
+// Two blocks of eight bytes are equal: they are compared as one number.
+fn same_eight(a: &[u8; 8], b: &[u8; 8]) -> bool
+    ensures { result ≡ alike a.now b.now }
 {
-    let Some(x) = a.last_chunk::<8>() else {
+    u64::from_le_bytes(*a) == u64::from_le_bytes(*b)
+}
+
+// Two texts are equal: their last eight bytes are compared, then the eight before, since names begin alike.
+pub(crate) fn same_text(a: &[u8], b: &[u8]) -> bool
+    ensures { result ≡ alike a.now b.now }
+{
+    if a.len() != b.len() {
         return false;
-    };
-    let Some(y) = b.last_chunk::<8>() else {
-        return false;
-    };
-    u64::from_le_bytes(*x) != u64::from_le_bytes(*y)
+    }
+    let mut x = a;
+    let mut y = b;
+    while let Some((x_front, x_end)) = x.split_last_chunk::<8>() {
+        let Some((y_front, y_end)) = y.split_last_chunk::<8>() else {
+            return false;
+        };
+        if !same_eight(x_end, y_end) {
+            return false;
+        }
+        x = x_front;
+        y = y_front;
+    }
+    x == y
 }

@@ -77,7 +77,8 @@ fn all_steps(s: &[u8], start: usize) -> Result<Padded, Refusal>
     fifth(s, start, four)
 }
 
-// The seven-bit number at a place, with its padding. Most numbers have one byte, and those are read without the other four steps, where the number is asked for.
+// The seven-bit number at a place, with its padding.
+// Most numbers have one byte: those are read where they are asked for, without the other four steps.
 #[inline(always)]
 pub fn seven_padded(s: &[u8], start: usize) -> Result<Padded, Refusal>
     ensures { told_padded result ≡ padded start (seven_at s.now start) }

@@ -64,6 +64,7 @@ fn next_record(pack: &[u8], from: usize) -> Option<Span>
     ensures { Next pack.now from result }
 {
     let mut at = next_lead(pack, from);
+    // Kept: a turn goes on to the next lead, so no range or iterator fits.
     while at < pack.len() {
         match record_at(pack, at, true) {
             Err(_) => {
