@@ -2,7 +2,7 @@
 use Rattle.std.specs.Prelude.{◌≡◌, List, ℕ, ◌+◌, ◌-◌, ◌≤◌, ◌<◌, length, take, drop, get_or}
 use Rattle.std.specs.Array.{IsFirstChunk}
 use Rattle.std.proofs.Common.{subst, ◌∙◌, arith, length-drop, get_or-drop, length-take-le}
-use Rattle.std.proofs.lemmas.List.{get_or-take}
+use Rattle.std.proofs.lemmas.List.{get_or-take, take-take}
 use Rattle.xml_escape.specs.Runs.{AllOf, First, Passed}
 
 -- n bytes from i on
@@ -15,7 +15,7 @@ module _ (s : List ℕ) (i n : ℕ) where
   all_of : (P : ℕ → Type 0) (m : ℕ) → m ≤ n → AllOf P (take n (drop i s)) 0 m → AllOf P s i m
   all_of P m h q k l = byte_of P k (omega arith) (q k l)
 
-  first_of : {P Q : ℕ → Type 0} {m r : ℕ} → m ≤ n → First P Q (take n (drop i s)) 0 m r → First P Q s i m r
+  pub first_of : {P Q : ℕ → Type 0} {m r : ℕ} → m ≤ n → First P Q (take n (drop i s)) 0 m r → First P Q s i m r
   first_of {P} {Q} {m} {r} h b = record {
     within = b.within;
     before = all_of P r (omega (arith, b.within)) b.before;
@@ -31,6 +31,9 @@ left-long s i = length-take-le (length s - i) (drop i s) (omega (arith, length-d
 
 pub block_fits : (s : List ℕ) (i : ℕ) → i ≤ length s → {block : List ℕ} {n : ℕ} → IsFirstChunk (left s i) block n → i + n ≤ length s
 block_fits s i h c = omega (arith, c.enough, left-long s i)
+
+pub block_is : (s : List ℕ) (i : ℕ) → i ≤ length s → {block : List ℕ} {n : ℕ} → IsFirstChunk (left s i) block n → block ≡ take n (drop i s)
+block_is s i h {n = n} c = c.same ∙ take-take n (length s - i) (drop i s) (omega (arith, c.enough, left-long s i))
 
 module _ {P : ℕ → Type 0} (s : List ℕ) (i : ℕ) (h : i ≤ length s) where
   pub passed_cut : {to : ℕ} → Passed P (left s i) 0 to → Passed P s i (i + to)

@@ -6,7 +6,7 @@ mod runs;
 ghost use Rattle.std.specs.Prelude.{◌≡◌, true, false, ◌≤◌, length};
 ghost use Rattle.xml_escape.specs.Quiet.{Quiet, AllQuiet, Ran, RunEnd};
 
-pub use runs::{Class, first_of, next_of, past_blocks};
+pub use runs::{Class, first_of, next_of, past_blocks, put_before};
 
 // Whether a byte may be one that is not written as it is, or that starts a character which is not written; or is above `most`.
 fn loud(b: u8, most: u8) -> bool

@@ -1,6 +1,7 @@
 // Runs of bytes that are not of a class.
-ghost use Rattle.std.specs.Prelude.{◌≡◌, ℕ, Bool, true, false, ◌+◌, ◌≤◌, length};
+ghost use Rattle.std.specs.Prelude.{◌≡◌, ℕ, Bool, true, false, ◌+◌, ◌≤◌, min, length, take};
 ghost use Rattle.xml_escape.specs.Runs.{AllOf, First, Passed};
+ghost use Rattle.xml_escape.specs.Wrote.{Put};
 
 // A class of bytes, told by one expression, so that the compiler compares the bytes of a block at once.
 pub trait Class {
@@ -50,7 +51,23 @@ pub fn next_of<C: Class>(s: &[u8], class: &C) -> usize
     s.len()
 }
 
-// The same of N bytes: all are looked at, where they are 255 at most.
+// Puts the bytes before the first of the class into the output, one by one, as far as both last; answers how many.
+pub fn put_before<C: Class>(s: &[u8], out: &mut [u8], class: &C) -> usize
+    ensures found { First (λ b. C.Tells class.now b false) (λ b. C.Tells class.now b true) s.now 0 (min (length s.now) (length out.old)) result }
+    ensures out_after { Put (take result s.now) 0 out.old out.new }
+{
+    let n = s.len().min(out.len());
+    for k in 0..n {
+        let b = s[k];
+        if class.has(b) {
+            return k;
+        }
+        out[k] = b;
+    }
+    n
+}
+
+// How many of N bytes stand before the first of the class: all are looked at, where they are 255 at most.
 pub fn first_of<const N: usize, C: Class>(s: &[u8; N], class: &C) -> usize
     ensures { First (λ b. C.Tells class.now b false) (λ b. C.Tells class.now b true) s.now 0 N result }
 {

@@ -2,14 +2,14 @@
 ghost use Rattle.std.specs.Prelude.{◌≡◌, true, false, cond, [], ◌∷◌, ◌+◌, ◌-◌, ◌≤◌, ◌<◌, IfSome, length, take, drop};
 ghost use Rattle.xml_layout.specs.Xml.{escaped, escape};
 ghost use Rattle.xml_reading.specs.Written.{noncharacter};
-ghost use Rattle.xml_escape.specs.Runs.{AllOf, First};
+ghost use Rattle.xml_escape.specs.Runs.{AllOf};
 ghost use Rattle.xml_escape.specs.Quiet.{AllQuiet};
 ghost use Rattle.xml_escape.specs.Sizes.{item};
 ghost use Rattle.xml_escape.specs.Wrote.{Put, PutTo, sets};
 ghost use Rattle.xml_export.specs.Gathering.{size_of};
 ghost use Rattle.xml_export.specs.Escaping.{Alone, byte_size, Grows, RunPut, EntityPut};
 
-use xml_escape::{Class, first_of, past_blocks};
+use xml_escape::{Class, first_of, past_blocks, put_before};
 
 // Whether U+FFFE or U+FFFF stands from `at` on.
 fn noncharacter_at(text: &[u8], at: usize) -> bool
@@ -268,33 +268,16 @@ fn put_far(text: &[u8], out: &mut [u8], from: usize, to: usize) -> usize
     end
 }
 
-// Puts the bytes of the text from i on that are not of the class into the output from `to` on, up to n of them; answers how many.
-// Kept: xml_import has the same; as one public function it would have to test its places, which took a quarter more where entities stand close together.
-fn put_before<C: Class>(s: &[u8], out: &mut [u8], i: usize, to: usize, n: usize, class: &C) -> usize
-    requires { (i + n ≤ length s.now) × (to + n ≤ length out.old) }
-    ensures { First (λ b. C.Tells class.now b false) (λ b. C.Tells class.now b true) s.now i n result
-        × Put (take result (drop i s.now)) to out.old out.new }
-{
-    for k in 0..n {
-        let b = s[i + k];
-        if class.has(b) {
-            return k;
-        }
-        out[to + k] = b;
-    }
-    n
-}
-
 // The same: up to eight one by one, then the rest at once.
 fn put_run(text: &[u8], out: &mut [u8], from: usize, to: usize) -> usize
     requires { (from ≤ length text.now) × (to + (length text.now - from) ≤ length out.old) }
     ensures { RunPut text.now from to out.old out.new result }
 {
-    let rest = text.len() - from;
-    if rest < 8 {
-        return from + put_before(text, out, from, to, rest, &SignBytes);
-    }
-    let n = put_before(text, out, from, to, 8, &SignBytes);
+    let Some(start) = text[from..].first_chunk::<8>() else {
+        let end = to + (text.len() - from);
+        return from + put_before(&text[from..], &mut out[to..end], &SignBytes);
+    };
+    let n = put_before(start, &mut out[to..to + 8], &SignBytes);
     if n < 8 {
         return from + n;
     }

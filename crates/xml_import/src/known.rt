@@ -1,10 +1,8 @@
 // Texts that were taken before: runs of their characters, none of which is judged again.
-ghost use Rattle.std.specs.Prelude.{◌≡◌, true, false, ◌+◌, ◌≤◌, length, take, drop};
-ghost use Rattle.xml_escape.specs.Runs.{First};
-ghost use Rattle.xml_escape.specs.Wrote.{Put};
+ghost use Rattle.std.specs.Prelude.{◌≡◌, true, false, ◌≤◌, length};
 ghost use Rattle.xml_import.specs.Places.{Unmarked, Marked, Stops, RunPut};
 
-use xml_escape::{Class, first_of, next_of, past_blocks};
+use xml_escape::{Class, first_of, next_of, past_blocks, put_before};
 
 // Whether a byte starts an entity or the end of an item.
 fn marked(b: u8) -> bool
@@ -105,35 +103,18 @@ fn put_far(xml: &[u8], out: &mut [u8], at: usize, to: usize) -> usize
     run
 }
 
-// Puts the bytes of the XML from i on that are not of the class into the output from `to` on, up to n of them; answers how many.
-// Kept: xml_export has the same; as one public function it would have to test its places, which took a quarter more where entities stand close together.
-fn put_before<C: Class>(s: &[u8], out: &mut [u8], i: usize, to: usize, n: usize, class: &C) -> usize
-    requires { (i + n ≤ length s.now) × (to + n ≤ length out.old) }
-    ensures { First (λ b. C.Tells class.now b false) (λ b. C.Tells class.now b true) s.now i n result
-        × Put (take result (drop i s.now)) to out.old out.new }
-{
-    for k in 0..n {
-        let b = s[i + k];
-        if class.has(b) {
-            return k;
-        }
-        out[to + k] = b;
-    }
-    n
-}
-
 // The same: up to eight one by one, then the rest at once.
 pub(crate) fn put_run(xml: &[u8], out: &mut [u8], at: usize, to: usize) -> usize
     requires { (at ≤ length xml.now) × (to ≤ length out.old) }
     ensures { RunPut xml.now at to out.old out.new result }
 {
-    if xml.len() - at < 8 {
+    let Some(start) = xml[at..].first_chunk::<8>() else {
         return put_far(xml, out, at, to);
-    }
+    };
     if out.len() - to < 8 {
         return put_far(xml, out, at, to);
     }
-    let n = put_before(xml, out, at, to, 8, &SignBytes);
+    let n = put_before(start, &mut out[to..to + 8], &SignBytes);
     if n < 8 {
         return at + n;
     }

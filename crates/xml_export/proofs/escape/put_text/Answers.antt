@@ -1,4 +1,5 @@
 use native.Mathlib.Omega.{arith}
+use lib.ListN.{length-set}
 use Rattle.xml_export.proofs.Escapes.{putting_plain, putting_on, putting_entity, putting_end, rest-fits, byte_fits, no_further}
 use Rattle.xml_export.proofs.escape.put_text.Goals as goal
 
@@ -9,8 +10,10 @@ pub bounds-out-j : goal.bounds-out-j
 bounds-out-j c = omega (arith, rest-fits c.loop-i.invariant, c.loop-i-test.true, c.loop-i.invariant.same_size, c.put_entity.auto.out, c.requires)
 
 pub put_run-next-requires : goal.put_run-next-requires
-put_run-next-requires c =
-    let v = putting_plain c.loop-i.invariant c.loop-i-test.true c.in-None.ensures c.put_entity.auto.out in (omega (arith, c.loop-i-test.true), omega (arith, rest-fits v, v.same_size, c.requires))
+put_run-next-requires c = (
+  omega (arith, c.loop-i-test.true),
+  simp length-set (omega (arith, rest-fits c.loop-i.invariant, c.loop-i-test.true, c.loop-i.invariant.same_size, c.put_entity.auto.out, c.requires)),
+)
 
 pub loop-i-preserved-in-None : goal.loop-i-preserved-in-None
 loop-i-preserved-in-None c =
