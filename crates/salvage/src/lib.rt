@@ -36,12 +36,15 @@ fn past_clear(pack: &[u8], from: usize) -> usize
     from + 32 * blocks
 }
 
-// The first place from `from` on where FD stands, or the end of the pack.
+// The first place from `from` on where FD stands, or the end of the pack: the first byte is looked at before blocks are.
 #[inline(always)]
 fn next_lead(pack: &[u8], from: usize) -> usize
     requires { from ≤ length pack.now }
     ensures { NoLead pack.now from result }
 {
+    if from < pack.len() && pack[from] == 0xFD {
+        return from;
+    }
     for at in past_clear(pack, from)..pack.len() {
         if pack[at] == 0xFD {
             return at;

@@ -312,6 +312,7 @@ fn put_entity(out: &mut [u8], to: usize, b: u8) -> Option<usize>
 }
 
 // A text into the output; answers where it ends.
+#[inline(never)]
 fn put_text(text: &[u8], out: &mut [u8], to: usize) -> usize
     requires { to + length (escape text.now) ≤ length out.old }
     ensures { PutTo (escape text.now) to out.old out.new result }

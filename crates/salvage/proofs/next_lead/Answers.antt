@@ -1,7 +1,10 @@
 use Rattle.std.specs.Prelude.{◌≡◌, length}
 use Rattle.std.proofs.Common.{arith}
-use Rattle.salvage.proofs.Leads.{one_more}
+use Rattle.salvage.proofs.Leads.{none_yet, one_more}
 use Rattle.salvage.proofs.next_lead.Goals as goal
+
+pub returns-then-pack-from : goal.returns-then-pack-from
+returns-then-pack-from c = none_yet _ _ c.requires
 
 pub loop-at-init : goal.loop-at-init
 loop-at-init c = c.past_clear-at.ensures
