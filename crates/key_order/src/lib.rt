@@ -111,7 +111,7 @@ impl<'a> Keys<'a> {
         ensures { (length order.new ≡ length order.old) × (length spare.new ≡ length spare.old) }
     {
         let mut width = 1;
-        // Kept: a turn takes the width four times, so no range or iterator fits.
+        // Kept: a turn makes the width four times as large, so no range or iterator fits.
         while width < order.len() {
             self.pass(order, spare, width);
             self.pass(spare, order, 2 * width);

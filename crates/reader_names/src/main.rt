@@ -78,7 +78,7 @@ fn read_full(file: &mut impl Read, space: &mut [u8]) -> io::Result<usize>
     ensures { IfOk result (λ n. n ≤ length space.old) }
 {
     let mut done = 0;
-    // Kept: it reads until the space is full, as much at a time as there is.
+    // Kept: it reads until the space is full or the file ends, as much at a time as the file gives.
     while done < space.len() {
         let n = file.read(&mut space[done..])?;
         if n == 0 {
